@@ -1,6 +1,7 @@
 -- Streams with distinct local addresses: to change one of them is to change the one at its local address.
-use Rattle.std.proofs.Common.{◌≡◌, ℕ, zero, suc, Bool, true, false, not, cond, List, [], ◌∷◌, ◌++◌, map, filter, Some, None, refl, sym, subst, ap, ◌∙◌, get_or}
+use Rattle.std.proofs.Common.{◌≡◌, ℕ, zero, suc, Bool, true, false, not, cond, List, [], ◌∷◌, ◌++◌, map, filter, drop, Option, Some, None, refl, sym, subst, ap, ◌∙◌, get_or}
 use Rattle.std.specs.Prelude.{find, slice_get, set}
+use Rattle.std.specs.Option.{option_map, option_map_or}
 use Rattle.std.specs.List.{IsDistinct, AllByRecursion, position}
 use Rattle.std.proofs.lemmas.Option.{slice_get-get_or}
 use Rattle.turn_agent.proofs.AgentLemmas.{position-IsFirst, position-none}
@@ -9,7 +10,10 @@ use Rattle.turn_agent.specs.Agent.{same_address}
 use Rattle.turn_client_api.specs.declared.state.Stream.{Stream}
 use Rattle.turn_client_laws.proofs.AddressLemmas.{same_address-true, same_address-self}
 use Rattle.turn_client_laws.proofs.StreamApartLemmas.{differ-sym, ends, IsNoneOf}
-use Rattle.turn_client_streams.specs.Held.{HasOwnEnds}
+use Rattle.turn_client_api.specs.State.{State}
+use Rattle.turn_types.specs.Frames.{frame_len}
+use Rattle.turn_client_streams.specs.Buffered.{is_control, passed, with_content}
+use Rattle.turn_client_streams.specs.Held.{HasOwnEnds, control_passed, control_stream, with_streams}
 
 abbrev pub is_at : SocketAddr → Stream → Bool
 is_at local x = same_address x.local local
@@ -89,6 +93,29 @@ none-local local f xs e = by xs (position-none (is_at local) xs e)
         one : (b : Bool) → same_address x.local local ≡ b → (find (is_at local) xs ≡ None → at_end local f xs ≡ xs) → at_end local f (x ∷ xs) ≡ x ∷ xs
         one true g later = let clash : Some x ≡ None = rw g at e in cc
         one false g later = rw g (ap (λ t. x ∷ t) (later (rw g at e)))
+
+-- ---- the control stream, which is the first one
+
+passed-is : (x : Stream) → with_content (passed x).bytes x ≡ passed x
+passed-is x = by (frame_len x.bytes)
+  where
+    by : (o : Option ℕ)
+        → with_content (option_map_or (λ len. with_content (drop len x.bytes) x) o x).bytes x ≡ option_map_or (λ len. with_content (drop len x.bytes) x) o x
+    by None = refl
+    by (Some len) = refl
+
+-- its first frame is dropped
+pub passed-control : (xs : List Stream) (d : Stream) (len : ℕ) (s : State) → HasOwnEnds xs
+    → option_map (λ (x : Stream). frame_len x.bytes) (control_stream xs) ≡ Some (Some len)
+    → with_streams (set xs 0 (passed (get_or xs 0 d))) s ≡ control_passed (with_streams xs s)
+passed-control [] d len s h e = cc
+passed-control (x ∷ xs) d len s h e = by (is_control x.mode) refl
+  where
+    by : (b : Bool) → is_control x.mode ≡ b → with_streams (passed x ∷ xs) s ≡ control_passed (with_streams (x ∷ xs) s)
+    by true f =
+        rw (f, ← passed-is x)
+        (ap (λ ys. with_streams ys s) (set-at_end (with_content (passed x).bytes) (x ∷ xs) 0 x h refl))
+    by false f = let none : None ≡ Some (Some len) = rw f at e in cc
 
 -- ---- streams are removed and added
 

@@ -1,9 +1,9 @@
 -- One stream, and what changes it.
-use Rattle.std.specs.Prelude.{ℕ, List, [], take, drop, if◌then◌else◌, Option, option_map}
+use Rattle.std.specs.Prelude.{ℕ, Bool, true, false, List, [], take, drop, if◌then◌else◌, Option, option_map}
 use Rattle.std.specs.Option.{option_map_or}
 use Rattle.turn_types.specs.Frames.{begins_no_frame, frame_len}
 use Rattle.turn_client_api.specs.declared.state.Mode.{Mode}
-use Rattle.turn_client_api.specs.declared.state.Mode.TheVariants.{Broken}
+use Rattle.turn_client_api.specs.declared.state.Mode.TheVariants.{Broken, Control}
 use Rattle.turn_client_api.specs.declared.state.Stream.{Stream}
 
 -- the stream with these bytes
@@ -13,6 +13,11 @@ with_content bytes stream = record stream { bytes = bytes }
 -- its bytes have this mode
 abbrev pub meant : Mode → Stream → Stream
 meant mode stream = record stream { mode = mode }
+
+-- its bytes are frames of the control connection
+abbrev pub is_control : Mode → Bool
+is_control Control = true
+is_control _ = false
 
 -- nothing more is read from it, and the buffered bytes are dropped
 abbrev pub broken : Stream → Stream

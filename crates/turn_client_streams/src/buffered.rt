@@ -1,9 +1,9 @@
 //! One stream, and the buffer of its bytes.
 
-ghost use Rattle.std.specs.Prelude.{◌≡◌, ◌<◌, ◌↔◌, ◌++◌, [], false, length, IsNone, IsTrue, OnOk, OnErr, option_copied};
-ghost use Rattle.turn_types.specs.Frames.{begins_no_frame};
+ghost use Rattle.std.specs.Prelude.{◌≡◌, ◌<◌, ◌↔◌, ◌++◌, [], false, length, IsNone, IsTrue, OnOk, OnErr, Some, option_copied};
+ghost use Rattle.turn_types.specs.Frames.{begins_no_frame, frame_len};
 ghost use Rattle.turn_client_api.specs.Streams.{HoldsLittle, is_ready};
-ghost use Rattle.turn_client_streams.specs.Buffered.{broken, front_frame, with_content, meant, passed};
+ghost use Rattle.turn_client_streams.specs.Buffered.{broken, front_frame, is_control, with_content, meant, passed};
 
 mod incoming;
 
@@ -64,6 +64,13 @@ impl BufferedStream {
         self.mode
     }
 
+    /// Whether its bytes are frames of the control connection.
+    pub(crate) fn is_control(&self) -> bool
+        ensures { result ≡ is_control self.now.mode }
+    {
+        matches!(self.mode, Mode::Control)
+    }
+
     /// Whether no byte is buffered.
     pub fn is_empty(&self) -> bool
         ensures { IsTrue result ↔ (self.now.bytes ≡ []) }
@@ -106,6 +113,15 @@ impl BufferedStream {
         ensures { self.new ≡ passed self.old }
     {
         self.buffer.pass();
+    }
+
+    /// Drops the first frame, which is whole and has so many bytes, without reading its header. Allocates no
+    /// memory.
+    pub(crate) fn pass_front(&mut self, len: usize)
+        requires { frame_len self.old.bytes ≡ Some len }
+        ensures { self.new ≡ passed self.old }
+    {
+        self.buffer.pass_front(len);
     }
 
     /// The buffered bytes. Allocates no memory.

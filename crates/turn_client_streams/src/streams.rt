@@ -1,6 +1,6 @@
 //! The list of a client's streams.
 
-ghost use Rattle.std.specs.Prelude.{◌≡◌, All, IsNone, find, OnOk, OnErr, IfOk, IsOk, option_copied};
+ghost use Rattle.std.specs.Prelude.{◌≡◌, All, IsNone, find, OnOk, OnErr, IfOk, IsOk, Some, option_copied, option_map};
 ghost use Rattle.std.specs.List.{position};
 ghost use Rattle.turn_agent.specs.Agent.{same_address};
 ghost use Rattle.turn_stun.specs.declared.transport.TransportType.TheVariants.{Udp};
@@ -8,7 +8,8 @@ ghost use Rattle.turn_client_api.specs.Calls.{with_stream};
 ghost use Rattle.turn_client_api.specs.Connections.{with_mode};
 ghost use Rattle.turn_client_api.specs.State.{State, first_streams};
 ghost use Rattle.turn_client_api.specs.Streams.{HoldsLittle, broken_at, is_ready, stream_at, with_bytes, without_stream};
-ghost use Rattle.turn_client_streams.specs.Held.{taken_out, with_streams};
+ghost use Rattle.turn_client_streams.specs.Held.{control_passed, control_stream, taken_out, with_streams};
+ghost use Rattle.turn_types.specs.Frames.{frame_len};
 
 use crate::buffered::BufferedStream;
 use std::alloc::{AllocError, Global};
@@ -84,6 +85,28 @@ impl Streams {
             return None;
         };
         Some(&self.list[place])
+    }
+
+    /// The stream of the control connection, if it is the first one and not broken. If it can be processed, it
+    /// is the first one that can.
+    pub fn control(&self) -> Option<&BufferedStream>
+        ensures { option_copied result ≡ control_stream self.now }
+    {
+        let Some(first) = self.list.first() else {
+            return None;
+        };
+        if first.is_control() {
+            return Some(first);
+        }
+        None
+    }
+
+    /// Drops the first frame of that stream, which is whole and has so many bytes. Allocates no memory.
+    pub fn pass_control(&mut self, len: usize)
+        requires { option_map (λ stream. frame_len stream.bytes) (control_stream self.old) ≡ Some (Some len) }
+        ensures { (s : State) → with_streams self.new s ≡ control_passed (with_streams self.old s) }
+    {
+        self.list[0].pass_front(len);
     }
 
     /// Takes out the first stream that can be processed.
