@@ -5,6 +5,7 @@ pub mod AskLemmas
 pub mod AuthLemmas
 pub mod BindLemmas
 pub mod CallLemmas
+pub mod ControlDataLemmas
 pub mod DataLemmas
 pub mod EffectLemmas
 pub mod FrameLemmas

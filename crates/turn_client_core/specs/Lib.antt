@@ -2,6 +2,7 @@ pub mod Allocated
 pub mod Asked
 pub mod Attempts
 pub mod Challenges
+pub mod ControlData
 pub mod Effects
 pub mod Indication
 pub mod Judged

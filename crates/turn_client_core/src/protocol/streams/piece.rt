@@ -177,7 +177,7 @@ impl TurnClientProtocol {
 
     /// Breaks the stream at this local address and ends the client: memory allocation for the stream
     /// failed.
-    fn end_at(&mut self, local: SocketAddr)
+    pub(crate) fn end_at(&mut self, local: SocketAddr)
         ensures { self.new ≡ closed (broken_at local self.old) }
     {
         self.break_at(local);

@@ -37,6 +37,10 @@ impl TurnClientProtocol {
         ensures after { OnOk result (self.new ≡ (poll_recv_step now self.old).1) }
         ensures no_memory { OnErr result (EndsAfterSteps now self.old self.new) }
     {
+        // Most frames of a busy client are ChannelData messages. For them no stream is taken out.
+        if let Some(given) = self.take_control_data()? {
+            return Ok(Some(given.into_data()));
+        }
         match self.process_ready(now)? {
             Some(given) => Ok(Some(given.into_data())),
             None => Ok(None),
