@@ -15,7 +15,7 @@ use Rattle.turn_client_api.specs.declared.error.SendError.{SendError}
 use Rattle.turn_client_proto.specs.Run.{poll_recv_reply, recv_reply, reply_of, step}
 use Rattle.turn_client_proto.specs.declared.runs.reply.Reply.{Reply}
 use Rattle.turn_client_proto.specs.declared.runs.reply.Reply.TheVariants as Replies
-use Rattle.turn_c_calls.specs.Answer.{IsPlain, answer_to, bytes_in}
+use Rattle.turn_c_calls.specs.Answer.{IsPlain, answer_to, reply_bytes}
 use Rattle.turn_c_calls.specs.Arms.{MakesPlain}
 use Rattle.turn_c_calls.specs.Buffer.{PutsIfAny}
 use Rattle.turn_c_calls.specs.Held.{held}
@@ -36,13 +36,13 @@ made_so call s t reply index was now buffer after a b e shows = record {
 }
 
 pub made : (call : Call) (s t : State) (reply : Reply) (index : ℕ) (was now buffer after : List ℕ) (a b : Answer)
-    → Answered reply s t call → PutsIfAny (bytes_in reply) was (answer_to index reply a) buffer after now b
+    → Answered reply s t call → PutsIfAny (reply_bytes reply) was (answer_to index reply a) buffer after now b
     → IsMade call index (held s was) (held t now) buffer after a b
 made call s t reply index was now buffer after a b e puts = made_so call s t reply index was now buffer after a b e (inl puts)
 
 -- a reply that carries no bytes
 pub bare_made : (call : Call) (s t : State) (reply : Reply) (index : ℕ) (a b : Answer)
-    → Answered reply s t call → bytes_in reply ≡ None → b ≡ answer_to index reply a → MakesPlain call index s t a b
+    → Answered reply s t call → reply_bytes reply ≡ None → b ≡ answer_to index reply a → MakesPlain call index s t a b
 bare_made call s t reply index a b e none says unread buffer =
     made call s t reply index unread unread buffer buffer a b e
     (subst (λ (o : Option (List ℕ)). PutsIfAny o unread (answer_to index reply a) buffer buffer unread b) (sym none)
@@ -50,7 +50,7 @@ bare_made call s t reply index a b e none says unread buffer =
 
 -- ---- a reply to a plain call is plain
 
-plain_bare : (reply : Reply) → IsPlain reply → bytes_in reply ≡ None
+plain_bare : (reply : Reply) → IsPlain reply → reply_bytes reply ≡ None
 plain_bare (Replies.Poll returned) h = refl
 plain_bare (Replies.Transmit packet) h = absurd h
 plain_bare (Replies.Event event) h = refl

@@ -18,8 +18,8 @@ abbrev pub no_address : Address
 no_address = record { ip = replicate 16 0; flow = 0; scope = 0; port = 0; family = NO_FAMILY; reserved = 0 }
 
 -- an IPv4 address has the first four bytes
-abbrev pub address_of : SocketAddr → Address
-address_of (V4 a) = record {
+abbrev pub c_address : SocketAddr → Address
+c_address (V4 a) = record {
   ip = ipv4_octets (v4_ip a) ++ replicate 12 0;
   flow = 0;
   scope = 0;
@@ -27,7 +27,7 @@ address_of (V4 a) = record {
   family = IPV4;
   reserved = 0;
 }
-address_of (V6 a) = record {
+c_address (V6 a) = record {
   ip = ipv6_octets (v6_ip a);
   flow = v6_flowinfo a;
   scope = v6_scope_id a;
@@ -38,7 +38,7 @@ address_of (V6 a) = record {
 
 -- with the port 0
 abbrev pub address_of_ip : IpAddr → Address
-address_of_ip ip = address_of (with_port ip 0)
+address_of_ip ip = c_address (with_port ip 0)
 
 abbrev pub v4_at : Address → SocketAddrV4
 v4_at a = record {
@@ -60,5 +60,5 @@ abbrev pub transport_code : TransportType → ℕ
 transport_code Udp = UDP
 transport_code Tcp = TCP
 
-abbrev pub transport_of : ℕ → Option TransportType
-transport_of code = if code == UDP then Some Udp else if code == TCP then Some Tcp else None
+abbrev pub c_transport : ℕ → Option TransportType
+c_transport code = if code == UDP then Some Udp else if code == TCP then Some Tcp else None

@@ -16,7 +16,7 @@ use Rattle.turn_client_proto.specs.declared.runs.reply.Reply.TheVariants as Repl
 use Rattle.turn_lines.specs.Refusal.{send_refusal, create_permission_refusal, bind_channel_refusal, tcp_connect_refusal, tcp_allocate_refusal, delete_refusal}
 use Rattle.turn_lines.specs.declared.refusal.Refusal.{Refusal}
 use Rattle.turn_lines.specs.declared.refusal.Refusal.TheVariants as Refused
-use Rattle.turn_c_calls.specs.Address.{address_of, address_of_ip, transport_code}
+use Rattle.turn_c_calls.specs.Address.{c_address, address_of_ip, transport_code}
 use Rattle.turn_c_calls.specs.declared.address.Address.{Address}
 use Rattle.turn_c_calls.specs.declared.answer.Answer.{Answer}
 use Rattle.turn_c_calls.specs.declared.code.TheConstants.{ADDRESS, ALLOCATION_CREATE_FAILED, ALLOCATION_CREATED, ERROR_ALREADY_EXISTS}
@@ -36,17 +36,17 @@ poll_answer (AllocateTcpSocket id socket peer) a = record a {
   kind = ALLOCATE_TCP_SOCKET;
   id = id;
   transport = transport_code socket.transport;
-  from = address_of socket.from;
-  to = address_of socket.to;
-  peer = address_of peer;
+  from = c_address socket.from;
+  to = c_address socket.to;
+  peer = c_address peer;
 }
-poll_answer (TcpClose local remote) a = record a { kind = TCP_CLOSE; from = address_of local; to = address_of remote }
+poll_answer (TcpClose local remote) a = record a { kind = TCP_CLOSE; from = c_address local; to = c_address remote }
 poll_answer Closed a = of_kind CLOSED a
 
 -- a packet to send, but for its bytes
 abbrev pub packet_answer : TransportType → SocketAddr → SocketAddr → Answer → Answer
 packet_answer transport from to a =
-    record a { kind = PACKET; transport = transport_code transport; from = address_of from; to = address_of to }
+    record a { kind = PACKET; transport = transport_code transport; from = c_address from; to = c_address to }
 
 -- an answer of this kind about a peer, or about a relayed address
 abbrev pub peer_answer : ℕ → TransportType → Address → Answer → Answer
@@ -54,13 +54,13 @@ peer_answer kind transport peer a = record a { kind = kind; transport = transpor
 
 -- data of a peer, but for its bytes
 abbrev pub data_answer : TransportType → SocketAddr → Answer → Answer
-data_answer transport peer a = peer_answer PEER_DATA transport (address_of peer) a
+data_answer transport peer a = peer_answer PEER_DATA transport (c_address peer) a
 
 abbrev pub icmp_answer : TransportType → SocketAddr → ℕ → ℕ → ℕ → Answer → Answer
 icmp_answer transport peer icmp_type icmp_code icmp_data a = record a {
   kind = PEER_ICMP;
   transport = transport_code transport;
-  peer = address_of peer;
+  peer = c_address peer;
   icmp_type = icmp_type;
   icmp_code = icmp_code;
   icmp_data = icmp_data;
@@ -71,14 +71,14 @@ family_code Family.IPV4 = IPV4
 family_code Family.IPV6 = IPV6
 
 abbrev pub event_answer : TurnEvent → Answer → Answer
-event_answer (AllocationCreated transport relayed) a = peer_answer ALLOCATION_CREATED transport (address_of relayed) a
+event_answer (AllocationCreated transport relayed) a = peer_answer ALLOCATION_CREATED transport (c_address relayed) a
 event_answer (AllocationCreateFailed family) a = record a { kind = ALLOCATION_CREATE_FAILED; family = family_code family }
 event_answer (PermissionCreated transport peer) a = peer_answer PERMISSION_CREATED transport (address_of_ip peer) a
 event_answer (PermissionCreateFailed transport peer) a = peer_answer PERMISSION_CREATE_FAILED transport (address_of_ip peer) a
-event_answer (ChannelCreated transport peer) a = peer_answer CHANNEL_CREATED transport (address_of peer) a
-event_answer (ChannelCreateFailed transport peer) a = peer_answer CHANNEL_CREATE_FAILED transport (address_of peer) a
-event_answer (TcpConnected peer) a = record a { kind = TCP_CONNECTED; peer = address_of peer }
-event_answer (TcpConnectFailed peer) a = record a { kind = TCP_CONNECT_FAILED; peer = address_of peer }
+event_answer (ChannelCreated transport peer) a = peer_answer CHANNEL_CREATED transport (c_address peer) a
+event_answer (ChannelCreateFailed transport peer) a = peer_answer CHANNEL_CREATE_FAILED transport (c_address peer) a
+event_answer (TcpConnected peer) a = record a { kind = TCP_CONNECTED; peer = c_address peer }
+event_answer (TcpConnectFailed peer) a = record a { kind = TCP_CONNECT_FAILED; peer = c_address peer }
 
 -- the error of a call
 abbrev pub refusal_answer : Refusal → Answer → Answer
@@ -92,7 +92,7 @@ refusal_answer Refused.OutOfMemory a = record a { kind = REFUSED; error = ERROR_
 -- the relayed address at an index, or that there is none
 abbrev pub relayed_answer : Option (TransportType × SocketAddr) → Answer → Answer
 relayed_answer None a = of_kind NOTHING a
-relayed_answer (Some one) a = peer_answer ADDRESS one.0 (address_of one.1) a
+relayed_answer (Some one) a = peer_answer ADDRESS one.0 (c_address one.1) a
 
 -- the IP address at an index, or that there is none
 abbrev pub permission_answer : Option IpAddr → Answer → Answer
@@ -135,11 +135,11 @@ answer_to index (Replies.HavePermission found) a = found_answer found a
 answer_to index Replies.Done a = of_kind DONE a
 
 -- the bytes that a reply carries, if it is one that does
-abbrev pub bytes_in : Reply → Option (List ℕ)
-bytes_in (Replies.Transmit (Some packet)) = Some packet.payload
-bytes_in (Replies.PeerData sent) = Some sent.«data»
-bytes_in (Replies.SendTo (Ok packet)) = Some packet.payload
-bytes_in _ = None
+abbrev pub reply_bytes : Reply → Option (List ℕ)
+reply_bytes (Replies.Transmit (Some packet)) = Some packet.payload
+reply_bytes (Replies.PeerData sent) = Some sent.«data»
+reply_bytes (Replies.SendTo (Ok packet)) = Some packet.payload
+reply_bytes _ = None
 
 -- a reply that has neither bytes nor a list
 abbrev pub IsPlain : Reply → Type 0

@@ -11,7 +11,7 @@ use Rattle.turn_client_api.specs.State.{State}
 use Rattle.turn_client_api.specs.Steps.{EndsWithoutMemory}
 use Rattle.turn_client_api.specs.declared.call.Call.{Call}
 use Rattle.turn_client_proto.specs.Run.{recv_reply}
-use Rattle.turn_c_calls.specs.Answer.{answer_to, bytes_in, data_answer, found_answer, permission_answer}
+use Rattle.turn_c_calls.specs.Answer.{answer_to, reply_bytes, data_answer, found_answer, permission_answer}
 use Rattle.turn_c_calls.specs.Buffer.{PutsIfAny}
 use Rattle.turn_c_calls.specs.Held.{held}
 use Rattle.turn_c_calls.specs.Operation.{Operation}
@@ -35,7 +35,7 @@ IsPointed _ was buffer after unread a b = ⊥
 -- the answer says what became of the input
 abbrev pub Reports : Outcome → List ℕ → List ℕ → List ℕ → List ℕ → Answer → Answer → Type 0
 Reports outcome was buffer after unread a b =
-    PutsIfAny (bytes_in (recv_reply outcome)) was (answer_to 0 (recv_reply outcome) a) buffer after unread b
+    PutsIfAny (reply_bytes (recv_reply outcome)) was (answer_to 0 (recv_reply outcome) a) buffer after unread b
     ⊎ IsPointed outcome was buffer after unread a b
 
 -- ---- a call by the states of the client

@@ -4,14 +4,14 @@ use Rattle.turn_c_calls.specs.declared.answer.Answer.{Answer}
 use Rattle.turn_c_calls.specs.declared.code.TheConstants.{PEER_DATA_RANGE}
 
 -- the buffer with these bytes at its front, as far as they fit
-abbrev pub filled : List ℕ → List ℕ → List ℕ
-filled bytes buffer = take (length buffer) bytes ++ drop (length bytes) buffer
+abbrev pub buffer_filled : List ℕ → List ℕ → List ℕ
+buffer_filled bytes buffer = take (length buffer) bytes ++ drop (length bytes) buffer
 
 -- The answer says this, and how many of the bytes are in the buffer and how many are left. These come before what was to
 -- be read.
 pub record Puts (bytes was : List ℕ) (said : Answer) (buffer after unread : List ℕ) (answer : Answer) : Type 0 where
   pub says : answer ≡ record said { len = min (length buffer) (length bytes); left = length bytes - length buffer }
-  pub buffer_is : after ≡ filled bytes buffer
+  pub buffer_is : after ≡ buffer_filled bytes buffer
   pub unread_is : unread ≡ drop (length buffer) bytes ++ was
 
 -- the answer says this, and where the bytes lie in the data that was passed in; none is copied

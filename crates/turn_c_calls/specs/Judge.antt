@@ -41,8 +41,8 @@ abbrev pub judged_as : TransportType → ℕ → Request → Bool → ℕ → �
 judged_as relays now r is_left len buffer kind = needed (operation_with now r kind) Faults.Call (if_fits relays is_left len buffer)
 
 -- What a request does, or why it is refused.
-abbrev pub judged : TransportType → Request → Bool → ℕ → ℕ → Result Operation Fault
-judged relays r is_left len buffer =
+abbrev pub request_judged : TransportType → Request → Bool → ℕ → ℕ → Result Operation Fault
+request_judged relays r is_left len buffer =
     needed (time_of r.time) Faults.Time (λ now. needed (kind_of r.kind) Faults.Call (judged_as relays now r is_left len buffer))
 
 abbrev pub fault_code : Fault → ℕ

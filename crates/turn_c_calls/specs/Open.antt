@@ -15,8 +15,8 @@ use Rattle.turn_c_calls.specs.declared.settings.Plan.{Plan}
 use Rattle.turn_c_calls.specs.declared.settings.Settings.{Settings}
 
 -- 32 bytes
-abbrev pub seed_of : List ℕ → Option (List ℕ)
-seed_of seed = if length seed == 32 then Some seed else None
+abbrev pub c_seed : List ℕ → Option (List ℕ)
+c_seed seed = if length seed == 32 then Some seed else None
 
 -- the same with another limit of challenges, if it is one
 abbrev pub limited : ℕ → Config → Config
@@ -39,7 +39,7 @@ abbrev pub session_of : Settings → List ℕ → List ℕ → List ℕ → Resu
 session_of settings user password seed =
     needed (plan_of settings) Errors.Settings (λ plan.
     needed (credentials_with user password) Errors.Credentials (λ credentials.
-    needed (seed_of seed) Errors.Seed (λ seed. Ok (new_session plan credentials seed))))
+    needed (c_seed seed) Errors.Seed (λ seed. Ok (new_session plan credentials seed))))
 
 -- why there are no credentials
 abbrev pub IsNoUser : List ℕ → List ℕ → OpenError → Type 0

@@ -9,7 +9,7 @@ use Rattle.turn_stun.specs.declared.transport.TransportType.{TransportType}
 use Rattle.turn_client_api.specs.declared.call.Call.{Call}
 use Rattle.turn_client_api.specs.declared.call.Call.TheVariants as Calls
 use Rattle.turn_lines.specs.Parts.{◌>>=◌}
-use Rattle.turn_c_calls.specs.Address.{ip_at, socket_at, transport_of}
+use Rattle.turn_c_calls.specs.Address.{ip_at, socket_at, c_transport}
 use Rattle.turn_c_calls.specs.declared.address.Address.{Address}
 use Rattle.turn_c_calls.specs.declared.code.TheConstants.{BIND_CHANNEL, TCP_CLOSED, TCP_CONNECT, DELETE, POLL_EVENT, PROTOCOL_ERROR, HAVE_PERMISSION}
 use Rattle.turn_c_calls.specs.declared.code.TheConstants.{NO_FAMILY, PERMISSIONS, CREATE_PERMISSION, POLL, POLL_RECV, READ, RECV, RELAYED_ADDRESSES}
@@ -45,27 +45,27 @@ local_at a = if a.family == NO_FAMILY then Some None else option_map Some (socke
 -- a peer and the transport to it
 abbrev pub peer_of : Request → Option (TransportType × SocketAddr)
 peer_of r = do
-  transport ← transport_of r.transport
+  transport ← c_transport r.transport
   peer ← socket_at r.peer
   Some (transport, peer)
 
 -- the IP address of a peer, and the transport to it
 abbrev pub peer_ip_of : Request → Option (TransportType × IpAddr)
 peer_ip_of r = do
-  transport ← transport_of r.transport
+  transport ← c_transport r.transport
   ip ← ip_at r.peer
   Some (transport, ip)
 
 -- a relayed address, and what it is relayed over
 abbrev pub relayed_of : Request → Option (TransportType × SocketAddr)
 relayed_of r = do
-  transport ← transport_of r.transport
+  transport ← c_transport r.transport
   relayed ← socket_at r.from
   Some (transport, relayed)
 
-abbrev pub tuple_of : Request → Option Socket5Tuple
-tuple_of r = do
-  transport ← transport_of r.transport
+abbrev pub c_tuple : Request → Option Socket5Tuple
+c_tuple r = do
+  transport ← c_transport r.transport
   from ← socket_at r.from
   to ← socket_at r.to
   Some (record { transport = transport; from = from; to = to })
@@ -73,7 +73,7 @@ tuple_of r = do
 -- the connection that the caller has opened, or could not open
 abbrev pub socket_operation : ℕ → Request → Option Operation
 socket_operation now r = do
-  tuple ← tuple_of r
+  tuple ← c_tuple r
   peer ← socket_at r.peer
   local ← local_at r.local
   Some (Operations.Plain (Calls.AllocatedTcpSocket r.id tuple peer local now))
@@ -90,7 +90,7 @@ operation_with now r Kinds.TcpClosed = do
   remote ← socket_at r.to
   Some (Operations.Plain (Calls.TcpClosed local remote now))
 operation_with now r Kinds.SendTo = option_map (λ p. Operations.SendTo p.0 p.1 now) (peer_of r)
-operation_with now r Kinds.Recv = option_map (λ tuple. Operations.Recv tuple now) (tuple_of r)
+operation_with now r Kinds.Recv = option_map (λ tuple. Operations.Recv tuple now) (c_tuple r)
 operation_with now r Kinds.PollRecv = Some (Operations.PollRecv now)
 operation_with now r Kinds.Poll = Some (Operations.Poll now)
 operation_with now r Kinds.PollTransmit = Some (Operations.PollTransmit now)

@@ -12,66 +12,66 @@ use Rattle.turn_lines.specs.Parts.{◌>>=◌}
 use Rattle.turn_lines.specs.declared.head.Ends.{Ends}
 use Rattle.turn_lines.specs.declared.head.Request.{Request}
 use Rattle.turn_lines.specs.declared.head.waits.Waits.{Waits}
-use Rattle.turn_c_calls.specs.Address.{socket_at, transport_of}
+use Rattle.turn_c_calls.specs.Address.{socket_at, c_transport}
 use Rattle.turn_c_calls.specs.declared.code.TheConstants.{AUTO, DISABLED, NONE, REQUIRED, SHA1, SHA256, VERSION_4, VERSION_6}
 use Rattle.turn_c_calls.specs.declared.settings.Plan.{Plan}
 use Rattle.turn_c_calls.specs.declared.settings.Settings.{Settings}
 
-abbrev pub ends_of : Settings → Option Ends
-ends_of s = do
-  transport ← transport_of s.transport
+abbrev pub c_ends : Settings → Option Ends
+c_ends s = do
+  transport ← c_transport s.transport
   local ← socket_at s.local
   remote ← socket_at s.remote
   Some (record { transport = transport; local = local; remote = remote })
 
-abbrev pub family_of : ℕ → Option AddressFamily
-family_of code = if code == VERSION_4 then Some Family.IPV4 else if code == VERSION_6 then Some Family.IPV6 else None
+abbrev pub c_family : ℕ → Option AddressFamily
+c_family code = if code == VERSION_4 then Some Family.IPV4 else if code == VERSION_6 then Some Family.IPV6 else None
 
-abbrev pub algorithm_of : ℕ → Option IntegrityAlgorithm
-algorithm_of code = if code == SHA1 then Some Sha1 else if code == SHA256 then Some Sha256 else None
+abbrev pub c_algorithm : ℕ → Option IntegrityAlgorithm
+c_algorithm code = if code == SHA1 then Some Sha1 else if code == SHA256 then Some Sha256 else None
 
 -- another one, or none
 abbrev pub other_family : ℕ → Option (Option AddressFamily)
-other_family code = if code == NONE then Some None else option_map Some (family_of code)
+other_family code = if code == NONE then Some None else option_map Some (c_family code)
 
 abbrev pub other_algorithm : ℕ → Option (Option IntegrityAlgorithm)
-other_algorithm code = if code == NONE then Some None else option_map Some (algorithm_of code)
+other_algorithm code = if code == NONE then Some None else option_map Some (c_algorithm code)
 
 -- one or two, in this order
-abbrev pub families_of : ℕ → ℕ → Option (AddressFamily × Option AddressFamily)
-families_of first other = do
-  one ← family_of first
+abbrev pub c_families : ℕ → ℕ → Option (AddressFamily × Option AddressFamily)
+c_families first other = do
+  one ← c_family first
   two ← other_family other
   Some (one, two)
 
-abbrev pub algorithms_of : ℕ → ℕ → Option (IntegrityAlgorithm × Option IntegrityAlgorithm)
-algorithms_of first other = do
-  one ← algorithm_of first
+abbrev pub c_algorithms : ℕ → ℕ → Option (IntegrityAlgorithm × Option IntegrityAlgorithm)
+c_algorithms first other = do
+  one ← c_algorithm first
   two ← other_algorithm other
   Some (one, two)
 
-abbrev pub feature_of : ℕ → Option Feature
-feature_of code =
+abbrev pub c_feature : ℕ → Option Feature
+c_feature code =
     if code == AUTO then Some Auto else if code == REQUIRED then Some Required else if code == DISABLED then Some Disabled else None
 
-abbrev pub request_of : Settings → Option Request
-request_of s = do
-  allocation ← transport_of s.relays
-  families ← families_of s.family s.other_family
-  algorithms ← algorithms_of s.algorithm s.other_algorithm
-  anonymous ← feature_of s.anonymous
+abbrev pub c_requested : Settings → Option Request
+c_requested s = do
+  allocation ← c_transport s.relays
+  families ← c_families s.family s.other_family
+  algorithms ← c_algorithms s.algorithm s.other_algorithm
+  anonymous ← c_feature s.anonymous
   Some (record { allocation = allocation; families = families; algorithms = algorithms; anonymous = anonymous })
 
 -- the retransmission times, if the settings have them
-abbrev pub waits_of : Settings → Option Waits
-waits_of s =
+abbrev pub c_waits : Settings → Option Waits
+c_waits s =
     if s.has_waits == NONE then None
     else Some (record { initial = s.wait_initial; max = s.wait_max; count = s.wait_count; last = s.wait_last })
 
 -- an allocation over TCP needs a client over TCP (RFC 6062, section 4.1)
 abbrev pub plan_of : Settings → Option Plan
 plan_of s = do
-  ends ← ends_of s
-  request ← request_of s
+  ends ← c_ends s
+  request ← c_requested s
   _ ← relayed_for ends.transport request.allocation
-  Some (record { ends = ends; request = request; waits = waits_of s; max_stale_nonces = s.max_stale_nonces })
+  Some (record { ends = ends; request = request; waits = c_waits s; max_stale_nonces = s.max_stale_nonces })

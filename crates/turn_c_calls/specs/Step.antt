@@ -6,9 +6,9 @@ use Rattle.turn_client_api.specs.declared.call.Call.{Call}
 use Rattle.turn_client_api.specs.declared.call.Call.TheVariants as Calls
 use Rattle.turn_client_proto.specs.Run.{step}
 use Rattle.turn_client_proto.specs.declared.runs.reply.Reply.{Reply}
-use Rattle.turn_c_calls.specs.Answer.{answer_to, bytes_in, of_kind}
+use Rattle.turn_c_calls.specs.Answer.{answer_to, reply_bytes, of_kind}
 use Rattle.turn_c_calls.specs.Held.{Held}
-use Rattle.turn_c_calls.specs.Judge.{fault_code, judged}
+use Rattle.turn_c_calls.specs.Judge.{fault_code, request_judged}
 use Rattle.turn_c_calls.specs.Request.{call_in, index_in}
 use Rattle.turn_c_calls.specs.Buffer.{PointsIfAny, Puts, PutsIfAny}
 use Rattle.turn_c_calls.specs.declared.answer.Answer.{Answer}
@@ -26,8 +26,8 @@ passed_in call = []
 -- passed in. Of a list it says the address at an index.
 abbrev pub Shows : Reply → ℕ → List ℕ → List ℕ → List ℕ → List ℕ → List ℕ → Answer → Answer → Type 0
 Shows reply index passed was buffer after unread a b =
-    PutsIfAny (bytes_in reply) was (answer_to index reply a) buffer after unread b
-    ⊎ PointsIfAny (bytes_in reply) passed was (answer_to index reply a) buffer after unread b
+    PutsIfAny (reply_bytes reply) was (answer_to index reply a) buffer after unread b
+    ⊎ PointsIfAny (reply_bytes reply) passed was (answer_to index reply a) buffer after unread b
 
 -- The call was made: the client is in the state after its step, and the answer says its reply.
 pub record IsMade (call : Call) (index : ℕ) (was now : Held) (buffer after : List ℕ) (a b : Answer) : Type 0 where
@@ -75,5 +75,5 @@ Finishes (Ok operation) bytes was now buffer after a b = Answers (call_in operat
 -- the answer before and after.
 abbrev pub Steps : Request → List ℕ → Held → Held → List ℕ → List ℕ → Answer → Answer → Type 0
 Steps request bytes was now buffer after a b =
-    Finishes (judged was.client.config.allocation_transport request (nat_lt 0 (length was.unread)) (length bytes) (length buffer))
+    Finishes (request_judged was.client.config.allocation_transport request (nat_lt 0 (length was.unread)) (length bytes) (length buffer))
     bytes was now buffer after a b

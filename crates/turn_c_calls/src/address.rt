@@ -3,7 +3,7 @@
 ghost use Rattle.std.specs.Prelude.{◌≡◌, Some};
 ghost use Rattle.std.specs.Net.Addr.{IsIpv6Addr, ipv6_octets};
 ghost use Rattle.turn_lines.specs.Address.{with_port};
-ghost use Rattle.turn_c_calls.specs.Address.{address_of, address_of_ip, ip_at, no_address, socket_at, transport_code, transport_of};
+ghost use Rattle.turn_c_calls.specs.Address.{c_address, address_of_ip, ip_at, no_address, socket_at, transport_code, c_transport};
 
 use crate::code::{IPV4, IPV6, NO_FAMILY, TCP, UDP};
 use std::net::{IpAddr, Ipv4Addr, Ipv6Addr, SocketAddr, SocketAddrV4, SocketAddrV6};
@@ -29,11 +29,11 @@ pub struct Address {
 
 impl Address {
     ghost use Rattle.std.specs.Prelude.{◌≡◌, Some};
-    ghost use Rattle.turn_c_calls.specs.Address.{address_of, address_of_ip, socket_at};
+    ghost use Rattle.turn_c_calls.specs.Address.{c_address, address_of_ip, socket_at};
 
     /// Becomes this address. It is written in place, so that no copy of it is made.
     pub fn set(&mut self, addr: &SocketAddr)
-        ensures value { self.new ≡ address_of addr.now }
+        ensures value { self.new ≡ c_address addr.now }
         // It is read again as it was.
         ensures again { socket_at self.new ≡ Some addr.now }
     {
@@ -66,7 +66,7 @@ pub fn no_address() -> Address
 }
 
 fn address_of_v4(addr: SocketAddrV4) -> Address
-    ensures value { result ≡ address_of (SocketAddr.V4 addr) }
+    ensures value { result ≡ c_address (SocketAddr.V4 addr) }
     ensures again { socket_at result ≡ Some (SocketAddr.V4 addr) }
 {
     let [a, b, c, d] = addr.ip().octets();
@@ -81,7 +81,7 @@ fn address_of_v4(addr: SocketAddrV4) -> Address
 }
 
 fn address_of_v6(addr: SocketAddrV6) -> Address
-    ensures value { result ≡ address_of (SocketAddr.V6 addr) }
+    ensures value { result ≡ c_address (SocketAddr.V6 addr) }
     ensures again { socket_at result ≡ Some (SocketAddr.V6 addr) }
 {
     Address {
@@ -132,7 +132,7 @@ pub fn ip_at(address: &Address) -> Option<IpAddr>
 /// The number of a transport.
 pub fn transport_code(transport: TransportType) -> u32
     ensures value { result ≡ transport_code transport }
-    ensures again { transport_of result ≡ Some transport }
+    ensures again { c_transport result ≡ Some transport }
 {
     match transport {
         TransportType::Udp => UDP,
@@ -141,8 +141,8 @@ pub fn transport_code(transport: TransportType) -> u32
 }
 
 /// The transport of this number, or none if it is neither 0 nor 1.
-pub fn transport_of(code: u32) -> Option<TransportType>
-    ensures { result ≡ transport_of code }
+pub fn c_transport(code: u32) -> Option<TransportType>
+    ensures { result ≡ c_transport code }
 {
     match code {
         UDP => Some(TransportType::Udp),

@@ -55,7 +55,7 @@ pub struct Answer {
 
 impl Answer {
     ghost use Rattle.std.specs.Prelude.{◌≡◌};
-    ghost use Rattle.turn_c_calls.specs.Address.{address_of, address_of_ip};
+    ghost use Rattle.turn_c_calls.specs.Address.{c_address, address_of_ip};
     ghost use Rattle.turn_c_calls.specs.Answer.{IsPlain, answer_to, data_answer, event_answer, icmp_answer, packet_answer};
     ghost use Rattle.turn_c_calls.specs.Answer.{peer_answer, permission_answer, poll_answer, refusal_answer, relayed_answer};
 
@@ -248,7 +248,7 @@ impl Answer {
 
     /// An answer of this kind about a peer.
     fn set_peer(&mut self, kind: u32, transport: TransportType, peer: &SocketAddr)
-        ensures { self.new ≡ peer_answer kind transport (address_of peer.now) self.old }
+        ensures { self.new ≡ peer_answer kind transport (c_address peer.now) self.old }
     {
         self.kind = kind;
         self.transport = transport_code(transport);

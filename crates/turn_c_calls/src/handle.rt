@@ -2,7 +2,7 @@
 
 ghost use Rattle.std.specs.Prelude.{◌≡◌, ◌≤◌, ◌^◌, ℕ, List, Bool, nat_lt, length, IfErr, IfSome, OnOk};
 ghost use Rattle.turn_c_calls.specs.Arms.{Ends, EndsLook, EndsPlain, Lacks, LacksLook, LacksPlain, have_permission_answer, permissions_answer};
-ghost use Rattle.turn_c_calls.specs.Judge.{IsPossible, if_fits, judged, judged_as};
+ghost use Rattle.turn_c_calls.specs.Judge.{IsPossible, if_fits, request_judged, judged_as};
 ghost use Rattle.turn_c_calls.specs.Operation.{PollRecv, PollTransmit};
 ghost use Rattle.turn_c_calls.specs.Request.{peer_ip_of, relayed_of};
 
@@ -10,8 +10,8 @@ use crate::answer::Answer;
 use crate::judge::Fault;
 use crate::make;
 use crate::request::{
-    Kind, Request, allocated_tcp_socket, bind_channel, create_permission, kind_of, peer_ip_of,
-    peer_of, relayed_of, tcp_closed, tcp_connect, time_of, tuple_of,
+    Kind, Request, allocated_tcp_socket, bind_channel, c_tuple, create_permission, kind_of,
+    peer_ip_of, peer_of, relayed_of, tcp_closed, tcp_connect, time_of,
 };
 use crate::unread::Unread;
 use std::alloc::Global;
@@ -46,10 +46,10 @@ pub fn handle<C: TurnClientApi>(
     answer: &mut Answer,
 ) -> Result<(), Fault>
     requires { (C.state client.old).config.allocation_transport ≡ relays }
-    ensures ok { OnOk result (Ends (judged (C.state client.old).config.allocation_transport request.now
+    ensures ok { OnOk result (Ends (request_judged (C.state client.old).config.allocation_transport request.now
         (nat_lt 0 (length unread.old)) (length bytes.now) (length buffer.old)) bytes.now
         (C.state client.old) (C.state client.new) unread.old unread.new buffer.old buffer.new answer.old answer.new) }
-    ensures err { IfErr result (λ fault. Lacks (judged (C.state client.old).config.allocation_transport request.now
+    ensures err { IfErr result (λ fault. Lacks (request_judged (C.state client.old).config.allocation_transport request.now
         (nat_lt 0 (length unread.old)) (length bytes.now) (length buffer.old)) fault bytes.now
         (C.state client.old) (C.state client.new) unread.old unread.new buffer.old buffer.new answer.old answer.new) }
 {
@@ -145,7 +145,7 @@ fn recv<C: TurnClientApi>(
         (nat_lt 0 (length unread.old)) (length bytes.now) (length buffer.old) Kind.Recv) fault bytes.now
         (C.state client.old) (C.state client.new) unread.old unread.new buffer.old buffer.new answer.old answer.new) }
 {
-    let Some(tuple) = tuple_of(request) else {
+    let Some(tuple) = c_tuple(request) else {
         return Err(Fault::Call);
     };
     if unread.is_left() {

@@ -4,7 +4,7 @@ ghost use Rattle.std.specs.Prelude.{◌≡◌, None, Ok, Some, IfOk, IfErr};
 ghost use Rattle.turn_client_proto.specs.Client.{state_of};
 ghost use Rattle.turn_stun.specs.declared.transport.TransportType.TheVariants.{Udp};
 ghost use Rattle.turn_lines.specs.Head.{credentials_with};
-ghost use Rattle.turn_c_calls.specs.Open.{IsNoUser, Refuses, config_of, limited, new_client, seed_of, session_of};
+ghost use Rattle.turn_c_calls.specs.Open.{IsNoUser, Refuses, config_of, limited, new_client, c_seed, session_of};
 
 use crate::code::{BAD_CREDENTIALS, BAD_SEED, BAD_SETTINGS, OUT_OF_MEMORY};
 use crate::session::Session;
@@ -76,7 +76,7 @@ pub fn new_session(
 {
     let plan = plan_of(settings).ok_or(OpenError::Settings)?;
     let credentials = credentials(alloc, user, password)?;
-    let seed = seed_of(seed).ok_or(OpenError::Seed)?;
+    let seed = c_seed(seed).ok_or(OpenError::Seed)?;
     let client = new_client(alloc, plan, credentials, seed)?;
     Ok(Session::new(client, plan.request.allocation))
 }
@@ -94,8 +94,8 @@ fn credentials(alloc: Global, user: &[u8], password: &[u8]) -> Result<TurnCreden
 }
 
 /// The seed, of 32 bytes.
-fn seed_of(seed: &[u8]) -> Option<[u8; 32]>
-    ensures { result ≡ seed_of seed.now }
+fn c_seed(seed: &[u8]) -> Option<[u8; 32]>
+    ensures { result ≡ c_seed seed.now }
 {
     <[u8; 32]>::try_from(seed).ok()
 }

@@ -4,9 +4,9 @@ ghost use Rattle.std.specs.Prelude.{◌≡◌, ◌^◌, ◌≤◌, IfSome};
 ghost use Rattle.std.specs.Option.{option_map};
 ghost use Rattle.turn_c_calls.specs.Judge.{IsPossible};
 ghost use Rattle.turn_c_calls.specs.Operation.{Plain};
-ghost use Rattle.turn_c_calls.specs.Request.{kind_of, local_at, operation_with, peer_ip_of, peer_of, relayed_of, time_of, tuple_of};
+ghost use Rattle.turn_c_calls.specs.Request.{kind_of, local_at, operation_with, peer_ip_of, peer_of, relayed_of, time_of, c_tuple};
 
-use crate::address::{Address, ip_at, socket_at, transport_of};
+use crate::address::{Address, c_transport, ip_at, socket_at};
 use crate::code::{
     ALLOCATED_TCP_SOCKET, BIND_CHANNEL, CREATE_PERMISSION, DELETE, HAVE_PERMISSION, NO_FAMILY,
     PERMISSIONS, POLL, POLL_EVENT, POLL_RECV, POLL_TRANSMIT, PROTOCOL_ERROR, READ, RECV,
@@ -126,29 +126,29 @@ pub fn kind_of(code: u32) -> Option<Kind>
 pub fn peer_of(request: &Request) -> Option<(TransportType, SocketAddr)>
     ensures { result ≡ peer_of request.now }
 {
-    Some((transport_of(request.transport)?, socket_at(&request.peer)?))
+    Some((c_transport(request.transport)?, socket_at(&request.peer)?))
 }
 
 /// The IP address of a peer and the transport to it, or none if either is invalid.
 pub fn peer_ip_of(request: &Request) -> Option<(TransportType, IpAddr)>
     ensures { result ≡ peer_ip_of request.now }
 {
-    Some((transport_of(request.transport)?, ip_at(&request.peer)?))
+    Some((c_transport(request.transport)?, ip_at(&request.peer)?))
 }
 
 /// A relayed address and what it is relayed over, or none if either is invalid.
 pub fn relayed_of(request: &Request) -> Option<(TransportType, SocketAddr)>
     ensures { result ≡ relayed_of request.now }
 {
-    Some((transport_of(request.transport)?, socket_at(&request.from)?))
+    Some((c_transport(request.transport)?, socket_at(&request.from)?))
 }
 
 /// The transport, the source and the destination, or none if one of them is invalid.
-pub fn tuple_of(request: &Request) -> Option<Socket5Tuple>
-    ensures { result ≡ tuple_of request.now }
+pub fn c_tuple(request: &Request) -> Option<Socket5Tuple>
+    ensures { result ≡ c_tuple request.now }
 {
     Some(Socket5Tuple {
-        transport: transport_of(request.transport)?,
+        transport: c_transport(request.transport)?,
         from: socket_at(&request.from)?,
         to: socket_at(&request.to)?,
     })
@@ -198,7 +198,7 @@ pub fn allocated_tcp_socket(now: Instant, request: &Request) -> Option<Call>
     ensures value { option_map Plain result ≡ operation_with now request.now Kind.AllocatedTcpSocket }
     ensures possible { IfSome result (IsPossible) }
 {
-    let five_tuple = tuple_of(request)?;
+    let five_tuple = c_tuple(request)?;
     let peer_addr = socket_at(&request.peer)?;
     let local_addr = local_at(&request.local)?;
     Some(Call::AllocatedTcpSocket {

@@ -2,10 +2,10 @@
 
 ghost use Rattle.std.specs.Prelude.{◌≡◌, IfSome};
 ghost use Rattle.turn_stun.specs.declared.transport.TransportType.TheVariants.{Udp};
-ghost use Rattle.turn_c_calls.specs.Settings.{algorithm_of, algorithms_of, families_of, family_of, feature_of};
-ghost use Rattle.turn_c_calls.specs.Settings.{ends_of, other_algorithm, other_family, plan_of, request_of, waits_of};
+ghost use Rattle.turn_c_calls.specs.Settings.{c_algorithm, c_algorithms, c_families, c_family, c_feature};
+ghost use Rattle.turn_c_calls.specs.Settings.{c_ends, other_algorithm, other_family, plan_of, c_requested, c_waits};
 
-use crate::address::{Address, socket_at, transport_of};
+use crate::address::{Address, c_transport, socket_at};
 use crate::code::{AUTO, DISABLED, NONE, REQUIRED, SHA1, SHA256, VERSION_4, VERSION_6};
 use turn_auth::feature::Feature;
 use turn_auth::integrity::IntegrityAlgorithm;
@@ -70,23 +70,23 @@ pub fn plan_of(settings: &Settings) -> Option<Plan>
     ensures value { result ≡ plan_of settings.now }
     ensures relays { IfSome result (λ plan. plan.ends.transport ≡ Udp → plan.request.allocation ≡ Udp) }
 {
-    let ends = ends_of(settings)?;
-    let request = request_of(settings)?;
+    let ends = c_ends(settings)?;
+    let request = c_requested(settings)?;
     match (ends.transport, request.allocation) {
         (TransportType::Udp, TransportType::Tcp) => None,
         _ => Some(Plan {
             ends,
             request,
-            waits: waits_of(settings),
+            waits: c_waits(settings),
             max_stale_nonces: settings.max_stale_nonces,
         }),
     }
 }
 
-fn ends_of(settings: &Settings) -> Option<Ends>
-    ensures { result ≡ ends_of settings.now }
+fn c_ends(settings: &Settings) -> Option<Ends>
+    ensures { result ≡ c_ends settings.now }
 {
-    let transport = transport_of(settings.transport)?;
+    let transport = c_transport(settings.transport)?;
     let local = socket_at(&settings.local)?;
     let remote = socket_at(&settings.remote)?;
     Some(Ends {
@@ -96,13 +96,13 @@ fn ends_of(settings: &Settings) -> Option<Ends>
     })
 }
 
-fn request_of(settings: &Settings) -> Option<Request>
-    ensures { result ≡ request_of settings.now }
+fn c_requested(settings: &Settings) -> Option<Request>
+    ensures { result ≡ c_requested settings.now }
 {
-    let allocation = transport_of(settings.relays)?;
-    let families = families_of(settings.family, settings.other_family)?;
-    let algorithms = algorithms_of(settings.algorithm, settings.other_algorithm)?;
-    let anonymous = feature_of(settings.anonymous)?;
+    let allocation = c_transport(settings.relays)?;
+    let families = c_families(settings.family, settings.other_family)?;
+    let algorithms = c_algorithms(settings.algorithm, settings.other_algorithm)?;
+    let anonymous = c_feature(settings.anonymous)?;
     Some(Request {
         allocation,
         families,
@@ -111,10 +111,10 @@ fn request_of(settings: &Settings) -> Option<Request>
     })
 }
 
-fn families_of(first: u32, other: u32) -> Option<(AddressFamily, Option<AddressFamily>)>
-    ensures { result ≡ families_of first other }
+fn c_families(first: u32, other: u32) -> Option<(AddressFamily, Option<AddressFamily>)>
+    ensures { result ≡ c_families first other }
 {
-    let first = family_of(first)?;
+    let first = c_family(first)?;
     let other = other_family(other)?;
     Some((first, other))
 }
@@ -125,11 +125,11 @@ fn other_family(code: u32) -> Option<Option<AddressFamily>>
     if code == NONE {
         return Some(None);
     }
-    Some(Some(family_of(code)?))
+    Some(Some(c_family(code)?))
 }
 
-fn family_of(code: u32) -> Option<AddressFamily>
-    ensures { result ≡ family_of code }
+fn c_family(code: u32) -> Option<AddressFamily>
+    ensures { result ≡ c_family code }
 {
     match code {
         VERSION_4 => Some(AddressFamily::IPV4),
@@ -138,10 +138,10 @@ fn family_of(code: u32) -> Option<AddressFamily>
     }
 }
 
-fn algorithms_of(first: u32, other: u32) -> Option<(IntegrityAlgorithm, Option<IntegrityAlgorithm>)>
-    ensures { result ≡ algorithms_of first other }
+fn c_algorithms(first: u32, other: u32) -> Option<(IntegrityAlgorithm, Option<IntegrityAlgorithm>)>
+    ensures { result ≡ c_algorithms first other }
 {
-    let first = algorithm_of(first)?;
+    let first = c_algorithm(first)?;
     let other = other_algorithm(other)?;
     Some((first, other))
 }
@@ -152,11 +152,11 @@ fn other_algorithm(code: u32) -> Option<Option<IntegrityAlgorithm>>
     if code == NONE {
         return Some(None);
     }
-    Some(Some(algorithm_of(code)?))
+    Some(Some(c_algorithm(code)?))
 }
 
-fn algorithm_of(code: u32) -> Option<IntegrityAlgorithm>
-    ensures { result ≡ algorithm_of code }
+fn c_algorithm(code: u32) -> Option<IntegrityAlgorithm>
+    ensures { result ≡ c_algorithm code }
 {
     match code {
         SHA1 => Some(IntegrityAlgorithm::Sha1),
@@ -165,8 +165,8 @@ fn algorithm_of(code: u32) -> Option<IntegrityAlgorithm>
     }
 }
 
-fn feature_of(code: u32) -> Option<Feature>
-    ensures { result ≡ feature_of code }
+fn c_feature(code: u32) -> Option<Feature>
+    ensures { result ≡ c_feature code }
 {
     match code {
         AUTO => Some(Feature::Auto),
@@ -176,8 +176,8 @@ fn feature_of(code: u32) -> Option<Feature>
     }
 }
 
-fn waits_of(settings: &Settings) -> Option<Waits>
-    ensures { result ≡ waits_of settings.now }
+fn c_waits(settings: &Settings) -> Option<Waits>
+    ensures { result ≡ c_waits settings.now }
 {
     if settings.has_waits == NONE {
         return None;

@@ -60,7 +60,7 @@ fn whole_of(kept: &Option<Kept>) -> &[u8]
 
 impl Unread {
     ghost use Rattle.std.specs.Prelude.{◌≡◌, [], length, min, drop, nat_lt};
-    ghost use Rattle.turn_c_calls.specs.Buffer.{filled};
+    ghost use Rattle.turn_c_calls.specs.Buffer.{buffer_filled};
     ghost use Rattle.turn_c_calls.specs.Unread.{kept_bytes};
 
     /// No bytes.
@@ -97,7 +97,7 @@ impl Unread {
     /// Writes as many of the bytes as fit to the start of the buffer, and returns how many these are. The others are left.
     pub fn read(&mut self, buffer: &mut [u8]) -> usize
         ensures count { result ≡ min (length buffer.old) (length self.old) }
-        ensures buffer { buffer.new ≡ filled self.old buffer.old }
+        ensures buffer { buffer.new ≡ buffer_filled self.old buffer.old }
         ensures left { self.new ≡ drop (length buffer.old) self.old }
     {
         let bytes = whole_of(&self.kept);
@@ -110,7 +110,7 @@ impl Unread {
     /// Keeps these bytes instead of what was left, and reads the first of them.
     pub fn keep(&mut self, kept: Kept, buffer: &mut [u8]) -> usize
         ensures count { result ≡ min (length buffer.old) (length (kept_bytes kept)) }
-        ensures buffer { buffer.new ≡ filled (kept_bytes kept) buffer.old }
+        ensures buffer { buffer.new ≡ buffer_filled (kept_bytes kept) buffer.old }
         ensures left { self.new ≡ drop (length buffer.old) (kept_bytes kept) }
     {
         *self = Unread {

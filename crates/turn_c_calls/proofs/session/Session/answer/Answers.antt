@@ -3,7 +3,7 @@ use Rattle.std.specs.Prelude.{nat_lt}
 use Rattle.turn_client_proto.specs.Client.{state_of}
 use Rattle.turn_c_calls.specs.Answer.{of_kind}
 use Rattle.turn_c_calls.specs.Held.{held}
-use Rattle.turn_c_calls.specs.Judge.{judged}
+use Rattle.turn_c_calls.specs.Judge.{request_judged}
 use Rattle.turn_c_calls.specs.Step.{Finishes}
 use Rattle.turn_c_calls.specs.declared.answer.Answer.{Answer}
 use Rattle.turn_c_calls.proofs.EndLemmas.{finished, handled_kept, refused}
@@ -21,7 +21,7 @@ returns c =
     let was = state_of c.self.inside.client in
     let now = state_of c.handle.new.client in
     let unread = c.self.inside.unread in
-    let judgement = judged was.config.allocation_transport c.args.request.now (nat_lt 0 (length unread)) (length c.args.bytes.now) (length c.args.buffer.now) in
+    let judgement = request_judged was.config.allocation_transport c.args.request.now (nat_lt 0 (length unread)) (length c.args.bytes.now) (length c.args.buffer.now) in
     let Ended = λ (last : Answer).
     Finishes judgement c.args.bytes.now (held was unread) (held now c.handle.new.unread) c.args.buffer.now c.handle.new.buffer c.args.answer.now last in
     rw (← c.self.view_is) (elim c.match-handle.branch [
