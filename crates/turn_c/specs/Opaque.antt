@@ -14,7 +14,7 @@ use Rattle.turn_c_calls.specs.declared.answer.Answer.{Answer}
 use Rattle.turn_c_calls.specs.declared.request.Request.{Request}
 use Rattle.turn_c_calls.specs.declared.settings.Settings.{Settings}
 use Rattle.turn_c_calls.specs.contracts.session.Session.{the_row}
-use Rattle.turn_c.specs.Starts.{IsStarted, IsRefused}
+use Rattle.turn_c.specs.Starts.{IsStarted, NewIsRefused}
 
 -- `Global` takes no bytes, so there is one
 abbrev pub heap : Global
@@ -36,13 +36,13 @@ abbrev pub new_at : Settings → List ℕ → List ℕ → List ℕ → Ptr → 
 new_at settings user password seed before after zero =
     fex Held (λ session. fsep (holds_at after session) (fex (IsStarted settings user password seed session) (λ _. ftrue)))
 new_at settings user password seed before after (suc n) =
-    fex (IsRefused settings user password seed (suc n) × (after ≡ before)) (λ _. ftrue)
+    fex (NewIsRefused settings user password seed (suc n) × (after ≡ before)) (λ _. ftrue)
 
 -- what a request does, and the kind of its answer
-abbrev pub Does : Request → List ℕ → Held → Held → List ℕ → List ℕ → Answer → Answer → ℕ → Type 0
-Does request bytes was now buffer after a b kind = Steps request bytes was now buffer after a b × (kind ≡ b.kind)
+abbrev pub CallDoes : Request → List ℕ → Held → Held → List ℕ → List ℕ → Answer → Answer → ℕ → Type 0
+CallDoes request bytes was now buffer after a b kind = Steps request bytes was now buffer after a b × (kind ≡ b.kind)
 
 -- the same box, at what the request makes of its value
 abbrev pub kept_at : Ptr → Held → Request → List ℕ → List ℕ → List ℕ → Answer → Answer → ℕ → Fml
 kept_at p was request bytes buffer after a b kind =
-    fex Held (λ now. fsep (holds_at p now) (fex (Does request bytes was now buffer after a b kind) (λ _. ftrue)))
+    fex Held (λ now. fsep (holds_at p now) (fex (CallDoes request bytes was now buffer after a b kind) (λ _. ftrue)))

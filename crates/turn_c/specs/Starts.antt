@@ -18,10 +18,10 @@ IsNumberOf (Ok _) code = ⊥
 IsNumberOf (Err fault) code = code ≡ error_code fault
 
 -- memory allocation failed, or this is the number of the first error in the request
-abbrev pub IsRefused : Settings → List ℕ → List ℕ → List ℕ → ℕ → Type 0
-IsRefused settings user password seed code = (code ≡ OUT_OF_MEMORY) ⊎ IsNumberOf (session_of settings user password seed) code
+abbrev pub NewIsRefused : Settings → List ℕ → List ℕ → List ℕ → ℕ → Type 0
+NewIsRefused settings user password seed code = (code ≡ OUT_OF_MEMORY) ⊎ IsNumberOf (session_of settings user password seed) code
 
 -- a session in a box, or the number of the error
 abbrev pub Starts : Settings → List ℕ → List ℕ → List ℕ → Result (Box Held Global) ℕ → Type 0
 Starts settings user password seed (Ok session) = IsStarted settings user password seed session.value
-Starts settings user password seed (Err code) = IsRefused settings user password seed code
+Starts settings user password seed (Err code) = NewIsRefused settings user password seed code

@@ -16,15 +16,15 @@ use Rattle.turn_client_api.specs.declared.state.Mode.{Mode}
 use Rattle.turn_client_api.specs.declared.state.Mode.TheVariants.{Control, Waiting, Bound, Broken}
 use Rattle.turn_client_api.specs.declared.state.Stream.{Stream}
 use Rattle.turn_client_laws.proofs.TurnFrameLemmas.{bytes-twice}
-use Rattle.turn_client_streams.specs.Buffered.{front_frame, is_control, passed}
+use Rattle.turn_client_streams.specs.Buffered.{front_frame, is_control_mode, passed}
 use Rattle.turn_client_streams.specs.Held.{control_passed, control_stream}
-use Rattle.turn_client_core.specs.ControlData.{IsControlFront, channel_data, control_data, control_ended, sent_from, stream_data}
+use Rattle.turn_client_core.specs.ControlData.{IsControlFront, channel_data, control_data, control_ended, data_from, stream_data}
 use Rattle.turn_client_core.specs.StreamSteps.{owned_payload}
 use Rattle.turn_client_core.proofs.TurnLemmas.{first-Rests, framed-some, rests-some, stays-led}
 
 -- ---- the control stream
 
-is-control : (m : Mode) → is_control m ≡ true → m ≡ Control
+is-control : (m : Mode) → is_control_mode m ≡ true → m ≡ Control
 is-control Control e = refl
 is-control Waiting e = cc
 is-control (Bound peer) e = cc
@@ -81,9 +81,9 @@ given s payload e = by (control_stream s.streams) refl e
 first-ready : (xs : List Stream) (stream : Stream) (frame : List ℕ) → control_stream xs ≡ Some stream → front_frame stream ≡ Some frame
     → (find is_ready xs ≡ Some stream) × (stream.mode ≡ Control)
 first-ready [] stream frame e front = cc
-first-ready (x ∷ xs) stream frame e front = by (is_control x.mode) refl
+first-ready (x ∷ xs) stream frame e front = by (is_control_mode x.mode) refl
   where
-    by : (b : Bool) → is_control x.mode ≡ b → (find is_ready (x ∷ xs) ≡ Some stream) × (stream.mode ≡ Control)
+    by : (b : Bool) → is_control_mode x.mode ≡ b → (find is_ready (x ∷ xs) ≡ Some stream) × (stream.mode ≡ Control)
     by true f =
         let found : Some x ≡ Some stream = rw f at e in
         let same : x ≡ stream = cc in
@@ -174,7 +174,7 @@ channel-none s frame channel is e =
     by false at = rw at refl
 
 pub channel-data : (s : State) (frame : List ℕ) (channel : Channel) (peer : SocketAddr) → channel ≡ channel_data_at frame → begins_message frame ≡ false
-    → first_in (channel_peer channel.id) s ≡ Some peer → Some (sent_from s peer channel.payload) ≡ channel_data s frame
+    → first_in (channel_peer channel.id) s ≡ Some peer → Some (data_from s peer channel.payload) ≡ channel_data s frame
 channel-data s frame channel peer is begins e =
     let at : first_in (channel_peer (channel_data_at frame).id) s ≡ Some peer = subst (λ channel. first_in (channel_peer channel.id) s ≡ Some peer) is e in
     rw (begins, is, at) refl

@@ -33,8 +33,8 @@ abbrev pub control_ended : State → State
 control_ended s = option_map_or (λ stream. closed (broken_at stream.local s)) (control_stream s.streams) s
 
 -- these bytes of the peer, owned
-abbrev pub sent_from : State → SocketAddr → List ℕ → Payload
-sent_from s peer bytes = record { transport = s.config.allocation_transport; peer = peer; bytes = bytes; place = None }
+abbrev pub data_from : State → SocketAddr → List ℕ → Payload
+data_from s peer bytes = record { transport = s.config.allocation_transport; peer = peer; bytes = bytes; place = None }
 
 -- the first frame of the control stream is whole, and has so many bytes
 abbrev pub IsControlFront : ℕ → State → Type 0

@@ -12,7 +12,7 @@ use Rattle.turn_client_laws.proofs.AddressLemmas.{same_address-true, same_addres
 use Rattle.turn_client_laws.proofs.StreamApartLemmas.{differ-sym, ends, IsNoneOf}
 use Rattle.turn_client_api.specs.State.{State}
 use Rattle.turn_types.specs.Frames.{frame_len}
-use Rattle.turn_client_streams.specs.Buffered.{is_control, passed, with_content}
+use Rattle.turn_client_streams.specs.Buffered.{is_control_mode, passed, with_content}
 use Rattle.turn_client_streams.specs.Held.{HasOwnEnds, control_passed, control_stream, with_streams}
 
 abbrev pub is_at : SocketAddr → Stream → Bool
@@ -109,9 +109,9 @@ pub passed-control : (xs : List Stream) (d : Stream) (len : ℕ) (s : State) →
     → option_map (λ (x : Stream). frame_len x.bytes) (control_stream xs) ≡ Some (Some len)
     → with_streams (set xs 0 (passed (get_or xs 0 d))) s ≡ control_passed (with_streams xs s)
 passed-control [] d len s h e = cc
-passed-control (x ∷ xs) d len s h e = by (is_control x.mode) refl
+passed-control (x ∷ xs) d len s h e = by (is_control_mode x.mode) refl
   where
-    by : (b : Bool) → is_control x.mode ≡ b → with_streams (passed x ∷ xs) s ≡ control_passed (with_streams (x ∷ xs) s)
+    by : (b : Bool) → is_control_mode x.mode ≡ b → with_streams (passed x ∷ xs) s ≡ control_passed (with_streams (x ∷ xs) s)
     by true f =
         rw (f, ← passed-is x)
         (ap (λ ys. with_streams ys s) (set-at_end (with_content (passed x).bytes) (x ∷ xs) 0 x h refl))

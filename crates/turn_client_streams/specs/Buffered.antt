@@ -15,9 +15,9 @@ abbrev pub meant : Mode → Stream → Stream
 meant mode stream = record stream { mode = mode }
 
 -- its bytes are frames of the control connection
-abbrev pub is_control : Mode → Bool
-is_control Control = true
-is_control _ = false
+abbrev pub is_control_mode : Mode → Bool
+is_control_mode Control = true
+is_control_mode _ = false
 
 -- nothing more is read from it, and the buffered bytes are dropped
 abbrev pub broken : Stream → Stream

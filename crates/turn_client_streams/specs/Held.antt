@@ -6,7 +6,7 @@ use Rattle.turn_agent.specs.Agent.{same_address}
 use Rattle.turn_client_api.specs.State.{State}
 use Rattle.turn_client_api.specs.Streams.{with_bytes}
 use Rattle.turn_client_api.specs.declared.state.Stream.{Stream}
-use Rattle.turn_client_streams.specs.Buffered.{is_control, passed}
+use Rattle.turn_client_streams.specs.Buffered.{is_control_mode, passed}
 
 -- the client with these streams
 abbrev pub with_streams : List Stream → State → State
@@ -20,7 +20,7 @@ taken_out (Some stream) s = with_bytes stream.local [] s
 -- the stream of the control connection, if it is the first one and not broken
 abbrev pub control_stream : List Stream → Option Stream
 control_stream [] = None
-control_stream (stream ∷ later) = if is_control stream.mode then Some stream else None
+control_stream (stream ∷ later) = if is_control_mode stream.mode then Some stream else None
 
 -- its first frame is dropped
 abbrev pub control_passed : State → State

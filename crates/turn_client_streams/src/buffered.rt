@@ -3,7 +3,7 @@
 ghost use Rattle.std.specs.Prelude.{◌≡◌, ◌<◌, ◌↔◌, ◌++◌, [], false, length, IsNone, IsTrue, OnOk, OnErr, Some, option_copied};
 ghost use Rattle.turn_types.specs.Frames.{begins_no_frame, frame_len};
 ghost use Rattle.turn_client_api.specs.Streams.{HoldsLittle, is_ready};
-ghost use Rattle.turn_client_streams.specs.Buffered.{broken, front_frame, is_control, with_content, meant, passed};
+ghost use Rattle.turn_client_streams.specs.Buffered.{broken, front_frame, is_control_mode, with_content, meant, passed};
 
 mod incoming;
 
@@ -66,7 +66,7 @@ impl BufferedStream {
 
     /// Whether its bytes are frames of the control connection.
     pub(crate) fn is_control(&self) -> bool
-        ensures { result ≡ is_control self.now.mode }
+        ensures { result ≡ is_control_mode self.now.mode }
     {
         matches!(self.mode, Mode::Control)
     }

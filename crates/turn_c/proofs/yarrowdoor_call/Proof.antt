@@ -39,7 +39,7 @@ use Rattle.turn_c_calls.specs.contracts.answer.Answer as Answer
 use Rattle.turn_c_calls.specs.Step.{Steps}
 use Rattle.turn_c_calls.specs.contracts.library.step as g
 use Rattle.turn_c_calls.proofs.library.step.Met.{met}
-use Rattle.turn_c.specs.Opaque.{Does, freeable, holds_at}
+use Rattle.turn_c.specs.Opaque.{CallDoes, freeable, holds_at}
 use Rattle.turn_c.proofs.Opaque.{gave_all, Goes-gave_all, lent_out, comes_in}
 use Rattle.turn_c.specs.contracts.yarrowdoor_call as f
 use Rattle.turn_c.proofs.yarrowdoor_call.Statement.{statement}
@@ -102,6 +102,6 @@ yarrowdoor_call_spec 𝓤 𝓛 𝓜 𝓡 wired =
     returns ! (look_at ! 0 refl) $ free_all ! refl $
     -- [the result; the session; the others; the tokens; the right to free]
     move ! (1 ∷ 4 ∷ []) $ fjoin ! $ nothing ! $ fpack ! (Says ws × IsKind r ws) (λ _. ftrue) (said, kind) $ move ! (1 ∷ 0 ∷ []) $ fjoin ! $
-    fpack ! R.Denot (λ now. fsep (holds_at (block_ptr b o) now) (fex (Does request.now bytes.now was now buffer.now ws.1.1.1.1.0 answer.now ws.1.1.1.1.1.0 r) (λ _. ftrue))) ws.0 $
+    fpack ! R.Denot (λ now. fsep (holds_at (block_ptr b o) now) (fex (CallDoes request.now bytes.now was now buffer.now ws.1.1.1.1.0 answer.now ws.1.1.1.1.1.0 r) (λ _. ftrue))) ws.0 $
     move ! (2 ∷ []) $ nothing ! $ fjoin ! $ move ! (3 ∷ 0 ∷ 2 ∷ 1 ∷ []) $
     by ! (leaves 𝓛 f.ended stayed c (y (block_ptr b o)) v r (tt, ws.1) (tt, (tt, (tt, (tt, (tt, (tt, tt))))))))))))))))))

@@ -2,7 +2,7 @@
 //! 12.6).
 
 ghost use Rattle.std.specs.Prelude.{◌≡◌, IfOk, IfSome, IsSome, OnErr, OnOk, Some, option_map};
-ghost use Rattle.turn_client_core.specs.ControlData.{IsControlFront, control_data, control_ended, data_passed, sent_from};
+ghost use Rattle.turn_client_core.specs.ControlData.{IsControlFront, control_data, control_ended, data_passed, data_from};
 ghost use Rattle.turn_client_core.specs.StreamSteps.{received_payload};
 ghost use Rattle.turn_client_streams.specs.Held.{control_passed};
 
@@ -60,7 +60,7 @@ impl TurnClientProtocol {
 
     /// The first frame of the control stream, if it is such a message.
     fn channel_frame(&self) -> Option<ChannelFrame<'_>>
-        ensures payload { option_map (λ frame. sent_from self.now frame.peer frame.payload.now) result ≡ control_data self.now }
+        ensures payload { option_map (λ frame. data_from self.now frame.peer frame.payload.now) result ≡ control_data self.now }
         ensures front { IfSome result (λ frame. IsControlFront frame.len self.now) }
     {
         let Some(stream) = self.streams.control() else {
