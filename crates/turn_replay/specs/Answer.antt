@@ -1,9 +1,10 @@
 -- What a run of the program reads and writes.
-use Rattle.std.specs.Prelude.{◌≡◌, ℕ, ◌≤◌, ◌⊎◌, Bool, false, List, ◌++◌, length, take, codes, Option, IfSome, Result, Ok, Err, ⊤}
-use Rattle.std.specs.Io.KnownBytes.{Appends, Consumes, IsAtEnd}
+use Rattle.std.specs.Prelude.{◌≡◌, ℕ, ◌≤◌, Bool, false, List, ◌++◌, length, take, codes, Option, IfSome, Result, Ok, Err}
+use Rattle.std.specs.Io.KnownBytes.{Consumes, IsAtEnd}
 use Rattle.turn_client_api.specs.declared.call.Call.{Call}
 use Rattle.turn_lines.specs.Answered.{answered_text}
 use Rattle.turn_lines.specs.Text.{bad_text}
+use Rattle.turn_lines.specs.Write.{PrintsText}
 use Rattle.turn_replay.specs.Trace.{trace_of}
 use Rattle.turn_lines.specs.declared.fault.BadLine.{BadLine}
 use Rattle.turn_lines.specs.declared.head.Head.{Head}
@@ -37,18 +38,21 @@ answer_of (Err bad) = (Malformed, bad_text bad)
 abbrev pub answer_to : List ℕ → Status × List ℕ
 answer_to trace = answer_of (trace_of trace)
 
--- the bytes read were answered, and nothing else was written
-abbrev pub Answers : Option (List ℕ) → Option (List ℕ) → Option (List ℕ) → Option (List ℕ) → Status → Type 0
-Answers input left old new status = IfSome input (λ bytes.
-    Consumes input left (trace_bytes bytes)
-    × (status ≡ (answer_to (trace_bytes bytes)).0)
-    × Appends old new (answer_to (trace_bytes bytes)).1)
+-- these are the status and the text that answer the bytes that were read
+abbrev pub Answers : Option (List ℕ) → Option (List ℕ) → Status → List ℕ → Type 0
+Answers input left status text =
+    IfSome input (λ bytes. Consumes input left (trace_bytes bytes) × ((status, text) ≡ answer_to (trace_bytes bytes)))
 
--- What a run of the program does, by how it ends. `input` is the content of the reader before, `left` after; `old`
--- is the content of the writer before, `new` after, where these are known.
+-- The text that a run prints, by the status that it has if all of it can be written. `input` is the content of the
+-- reader before, `left` after, where these are known.
+abbrev pub Says : Option (List ℕ) → Option (List ℕ) → Status → List ℕ → Type 0
+Says input left Answered text = Answers input left Answered text
+Says input left Malformed text = Answers input left Malformed text
+Says input left OutOfMemory text = text ≡ codes "no memory\n"
+Says input left ReadFailed text = text ≡ codes "read failed\n"
+Says input left WriteFailed text = ⊥
+
+-- What a run of the program does: it prints a text, and nothing else, or a prefix of it if the writer fails. `old` is
+-- the content of the writer before, `new` after, where these are known.
 abbrev pub Runs : Option (List ℕ) → Option (List ℕ) → Option (List ℕ) → Option (List ℕ) → Status → Type 0
-Runs input left old new Answered = Answers input left old new Answered
-Runs input left old new Malformed = Answers input left old new Malformed
-Runs input left old new OutOfMemory = Appends old new (codes "no memory\n")
-Runs input left old new ReadFailed = Appends old new (codes "read failed\n")
-Runs input left old new WriteFailed = ⊤
+Runs input left old new status = (said : Status) × (text : List ℕ) × Says input left said text × PrintsText old new said text status
