@@ -233,7 +233,7 @@ uint32_t yarrowdoor_new(const yarrowdoor_settings *settings, const uint8_t *user
 uint32_t yarrowdoor_call(yarrowdoor *client, const yarrowdoor_request *request, const uint8_t *bytes, size_t bytes_len,
                          uint8_t *buffer, size_t buffer_len, yarrowdoor_answer *answer);
 
-/* Frees a client. It sends nothing: yarrowdoor_delete gives the allocations back to the server before. */
+/* Frees a client, which is not NULL. It sends nothing: yarrowdoor_delete gives the allocations back to the server before. */
 void yarrowdoor_free(yarrowdoor *client);
 
 #ifdef __cplusplus
@@ -332,7 +332,7 @@ enum yarrowdoor_request_kind {
     YARROWDOOR_CALL_READ = 17
 };
 
-/* A request of this kind at this time, with all other numbers 0 and no addresses. */
+/* A request of this kind at this time, with its other numbers 0 and no addresses: of these only the family is set. */
 static inline yarrowdoor_request yarrowdoor_request_of(uint32_t kind, uint64_t now)
 {
     yarrowdoor_request request;

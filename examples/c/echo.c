@@ -14,11 +14,11 @@
 #include <yarrowdoor.h>
 
 static yarrowdoor *client;
-static int connection;
+static int connection, is_echoed;
 static yarrowdoor_address local, server, peer;
 static const char *text;
 /* A packet to send, or the data of a packet that was received in pieces. */
-static uint8_t buffer[65556];
+static uint8_t buffer[YARROWDOOR_MAX_PACKET];
 
 static void stop(const char *why)
 {
@@ -74,7 +74,7 @@ static void make_client(const char *user, const char *password)
     }
 }
 
-/* A packet that is lost, or that the socket does not take, is retransmitted by the client. */
+/* A request that is lost, or that the socket does not take, is retransmitted by the client; data is not. */
 static void send_packet(const yarrowdoor_answer *packet)
 {
     if (send(connection, buffer, packet->len, 0) < 0) {
@@ -84,7 +84,7 @@ static void send_packet(const yarrowdoor_answer *packet)
 
 static void send_text(void)
 {
-    static uint8_t place[65556];
+    static uint8_t place[YARROWDOOR_MAX_PACKET];
     yarrowdoor_answer packet;
     size_t len = strlen(text) < 1000 ? strlen(text) : 1000;
     if (yarrowdoor_send_to(client, YARROWDOOR_UDP, &peer, (const uint8_t *)text, len, now(), place, sizeof place,
@@ -102,6 +102,7 @@ static void handle_event(const yarrowdoor_answer *event)
     switch (event->kind) {
     case YARROWDOOR_ALLOCATION_CREATED:
         printf("relayed at port %d\n", event->peer.port);
+        fflush(stdout);
         yarrowdoor_create_permission(client, YARROWDOOR_UDP, &peer, now(), &answer);
         break;
     case YARROWDOOR_PERMISSION_CREATED:
@@ -123,6 +124,7 @@ static void handle_data(const uint8_t *data, size_t len)
 {
     yarrowdoor_answer answer;
     printf("%.*s\n", (int)len, (const char *)data);
+    is_echoed = 1;
     yarrowdoor_delete(client, now(), &answer);
 }
 
@@ -146,6 +148,9 @@ static uint64_t drive(void)
             break;
         case YARROWDOOR_CLOSED:
             yarrowdoor_free(client);
+            if (!is_echoed) {
+                stop("no answer, or a wrong user name or password");
+            }
             exit(0);
         case YARROWDOOR_OUT_OF_MEMORY:
             stop("out of memory");
