@@ -1,7 +1,7 @@
 //! What is read from a table.
 
 ghost use Rattle.std.specs.Prelude.{◌≡◌, ◌==◌, ◌<◌, ◌&&◌, All, map, filter, filter_map, find, fold, length, min, nat_le, nat_lt, not, option_map};
-ghost use Rattle.std.specs.Prelude.{option_to_list, reverse, slice_get, false, true, IfSome};
+ghost use Rattle.std.specs.Prelude.{option_copied, option_to_list, reverse, slice_get, false, true, IfSome};
 ghost use Rattle.std.specs.List.{list_all, list_any};
 ghost use Rattle.turn_agent.specs.Agent.{same_address};
 ghost use Rattle.turn_client_api.specs.Addresses.{permitted_left, permitted_in_use, relayed_left, relayed_in_use};
@@ -159,8 +159,8 @@ impl GrantTable {
     }
 
     /// The peer of the active channel with this number.
-    pub fn channel_peer(&self, number: u16) -> Option<SocketAddr>
-        ensures { (s : State) → result ≡ first_in (channel_peer number) (with_table self.now s) }
+    pub fn channel_peer(&self, number: u16) -> Option<&SocketAddr>
+        ensures { (s : State) → option_copied result ≡ first_in (channel_peer number) (with_table self.now s) }
     {
         if self.grants.len() <= FEW {
             return reads::channel_peer(self.grants.as_slice(), number);
@@ -383,11 +383,11 @@ fn progress_in(number: u16, grant: &Grant) -> Option<Progress>
 }
 
 /// The peer of the grant, if it is the active channel with this number.
-fn peer_in(number: u16, grant: &Grant) -> Option<SocketAddr>
-    ensures { result ≡ channel_peer number grant.now }
+fn peer_in(number: u16, grant: &Grant) -> Option<&SocketAddr>
+    ensures { option_copied result ≡ channel_peer number grant.now }
 {
     match grant {
-        Grant::Channel(other, peer, Progress::Active(_)) if *other == number => Some(*peer),
+        Grant::Channel(other, peer, Progress::Active(_)) if *other == number => Some(peer),
         _ => None,
     }
 }

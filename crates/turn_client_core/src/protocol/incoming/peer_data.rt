@@ -81,6 +81,7 @@ impl TurnClientProtocol {
 
     /// The result of the ChannelData message at the start of these bytes: data of the peer whose active
     /// channel has the number, in any phase. Allocates no memory.
+    #[inline(always)]
     pub(crate) fn channel_sent(&self, bytes: &[u8], frame: &ChannelData<'_>) -> TurnProtocolRecv
         requires frame { frame.now ≡ channel_data_at bytes.now }
         requires whole { 4 + length frame.now.payload ≤ length bytes.now }
@@ -90,7 +91,7 @@ impl TurnClientProtocol {
         match self.ledger.table().channel_peer(frame.id()) {
             Some(peer) => TurnProtocolRecv::PeerData(
                 self.ledger.transport(),
-                peer,
+                *peer,
                 4..4 + frame.data().len(),
             ),
             None => TurnProtocolRecv::Ignored,

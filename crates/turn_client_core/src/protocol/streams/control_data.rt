@@ -15,7 +15,7 @@ use turn_types::channel::ChannelData;
 /// A ChannelData message of an active channel, at the front of the control stream.
 struct ChannelFrame<'a> {
     /// The peer of the channel.
-    peer: SocketAddr,
+    peer: &'a SocketAddr,
     /// What the peer sent.
     payload: &'a [u8],
     /// How many bytes the frame has, with its padding.
@@ -41,6 +41,7 @@ impl TurnClientProtocol {
             return Ok(None);
         };
         let ChannelFrame { peer, payload, len } = frame;
+        let peer = *peer;
         let transport = self.ledger.transport();
         match Vec::from_slice(self.alloc, payload) {
             Ok(bytes) => {
@@ -60,7 +61,7 @@ impl TurnClientProtocol {
 
     /// The first frame of the control stream, if it is such a message.
     fn channel_frame(&self) -> Option<ChannelFrame<'_>>
-        ensures payload { option_map (λ frame. data_from self.now frame.peer frame.payload.now) result ≡ control_data self.now }
+        ensures payload { option_map (λ frame. data_from self.now frame.peer.now frame.payload.now) result ≡ control_data self.now }
         ensures front { IfSome result (λ frame. IsControlFront frame.len self.now) }
     {
         let Some(stream) = self.streams.control() else {

@@ -47,6 +47,10 @@ fn numbers(rt: &impl Abort, table: &GrantTable, plain: &Plain) {
     for number in 0x3ffe..0x4018u16 {
         same(rt, table.channel_owner(number), plain.owner(number));
         same(rt, table.channel_progress(number), plain.channel(number));
-        same(rt, table.channel_peer(number), plain.active_owner(number));
+        same(
+            rt,
+            table.channel_peer(number).copied(),
+            plain.active_owner(number),
+        );
     }
 }

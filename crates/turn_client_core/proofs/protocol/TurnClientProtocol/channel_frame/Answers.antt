@@ -1,4 +1,4 @@
-use Rattle.std.proofs.Common.{◌≡◌, ◌∙◌, Some, false, ap, refl, sym}
+use Rattle.std.proofs.Common.{◌≡◌, ◌∙◌, None, Some, false, ap, refl, sym}
 use Rattle.turn_types.specs.Frames.{begins_message}
 use Rattle.turn_client_api.specs.Grants.{channel_peer, first_in}
 use Rattle.turn_client_grants.specs.Table.{with_table}
@@ -28,9 +28,10 @@ returns-in_default-channel_peer-clause-payload c =
     let control : Some stream ≡ control_stream s.streams = rw c.in-Some.is at c.control.ensures in
     let front : Some frame ≡ front_frame stream = rw c.in-Some-front.is at c.front.ensures.exact in
     let same : with_table c.table.result.now s ≡ s = rw (c.table.ensures.grants, c.table.ensures.listed) refl in
-    let none = sym (c.channel_peer.ensures s ∙ ap (λ t. first_in (channel_peer c.id.result) t) same) ∙ c.in_default-channel_peer.is in
+    let none : None ≡ first_in (channel_peer c.id.result) s =
+    rw c.in_default-channel_peer.is at (c.channel_peer.ensures s ∙ ap (λ t. first_in (channel_peer c.id.result) t) same) in
     rw (← c.self.view_is)
-    (channel-none s frame c.in-Ok.channel c.in-Ok.ensures.front (rw (← c.id.ensures.id) none) ∙ front-data s stream frame control front)
+    (channel-none s frame c.in-Ok.channel c.in-Ok.ensures.front (rw (← c.id.ensures.id) (sym none)) ∙ front-data s stream frame control front)
 
 pub returns-clause-payload : goal.returns-clause-payload
 returns-clause-payload c =
@@ -40,8 +41,9 @@ returns-clause-payload c =
     let control : Some stream ≡ control_stream s.streams = rw c.in-Some.is at c.control.ensures in
     let front : Some frame ≡ front_frame stream = rw c.in-Some-front.is at c.front.ensures.exact in
     let same : with_table c.table.result.now s ≡ s = rw (c.table.ensures.grants, c.table.ensures.listed) refl in
-    let peer = sym (c.channel_peer.ensures s ∙ ap (λ t. first_in (channel_peer c.id.result) t) same) ∙ c.in-Some-channel_peer.is in
+    let peer : Some c.in-Some-channel_peer.peer.now ≡ first_in (channel_peer c.id.result) s =
+    rw c.in-Some-channel_peer.is at (c.channel_peer.ensures s ∙ ap (λ t. first_in (channel_peer c.id.result) t) same) in
     let begins : begins_message frame ≡ false = channel-begins frame _ _ _ c.in-Ok.ensures.found in
     rw (← c.self.view_is, c.data.ensures.payload)
-    (channel-data s frame c.in-Ok.channel c.in-Some-channel_peer.peer c.in-Ok.ensures.front begins (rw (← c.id.ensures.id) peer)
+    (channel-data s frame c.in-Ok.channel c.in-Some-channel_peer.peer.now c.in-Ok.ensures.front begins (rw (← c.id.ensures.id) (sym peer))
     ∙ front-data s stream frame control front)
