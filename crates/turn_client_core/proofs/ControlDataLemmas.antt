@@ -1,10 +1,8 @@
 -- Data at the front of the control stream: it is what the next step of the streams gives.
-use Rattle.std.proofs.Common.{◌≡◌, ℕ, Bool, true, false, cond, List, [], ◌∷◌, length, take, drop, Option, Some, None, IsSome, refl, subst, sym, ap, ◌∙◌}
-use Rattle.std.proofs.lemmas.List.{length-take-le}
+use Rattle.std.proofs.Common.{◌≡◌, ℕ, Bool, true, false, cond, List, [], ◌∷◌, length, drop, Option, Some, None, IsSome, refl, subst, sym, ap, ◌∙◌}
 use Rattle.std.specs.Prelude.{find, is_some}
 use Rattle.std.specs.Option.{option_map, option_map_or}
 use Rattle.std.specs.declared.net.socket_addr.SocketAddr.{SocketAddr}
-use Rattle.turn_types.proofs.FrameLemmas.{frame_len-IsWhole}
 use Rattle.turn_types.specs.Channel.{Channel, channel_data_at}
 use Rattle.turn_types.specs.Frames.{begins_message, begins_no_frame, frame_len}
 use Rattle.turn_client_api.specs.Answers.{EndsAfterSteps}
@@ -18,7 +16,7 @@ use Rattle.turn_client_api.specs.declared.state.Stream.{Stream}
 use Rattle.turn_client_laws.proofs.TurnFrameLemmas.{bytes-twice}
 use Rattle.turn_client_streams.specs.Buffered.{front_frame, is_control_mode, passed}
 use Rattle.turn_client_streams.specs.Held.{control_passed, control_stream}
-use Rattle.turn_client_core.specs.ControlData.{IsControlFront, channel_data, control_data, control_ended, data_from, stream_data}
+use Rattle.turn_client_core.specs.ControlData.{channel_data, control_data, control_ended, data_from, stream_data}
 use Rattle.turn_client_core.specs.StreamSteps.{owned_payload}
 use Rattle.turn_client_core.proofs.TurnLemmas.{first-Rests, framed-some, rests-some, stays-led}
 
@@ -138,27 +136,9 @@ data-ends now s e = by (control_data s) refl e
 
 -- ---- what is found at the front
 
-pub control-none : (s : State) → None ≡ control_stream s.streams → None ≡ control_data s
-control-none s e = rw (← e) refl
-
-pub front-none : (s : State) (stream : Stream) → Some stream ≡ control_stream s.streams → None ≡ front_frame stream → None ≡ control_data s
-front-none s stream e f = rw (← e, ← f) refl
-
 pub front-data : (s : State) (stream : Stream) (frame : List ℕ) → Some stream ≡ control_stream s.streams → Some frame ≡ front_frame stream
     → channel_data s frame ≡ control_data s
 front-data s stream frame e f = rw (← e, ← f) refl
-
-pub front-len : (s : State) (stream : Stream) (frame : List ℕ) → Some stream ≡ control_stream s.streams → Some frame ≡ front_frame stream
-    → IsControlFront (length frame) s
-front-len s stream frame e f = rw (← e) (by (frame_len stream.bytes) refl f)
-  where
-    by : (o : Option ℕ) → frame_len stream.bytes ≡ o → Some frame ≡ option_map (λ len. take len stream.bytes) o → Some (frame_len stream.bytes) ≡ Some (Some (length frame))
-    by None f g = cc
-    by (Some len) f g =
-        let same : frame ≡ take len stream.bytes = cc in
-        let is = frame_len-IsWhole stream.bytes len f in
-        let whole : length (take len stream.bytes) ≡ len = length-take-le len stream.bytes is.within in
-        rw (f, same, whole) refl
 
 pub message-none : (s : State) (frame : List ℕ) → begins_message frame ≡ true → None ≡ channel_data s frame
 message-none s frame e = rw e refl

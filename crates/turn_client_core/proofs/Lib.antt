@@ -24,7 +24,6 @@ pub mod ReplyLemmas
 pub mod ResultLemmas
 pub mod RetryLemmas
 pub mod SeenLemmas
-pub mod SendLemmas
 pub mod SignLemmas
 pub mod SocketLemmas
 pub mod TransmitLemmas

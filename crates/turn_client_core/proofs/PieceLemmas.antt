@@ -1,8 +1,8 @@
 -- Pieces of streams that are taken out.
-use Rattle.std.proofs.Common.{◌≡◌, ◌⊎◌, ℕ, ◌≤◌, ◌+◌, ◌-◌, ◌++◌, Bool, true, false, cond, List, [], ◌∷◌, drop, length, take, Option, Some, None, inl, inr, refl, sym, subst, ap, ◌∙◌, arith}
+use Rattle.std.proofs.Common.{◌≡◌, ℕ, ◌≤◌, ◌+◌, ◌-◌, false, cond, List, [], ◌∷◌, drop, length, take, Option, Some, None, refl, sym, subst, ap, ◌∙◌, arith}
 use Rattle.std.specs.Prelude.{slice_range}
 use Rattle.std.specs.Option.{option_map, option_map_or}
-use Rattle.std.proofs.lemmas.List.{drop-take, length-drop, length-take, take-append-le, take-take}
+use Rattle.std.proofs.lemmas.List.{drop-take, length-take, take-take}
 use Rattle.std.specs.declared.ops.Range.{Range}
 use Rattle.turn_stun.specs.declared.transport.Transmit.{Transmit}
 use Rattle.turn_types.specs.Frames.{begins_no_frame, frame_len}
@@ -14,14 +14,13 @@ use Rattle.turn_client_api.specs.Payloads.{Outcome, Handled, PeerData}
 use Rattle.turn_client_api.specs.Receive.{place_kept}
 use Rattle.turn_client_api.specs.State.{State}
 use Rattle.turn_client_api.specs.Streams.{frame_step, framed_stream_step, with_bytes}
-use Rattle.turn_client_api.specs.declared.state.Mode.TheVariants.{Control, Waiting}
 use Rattle.turn_client_api.specs.declared.state.Stream.{Stream}
 use Rattle.turn_client_streams.specs.Buffered.{broken, front_frame, passed, without_front}
 use Rattle.turn_client_core.specs.ProtocolRecv.{IsPart, IsRangeWithin, outcome_in}
 use Rattle.turn_client_core.specs.declared.protocol_recv.TurnProtocolRecv.{TurnProtocolRecv}
 use Rattle.turn_client_core.specs.declared.protocol_recv.TurnProtocolRecv.TheVariants as T
-use Rattle.turn_client_core.specs.StreamSteps.{IsFront, came_with, given_as, left_by, bytes_in_range, put_or_broken}
-use Rattle.turn_client_core.proofs.TurnLemmas.{framed-none, framed-some}
+use Rattle.turn_client_core.specs.StreamSteps.{IsFront, came_with, given_as, left_by, bytes_in_range}
+use Rattle.turn_client_core.proofs.TurnLemmas.{framed-some}
 
 -- ---- a part of a part
 
@@ -39,12 +38,6 @@ slice-front xs end a b inside ordered within =
     ap (λ n. take (b - a) (drop a (take n xs))) split
     ∙ (ap (take (b - a)) (drop-take a (end - a) xs) ∙ take-take (b - a) (end - a) (drop a xs) (omega (arith, ordered, most)))
 
-front-within : (bytes : List ℕ) (end : ℕ) (told : TurnProtocolRecv) → end ≤ length bytes → IsRangeWithin (take end bytes) told → IsRangeWithin bytes told
-front-within bytes end (T.PeerData transport peer range) inside is = (is.0, omega (arith, inside, is.1, length-take end bytes))
-front-within bytes end T.Handled inside is = tt
-front-within bytes end T.Ignored inside is = tt
-front-within bytes end (T.PeerIcmp transport peer icmp) inside is = tt
-
 front-outcome : (bytes : List ℕ) (end : ℕ) (told : TurnProtocolRecv) → end ≤ length bytes → IsRangeWithin (take end bytes) told → outcome_in bytes told ≡ outcome_in (take end bytes) told
 front-outcome bytes end (T.PeerData transport peer range) inside is =
     ap (λ part. PeerData (record { transport = transport; peer = peer; bytes = part; place = Some range })) (sym (slice-front bytes end range.start range.end inside is.0 is.1))
@@ -58,19 +51,11 @@ part-front bytes range e =
     let whole : range.end - 0 ≡ range.end = omega arith in
     ap (λ n. take (range.end - n) (drop n bytes)) e ∙ ap (λ n. take n bytes) whole
 
-pub lent-IsWithin : (bytes : List ℕ) (range : Range ℕ) (told : TurnProtocolRecv) → range.start ≡ 0 → range.end ≤ length bytes → IsRangeWithin (bytes_in_range bytes range) told
-    → IsRangeWithin bytes told
-lent-IsWithin bytes range told e inside is = front-within bytes range.end told inside (subst (λ part. IsRangeWithin part told) (part-front bytes range e) is)
-
 pub lent-outcome : (bytes : List ℕ) (range : Range ℕ) (told : TurnProtocolRecv) → range.start ≡ 0 → range.end ≤ length bytes → IsRangeWithin (bytes_in_range bytes range) told
     → outcome_in bytes told ≡ outcome_in (bytes_in_range bytes range) told
 lent-outcome bytes range told e inside is =
     front-outcome bytes range.end told inside (subst (λ part. IsRangeWithin part told) (part-front bytes range e) is)
     ∙ ap (λ part. outcome_in part told) (sym (part-front bytes range e))
-
--- the part is rotated to the front, and the rest cut off
-pub rotated-part : (xs : List ℕ) (start end : ℕ) → end ≤ length xs → take (end - start) (drop start xs ++ take start xs) ≡ slice_range xs start end
-rotated-part xs start end inside = take-append-le (end - start) (drop start xs) (take start xs) (omega (arith, inside, length-drop start xs))
 
 -- ---- the first frame
 
@@ -134,20 +119,3 @@ fed-some s frame now t e =
     framed-some s frame now t begins e
     ∙ (ap (λ p. (p.0, with_bytes (passed s).local (passed s).bytes p.1)) (sym (frame-by s (passed s) frame now t (passed-mode s) (passed-local s)))
     ∙ ap (λ (u : Stream). ((frame_step u frame now t).0, left_by u (frame_step u frame now t).1)) (sym same))
-
-pub fed-none : (s : Stream) (now : ℕ) (t : State) → (s.mode ≡ Control) ⊎ (s.mode ≡ Waiting) → None ≡ front_frame s → framed_stream_step s now t ≡ (Handled, put_or_broken (without_front s) t)
-fed-none s now t framed e = by (begins_no_frame s.bytes) refl
-  where
-    waits : (s.mode ≡ Control) ⊎ (s.mode ≡ Waiting) → put_or_broken s t ≡ left_by s t
-    waits (inl mode) = rw mode refl
-    waits (inr mode) = rw mode refl
-
-    none : (o : Option ℕ) → None ≡ option_map (λ len. take len s.bytes) o → option_map_or (λ len. record s { bytes = drop len s.bytes }) o s ≡ s
-    none None f = refl
-    none (Some len) f = cc
-
-    by : (b : Bool) → begins_no_frame s.bytes ≡ b → framed_stream_step s now t ≡ (Handled, put_or_broken (without_front s) t)
-    by true f = rw f refl
-    by false f =
-        let same : without_front s ≡ s = ap (λ b. cond b (broken s) (passed s)) f ∙ none (frame_len s.bytes) e in
-        framed-none s now t f e ∙ ap (λ (x : State). (Handled, x)) (sym (ap (λ (u : Stream). put_or_broken u t) same ∙ waits framed))

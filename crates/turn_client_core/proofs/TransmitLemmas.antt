@@ -102,14 +102,6 @@ refresh-none now s found = rw (next_first now s (allocations s), found) refl
 
 -- ---- when memory is needed
 
--- a retransmission is due
-pub resend-wanted : (now : ℕ) (o : Outgoing) → (find (is_due o.timers o.transport now) o.transactions ≡ None → ⊥) → IsSome (resend_step now o).0
-resend-wanted now o some = by (find (is_due o.timers o.transport now) o.transactions) refl
-  where
-    by : (found : Option Transaction) → find (is_due o.timers o.transport now) o.transactions ≡ found → IsSome (resend_step now o).0
-    by None e = absurd (some e)
-    by (Some t) e = rw e refl
-
 pub transmit-wanted : (now : ℕ) (s : State) (o : Outgoing) → o.timers ≡ timers_of s.config → IsSome (resend_step now o).0 → IsSome (transmit_step now (with_outbox o s)).0
 transmit-wanted now s o times wanted = by (find (is_due o.timers o.transport now) o.transactions) refl wanted
   where
