@@ -70,8 +70,8 @@ fn carry_out<C: TurnClientApi>(
             peer_addr,
         } => {
             let local = program.connect(socket.to);
-            let told = client.allocated_tcp_socket(*id, *socket, *peer_addr, local, now);
-            if let (Some(local), Err(_)) = (local, told) {
+            let answer = client.allocated_tcp_socket(*id, *socket, *peer_addr, local, now);
+            if let (Some(local), Err(_)) = (local, answer) {
                 program.close(local);
             }
         }
