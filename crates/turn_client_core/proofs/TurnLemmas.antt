@@ -1,7 +1,8 @@
 -- Steps of streams that are taken out, and steps in sequence.
-use Rattle.std.proofs.Common.{◌≡◌, ℕ, zero, suc, ◌≤◌, Bool, true, false, cond, List, [], ◌∷◌, drop, length, map, take, Option, Some, None, refl, sym, ap, ◌∙◌, arith}
-use Rattle.std.specs.Prelude.{find}
+use Rattle.std.proofs.Common.{◌≡◌, ℕ, zero, suc, ◌≤◌, Bool, true, false, cond, List, [], ◌∷◌, drop, length, map, take, Option, Some, None, refl, subst, sym, ap, ◌∙◌, arith}
+use Rattle.std.specs.Prelude.{IsSomeAnd, find}
 use Rattle.std.specs.Option.{option_map, option_map_or}
+use Rattle.std.proofs.lemmas.Bool.{false≢true}
 use Rattle.std.proofs.lemmas.List.{append-nil}
 use Rattle.std.specs.declared.net.socket_addr.SocketAddr.{SocketAddr}
 use Rattle.turn_types.specs.Frames.{begins_no_frame, frame_len}
@@ -11,14 +12,16 @@ use Rattle.turn_agent.specs.Agent.{same_address}
 use Rattle.turn_client_api.specs.Answers.{EndsAfterSteps, LeadsTo}
 use Rattle.turn_client_api.specs.Effect.{closed}
 use Rattle.turn_client_api.specs.State.{State}
-use Rattle.turn_client_api.specs.declared.state.Mode.TheVariants.{Broken}
+use Rattle.turn_client_api.specs.declared.state.Mode.{Mode}
+use Rattle.turn_client_api.specs.declared.state.Mode.TheVariants.{Control, Waiting, Bound, Broken}
 use Rattle.turn_client_api.specs.declared.state.Stream.{Stream}
 use Rattle.turn_client_api.specs.Payloads.{Payload, Outcome, Handled, Ignored, PeerData, PeerIcmp}
-use Rattle.turn_client_api.specs.Streams.{broken_at, frame_step, framed_by, framed_stream_step, go_on, is_ready, max_steps, poll_recv_step, put_back, next_frame_step, first_ready_step}
-use Rattle.turn_client_api.specs.Streams.{steps_until_payload, with_bytes}
+use Rattle.turn_client_api.specs.Streams.{broken_at, detached_frame_step, frame_step, framed_by, framed_stream_step, go_on, is_bound, is_ready, max_steps, poll_recv_step, put_back, next_frame_step, first_ready_step}
+use Rattle.turn_client_api.specs.Streams.{sent_by, steps_until_payload, with_bytes}
 use Rattle.turn_client_laws.proofs.StreamDrainLemmas.{turn-lighter}
 use Rattle.turn_client_laws.proofs.StreamWeightLemmas.{weight, weight-le}
 use Rattle.turn_client_streams.specs.Buffered.{front_frame, passed}
+use Rattle.turn_client_core.specs.Lent.{IsBoundFirst}
 use Rattle.turn_client_core.specs.StreamSteps.{owned_payload}
 
 -- ---- the first frame
@@ -177,3 +180,34 @@ emptied-broken local s = ap (λ (x : List Stream). record s { streams = x }) (br
 pub ends : (now : ℕ) (was s t : State) (stream : Stream) → find is_ready s.streams ≡ Some stream → LeadsTo now was s → t ≡ closed (broken_at stream.local (with_bytes stream.local [] s))
     → EndsAfterSteps now was t
 ends now was s t stream e led is = (s, led, rw e (is ∙ ap closed (emptied-broken stream.local s)))
+
+-- ---- a bound stream
+
+bound-gives : (stream : Stream) (now : ℕ) (t : State) → is_bound stream.mode ≡ true
+    → (payload : Payload) × (owned_payload (detached_frame_step stream now t).0 ≡ Some payload)
+bound-gives stream now t e = by stream.mode e
+  where
+    by : (m : Mode) → is_bound m ≡ true → (payload : Payload) × (owned_payload (detached_frame_step (record stream { mode = m }) now t).0 ≡ Some payload)
+    by Control e = absurd (false≢true e)
+    by Waiting e = absurd (false≢true e)
+    by (Bound peer) e = (sent_by peer stream.bytes None, refl)
+    by Broken e = absurd (false≢true e)
+
+-- its bytes are given by the first step: steps that gave nothing have not begun
+pub bound-first : (now : ℕ) (was s : State) (stream : Stream) → find is_ready s.streams ≡ Some stream → LeadsTo now was s → IsBoundFirst was → is_bound stream.mode ≡ true
+unfolding steps_until_payload
+bound-first now was s stream e (zero, led) bound =
+    let same : was ≡ s = ap (λ (p : Option Payload × State). p.1) led in
+    let first : IsBoundFirst s = subst IsBoundFirst same bound in
+    subst (λ (o : Option Stream). IsSomeAnd o (λ found. is_bound found.mode ≡ true)) e first
+bound-first now was s stream e (suc n, led) bound = by (find is_ready was.streams) refl bound
+  where
+    by : (o : Option Stream) → find is_ready was.streams ≡ o → IsSomeAnd o (λ found. is_bound found.mode ≡ true) → is_bound stream.mode ≡ true
+    by None f b = absurd b
+    by (Some first) f b =
+        let step = next_frame_step first now was in
+        let (payload, given) = bound-gives first now (with_bytes first.local [] was) b in
+        let some : steps_until_payload (suc n) now was ≡ (Some payload, step.1) =
+        turns-first n now was first f ∙ given-some (steps_until_payload n now) step payload given in
+        let clash : Some payload ≡ None = ap (λ (p : Option Payload × State). p.0) (sym some ∙ led) in
+        cc

@@ -8,6 +8,7 @@ pub mod Indication
 pub mod Judged
 pub mod Kept
 pub mod Kinds
+pub mod Lent
 pub mod Opened
 pub mod Outgoing
 pub mod Polled

@@ -6,4 +6,5 @@ mod frame;
 mod judge_bind;
 mod piece;
 mod poll_recv;
+mod poll_recv_with;
 mod recv;

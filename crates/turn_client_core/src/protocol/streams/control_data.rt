@@ -13,13 +13,13 @@ use std::net::SocketAddr;
 use turn_types::channel::ChannelData;
 
 /// A ChannelData message of an active channel, at the front of the control stream.
-struct ChannelFrame<'a> {
+pub(super) struct ChannelFrame<'a> {
     /// The peer of the channel.
-    peer: &'a SocketAddr,
+    pub(super) peer: &'a SocketAddr,
     /// What the peer sent.
-    payload: &'a [u8],
+    pub(super) payload: &'a [u8],
     /// How many bytes the frame has, with its padding.
-    len: usize,
+    pub(super) len: usize,
 }
 
 impl TurnClientProtocol {
@@ -60,7 +60,7 @@ impl TurnClientProtocol {
     }
 
     /// The first frame of the control stream, if it is such a message.
-    fn channel_frame(&self) -> Option<ChannelFrame<'_>>
+    pub(super) fn channel_frame(&self) -> Option<ChannelFrame<'_>>
         ensures payload { option_map (λ frame. data_from self.now frame.peer.now frame.payload.now) result ≡ control_data self.now }
         ensures front { IfSome result (λ frame. IsControlFront frame.len self.now) }
     {
@@ -84,7 +84,7 @@ impl TurnClientProtocol {
     }
 
     /// Drops the first frame of the control stream, which is whole and has so many bytes.
-    fn pass_control(&mut self, len: usize)
+    pub(super) fn pass_control(&mut self, len: usize)
         requires { IsControlFront len self.old }
         ensures { self.new ≡ control_passed self.old }
     {

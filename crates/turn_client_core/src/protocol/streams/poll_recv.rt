@@ -4,8 +4,9 @@ ghost use Rattle.std.specs.Prelude.{◌≡◌, All, [], find, length, option_map
 ghost use Rattle.turn_client_api.specs.Answers.{EndsAfterSteps, given_payload};
 ghost use Rattle.turn_client_laws.specs.LawsOrder.{IsUngranted};
 ghost use Rattle.turn_client_api.specs.Memory.{frame_takes_memory};
-ghost use Rattle.turn_client_api.specs.Streams.{HoldsLittle, broken_at, frame_step, framed_stream_step, is_ready, poll_recv_step, detached_frame_step};
-ghost use Rattle.turn_client_api.specs.Streams.{with_bytes};
+ghost use Rattle.turn_client_api.specs.Streams.{HoldsLittle, broken_at, frame_step, framed_stream_step, is_bound, is_ready};
+ghost use Rattle.turn_client_api.specs.Streams.{detached_frame_step, poll_recv_step, with_bytes};
+ghost use Rattle.turn_client_core.specs.Lent.{IsBoundFirst};
 ghost use Rattle.turn_client_core.specs.ProtocolRecv.{IsPart, outcome_in};
 ghost use Rattle.turn_client_core.specs.StreamSteps.{received_payload, owned_payload};
 ghost use Rattle.turn_client_streams.specs.Held.{taken_out};
@@ -52,13 +53,14 @@ impl TurnClientProtocol {
     /// # Errors
     ///
     /// If memory allocation for the bytes of a stream fails. That stream is broken then, and the client
-    /// has ended.
+    /// has ended. The bytes of a bound stream are moved out, which allocates no memory.
     pub(crate) fn process_ready(&mut self, now: Instant) -> Result<Option<Received>, AllocError>
         requires before { IsUngranted self.old.phase → self.old.grants ≡ [] }
         ensures answer { IfOk result (λ given. option_map received_payload given ≡ (poll_recv_step now self.old).0) }
         ensures little { IfOk result (λ given. IsNone given → All HoldsLittle self.new.streams) }
         ensures after { OnOk result (self.new ≡ (poll_recv_step now self.old).1) }
         ensures no_memory { OnErr result (EndsAfterSteps now self.old self.new) }
+        ensures free { IsBoundFirst self.old → IsOk result }
     {
         while let Some(stream) = self.take_ready() {
             let local = stream.local();
@@ -103,7 +105,7 @@ impl TurnClientProtocol {
     ///
     /// # Errors
     ///
-    /// If memory allocation fails. Nothing changes then.
+    /// If memory allocation fails, and never for a bound stream. Nothing changes then.
     fn process_detached(
         &mut self,
         stream: BufferedStream,
@@ -113,6 +115,7 @@ impl TurnClientProtocol {
         ensures answer { IfOk result (λ given. option_map received_payload given ≡ owned_payload (detached_frame_step stream now self.old).0) }
         ensures after { OnOk result (self.new ≡ (detached_frame_step stream now self.old).1) }
         ensures err { OnErr result (self.new ≡ self.old) }
+        ensures free { is_bound stream.mode ≡ true → IsOk result }
     {
         match stream.mode() {
             Mode::Control => self.framed_stream_step(stream, now),
