@@ -16,6 +16,7 @@ use Rattle.turn_client_api.specs.declared.call.Call.{Call}
 use Rattle.turn_client_api.specs.declared.call.Call.TheVariants.{AllocatedTcpSocket, Delete, HavePermission, Permissions, Poll, PollEvent, PollRecv, PollTransmit, ProtocolError, Recv}
 use Rattle.turn_client_api.specs.declared.call.Call.TheVariants.{RelayedAddresses, SendTo}
 use Rattle.turn_client_api.specs.declared.state.Stream.{Stream}
+use Rattle.turn_client_core.specs.Lent.{IsReadIfAny, Returns}
 use Rattle.turn_client_laws.proofs.EditsOfCalls.{delete-walk, quiet-walk}
 use Rattle.turn_client_laws.proofs.StreamMessageLemmas.{Same, Same-KeepsEdits, message-same}
 
@@ -28,6 +29,9 @@ no-turns (suc n) now s none = rw none refl
 
 pub no-poll_recv : (now : ℕ) (s : State) → s.streams ≡ [] → poll_recv_step now s ≡ (None, s)
 no-poll_recv now s none = no-turns (max_steps s) now s none
+
+pub none-read : {R : Type 0} (returns : Returns R) (now : ℕ) (s : State) → s.streams ≡ [] → IsReadIfAny returns (poll_recv_step now s).0 None
+none-read returns now s none = rw (ap (λ (p : Option Payload × State). p.0) (no-poll_recv now s none)) tt
 
 never-ends : (now : ℕ) (s t : State) → s.streams ≡ [] → EndsAfterSteps now s t → ⊥
 never-ends now s t none (u, (n, led), broken) =

@@ -1,7 +1,10 @@
 //! A client over UDP or TCP.
 
-ghost use Rattle.std.specs.Prelude.{◌≡◌, IfOk};
+ghost use Rattle.std.specs.Prelude.{◌≡◌, All, IfOk, IsNone, IsOk, OnErr, OnOk};
+ghost use Rattle.turn_client_api.specs.Answers.{EndsAfterSteps};
 ghost use Rattle.turn_client_api.specs.State.{initial};
+ghost use Rattle.turn_client_api.specs.Streams.{HoldsLittle, poll_recv_step};
+ghost use Rattle.turn_client_core.specs.Lent.{IsLentInPlace, IsReadIfAny};
 ghost use Rattle.turn_client_proto.specs.Client.{state_of};
 
 use crate::tcp::TurnClientTcp;
@@ -61,6 +64,31 @@ impl TurnClient {
                 let client = TurnClientTcp::allocate(alloc, local, remote, config, seed)?;
                 Ok(TurnClient::Tcp(client))
             }
+        }
+    }
+
+    /// Lends the next payload of a peer that the streams hold to `read`, with its transport and its peer, and
+    /// returns what `read` returns, as [`TurnClientTcp::poll_recv_with`] does. A client over UDP has no
+    /// streams.
+    ///
+    /// # Errors
+    ///
+    /// As of [`TurnClientTcp::poll_recv_with`]. Over UDP none.
+    pub fn poll_recv_with<R, F: FnOnce(TransportType, SocketAddr, &[u8]) -> R + Drop>(
+        &mut self,
+        now: Instant,
+        read: F,
+    ) -> Result<Option<R>, AllocError>
+        requires callable { F.IsAlwaysCallable read }
+        ensures answer { IfOk result (IsReadIfAny (F.post read) (poll_recv_step now (state_of self.old)).0) }
+        ensures little { IfOk result (λ given. IsNone given → All HoldsLittle (state_of self.new).streams) }
+        ensures after { OnOk result (state_of self.new ≡ (poll_recv_step now (state_of self.old)).1) }
+        ensures no_memory { OnErr result (EndsAfterSteps now (state_of self.old) (state_of self.new)) }
+        ensures free { IsLentInPlace (state_of self.old) → IsOk result }
+    {
+        match self {
+            TurnClient::Udp(client) => client.poll_recv_with(now, read),
+            TurnClient::Tcp(client) => client.poll_recv_with(now, read),
         }
     }
 }

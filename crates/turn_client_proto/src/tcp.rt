@@ -1,10 +1,13 @@
 //! A client that reaches its server over TCP.
 
-ghost use Rattle.std.specs.Prelude.{◌≡◌, ◌≤◌, ◌^◌, IfOk, IsOk};
+ghost use Rattle.std.specs.Prelude.{◌≡◌, ◌≤◌, ◌^◌, All, IfOk, IsNone, IsOk, OnErr, OnOk};
 ghost use Rattle.turn_client_api.specs.Alarm.{IsTimely};
+ghost use Rattle.turn_client_api.specs.Answers.{EndsAfterSteps};
 ghost use Rattle.turn_client_api.specs.Poll.{poll_step};
 ghost use Rattle.turn_client_api.specs.Receive.{is_from_server, tcp_closed_step};
 ghost use Rattle.turn_client_api.specs.State.{initial};
+ghost use Rattle.turn_client_api.specs.Streams.{HoldsLittle, poll_recv_step};
+ghost use Rattle.turn_client_core.specs.Lent.{IsLentInPlace, IsReadIfAny};
 
 use std::alloc::{AllocError, Global};
 use std::convert::AsSlice;
@@ -64,6 +67,33 @@ impl TurnClientTcp {
     {
         let core = TurnClientProtocol::new(alloc, TransportType::Tcp, local, remote, config, seed)?;
         Ok(TurnClientTcp { core })
+    }
+
+    /// Lends the next payload of a peer that the streams hold to `read`, with its transport and its peer, and
+    /// returns what `read` returns. If the streams hold none, `read` is not called. It is the payload that
+    /// [`TurnClientApi::poll_recv`] would return, and the call leaves what that call would leave.
+    ///
+    /// The payload of a ChannelData message on the control connection is lent from where it is buffered (RFC
+    /// 8656, section 12.6). So are all buffered bytes of a data connection (RFC 6062, section 4.3), and no memory
+    /// is allocated for either. The payload of a DATA indication is copied first.
+    ///
+    /// # Errors
+    ///
+    /// As of [`TurnClientApi::poll_recv`], and none if the control connection is not broken and the first frame of
+    /// its stream is a ChannelData message of an active channel.
+    pub fn poll_recv_with<R, F: FnOnce(TransportType, SocketAddr, &[u8]) -> R + Drop>(
+        &mut self,
+        now: Instant,
+        read: F,
+    ) -> Result<Option<R>, AllocError>
+        requires callable { F.IsAlwaysCallable read }
+        ensures answer { IfOk result (IsReadIfAny (F.post read) (poll_recv_step now self.old).0) }
+        ensures little { IfOk result (λ given. IsNone given → All HoldsLittle self.new.streams) }
+        ensures after { OnOk result (self.new ≡ (poll_recv_step now self.old).1) }
+        ensures no_memory { OnErr result (EndsAfterSteps now self.old self.new) }
+        ensures free { IsLentInPlace self.old → IsOk result }
+    {
+        self.core.poll_recv_with(now, read)
     }
 
     /// Whether bytes from this address over this transport belong to a stream of the server.

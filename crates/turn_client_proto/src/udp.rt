@@ -1,6 +1,6 @@
 //! A client that reaches its server over UDP.
 
-ghost use Rattle.std.specs.Prelude.{◌≡◌, ◌≤◌, ◌^◌, ◌&&◌, [], IfOk, IsOk, OnErr, OnOk, true};
+ghost use Rattle.std.specs.Prelude.{◌≡◌, ◌≤◌, ◌^◌, ◌&&◌, [], All, IfOk, IsNone, IsOk, OnErr, OnOk, true};
 ghost use Rattle.turn_agent.specs.Agent.{same_address};
 ghost use Rattle.turn_client_api.specs.Alarm.{IsTimely};
 ghost use Rattle.turn_client_api.specs.Answers.{datagram_takes_none};
@@ -10,6 +10,8 @@ ghost use Rattle.turn_client_api.specs.Payloads.{datagram_step};
 ghost use Rattle.turn_client_api.specs.Poll.{poll_step};
 ghost use Rattle.turn_client_api.specs.Receive.{is_from_server, tcp_closed_step};
 ghost use Rattle.turn_client_api.specs.State.{initial};
+ghost use Rattle.turn_client_api.specs.Streams.{HoldsLittle, poll_recv_step};
+ghost use Rattle.turn_client_core.specs.Lent.{IsReadIfAny};
 ghost use Rattle.turn_client_core.specs.ProtocolRecv.{outcome_in, IsRangeWithin};
 
 use std::alloc::{AllocError, Global};
@@ -70,6 +72,27 @@ impl TurnClientUdp {
     {
         let core = TurnClientProtocol::new(alloc, TransportType::Udp, local, remote, config, seed)?;
         Ok(TurnClientUdp { core })
+    }
+
+    /// Returns none, and `read` is not called: a client over UDP has no streams. The method is here as
+    /// [`TurnClientApi::poll_recv`] is, for a caller of any client.
+    ///
+    /// # Errors
+    ///
+    /// None: no memory is allocated.
+    pub fn poll_recv_with<R, F: FnOnce(TransportType, SocketAddr, &[u8]) -> R + Drop>(
+        &mut self,
+        _now: Instant,
+        _read: F,
+    ) -> Result<Option<R>, AllocError>
+        requires callable { F.IsAlwaysCallable _read }
+        ensures answer { IfOk result (IsReadIfAny (F.post _read) (poll_recv_step _now self.old).0) }
+        ensures little { IfOk result (λ given. IsNone given → All HoldsLittle self.new.streams) }
+        ensures after { OnOk result (self.new ≡ (poll_recv_step _now self.old).1) }
+        ensures free { IsOk result }
+    {
+        let _ = &self.core;
+        Ok(None)
     }
 
     /// Whether a packet with these addresses is a datagram of the server to the client.

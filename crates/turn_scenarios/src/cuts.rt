@@ -11,6 +11,7 @@ use std::alloc::{AllocError, Global};
 use std::net::SocketAddr;
 use std::test::Fail;
 use turn_client_api::{Socket5Tuple, TurnClientApi, TurnEvent, TurnPollRet, TurnRecvRet};
+use turn_client_proto::client::TurnClient;
 use turn_client_proto::tcp::TurnClientTcp;
 use turn_stun::transport::{Transmit, TransportType};
 
@@ -182,20 +183,50 @@ fn hear<C: TurnClientApi>(
     }
 }
 
-/// Reads all payloads that are buffered.
-fn drain<C: TurnClientApi>(client: &mut C, now: u32, heard: &mut Heard) -> Result<(), AllocError> {
+/// Reads all payloads that are buffered: some are returned, and the others are lent.
+fn drain(
+    client: &mut TurnClient,
+    now: u32,
+    draws: &mut Draws,
+    heard: &mut Heard,
+) -> Result<(), AllocError> {
     for _ in 0..MANY {
-        match client.poll_recv(at(now))? {
-            Some(given) => heard.note(given.transport, given.peer, given.data())?,
-            None => break,
+        let is_lent = draws.draw() % 2 == 0;
+        let is_noted = if is_lent {
+            note_lent(client, now, heard)?
+        } else {
+            note_returned(client, now, heard)?
+        };
+        if !is_noted {
+            break;
         }
     }
     Ok(())
 }
 
+/// Records the next payload, which the client lends, if there is one.
+fn note_lent(client: &mut TurnClient, now: u32, heard: &mut Heard) -> Result<bool, AllocError> {
+    let noted = client.poll_recv_with(at(now), |transport, peer, data| {
+        heard.note(transport, peer, data)
+    })?;
+    match noted {
+        Some(noted) => noted.map(|()| true),
+        None => Ok(false),
+    }
+}
+
+/// Records the next payload, which the client returns, if there is one.
+fn note_returned(client: &mut TurnClient, now: u32, heard: &mut Heard) -> Result<bool, AllocError> {
+    let Some(given) = client.poll_recv(at(now))? else {
+        return Ok(false);
+    };
+    heard.note(given.transport, given.peer, given.data())?;
+    Ok(true)
+}
+
 /// The payloads of these streams if they are cut and read as the seed says.
-fn heard_of<C: TurnClientApi>(
-    client: &mut C,
+fn heard_of(
+    client: &mut TurnClient,
     alloc: Global,
     mut streams: Streams<'_>,
     seed: u32,
@@ -209,10 +240,10 @@ fn heard_of<C: TurnClientApi>(
         };
         hear(client, to, piece, now, &mut heard)?;
         if draws.draw() % 2 == 0 {
-            drain(client, now, &mut heard)?;
+            drain(client, now, &mut draws, &mut heard)?;
         }
     }
-    drain(client, now, &mut heard)?;
+    drain(client, now, &mut draws, &mut heard)?;
     Ok(heard)
 }
 
@@ -227,11 +258,7 @@ fn client_with_channel(alloc: Global) -> Result<TurnClientTcp, Fail> {
 }
 
 /// Whether the frames have the expected payloads.
-fn frames_are_heard<C: TurnClientApi>(
-    client: &mut C,
-    alloc: Global,
-    seed: u32,
-) -> Result<bool, AllocError> {
+fn frames_are_heard(client: &mut TurnClient, alloc: Global, seed: u32) -> Result<bool, AllocError> {
     let streams = Streams {
         control: FRAMES,
         data: &[],
@@ -242,7 +269,7 @@ fn frames_are_heard<C: TurnClientApi>(
 
 #[test]
 fn frames_come_in_any_pieces(rt: HostRuntime) -> Result<(), Fail> {
-    let mut client = client_with_channel(rt.alloc())?;
+    let mut client = TurnClient::from(client_with_channel(rt.alloc())?);
     for seed in 0..SEEDS + 2 {
         let is_so = frames_are_heard(&mut client, rt.alloc(), seed)?;
         check(&rt, is_so, seed);
@@ -299,11 +326,7 @@ fn ends<C: TurnClientApi>(client: &mut C, now: u32) -> Result<bool, AllocError> 
 }
 
 /// Whether frames and data connection have the expected payloads.
-fn both_are_heard<C: TurnClientApi>(
-    client: &mut C,
-    alloc: Global,
-    seed: u32,
-) -> Result<bool, Fail> {
+fn both_are_heard(client: &mut TurnClient, alloc: Global, seed: u32) -> Result<bool, Fail> {
     let now = seed.saturating_mul(100).saturating_add(1_000);
     let data = opened(client, alloc, now)?;
     let streams = Streams {
@@ -316,7 +339,7 @@ fn both_are_heard<C: TurnClientApi>(
 
 #[test]
 fn connections_come_in_any_pieces(rt: HostRuntime) -> Result<(), Fail> {
-    let mut client = client_with_permission(rt.alloc())?;
+    let mut client = TurnClient::from(client_with_permission(rt.alloc())?);
     for seed in 0..SEEDS + 2 {
         let is_so = both_are_heard(&mut client, rt.alloc(), seed)?;
         check(&rt, is_so, seed);

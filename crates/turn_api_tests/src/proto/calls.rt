@@ -91,3 +91,11 @@ fn each_client_keeps_to_its_server(rt: HostRuntime) -> Result<(), Fail> {
     is_refused(&rt, client(rt.alloc())?)?;
     is_refused(&rt, TurnClient::from(client(rt.alloc())?))
 }
+
+#[test]
+fn a_client_over_udp_has_nothing_to_lend(rt: HostRuntime) -> Result<(), Fail> {
+    let mut client = client(rt.alloc())?;
+    let read = client.poll_recv_with(called_at(0), |_, _, payload| payload.len())?;
+    check(&rt, read.is_none());
+    Ok(())
+}
