@@ -7,11 +7,12 @@ uint32_t bench_tcp(uint8_t *room, size_t len);
 
 enum { PAYLOAD = 1200, FRAME = 4 + PAYLOAD, PIECE = 65536 };
 
-enum { CLIENT, LENT, OWNED, ROWS };
+enum { CLIENT, CLIENT_LENT, LENT, OWNED, ROWS };
 
 /* What comes of each frame: its payload, or the whole of it. */
 static const struct row rows[ROWS] = {
     [CLIENT] = {"client: recv, and poll_recv until there is none", PAYLOAD},
+    [CLIENT_LENT] = {"client: recv, and poll_recv_with likewise", PAYLOAD},
     [LENT] = {"TurnTcpBuffer alone, frames lent", FRAME},
     [OWNED] = {"TurnTcpBuffer alone, frames given out", FRAME},
 };
@@ -33,15 +34,17 @@ static int is_right(uint32_t row, uint64_t turns, uint64_t sum)
 
 size_t bench_input(uint32_t row, uint8_t *at, size_t len)
 {
-    (void)row;
     if (len < sizeof room) {
         wrong("the room");
     }
     for (size_t i = 0; i + FRAME <= sizeof room; i += FRAME) {
         write_frame(at + i, 0x4000, PAYLOAD);
     }
-    fed = 0;
-    seen = 0;
+    /* both rows of the client have one stream */
+    if (row != CLIENT_LENT) {
+        fed = 0;
+        seen = 0;
+    }
     return 0;
 }
 
@@ -68,7 +71,7 @@ static void measure(double found[ROWS])
 
 int main(void)
 {
-    double found[ROWS] = {NAN, NAN, NAN};
+    double found[ROWS] = {NAN, NAN, NAN, NAN};
     for (int i = 0; i < ROUNDS; i++) {
         measure(found);
     }
