@@ -28,6 +28,8 @@ impl TurnClientProtocol {
     ///
     /// In this order: `NoPermission` if the peer has none over this transport, or the allocation is
     /// expired; `NoTcpSocket` if no data connection is bound to the peer. Nothing changes then.
+    // As a result of its own, a packet of 160 bytes would be copied at each return on its way to the caller.
+    #[inline(always)]
     pub fn send_to<T: AsSlice<u8> + Debug + Drop>(
         &mut self,
         transport: TransportType,
