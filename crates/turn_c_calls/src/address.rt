@@ -32,6 +32,8 @@ impl Address {
     ghost use Rattle.turn_c_calls.specs.Address.{c_address, address_of_ip, socket_at};
 
     /// Becomes this address. It is written in place, so that no copy of it is made.
+    // In the caller an address is read from where its parts were just written, and not as a whole.
+    #[inline(always)]
     pub fn set(&mut self, addr: &SocketAddr)
         ensures value { self.new ≡ c_address addr.now }
         // It is read again as it was.

@@ -114,6 +114,8 @@ impl Answer {
     }
 
     /// A packet to send, but for its bytes.
+    // As `Address::set`, of which it makes two.
+    #[inline(always)]
     pub(crate) fn set_packet(
         &mut self,
         transport: TransportType,
