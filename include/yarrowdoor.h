@@ -374,6 +374,21 @@ static inline uint32_t yarrowdoor_call_bytes(yarrowdoor *client, const yarrowdoo
                            buffer_len, answer);
 }
 
+/* The name of a kind of answer, without YARROWDOOR_, to print it: "PACKET" for YARROWDOOR_PACKET. Of a number that is no
+   kind, as the 0 of yarrowdoor_new, it is "no kind". */
+static inline const char *yarrowdoor_kind_name(uint32_t kind)
+{
+    /* in the order of their numbers, from 0 */
+    static const char *const names[] = {
+        "no kind", "OUT_OF_MEMORY", "BAD_TIME", "BAD_CALL", "BAD_PAYLOAD", "UNREAD_BYTES", "SMALL_BUFFER", "REFUSED",
+        "DONE", "NOTHING", "WAIT_UNTIL", "ALLOCATE_TCP_SOCKET", "TCP_CLOSE", "CLOSED", "PACKET", "HANDLED", "IGNORED",
+        "PEER_DATA", "PEER_ICMP", "BYTES", "ADDRESS", "YES", "NO", "ALLOCATION_CREATED", "ALLOCATION_CREATE_FAILED",
+        "PERMISSION_CREATED", "PERMISSION_CREATE_FAILED", "CHANNEL_CREATED", "CHANNEL_CREATE_FAILED", "TCP_CONNECTED",
+        "TCP_CONNECT_FAILED", "BAD_SETTINGS", "BAD_CREDENTIALS", "BAD_SEED", "PEER_DATA_RANGE"
+    };
+    return names[kind < sizeof names / sizeof names[0] ? kind : 0];
+}
+
 /* The usual settings: an IPv4 address relayed over UDP, SHA-1, and the waits of the RFC. */
 static inline yarrowdoor_settings yarrowdoor_settings_of(uint32_t transport, const yarrowdoor_address *local,
                                                          const yarrowdoor_address *remote)
