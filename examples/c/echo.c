@@ -17,6 +17,8 @@ static yarrowdoor *client;
 static int connection, is_echoed;
 static yarrowdoor_address local, server, peer;
 static const char *text;
+/* When an echo is no longer waited for: ten seconds after the text was sent. */
+static uint64_t give_up = UINT64_MAX;
 /* A packet to send, or the data of a packet that was received in pieces. */
 static uint8_t buffer[YARROWDOOR_MAX_PACKET];
 
@@ -84,16 +86,14 @@ static void send_packet(const yarrowdoor_answer *packet)
 
 static void send_text(void)
 {
-    static uint8_t place[YARROWDOOR_MAX_PACKET];
     yarrowdoor_answer packet;
     size_t len = strlen(text) < 1000 ? strlen(text) : 1000;
-    if (yarrowdoor_send_to(client, YARROWDOOR_UDP, &peer, (const uint8_t *)text, len, now(), place, sizeof place,
+    if (yarrowdoor_send_to(client, YARROWDOOR_UDP, &peer, (const uint8_t *)text, len, now(), buffer, sizeof buffer,
                            &packet) != YARROWDOOR_PACKET) {
         stop("the text cannot be sent");
     }
-    if (send(connection, place, packet.len, 0) < 0) {
-        stop(strerror(errno));
-    }
+    send_packet(&packet);
+    give_up = now() + 10000000000;
 }
 
 static void handle_event(const yarrowdoor_answer *event)
@@ -114,8 +114,6 @@ static void handle_event(const yarrowdoor_answer *event)
     case YARROWDOOR_PERMISSION_CREATE_FAILED:
         stop("the server does not permit the peer");
         break;
-    default:
-        break;
     }
 }
 
@@ -125,6 +123,7 @@ static void handle_data(const uint8_t *data, size_t len)
     yarrowdoor_answer answer;
     printf("%.*s\n", (int)len, (const char *)data);
     is_echoed = 1;
+    give_up = UINT64_MAX;
     yarrowdoor_delete(client, now(), &answer);
 }
 
@@ -140,23 +139,20 @@ static uint64_t drive(void)
             handle_event(&answer);
             continue;
         }
-        switch (yarrowdoor_poll(client, now(), &answer)) {
-        case YARROWDOOR_WAIT_UNTIL:
-            if (answer.time > now()) {
-                return answer.time;
-            }
-            break;
-        case YARROWDOOR_CLOSED:
+        /* data connections are not polled: only an allocation over TCP has them */
+        uint32_t kind = yarrowdoor_poll(client, now(), &answer);
+        if (kind == YARROWDOOR_WAIT_UNTIL && answer.time > now()) {
+            return answer.time;
+        }
+        if (kind == YARROWDOOR_CLOSED) {
             yarrowdoor_free(client);
             if (!is_echoed) {
                 stop("no answer, or a wrong user name or password");
             }
             exit(0);
-        case YARROWDOOR_OUT_OF_MEMORY:
+        }
+        if (kind == YARROWDOOR_OUT_OF_MEMORY) {
             stop("out of memory");
-            break;
-        default: /* data connections, which only an allocation over TCP has */
-            break;
         }
     }
 }
@@ -194,6 +190,10 @@ int main(int argc, char **argv)
     open_connection();
     make_client(argv[3], argv[4]);
     for (;;) {
-        receive(drive());
+        uint64_t until = drive();
+        receive(until < give_up ? until : give_up);
+        if (now() >= give_up) {
+            stop("the peer sent nothing back within 10 s");
+        }
     }
 }
