@@ -2,6 +2,7 @@
 //!
 //! The replies of the server are those of the tests of `turn_replay`, under the seed of zeros.
 
+use std::net::SocketAddr;
 use std::time::Duration;
 use yarrowdoor::api::{Transmit, TurnConfig, TurnPollRet, TurnRecvRet};
 use yarrowdoor::prelude::*;
@@ -21,6 +22,9 @@ const REPLIES: [(u64, &str); 3] = [
     (50, "0103002c2112a4425386bd28bdd219b8a08ded1a001600080001bd522b12a446000d0004000003e80008001473ab3a7f1f80782b83e3ea333b6d47e608f296b7"),
     (100, "010900182112a442a836efcc8b770dc7da41597c00080014dd9a056be4781bb64f769e71f37f90df2533e857"),
 ];
+
+/// A DATA indication of 10.0.0.3:9000, up to its data (RFC 8656, section 11.6).
+const INDICATION: &str = "001704c02112a442010101010101010101010101001200080001023a2b12a441001304b0";
 
 fn hex(digits: &str) -> Vec<u8> {
     let pairs = (0..digits.len()).step_by(2);
@@ -69,10 +73,13 @@ fn time(name: &str, mut call: impl FnMut() -> bool) {
 fn main() {
     let mut client = bound();
     let (local, server) = (client.local_addr(), client.remote_addr());
-    let (peer, now) = ("10.0.0.3:9000".parse().unwrap(), at(100));
+    let (peer, now) = (SocketAddr::from(([10, 0, 0, 3], 9000)), at(100));
+    let other = SocketAddr::new(peer.ip(), 9001); // it has the permission of the peer, and no channel
     let data = [0x55; PAYLOAD];
     let mut frame = vec![0x40, 0x00, 0x04, 0xb0];
     frame.extend(data);
+    let mut indication = hex(INDICATION);
+    indication.extend(data);
     println!(
         "{:52} {:>9}",
         "package for Rust: nanoseconds, by number of channels", 1
@@ -81,9 +88,17 @@ fn main() {
         let packet = Transmit::new(frame.as_slice(), UDP, server, local);
         matches!(client.recv(packet, now), TurnRecvRet::PeerData(it) if it.data().len() == PAYLOAD)
     });
+    time("DATA indication of 1,200 bytes in", || {
+        let packet = Transmit::new(indication.as_slice(), UDP, server, local);
+        matches!(client.recv(packet, now), TurnRecvRet::PeerData(it) if it.data().len() == PAYLOAD)
+    });
     time("frame of 1,200 bytes out, built as a vector", || {
         let packet = client.send_to(UDP, peer, &data[..], now).unwrap().unwrap();
         packet.build().data.len() == 4 + PAYLOAD
+    });
+    time("Send indication of 1,200 bytes out, as a vector", || {
+        let packet = client.send_to(UDP, other, &data[..], now).unwrap().unwrap();
+        packet.build().data.len() == 20 + 12 + 4 + PAYLOAD
     });
     time("poll, nothing to be done", || {
         matches!(client.poll(now), TurnPollRet::WaitUntil(_))

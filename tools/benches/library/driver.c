@@ -13,17 +13,24 @@ uint64_t bench_next(uint32_t row, uint64_t sum);
 /* What peers send, and what is sent to them. */
 enum { PAYLOAD = 1200 };
 
-enum { NO_CALL, FRAME_IN, DATA_IN, FRAME_OUT, POLL, TRANSMIT, EVENT, HAVE, ROWS };
+/* Each peer has one port, and an IP address of its own: 10.1.x.y. To another port of the last one no channel is bound. */
+enum { PORT = 10000, OTHER_PORT = 10001 };
+
+/* A Send indication is a header, XOR-PEER-ADDRESS over IPv4, and DATA (RFC 8656, section 11.1). */
+enum { INDICATION = 20 + 12 + 4 + PAYLOAD };
+
+enum { NO_CALL, FRAME_IN, DATA_IN, FRAME_OUT, SEND, HAVE, POLL, TRANSMIT, EVENT, ROWS };
 
 static const struct row rows[ROWS] = {
     [NO_CALL] = {"a request of no call, refused", YARROWDOOR_BAD_CALL},
     [FRAME_IN] = {"channel frame of 1,200 bytes in", PAYLOAD},
     [DATA_IN] = {"DATA indication of 1,200 bytes in", PAYLOAD},
     [FRAME_OUT] = {"frame of 1,200 bytes out, written into a place", 4 + PAYLOAD},
+    [SEND] = {"Send indication of 1,200 bytes out, into a place", INDICATION},
+    [HAVE] = {"have_permission", YARROWDOOR_YES},
     [POLL] = {"poll, nothing to be done", YARROWDOOR_WAIT_UNTIL},
     [TRANSMIT] = {"poll_transmit, nothing to be sent", YARROWDOOR_NOTHING},
     [EVENT] = {"poll_event, no event", YARROWDOOR_NOTHING},
-    [HAVE] = {"have_permission", YARROWDOOR_YES},
 };
 
 static const int counts[] = {1, 100, 4096};
@@ -35,7 +42,7 @@ enum { MANY = 1024 };
 static const uint64_t REST = 10000000000, MILLISECOND = 1000000;
 
 static yarrowdoor *client;
-static yarrowdoor_address local, server, peer;
+static yarrowdoor_address local, server, peer, other;
 static uint64_t now;
 static uint8_t packet[65556], input[2048], data[PAYLOAD];
 static size_t input_len;
@@ -89,7 +96,8 @@ static void bind_channels(int count)
 {
     for (int i = 0; i < count; i++) {
         yarrowdoor_answer answer;
-        peer = yarrowdoor_ipv4(10, 0, 0, 3, (uint16_t)(10000 + i));
+        peer = other = yarrowdoor_ipv4(10, 1, (uint8_t)(i >> 8), (uint8_t)i, PORT);
+        other.port = OTHER_PORT;
         if (yarrowdoor_bind_channel(client, YARROWDOOR_UDP, &peer, now, &answer) != YARROWDOOR_DONE) {
             wrong("a channel");
         }
@@ -100,10 +108,13 @@ static void bind_channels(int count)
 /* Data of the last peer (RFC 8656, section 11.6). */
 static size_t write_data(uint8_t *at)
 {
-    static const uint8_t head[] = {0x00, 0x12, 0x00, 0x08, 0x00, 0x01, 0x00, 0x00, 0x2b, 0x12, 0xa4, 0x41};
+    static const uint8_t head[] = {0x00, 0x12, 0x00, 0x08, 0x00, 0x01, 0x00, 0x00, 0x21, 0x12, 0xa4, 0x42};
     write_header(at, 0x0017, sizeof head + 4 + PAYLOAD, 1);
     memcpy(at + 20, head, sizeof head);
     write_16(at + 26, peer.port ^ 0x2112);
+    for (int i = 0; i < 4; i++) {
+        at[28 + i] ^= peer.ip[i];
+    }
     write_16(at + 32, 0x0013);
     write_16(at + 34, PAYLOAD);
     memset(at + 36, 0x55, PAYLOAD);
@@ -116,6 +127,13 @@ static uint64_t receive(yarrowdoor_answer *answer)
     return answer->len;
 }
 
+/* Sends the data, and returns the length of the packet. */
+static uint64_t send_out(const yarrowdoor_address *to, yarrowdoor_answer *answer)
+{
+    yarrowdoor_send_to(client, YARROWDOOR_UDP, to, data, sizeof data, now, packet, sizeof packet, answer);
+    return answer->len;
+}
+
 static uint64_t turn(uint32_t row)
 {
     yarrowdoor_answer answer;
@@ -125,8 +143,9 @@ static uint64_t turn(uint32_t row)
     case DATA_IN:
         return receive(&answer);
     case FRAME_OUT:
-        yarrowdoor_send_to(client, YARROWDOOR_UDP, &peer, data, sizeof data, now, packet, sizeof packet, &answer);
-        return answer.len;
+        return send_out(&peer, &answer);
+    case SEND:
+        return send_out(&other, &answer);
     case POLL:
         return yarrowdoor_poll(client, now, &answer);
     case TRANSMIT:
