@@ -1,5 +1,5 @@
 -- Data of a peer that lies in the input.
-use Rattle.std.proofs.Common.{◌≡◌, ℕ, ◌+◌, ◌-◌, ◌≤◌, List, Option, Some, None, drop, length, take, inl, inr, refl, sym, ap, arith, ◌∙◌}
+use Rattle.std.proofs.Common.{◌≡◌, ℕ, ◌+◌, ◌-◌, ◌≤◌, List, Some, None, drop, length, take, inl, inr, sym, ap, arith, ◌∙◌}
 use Rattle.std.proofs.lemmas.List.{length-drop, length-take, take_min}
 use Rattle.std.specs.declared.convert.AsSlice.{Ghosts}
 use Rattle.std.specs.declared.ops.Range.{Range}

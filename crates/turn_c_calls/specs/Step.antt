@@ -1,6 +1,5 @@
 -- What a session does with a request.
 use Rattle.std.specs.Prelude.{◌≡◌, ◌⊎◌, ℕ, nat_lt, List, [], length, Option, Some, None, Result, Ok, Err}
-use Rattle.turn_client_api.specs.State.{State}
 use Rattle.turn_client_api.specs.Steps.{EndsWithoutMemory}
 use Rattle.turn_client_api.specs.declared.call.Call.{Call}
 use Rattle.turn_client_api.specs.declared.call.Call.TheVariants as Calls

@@ -1,7 +1,5 @@
-use Rattle.std.proofs.Common.{◌≡◌, arith, length}
-use Rattle.std.specs.Prelude.{nat_lt, Ok}
-use Rattle.turn_client_api.specs.declared.call.Call.TheVariants as Calls
-use Rattle.turn_c_calls.specs.Operation as Operations
+use Rattle.std.proofs.Common.{arith, length}
+use Rattle.std.specs.Prelude.{nat_lt}
 use Rattle.turn_c_calls.proofs.handle.handle.Goals as goal
 
 pub returns-in_ok-poll-in-Poll-clause-ok : goal.returns-in_ok-poll-in-Poll-clause-ok

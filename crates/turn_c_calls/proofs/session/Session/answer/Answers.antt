@@ -1,4 +1,4 @@
-use Rattle.std.proofs.Common.{◌≡◌, ◌∙◌, ap, length, subst, sym}
+use Rattle.std.proofs.Common.{◌∙◌, ap, length, subst, sym}
 use Rattle.std.specs.Prelude.{nat_lt}
 use Rattle.turn_client_proto.specs.Client.{state_of}
 use Rattle.turn_c_calls.specs.Answer.{of_kind}
