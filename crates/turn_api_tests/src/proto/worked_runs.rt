@@ -92,7 +92,7 @@ const SILENCE: &[Row<'static>] = &[
 ];
 
 #[test]
-fn a_silent_server_is_given_up(rt: HostRuntime) -> Result<(), Fail> {
+fn a_silent_server_times_out(rt: HostRuntime) -> Result<(), Fail> {
     follow(&rt, rt.alloc(), SHORT_WAITS, SILENCE)
 }
 
