@@ -1,7 +1,7 @@
 -- Data at the front of the control stream: it is what the next step of the streams gives.
 use Rattle.std.proofs.Common.{◌≡◌, ℕ, Bool, true, false, cond, List, [], ◌∷◌, length, drop, Option, Some, None, IsSome, refl, subst, sym, ap, ◌∙◌}
 use Rattle.std.specs.Prelude.{find, is_some}
-use Rattle.std.specs.Option.{option_map, option_map_or}
+use Rattle.std.specs.Option.{option_map_or}
 use Rattle.std.specs.declared.net.socket_addr.SocketAddr.{SocketAddr}
 use Rattle.turn_types.specs.Channel.{Channel, channel_data_at}
 use Rattle.turn_types.specs.Frames.{begins_message, begins_no_frame, frame_len}

@@ -10,7 +10,7 @@ use Rattle.turn_types.specs.Incoming.{ComesWith}
 use Rattle.turn_types.specs.declared.tcp.incoming.IncomingTcp.{IncomingTcp}
 use Rattle.turn_types.specs.declared.tcp.incoming.IncomingTcp.TheVariants.{CompleteMessage, CompleteChannel, StoredMessage, StoredChannel}
 use Rattle.turn_types.proofs.FrameLemmas.{frame_len-IsWhole}
-use Rattle.turn_client_api.specs.Payloads.{Outcome, Handled, PeerData}
+use Rattle.turn_client_api.specs.Payloads.{Outcome, PeerData}
 use Rattle.turn_client_api.specs.Receive.{place_kept}
 use Rattle.turn_client_api.specs.State.{State}
 use Rattle.turn_client_api.specs.Streams.{frame_step, framed_stream_step, with_bytes}

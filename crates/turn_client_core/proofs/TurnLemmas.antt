@@ -16,8 +16,9 @@ use Rattle.turn_client_api.specs.declared.state.Mode.{Mode}
 use Rattle.turn_client_api.specs.declared.state.Mode.TheVariants.{Control, Waiting, Bound, Broken}
 use Rattle.turn_client_api.specs.declared.state.Stream.{Stream}
 use Rattle.turn_client_api.specs.Payloads.{Payload, Outcome, Handled, Ignored, PeerData, PeerIcmp}
-use Rattle.turn_client_api.specs.Streams.{broken_at, detached_frame_step, frame_step, framed_by, framed_stream_step, go_on, is_bound, is_ready, max_steps, poll_recv_step, put_back, next_frame_step, first_ready_step}
-use Rattle.turn_client_api.specs.Streams.{sent_by, steps_until_payload, with_bytes}
+use Rattle.turn_client_api.specs.Streams.{broken_at, detached_frame_step, first_ready_step, frame_step, framed_by}
+use Rattle.turn_client_api.specs.Streams.{framed_stream_step, go_on, is_bound, is_ready, max_steps, next_frame_step, poll_recv_step}
+use Rattle.turn_client_api.specs.Streams.{put_back, sent_by, steps_until_payload, with_bytes}
 use Rattle.turn_client_laws.proofs.StreamDrainLemmas.{turn-lighter}
 use Rattle.turn_client_laws.proofs.StreamWeightLemmas.{weight, weight-le}
 use Rattle.turn_client_streams.specs.Buffered.{front_frame, passed}
