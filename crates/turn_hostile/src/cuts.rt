@@ -1,0 +1,180 @@
+//! A run over TCP with its streams in other pieces: the same payloads.
+
+ghost use Rattle.std.specs.Prelude.{◌≤◌, ◌^◌};
+ghost use Rattle.turn_client_proto.specs.Run.{IsCallable};
+ghost use Rattle.turn_stun.specs.declared.transport.TransportType.TheVariants.{Udp};
+
+use crate::session::{call_of, new_client};
+use std::alloc::Global;
+use std::net::SocketAddr;
+use turn_client_api::{Call, TurnClientApi, TurnRecvRet};
+use turn_client_proto::runs::reply_to;
+use turn_hostile_net::draws::Draws;
+use turn_hostile_net::fault::{Fault, expect};
+use turn_hostile_net::world::{Kind, number_of};
+use turn_stun::data::Data;
+use turn_stun::instant::Instant;
+use turn_stun::transport::Transmit;
+use turn_types::TransportType;
+
+/// More pieces, and more payloads, than there are at once here.
+const MANY: u32 = 4_096;
+
+/// The pieces of a stream.
+#[derive(Clone, Copy)]
+enum Cut {
+    /// As they were.
+    Whole,
+    /// Byte by byte.
+    Bytes,
+    /// At drawn places.
+    Drawn,
+}
+
+/// How streams are cut, and what payloads a client then returns.
+#[derive(Drop)]
+struct Pieces {
+    cut: Cut,
+    draws: Draws,
+    /// Whether the peers' bytes are streams too, so that payloads have no bounds.
+    is_stream: bool,
+    /// The payloads, each with its length before it, and before each byte the number of its peer.
+    payloads: Vec<u8>,
+}
+
+/// The same payloads come, however the streams of this trace are cut.
+///
+/// # Errors
+///
+/// `Wrong` if other payloads come, and `OutOfMemory` if memory allocation fails.
+pub fn same_payloads(alloc: Global, kind: Kind, seed: u64, trace: &str) -> Result<(), Fault> {
+    let whole = payloads_of(alloc, kind, seed, trace, Cut::Whole)?;
+    let bytes = payloads_of(alloc, kind, seed, trace, Cut::Bytes)?;
+    expect(bytes == whole, "a stream byte by byte has other payloads")?;
+    let drawn = payloads_of(alloc, kind, seed, trace, Cut::Drawn)?;
+    expect(drawn == whole, "a stream in pieces has other payloads")
+}
+
+/// The payloads that a new client returns for the calls of this trace with its streams cut so.
+fn payloads_of(
+    alloc: Global,
+    kind: Kind,
+    seed: u64,
+    trace: &str,
+    cut: Cut,
+) -> Result<Vec<u8>, Fault> {
+    let pieces = Pieces {
+        cut,
+        draws: Draws::new(seed),
+        is_stream: kind.relays == TransportType::Tcp,
+        payloads: Vec::new(alloc),
+    };
+    let mut client = new_client(alloc, kind, seed)?;
+    payloads_through(alloc, &mut client, trace, pieces)
+}
+
+fn payloads_through<C: TurnClientApi>(
+    alloc: Global,
+    client: &mut C,
+    trace: &str,
+    mut pieces: Pieces,
+) -> Result<Vec<u8>, Fault> {
+    for line in trace.lines() {
+        let call = call_of(alloc, line.as_bytes())?;
+        pieces.call(alloc, client, &call)?;
+    }
+    Ok(pieces.payloads)
+}
+
+/// Makes a call whose reply is of no interest.
+fn make_only<C: TurnClientApi>(alloc: Global, client: &mut C, call: &Call) -> Result<(), Fault>
+    requires { IsCallable Udp call.now }
+{
+    reply_to(alloc, client, call)?;
+    Ok(())
+}
+
+impl Pieces {
+    /// Makes a call, in pieces if it passes bytes in.
+    fn call<C: TurnClientApi>(
+        &mut self,
+        alloc: Global,
+        client: &mut C,
+        call: &Call,
+    ) -> Result<(), Fault>
+        requires { IsCallable Udp call.now }
+    {
+        match call {
+            Call::Recv { transmit, now } => self.pass_in(client, transmit, *now),
+            Call::PollRecv { .. } => Ok(()),
+            _ => make_only(alloc, client, call),
+        }
+    }
+
+    /// Passes bytes in, piece by piece.
+    fn pass_in<C: TurnClientApi>(
+        &mut self,
+        client: &mut C,
+        packet: &Transmit<Data>,
+        now: Instant,
+    ) -> Result<(), Fault>
+        requires { now ≤ 2 ^ 62 }
+    {
+        let mut rest = packet.payload.as_bytes();
+        for _ in 0..MANY {
+            let (piece, after) = rest.split_at(self.next_cut(rest.len()));
+            let piece = Transmit::new(piece, packet.transport, packet.from, packet.to);
+            self.pass_piece(client, piece, now)?;
+            if after.is_empty() {
+                break;
+            }
+            rest = after;
+        }
+        Ok(())
+    }
+
+    /// The length of the next piece of so many bytes.
+    fn next_cut(&mut self, len: usize) -> usize
+        ensures { result ≤ len }
+    {
+        match self.cut {
+            Cut::Whole => len,
+            Cut::Bytes => len.min(1),
+            Cut::Drawn => len.min((self.draws.below(24) as usize).saturating_add(1)),
+        }
+    }
+
+    /// Passes a piece in, and takes all payloads that the client then holds.
+    fn pass_piece<C: TurnClientApi>(
+        &mut self,
+        client: &mut C,
+        piece: Transmit<&[u8]>,
+        now: Instant,
+    ) -> Result<(), Fault>
+        requires { now ≤ 2 ^ 62 }
+    {
+        if let TurnRecvRet::PeerData(given) = client.recv(piece, now)? {
+            self.note(given.peer, given.data())?;
+        }
+        for _ in 0..MANY {
+            match client.poll_recv(now)? {
+                Some(given) => self.note(given.peer, given.data())?,
+                None => break,
+            }
+        }
+        Ok(())
+    }
+
+    /// Keeps a payload of this peer.
+    fn note(&mut self, peer: SocketAddr, payload: &[u8]) -> Result<(), Fault> {
+        if !self.is_stream {
+            self.payloads
+                .extend_from_slice(&payload.len().to_be_bytes())?;
+        }
+        let number = number_of(peer);
+        for byte in payload {
+            self.payloads.extend_from_slice(&[number, *byte])?;
+        }
+        Ok(())
+    }
+}

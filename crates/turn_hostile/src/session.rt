@@ -1,0 +1,176 @@
+//! The lines of all calls that were made on a client, and a replay of them.
+
+ghost use Rattle.std.specs.Prelude.{◌≡◌, All, IfOk};
+ghost use Rattle.turn_client_proto.specs.Run.{IsCallable};
+ghost use Rattle.turn_stun.specs.declared.transport.TransportType.TheVariants.{Udp};
+
+use crate::outcome::{Outcome, outcome_of};
+use std::alloc::{AllocError, Global};
+use std::slice;
+use turn_auth::credentials::TurnCredentials;
+use turn_client_api::{Call, TurnClientApi, TurnConfig};
+use turn_client_proto::client::TurnClient;
+use turn_client_proto::runs::{Reply, replay, reply_to};
+use turn_hostile_net::fault::Fault;
+use turn_hostile_net::world::{Kind, local, server};
+use turn_lines::call::parse_call;
+use turn_lines::fault::ReadError;
+use turn_lines::parts::Parts;
+use turn_lines::print::answers_text;
+use turn_types::TransportType;
+
+/// What was called and what was answered.
+#[derive(Drop)]
+pub struct Session {
+    alloc: Global,
+    /// The calls, a line each.
+    pub trace: String,
+    /// Their answers, a line each.
+    pub answers: String,
+    /// The bytes of the last packet or payload, if the last call returned one.
+    pub bytes: Vec<u8>,
+    /// How many calls were made.
+    pub calls: u64,
+}
+
+impl Session {
+    /// No call.
+    pub fn new(alloc: Global) -> Session {
+        Session {
+            alloc,
+            trace: String::new(alloc),
+            answers: String::new(alloc),
+            bytes: Vec::new(alloc),
+            calls: 0,
+        }
+    }
+
+    /// Makes the call with these words now, and keeps its line and its answer.
+    ///
+    /// # Errors
+    ///
+    /// `Wrong` if these are not the words of a call, and `OutOfMemory` if memory allocation fails.
+    pub fn make<C: TurnClientApi>(
+        &mut self,
+        client: &mut C,
+        now: u64,
+        words: &str,
+    ) -> Result<Outcome, Fault> {
+        let line = format!(in self.alloc; "{now} {words}")?;
+        self.trace.push_str(line.as_str())?;
+        self.trace.push('\n')?;
+        self.calls = self.calls.saturating_add(1);
+        let reply = made(self.alloc, client, line.as_bytes())?;
+        self.keep(&reply)
+    }
+
+    /// Keeps an answer.
+    fn keep(&mut self, reply: &Reply) -> Result<Outcome, Fault> {
+        let answer = answers_text(self.alloc, slice::from_ref(reply))?;
+        self.answers.push_str(answer.as_str())?;
+        outcome_of(reply, &mut self.bytes)
+    }
+}
+
+/// Makes the call of this line.
+///
+/// # Errors
+///
+/// `Wrong` if the line is no call, and `OutOfMemory` if memory allocation fails.
+fn made<C: TurnClientApi>(alloc: Global, client: &mut C, line: &[u8]) -> Result<Reply, Fault> {
+    let call = call_of(alloc, line)?;
+    Ok(reply_to(alloc, client, &call)?)
+}
+
+/// The call of a line. Its payload is so short that any client can make it.
+///
+/// # Errors
+///
+/// `Wrong` if the line is no call, and `OutOfMemory` if memory allocation fails.
+pub fn call_of(alloc: Global, line: &[u8]) -> Result<Call, Fault>
+    ensures { IfOk result (IsCallable Udp) }
+{
+    match parse_call(alloc, TransportType::Udp, line) {
+        Ok(call) => Ok(call),
+        Err(ReadError::Bad(_)) => Err(Fault::Wrong("the line of a call is no call")),
+        Err(ReadError::OutOfMemory) => Err(Fault::OutOfMemory),
+    }
+}
+
+/// The calls of a trace.
+fn calls_of(alloc: Global, trace: &str) -> Result<Vec<Call>, Fault>
+    ensures { IfOk result (λ calls. All (IsCallable Udp) calls.items) }
+{
+    let mut calls = Vec::new(alloc);
+    let mut lines = Parts::new(trace.as_bytes(), b'\n');
+    while let Some(line) = lines.next() {
+        if !line.is_empty() {
+            let call = call_of(alloc, line)?;
+            calls.push(call)?;
+        }
+    }
+    Ok(calls)
+}
+
+/// The seed of the client's transaction IDs.
+fn seed_bytes(seed: u64) -> [u8; 32] {
+    let [a, b, c, d, e, f, g, h] = seed.to_le_bytes();
+    [
+        a, b, c, d, e, f, g, h, 0, 0, 0, 0, 0, 0, 0, 0, 0, 0, 0, 0, 0, 0, 0, 0, 0, 0, 0, 0, 0, 0,
+        0, 0,
+    ]
+}
+
+/// The configuration of a client of this kind.
+fn config_of(alloc: Global, kind: Kind) -> Result<TurnConfig, Fault>
+    ensures { IfOk result (λ config. kind.transport ≡ TransportType.Udp → config.allocation_transport ≡ TransportType.Udp) }
+{
+    let mut config = TurnConfig::new(alloc, TurnCredentials::new(alloc, b"user", b"pass")?);
+    config.set_address_family(kind.first);
+    if let Some(family) = kind.second {
+        config.add_address_family(family);
+    }
+    if kind.transport == TransportType::Tcp {
+        config.set_allocation_transport(kind.relays);
+    }
+    Ok(config)
+}
+
+/// A new client.
+///
+/// # Errors
+///
+/// If memory allocation fails.
+pub fn new_client(alloc: Global, kind: Kind, seed: u64) -> Result<TurnClient, Fault> {
+    let config = config_of(alloc, kind)?;
+    let seed = seed_bytes(seed);
+    Ok(TurnClient::allocate(alloc, kind.transport, local(), server(), config, seed)?)
+}
+
+/// The text of the answers to the calls of a trace, on a new client. It is what `turn_replay` does with a trace: parses
+/// each line, passes the calls to `replay`, and prints the replies.
+///
+/// # Errors
+///
+/// `Wrong` if a line is no call, and `OutOfMemory` if memory allocation fails.
+pub fn replayed(alloc: Global, kind: Kind, seed: u64, trace: &str) -> Result<String, Fault> {
+    let calls = calls_of(alloc, trace)?;
+    let config = config_of(alloc, kind)?;
+    let seed = seed_bytes(seed);
+    Ok(answers_of(alloc, kind.transport, config, seed, calls.as_slice())?)
+}
+
+/// The text of the answers to these calls on a new client.
+fn answers_of(
+    alloc: Global,
+    transport: TransportType,
+    config: TurnConfig,
+    seed: [u8; 32],
+    calls: &[Call],
+) -> Result<String, AllocError>
+    requires allocation { transport ≡ TransportType.Udp → config.allocation_transport ≡ TransportType.Udp }
+    requires callable { All (IsCallable Udp) calls.now }
+{
+    let replayed = replay(alloc, transport, local(), server(), config, seed, calls)?;
+    answers_text(alloc, replayed.replies.as_slice())
+}

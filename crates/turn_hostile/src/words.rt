@@ -1,0 +1,143 @@
+//! The words of a call's line (`docs/LINES.md`).
+
+use crate::acts::Act;
+use std::alloc::{AllocError, Global};
+use std::fmt;
+use std::net::{IpAddr, SocketAddr};
+use turn_hostile_net::packet::Packet;
+use turn_hostile_net::world::{local, server};
+use turn_types::TransportType;
+
+/// An IP address, as a line has it.
+#[derive(Clone, Copy)]
+struct Ip(IpAddr);
+
+impl fmt::Display for Ip {
+    fn fmt<W: fmt::Write>(&self, f: &mut fmt::Formatter<W>) -> fmt::Result {
+        match self.0 {
+            IpAddr::V4(ip) => write!(f, "{ip}"),
+            IpAddr::V6(ip) => {
+                let bits = ip.to_bits();
+                write!(f, "[{bits:032x}]")
+            }
+        }
+    }
+}
+
+/// An address, as a line has it.
+#[derive(Clone, Copy)]
+struct Address(SocketAddr);
+
+impl fmt::Display for Address {
+    fn fmt<W: fmt::Write>(&self, f: &mut fmt::Formatter<W>) -> fmt::Result {
+        let ip = Ip(self.0.ip());
+        let port = self.0.port();
+        write!(f, "{ip}:{port}")
+    }
+}
+
+/// Bytes, as a line has them.
+#[derive(Clone, Copy)]
+struct Bytes<'a>(&'a [u8]);
+
+impl fmt::Display for Bytes<'_> {
+    fn fmt<W: fmt::Write>(&self, f: &mut fmt::Formatter<W>) -> fmt::Result {
+        if self.0.is_empty() {
+            return write!(f, "-");
+        }
+        for byte in self.0 {
+            write!(f, "{byte:02x}")?;
+        }
+        Ok(())
+    }
+}
+
+fn transport_word(transport: TransportType) -> &'static str {
+    match transport {
+        TransportType::Udp => "udp",
+        TransportType::Tcp => "tcp",
+    }
+}
+
+/// The words of the call, without its time.
+impl fmt::Display for Act {
+    fn fmt<W: fmt::Write>(&self, f: &mut fmt::Formatter<W>) -> fmt::Result {
+        match *self {
+            Act::Relayed => write!(f, "relayed"),
+            Act::Delete => write!(f, "delete"),
+            Act::Lose => write!(f, "error"),
+            Act::Permit(relays, ip) => write_with_ip(f, "permit", relays, ip),
+            Act::Have(relays, ip) => write_with_ip(f, "have", relays, ip),
+            Act::Bind(relays, peer) => write_with_address(f, "bind", relays, peer),
+            Act::Connect(peer) => {
+                let peer = Address(peer);
+                write!(f, "connect {peer}")
+            }
+            Act::Send(relays, peer, data) => {
+                write_with_address(f, "send", relays, peer)?;
+                write!(f, " {data:016x}")
+            }
+            Act::Close(end) => {
+                let (end, server) = (Address(end), Address(server()));
+                write!(f, "closed {end} {server}")
+            }
+            Act::Break(end) => {
+                let (server, end) = (Address(server()), Address(end));
+                write!(f, "recv tcp {server} {end} -")
+            }
+            Act::Socket(id, peer, end) => write_socket(f, id, peer, end),
+        }
+    }
+}
+
+/// The words of the call that passes in a packet over this transport.
+///
+/// # Errors
+///
+/// If memory allocation fails.
+pub fn recv_words(
+    alloc: Global,
+    transport: TransportType,
+    packet: &Packet,
+) -> Result<String, AllocError> {
+    let (transport, bytes) = (transport_word(transport), Bytes(packet.bytes.as_slice()));
+    let (from, to) = (Address(packet.from), Address(packet.to));
+    format!(in alloc; "recv {transport} {from} {to} {bytes}")
+}
+
+fn write_with_ip<W: fmt::Write>(
+    f: &mut fmt::Formatter<W>,
+    name: &str,
+    relays: TransportType,
+    ip: IpAddr,
+) -> fmt::Result {
+    let (relays, ip) = (transport_word(relays), Ip(ip));
+    write!(f, "{name} {relays} {ip}")
+}
+
+fn write_with_address<W: fmt::Write>(
+    f: &mut fmt::Formatter<W>,
+    name: &str,
+    relays: TransportType,
+    address: SocketAddr,
+) -> fmt::Result {
+    let (relays, address) = (transport_word(relays), Address(address));
+    write!(f, "{name} {relays} {address}")
+}
+
+fn write_socket<W: fmt::Write>(
+    f: &mut fmt::Formatter<W>,
+    id: u32,
+    peer: SocketAddr,
+    end: Option<SocketAddr>,
+) -> fmt::Result {
+    let (local, server, peer) = (Address(local()), Address(server()), Address(peer));
+    write!(f, "socket {id} tcp {local} {server} {peer} ")?;
+    match end {
+        Some(end) => {
+            let end = Address(end);
+            write!(f, "{end}")
+        }
+        None => write!(f, "-"),
+    }
+}
