@@ -5,18 +5,17 @@ ghost use Rattle.turn_client_proto.specs.Run.{IsCallable};
 ghost use Rattle.turn_stun.specs.declared.transport.TransportType.TheVariants.{Udp};
 
 use crate::outcome::{Outcome, outcome_of};
-use std::alloc::{AllocError, Global};
+use std::alloc::Global;
 use std::slice;
 use turn_auth::credentials::TurnCredentials;
 use turn_client_api::{Call, TurnClientApi, TurnConfig};
 use turn_client_proto::client::TurnClient;
-use turn_client_proto::runs::{Reply, replay, reply_to};
+use turn_client_proto::runs::{Reply, reply_to};
 use turn_hostile_net::fault::Fault;
 use turn_hostile_net::world::{Kind, local, server};
 use turn_lines::call::parse_call;
 use turn_lines::fault::ReadError;
-use turn_lines::parts::Parts;
-use turn_lines::print::answers_text;
+use turn_lines::print::{answers_text, replayed_text};
 use turn_types::TransportType;
 
 /// What was called and what was answered.
@@ -102,12 +101,9 @@ fn calls_of(alloc: Global, trace: &str) -> Result<Vec<Call>, Fault>
     ensures { IfOk result (λ calls. All (IsCallable Udp) calls.items) }
 {
     let mut calls = Vec::new(alloc);
-    let mut lines = Parts::new(trace.as_bytes(), b'\n');
-    while let Some(line) = lines.next() {
-        if !line.is_empty() {
-            let call = call_of(alloc, line)?;
-            calls.push(call)?;
-        }
+    for line in trace.lines() {
+        let call = call_of(alloc, line.as_bytes())?;
+        calls.push(call)?;
     }
     Ok(calls)
 }
@@ -148,7 +144,7 @@ pub fn new_client(alloc: Global, kind: Kind, seed: u64) -> Result<TurnClient, Fa
 }
 
 /// The text of the answers to the calls of a trace, on a new client. It is what `turn_replay` does with a trace: parses
-/// each line, passes the calls to `replay`, and prints the replies.
+/// each line, and prints the replies of `replay`.
 ///
 /// # Errors
 ///
@@ -156,21 +152,13 @@ pub fn new_client(alloc: Global, kind: Kind, seed: u64) -> Result<TurnClient, Fa
 pub fn replayed(alloc: Global, kind: Kind, seed: u64, trace: &str) -> Result<String, Fault> {
     let calls = calls_of(alloc, trace)?;
     let config = config_of(alloc, kind)?;
-    let seed = seed_bytes(seed);
-    Ok(answers_of(alloc, kind.transport, config, seed, calls.as_slice())?)
-}
-
-/// The text of the answers to these calls on a new client.
-fn answers_of(
-    alloc: Global,
-    transport: TransportType,
-    config: TurnConfig,
-    seed: [u8; 32],
-    calls: &[Call],
-) -> Result<String, AllocError>
-    requires allocation { transport ≡ TransportType.Udp → config.allocation_transport ≡ TransportType.Udp }
-    requires callable { All (IsCallable Udp) calls.now }
-{
-    let replayed = replay(alloc, transport, local(), server(), config, seed, calls)?;
-    answers_text(alloc, replayed.replies.as_slice())
+    Ok(replayed_text(
+        alloc,
+        kind.transport,
+        local(),
+        server(),
+        config,
+        seed_bytes(seed),
+        calls.as_slice(),
+    )?)
 }

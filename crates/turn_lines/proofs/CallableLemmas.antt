@@ -1,6 +1,7 @@
--- Each parsed call is allowed on a client whose allocation is over the transport for which it was parsed.
-use Rattle.std.proofs.Common.{◌≡◌, ℕ, ◌^◌, ◌≤◌, true, List, [], ◌∷◌, length, Option, Some, Ok, subst}
-use Rattle.std.specs.Prelude.{◌&&◌, nat_le}
+-- Each parsed call is allowed on a client whose allocation is over the transport for which it was parsed. One that is
+-- parsed for UDP is allowed on any client, since its payload is short.
+use Rattle.std.proofs.Common.{◌≡◌, ℕ, ◌^◌, ◌≤◌, true, List, [], ◌∷◌, length, Option, Some, Ok, refl, subst}
+use Rattle.std.specs.Prelude.{◌&&◌, All, nat_le}
 use Rattle.std.specs.Option.{option_map, option_and_then}
 use Rattle.std.specs.Str.Parse.{digits_value}
 use Rattle.std.proofs.lemmas.Bool.{leb-true}
@@ -83,3 +84,26 @@ callable_line relays line call h =
     let kept = of_then (has_short_payload relays made.0) Bad.Payload made.0 call made.2 in
     let low : at.0.0 ≤ 2 ^ 62 = low_time (parts_of 32 line) at.0 at.1 in
     subst (IsCallable relays) kept.1 (callable_with relays at.0.0 name.0.0 name.0.1 made.0 low made.1 kept.0)
+
+-- ---- any client
+
+pub callable_anywhere : (relays : TransportType) (call : Call) → IsCallable Udp call → IsCallable relays call
+callable_anywhere relays (Calls.Delete now) h = h
+callable_anywhere relays (Calls.CreatePermission transport peer now) h = h
+callable_anywhere relays (Calls.BindChannel transport peer now) h = h
+callable_anywhere relays (Calls.TcpConnect peer now) h = h
+callable_anywhere relays (Calls.AllocatedTcpSocket id tuple peer local now) h = h
+callable_anywhere relays (Calls.TcpClosed local remote now) h = h
+callable_anywhere relays (Calls.SendTo transport peer bytes now) h = (h.0, λ over. h.1 refl)
+callable_anywhere relays (Calls.Recv packet now) h = h
+callable_anywhere relays (Calls.PollRecv now) h = h
+callable_anywhere relays (Calls.Poll now) h = h
+callable_anywhere relays (Calls.PollTransmit now) h = h
+callable_anywhere relays Calls.PollEvent h = h
+callable_anywhere relays Calls.ProtocolError h = h
+callable_anywhere relays Calls.RelayedAddresses h = h
+callable_anywhere relays (Calls.Permissions transport relayed) h = h
+callable_anywhere relays (Calls.HavePermission transport to) h = h
+
+pub all_callable_anywhere : (relays : TransportType) (calls : List Call) → All (IsCallable Udp) calls → All (IsCallable relays) calls
+all_callable_anywhere relays calls all = λ k d low. callable_anywhere relays _ (all k d low)

@@ -1,6 +1,7 @@
 //! The text of a run: a line for each answer.
 
-ghost use Rattle.std.specs.Prelude.{◌≡◌, ◌++◌, IfOk, OnOk, string_bytes};
+ghost use Rattle.std.specs.Prelude.{◌≡◌, ◌++◌, All, IfOk, OnOk, string_bytes};
+ghost use Rattle.turn_client_proto.specs.Run.{IsCallable, run};
 ghost use Rattle.turn_lines.specs.Text.{answers_text, bad_text, kind_text};
 
 mod event;
@@ -12,7 +13,32 @@ mod reply;
 use crate::fault::{BadKind, BadLine};
 use crate::print::reply::reply_text;
 use std::alloc::{AllocError, Global};
-use turn_client_proto::runs::Reply;
+use std::net::SocketAddr;
+use turn_client_api::TurnConfig;
+use turn_client_proto::runs::{Call, Reply, replay};
+use turn_types::TransportType;
+
+/// The lines that answer these calls on a new client, as [`replay`] answers them.
+///
+/// # Errors
+///
+/// If memory allocation for the client, for a call or for the text fails.
+pub fn replayed_text(
+    alloc: Global,
+    transport: TransportType,
+    local: SocketAddr,
+    remote: SocketAddr,
+    config: TurnConfig,
+    seed: [u8; 32],
+    calls: &[Call],
+) -> Result<String, AllocError>
+    requires allocation { transport ≡ TransportType.Udp → config.allocation_transport ≡ TransportType.Udp }
+    requires callable { All (IsCallable config.allocation_transport) calls.now }
+    ensures { IfOk result (λ text. string_bytes text ≡ answers_text (run transport local remote config seed calls.now).0) }
+{
+    let replayed = replay(alloc, transport, local, remote, config, seed, calls)?;
+    answers_text(alloc, replayed.replies.as_slice())
+}
 
 /// A line for each answer.
 pub fn answers_text(alloc: Global, replies: &[Reply]) -> Result<String, AllocError>

@@ -7,11 +7,10 @@ ghost use Rattle.turn_replay.specs.Answer.{answer_to};
 
 use crate::trace::{Trace, parse_trace};
 use std::alloc::{AllocError, Global};
-use turn_client_proto::runs::replay;
 use turn_lines::configuration::configuration;
 use turn_lines::fault::ReadError;
 use turn_lines::head::Head;
-use turn_lines::print::{answers_text, bad_text};
+use turn_lines::print::{bad_text, replayed_text};
 use turn_lines::status::Status;
 use turn_types::TransportType;
 
@@ -26,7 +25,7 @@ pub fn answer(alloc: Global, text: &[u8]) -> Result<(Status, String), AllocError
 {
     match parse_trace(alloc, text) {
         Ok(trace) => {
-            let answers = replayed_text(alloc, trace)?;
+            let answers = answered_text(alloc, trace)?;
             Ok((Status::Answered, answers))
         }
         Err(ReadError::Bad(bad)) => {
@@ -38,7 +37,7 @@ pub fn answer(alloc: Global, text: &[u8]) -> Result<(Status, String), AllocError
 }
 
 /// The lines of a client's answers.
-fn replayed_text(alloc: Global, trace: Trace) -> Result<String, AllocError>
+fn answered_text(alloc: Global, trace: Trace) -> Result<String, AllocError>
     requires allocation { trace.head.ends.transport ≡ TransportType.Udp → trace.head.request.allocation ≡ TransportType.Udp }
     requires callable { All (IsCallable trace.head.request.allocation) trace.calls.items }
     ensures { IfOk result (λ text. string_bytes text ≡ answered_text trace.head trace.calls.items) }
@@ -52,7 +51,7 @@ fn replayed_text(alloc: Global, trace: Trace) -> Result<String, AllocError>
         waits,
     } = head;
     let config = configuration(alloc, request, credentials, waits);
-    let replayed = replay(
+    replayed_text(
         alloc,
         ends.transport,
         ends.local,
@@ -60,6 +59,5 @@ fn replayed_text(alloc: Global, trace: Trace) -> Result<String, AllocError>
         config,
         seed,
         calls.as_slice(),
-    )?;
-    answers_text(alloc, replayed.replies.as_slice())
+    )
 }

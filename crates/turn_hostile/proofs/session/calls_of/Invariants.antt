@@ -1,4 +1,3 @@
-use Rattle.std.proofs.Common.{length}
 use Rattle.std.specs.Prelude.{All}
 use Rattle.turn_client_proto.specs.Run.{IsCallable}
 use Rattle.turn_hostile.proofs.session.calls_of.Given as goal
@@ -6,6 +5,3 @@ use Rattle.turn_stun.specs.declared.transport.TransportType.TheVariants.{Udp}
 
 abbrev pub invariant-loop-line : goal.invariant-loop-line
 invariant-loop-line l = All (IsCallable Udp) l.calls.items
-
-abbrev pub decreases-loop-line : goal.decreases-loop-line
-decreases-loop-line l = length l.lines

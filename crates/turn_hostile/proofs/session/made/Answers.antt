@@ -1,5 +1,5 @@
-use Rattle.turn_hostile.proofs.CallableLemmas.{for_any}
+use Rattle.turn_lines.proofs.CallableLemmas.{callable_anywhere}
 use Rattle.turn_hostile.proofs.session.made.Goals as goal
 
 pub reply_to-requires : goal.reply_to-requires
-reply_to-requires g c = record { callable = for_any _ _ c.in_ok-call.ensures }
+reply_to-requires g c = record { callable = callable_anywhere _ _ c.in_ok-call.ensures }
