@@ -79,24 +79,19 @@ allocated-accepted s message = by (class_in message) refl (validation_of (auth_o
         → is_outstanding (id_of message) s.transactions ≡ true
     by Indication e v f = rw e (λ h. absurd (indication-accepted message h))
     by Request e (Validated algorithm) f = rw (e, f, e) (λ h. absurd h)
-    by Request e (Refused integrity) f = rw (e, f) (λ h. absurd h)
-    by Request e (ResendRequest algorithm) f = rw (e, f) (λ h. absurd h)
     by Success e (Validated algorithm) f = rw (e, f, e) (standing (is_outstanding (id_of message) s.transactions) SignedSuccess)
-    by Success e (Refused integrity) f = rw (e, f) (λ h. absurd h)
-    by Success e (ResendRequest algorithm) f = rw (e, f) (λ h. absurd h)
     by Error e (Validated algorithm) f = rw (e, f, e) (λ h. standing (is_outstanding (id_of message) s.transactions) SignedError (challenged_or-accepted _ _ h))
-    by Error e (Refused integrity) f = rw (e, f) (λ h. absurd (challenged_or-accepted Unrelated _ h))
-    by Error e (ResendRequest algorithm) f = rw (e, f) (λ h. absurd (challenged_or-accepted Unrelated _ h))
+    by Error e v f = rw (e, f) (λ h. absurd (challenged_or-accepted Unrelated _ h))
+    by k e v f = rw (e, f) (λ h. absurd h)
 
 pub accepted-outstanding : (message : List ℕ) (s : State) → IsAccepted (judgement_of s message) → is_outstanding (id_of message) s.transactions ≡ true
 accepted-outstanding message s = by s.phase refl
   where
     by : (p : Phase) → s.phase ≡ p → IsAccepted (judgement_of s message) → is_outstanding (id_of message) s.transactions ≡ true
-    by New e = rw e (λ h. absurd h)
     by Requesting e = rw e (λ h. absurd (never-accepted (answers_one s message) Fatal Unrelated (challenge_in s message) (λ x. x) (λ x. x) h))
     by Authenticating e = rw e (authenticating-accepted s message)
     by Allocated e = rw e (allocated-accepted s message)
-    by Closed e = rw e (λ h. absurd h)
+    by p e = rw e (λ h. absurd h)
 
 pub bind-outstanding : (local : SocketAddr) (message : List ℕ) (s : State) → IsAccepted (bind_judgement s local message) → is_outstanding (id_of message) s.transactions ≡ true
 bind-outstanding local message s = by (validation_of (auth_of s) message) refl
@@ -106,8 +101,7 @@ bind-outstanding local message s = by (validation_of (auth_of s) message) refl
 
     by : (v : Validation) → validation_of (auth_of s) message ≡ v → IsAccepted (bind_judgement s local message) → is_outstanding (id_of message) s.transactions ≡ true
     by (Validated algorithm) e = rw e (if-accepted is_answer (is_outstanding (id_of message) s.transactions) (by_class (class_in message)) Fatal Fatal (challenge_in s message) (λ h. h) (λ h. h))
-    by (Refused integrity) e = rw e (λ h. absurd (never-accepted is_answer Fatal Fatal (challenge_in s message) (λ x. x) (λ x. x) h))
-    by (ResendRequest algorithm) e = rw e (λ h. absurd (never-accepted is_answer Fatal Fatal (challenge_in s message) (λ x. x) (λ x. x) h))
+    by v e = rw e (λ h. absurd (never-accepted is_answer Fatal Fatal (challenge_in s message) (λ x. x) (λ x. x) h))
 
 -- ---- an accepted reply ends its request
 
@@ -125,13 +119,7 @@ accepted-ended message now s = by (judgement_of s message) refl
     by : (j : Judgement) → judgement_of s message ≡ j → IsAccepted (judgement_of s message) → is_outstanding id (message_step message now s).1.transactions ≡ true → id ≡ fresh_id s
     by SignedSuccess e = rw e (λ h is. drawn (signed-one id s.phase true message now s is))
     by SignedError e = rw e (λ h is. drawn (signed-one id s.phase false message now s is))
-    by Unrelated e = rw e (λ h is. absurd h)
-    by (Challenged d) e = rw e (λ h is. absurd h)
-    by Fatal e = rw e (λ h is. absurd h)
-    by LateResponse e = rw e (λ h is. absurd h)
-    by DataIndication e = rw e (λ h is. absurd h)
-    by ConnectionAttempt e = rw e (λ h is. absurd h)
-    by SignedRequest e = rw e (λ h is. absurd h)
+    by j e = rw e (λ h is. absurd h)
 
 pub bind-ended : (c : DataConnection) (message : List ℕ) (now : ℕ) (s : State) → IsAccepted (bind_judgement s c.local message)
     → is_outstanding (id_of message) (bind_answered c message now s).transactions ≡ false
@@ -140,13 +128,7 @@ bind-ended c message now s = by (bind_judgement s c.local message) refl
     by : (j : Judgement) → bind_judgement s c.local message ≡ j → IsAccepted (bind_judgement s c.local message) → is_outstanding (id_of message) (bind_answered c message now s).transactions ≡ false
     by SignedSuccess e = rw e (λ h. is_outstanding-without (id_of message) s.transactions)
     by SignedError e = rw e (λ h. is_outstanding-without (id_of message) s.transactions)
-    by Unrelated e = rw e (λ h. absurd h)
-    by (Challenged d) e = rw e (λ h. absurd h)
-    by Fatal e = rw e (λ h. absurd h)
-    by LateResponse e = rw e (λ h. absurd h)
-    by DataIndication e = rw e (λ h. absurd h)
-    by ConnectionAttempt e = rw e (λ h. absurd h)
-    by SignedRequest e = rw e (λ h. absurd h)
+    by j e = rw e (λ h. absurd h)
 
 unlike : true ≡ false → ⊥
 unlike e = cc

@@ -23,8 +23,7 @@ ipv6 segments = record { segments = segments }
 pub same_ip-true : (a b : IpAddr) → same_ip a b ≡ true → a ≡ b
 same_ip-true (V4 a) (V4 b) h = ap (λ (o : List ℕ). V4 (ipv4 o)) (same_text (ipv4_octets a) (ipv4_octets b) (sym h))
 same_ip-true (V6 a) (V6 b) h = ap (λ (o : List ℕ). V6 (ipv6 o)) (same_text (ipv6_segments a) (ipv6_segments b) (sym h))
-same_ip-true (V4 a) (V6 b) h = cc
-same_ip-true (V6 a) (V4 b) h = cc
+same_ip-true a b h = cc
 
 -- ---- an address and its port
 
@@ -48,8 +47,7 @@ same_address-true (At.V6 a) (At.V6 b) h =
     ∙ (ap (λ n. socket_v6 (ipv6_segments (v6_ip b)) n (v6_flowinfo a) (v6_scope_id a)) (eqb-true (v6_port a) (v6_port b) ip.1)
     ∙ (ap (λ n. socket_v6 (ipv6_segments (v6_ip b)) (v6_port b) n (v6_scope_id a)) (eqb-true (v6_flowinfo a) (v6_flowinfo b) flow.1)
     ∙ ap (socket_v6 (ipv6_segments (v6_ip b)) (v6_port b) (v6_flowinfo b)) (eqb-true (v6_scope_id a) (v6_scope_id b) scope.1)))
-same_address-true (At.V4 a) (At.V6 b) h = cc
-same_address-true (At.V6 a) (At.V4 b) h = cc
+same_address-true a b h = cc
 
 eqb-self : (n : ℕ) → eqb n n ≡ true
 eqb-self n = eq-eqb n n refl

@@ -102,11 +102,9 @@ families-in_order families s (inr (alone, two, none)) h = (h.0, h.1, λ y here t
 -- ---- a request is made
 
 ungranted-or : (p : Phase) → IsUngranted p ⊎ (IsUngranted p → ⊥)
-ungranted-or New = inl tt
-ungranted-or Requesting = inl tt
-ungranted-or Authenticating = inl tt
 ungranted-or Allocated = inr (λ none. none)
 ungranted-or Closed = inr (λ none. none)
+ungranted-or p = inl tt
 
 -- each listing is one of a purpose
 of-purpose : (l : Listing) (p : Purpose) (ls : List Listing) → l.purpose ≡ p → Has l ls → Has (listing l.id p) ls
@@ -239,11 +237,8 @@ ends-in_order : (s : State) → IsUnlisted s → StayInOrder s (record s { phase
 ends-in_order s none h = (λ u. absurd u, λ granted. none, λ y here there. absurd (none y.id there), λ u. absurd u)
 
 after-ungranted : (p : Phase) → (IsUngranted (phase_after p) → IsUngranted p) × (IsUngranted p → IsUngranted (phase_after p))
-after-ungranted New = (λ u. u, λ u. u)
 after-ungranted Requesting = (λ u. tt, λ u. tt)
-after-ungranted Authenticating = (λ u. u, λ u. u)
-after-ungranted Allocated = (λ u. u, λ u. u)
-after-ungranted Closed = (λ u. u, λ u. u)
+after-ungranted p = (λ u. u, λ u. u)
 
 counts-in_order : (s : State) → StayInOrder s (record s { phase = phase_after s.phase; challenges = s.challenges + 1 })
 counts-in_order s h =

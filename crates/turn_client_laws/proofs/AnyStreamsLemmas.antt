@@ -59,17 +59,12 @@ module _ (x : List Stream) where
       by (Some Pending) e true = rw e refl
       by (Some Pending) e false = rw e refl
       by (Some (Active expiry)) e true = rw e refl
-      by (Some (Active expiry)) e false = rw e refl
-      by (Some (Reserved until)) e g = rw e refl
+      by o e g = rw e refl
 
   permission_state-alike : (is_granted : Bool) (now : ℕ) (t : State) (p : Purpose)
       → permission_answered_for is_granted now (with_streams x t) p ≡ with_streams x (permission_answered_for is_granted now t p)
   permission_state-alike is_granted now t (ForPermission ip) = permission-alike ip is_granted now t
-  permission_state-alike is_granted now t ForAllocation = refl
-  permission_state-alike is_granted now t (ForRefresh family lifetime) = refl
-  permission_state-alike is_granted now t (ForChannel number peer) = refl
-  permission_state-alike is_granted now t (ForConnect peer) = refl
-  permission_state-alike is_granted now t (ForBind local peer id) = refl
+  permission_state-alike is_granted now t p = refl
 
   permissions-alike : (id : ℕ) (is_granted : Bool) (now : ℕ) (s : State) → listed_permissions_answered id is_granted now (with_streams x s) ≡ with_streams x
       (listed_permissions_answered id is_granted now s)
@@ -81,12 +76,10 @@ module _ (x : List Stream) where
     where
       by : (o : Option (SocketAddr × Progress)) → first_in (channel_at number) s ≡ o → (g : Bool)
           → channel_answered number id g now (with_streams x s) ≡ with_streams x (channel_answered number id g now s)
-      by None e g = rw e refl
       by (Some (peer, Pending)) e true = rw (e, permissions-alike id true now s) refl
       by (Some (peer, Pending)) e false = rw e refl
       by (Some (peer, Active expiry)) e true = rw e refl
-      by (Some (peer, Active expiry)) e false = rw e refl
-      by (Some (peer, Reserved until)) e g = rw e refl
+      by o e g = rw e refl
 
   connect-alike : (peer : SocketAddr) (o : Option ℕ) (s : State) → connect_answered peer o (with_streams x s) ≡ with_streams x (connect_answered peer o s)
   connect-alike peer (Some id) s = refl
@@ -110,8 +103,7 @@ module _ (x : List Stream) where
   effect-alike id is_granted message now s (ForPermission ip) = ap (λ (t : State). record t { challenges = 0 }) (permission-alike ip is_granted now s)
   effect-alike id is_granted message now s (ForChannel number peer) = ap (λ (t : State). record t { challenges = 0 }) (channel-alike number id is_granted now s)
   effect-alike id is_granted message now s (ForConnect peer) = ap (λ (t : State). record t { challenges = 0 }) (connect-alike peer (cond is_granted (connection_id_in message) None) s)
-  effect-alike id is_granted message now s ForAllocation = refl
-  effect-alike id is_granted message now s (ForBind local peer other) = refl
+  effect-alike id is_granted message now s p = refl
 
   -- ---- over the control connection
 
@@ -126,10 +118,7 @@ module _ (x : List Stream) where
 
   wrong-alike : (p : Phase) (message : List ℕ) (s : State) → wrong_step message (with_streams x (record s { phase = p })) ≡ both_with x (wrong_step message (record s { phase = p }))
   wrong-alike New message s = refl
-  wrong-alike Requesting message s = refl
-  wrong-alike Authenticating message s = refl
-  wrong-alike Allocated message s = refl
-  wrong-alike Closed message s = refl
+  wrong-alike p message s = refl
 
   response-alike : (is_granted : Bool) (message : List ℕ) (now : ℕ) (s : State) → response_step is_granted message now (with_streams x s) ≡ both_with x (response_step is_granted message now s)
   response-alike is_granted message now s =
@@ -150,10 +139,7 @@ module _ (x : List Stream) where
       → signed_step is_granted message now (with_streams x (record s { phase = p })) ≡ both_with x (signed_step is_granted message now (record s { phase = p }))
   signed-alike Authenticating true message now s = ap (λ (t : State). (Handled, t)) (granted-alike message now (transaction_ended (id_of message) (record s { phase = Authenticating })))
   signed-alike Authenticating false message now s = ap (λ (t : State). (Handled, t)) (denied-alike (fresh_id s) message now (transaction_ended (id_of message) (record s { phase = Authenticating })))
-  signed-alike New g message now s = response-alike g message now (record s { phase = New })
-  signed-alike Requesting g message now s = response-alike g message now (record s { phase = Requesting })
-  signed-alike Allocated g message now s = response-alike g message now (record s { phase = Allocated })
-  signed-alike Closed g message now s = response-alike g message now (record s { phase = Closed })
+  signed-alike p g message now s = response-alike g message now (record s { phase = p })
 
   requested-alike : (message : List ℕ) (s : State) → attempt_requested message (with_streams x s) ≡ with_streams x (attempt_requested message s)
   requested-alike message s = by (connection_id_in message) refl (peer_in message) refl
@@ -193,12 +179,10 @@ module _ (x : List Stream) where
   message-alike message now s = by (judgement_of s message) refl
     where
       by : (j : Judgement) → judgement_of s message ≡ j → message_step message now (with_streams x s) ≡ both_with x (message_step message now s)
-      by Unrelated e = rw e refl
       by (Challenged d) e = rw e (challenge-alike message d now s)
       by Fatal e = rw e (wrong-alike s.phase message s)
-      by LateResponse e = rw e refl
-      by DataIndication e = rw e refl
       by ConnectionAttempt e = rw e (indicated-alike message s)
       by SignedRequest e = rw e (pair-cond (eqb (method_in message) connection_attempt_method) _ _ _ _ (ap (λ (t : State). (Handled, t)) (requested-alike message s)) refl)
       by SignedSuccess e = rw e (signed-alike s.phase true message now s)
       by SignedError e = rw e (signed-alike s.phase false message now s)
+      by j e = rw e refl

@@ -54,8 +54,7 @@ bind-granted s local message = by (validation_of (auth_of s) message) refl
             let (asked, g) = once _ h in
             let (outstanding, k) = cond-granted (is_outstanding (id_of message) s.transactions) (by_class (class_in message)) Fatal (λ e. cc) g in
             (record { success = by_class-granted (class_in message) k; signed = validated _ (Validated algorithm) e tt; outstanding = outstanding }, asked)
-    by (Refused integrity) e = rw e (λ h. let n : Fatal ≡ SignedSuccess = (once Fatal h).1 in cc)
-    by (ResendRequest algorithm) e = rw e (λ h. let n : Fatal ≡ SignedSuccess = (once Fatal h).1 in cc)
+    by v e = rw e (λ h. let n : Fatal ≡ SignedSuccess = (once Fatal h).1 in cc)
 
 -- ---- for which connection its request was made
 
@@ -74,10 +73,7 @@ for-bind local (ForBind other peer number ∷ purposes) e = by (same_address oth
     by true f more = (peer, number, inl (ap (λ x. ForBind x peer number) (sym (same_address-true other local f))))
     by false f more = asked-later local (ForBind other peer number) purposes (more (rw f at e))
 for-bind local (ForAllocation ∷ purposes) e = asked-later local ForAllocation purposes (for-bind local purposes e)
-for-bind local (ForRefresh family lifetime ∷ purposes) e = asked-later local (ForRefresh family lifetime) purposes (for-bind local purposes e)
-for-bind local (ForPermission ip ∷ purposes) e = asked-later local (ForPermission ip) purposes (for-bind local purposes e)
-for-bind local (ForChannel number peer ∷ purposes) e = asked-later local (ForChannel number peer) purposes (for-bind local purposes e)
-for-bind local (ForConnect peer ∷ purposes) e = asked-later local (ForConnect peer) purposes (for-bind local purposes e)
+for-bind local (x ∷ purposes) e = asked-later local x purposes (for-bind local purposes e)
 
 pub found-local : (local : SocketAddr) (c : DataConnection) (cs : List DataConnection) → find (λ (d : DataConnection). same_address d.local local) cs ≡ Some c → c.local ≡ local
 found-local local c cs e = same_address-true c.local local (has-found (λ (d : DataConnection). same_address d.local local) c cs e).1

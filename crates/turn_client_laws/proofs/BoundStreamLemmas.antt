@@ -135,21 +135,7 @@ leaves-connection call s t c leaves (there, none) = by (leaves-grants call s t (
 
     no_end : (call : Call) → IsEndedNow call s (Connection c) → ⊥
     no_end (Delete now) e = e
-    no_end (CreatePermission transport peer now) e = e
-    no_end (BindChannel transport peer now) e = e
-    no_end (TcpConnect peer now) e = e
-    no_end (AllocatedTcpSocket id tuple peer local now) e = e
-    no_end (TcpClosed local remote now) e = e
-    no_end (SendTo transport peer bytes now) e = e
-    no_end (Recv packet now) e = e
-    no_end (PollRecv now) e = e
-    no_end (Poll now) e = e
-    no_end (PollTransmit now) e = e
-    no_end PollEvent e = e
-    no_end RelayedAddresses e = e
-    no_end (Permissions transport relayed) e = e
-    no_end (HavePermission transport to) e = e
-    no_end ProtocolError e = e
+    no_end call e = e
 
     by : WasActive s (Connection c) ⊎ IsEndedNow call s (Connection c) ⊎ IsDoneBy (IsGrantedIn (Connection c)) call s → IsConnectedBy c call s
     by (inl was) = inl (stood was, none)

@@ -25,9 +25,7 @@ challenged_or-is j (Some d) c not_j e = let same : d ≡ c = cc in ap Some same
 
 by_class-plain : (class : MessageClass) (c : Challenge) → by_class class ≡ Challenged c → ⊥
 by_class-plain Request c e = cc
-by_class-plain Indication c e = cc
-by_class-plain Success c e = cc
-by_class-plain Error c e = cc
+by_class-plain class c e = cc
 
 cond-plain : (b : Bool) (j k : Judgement) (c : Challenge) → (j ≡ Challenged c → ⊥) → (k ≡ Challenged c → ⊥) → cond b j k ≡ Challenged c → ⊥
 cond-plain true j k c not_j not_k e = not_j e
@@ -62,25 +60,19 @@ allocated-is s message c = by (challenge_in s message) refl (class_in message) r
     by : (o : Option Challenge) → challenge_in s message ≡ o → (k : MessageClass) → class_in message ≡ k → (v : Validation) → validation_of (auth_of s) message ≡ v
         → allocated_judgement s message ≡ Challenged c → challenge_in s message ≡ Some c
     by o g Indication e v f = rw e (λ h. absurd (indication-plain message c h))
-    by o g Request e (Validated algorithm) f = rw (e, f) (λ h. absurd (valid h))
-    by o g Request e (Refused integrity) f = rw (e, f) (λ h. cc)
-    by o g Request e (ResendRequest algorithm) f = rw (e, f) (λ h. cc)
-    by o g Success e (Validated algorithm) f = rw (e, f) (λ h. absurd (valid h))
-    by o g Success e (Refused integrity) f = rw (e, f) (λ h. cc)
-    by o g Success e (ResendRequest algorithm) f = rw (e, f) (λ h. cc)
     by o g Error e (Validated algorithm) f = rw (g, e, f, g) (challenged_or-is _ o c valid)
-    by o g Error e (Refused integrity) f = rw (g, e, f, g) (challenged_or-is Unrelated o c (λ e. cc))
-    by o g Error e (ResendRequest algorithm) f = rw (g, e, f, g) (challenged_or-is Unrelated o c (λ e. cc))
+    by o g Error e v f = rw (g, e, f, g) (challenged_or-is Unrelated o c (λ e. cc))
+    by o g k e (Validated algorithm) f = rw (e, f) (λ h. absurd (valid h))
+    by o g k e v f = rw (e, f) (λ h. cc)
 
 pub Challenged-is : (s : State) (message : List ℕ) (c : Challenge) → judgement_of s message ≡ Challenged c → challenge_in s message ≡ Some c
 Challenged-is s message c = by s.phase refl
   where
     by : (p : Phase) → s.phase ≡ p → judgement_of s message ≡ Challenged c → challenge_in s message ≡ Some c
-    by New e = rw e (λ h. cc)
     by Requesting e = rw e (if-is (answers_one s message) Fatal Unrelated (challenge_in s message) c (λ e. cc) (λ e. cc))
     by Authenticating e = rw e (authenticating-is s message c)
     by Allocated e = rw e (allocated-is s message c)
-    by Closed e = rw e (λ h. cc)
+    by p e = rw e (λ h. cc)
 
 pub bind-is : (s : State) (local : SocketAddr) (message : List ℕ) (c : Challenge) → bind_judgement s local message ≡ Challenged c → challenge_in s message ≡ Some c
 bind-is s local message c = by (validation_of (auth_of s) message) refl
@@ -88,5 +80,4 @@ bind-is s local message c = by (validation_of (auth_of s) message) refl
     by : (v : Validation) → validation_of (auth_of s) message ≡ v → bind_judgement s local message ≡ Challenged c → challenge_in s message ≡ Some c
     by (Validated algorithm) e = rw e (if-is _ (cond (is_outstanding (id_of message) s.transactions) (by_class (class_in message)) Fatal) Fatal (challenge_in s message) c
         (cond-plain (is_outstanding (id_of message) s.transactions) (by_class (class_in message)) Fatal c (by_class-plain (class_in message) c) (λ e. cc)) (λ e. cc))
-    by (Refused integrity) e = rw e (if-is _ Fatal Fatal (challenge_in s message) c (λ e. cc) (λ e. cc))
-    by (ResendRequest algorithm) e = rw e (if-is _ Fatal Fatal (challenge_in s message) c (λ e. cc) (λ e. cc))
+    by v e = rw e (if-is _ Fatal Fatal (challenge_in s message) c (λ e. cc) (λ e. cc))

@@ -42,20 +42,12 @@ number-there P number peer progress [] none h = absurd none
 number-there P number peer progress (g ∷ gs) (inl e) h = let at : AllByRecursion P (numbers (Channel number peer progress ∷ gs)) = subst (λ (x : Grant). AllByRecursion P (numbers (x ∷ gs)))
     (sym e) h in at.0
 number-there P number peer progress (Channel other to p ∷ gs) (inr there) h = number-there P number peer progress gs there h.1
-number-there P number peer progress (Allocation a ∷ gs) (inr there) h = number-there P number peer progress gs there h
-number-there P number peer progress (Permission ip p ∷ gs) (inr there) h = number-there P number peer progress gs there h
-number-there P number peer progress (Connect to ∷ gs) (inr there) h = number-there P number peer progress gs there h
-number-there P number peer progress (Offer offer ∷ gs) (inr there) h = number-there P number peer progress gs there h
-number-there P number peer progress (Connection c ∷ gs) (inr there) h = number-there P number peer progress gs there h
+number-there P number peer progress (_ ∷ gs) (inr there) h = number-there P number peer progress gs there h
 
 later-apart : (g : Grant) (gs : List Grant) → AreApart (g ∷ gs) → AreApart gs
 unfolding IsDistinct
 later-apart (Channel number peer progress) gs h = h.1
-later-apart (Allocation a) gs h = h
-later-apart (Permission ip progress) gs h = h
-later-apart (Connect peer) gs h = h
-later-apart (Offer offer) gs h = h
-later-apart (Connection c) gs h = h
+later-apart g gs h = h
 
 -- the first has a number of its own
 first-apart : (number : ℕ) (peer to : SocketAddr) (was is : Progress) (gs : List Grant) → AreApart (Channel number peer was ∷ gs) → Has (Channel number to is) gs → ⊥
@@ -88,11 +80,7 @@ asked-peer number peer to s founded apart l listed asks (progress, there) = by (
         let parts = and_parts (eqb other number) (same_address of peer) e in
         let named = subst (λ (n : ℕ). Has (Channel n of was) s.grants) (eqb-true other number parts.0) here in
         one-peer number to of progress was s.grants apart (contains-has _ s.grants there) named ∙ same_address-true of peer parts.1
-    at (Allocation a) here e = cc
-    at (Permission ip was) here e = cc
-    at (Connect other) here e = cc
-    at (Offer offer) here e = cc
-    at (Connection c) here e = cc
+    at g here e = cc
 
     by : HasGrant s.grants (ForChannel number peer) → to ≡ peer
     by (inl e) = cc
@@ -105,25 +93,14 @@ module _ (number : ℕ) (peer : SocketAddr) (expiry : ℕ) (message : List ℕ) 
       let (l, here, asks) = purposes-listed (id_of message) s (ForChannel other to) listed in
       let same = asked-peer other to peer s founded apart l here asks (subst (λ (n : ℕ). HasChannelTo n peer s) named there) in
       rw (named, same) refl
-  is-asked ForAllocation listed given = absurd given
-  is-asked (ForRefresh family lifetime) listed given = absurd given
-  is-asked (ForPermission ip) listed given = absurd given
-  is-asked (ForConnect to) listed given = absurd given
-  is-asked (ForBind local to id) listed given = absurd given
+  is-asked p listed given = absurd given
 
   by-grant : (was : Grant) (granted : IsGrantedBy message now s was) → IsSameGrant was (Channel number peer (Active expiry)) → granted.purpose ≡ ForChannel number peer
   by-grant (Channel other to (Active end)) granted (a, b, c) =
       is-asked granted.purpose (contains-has granted.purpose (purposes_of (id_of message) s) granted.listed)
       (rw (sym a, sym b, sym c) granted.given)
-  by-grant (Channel other to Pending) granted kept = absurd kept
-  by-grant (Channel other to (Reserved until)) granted kept = absurd kept
-  by-grant (Allocation a) granted kept = absurd kept
   by-grant (Permission ip Pending) granted kept = absurd kept
-  by-grant (Permission ip (Active end)) granted kept = absurd kept
-  by-grant (Permission ip (Reserved until)) granted kept = absurd kept
-  by-grant (Connect to) granted kept = absurd kept
-  by-grant (Offer offer) granted kept = absurd kept
-  by-grant (Connection c) granted kept = absurd kept
+  by-grant was granted kept = absurd kept
 
 -- ---- over a call
 
@@ -135,15 +112,8 @@ leaves-channels call s t leaves asked distinct number peer expiry there = by (le
 
     stood : (was : Grant) → Has was s.grants → IsSameGrant was channel → Has channel s.grants
     stood (Channel other to (Active end)) here (a, b, c) = rw (sym a, sym b, sym c) here
-    stood (Channel other to Pending) here kept = absurd kept
-    stood (Channel other to (Reserved until)) here kept = absurd kept
-    stood (Allocation a) here kept = absurd kept
     stood (Permission ip Pending) here kept = absurd kept
-    stood (Permission ip (Active end)) here kept = absurd kept
-    stood (Permission ip (Reserved until)) here kept = absurd kept
-    stood (Connect to) here kept = absurd kept
-    stood (Offer offer) here kept = absurd kept
-    stood (Connection c) here kept = absurd kept
+    stood was here kept = absurd kept
 
     turned : (one : Input) → Contains (handled call s) one → IsGrantInput channel one → IsChannelInput number peer expiry one
     turned one among turn =

@@ -64,11 +64,7 @@ fit-filter p gs fits g there = fits g (has-filter p g gs there).0
 
 outline-number : (g : Grant) → number_of_channel (outline g) ≡ number_of_channel g
 outline-number (Allocation a) = refl
-outline-number (Permission ip progress) = refl
-outline-number (Channel number peer progress) = refl
-outline-number (Connect peer) = refl
-outline-number (Offer offer) = refl
-outline-number (Connection c) = refl
+outline-number g = refl
 
 pub numbers-outlined : (gs : List Grant) → filter_map number_of_channel (map outline gs) ≡ filter_map number_of_channel gs
 numbers-outlined [] = refl

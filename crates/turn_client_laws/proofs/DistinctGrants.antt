@@ -39,10 +39,9 @@ use Rattle.turn_client_laws.proofs.EditsOfMessages.{granted-with}
 -- ---- the first allocations
 
 differ : (x y : AddressFamily) (families : List AddressFamily) → list_any (λ f. same_family x f) families ≡ false → list_any (λ f. same_family y f) families ≡ true → same_family x y ≡ false
-differ IPV4 IPV4 families none some = let no : true ≡ false = sym some ∙ none in cc
 differ IPV4 IPV6 families none some = refl
 differ IPV6 IPV4 families none some = refl
-differ IPV6 IPV6 families none some = let no : true ≡ false = sym some ∙ none in cc
+differ x y families none some = let no : true ≡ false = sym some ∙ none in cc
 
 none-left : {X : Type 0} (p q : X → Bool) (xs : List X) → list_any p xs ≡ false → list_any p (filter q xs) ≡ false
 none-left p q [] none = refl
@@ -154,11 +153,9 @@ permission-granted ip progress s e h u =
     none-some progress (subst (λ (gs : List Grant). slice_get (filter_map (permission_progress ip) gs) 0 ≡ Some progress) (h.none u) e)
 
 ungranted-after : (p : Phase) → IsUngranted (phase_after p) → IsUngranted p
-ungranted-after New u = tt
-ungranted-after Requesting u = tt
-ungranted-after Authenticating u = tt
 ungranted-after Allocated u = u
 ungranted-after Closed u = u
+ungranted-after p u = tt
 
 allocates-tidy : (message : List ℕ) (lifetime now : ℕ) (s : State) → s.phase ≡ Authenticating
     → KeepsDistinctGrants s (record s {

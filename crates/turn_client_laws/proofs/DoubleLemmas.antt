@@ -55,85 +55,49 @@ alike-allocation a b e = record { front = front; behind = behind }
   where
     front : (x : Grant) → is_double (Allocation a) x ≡ is_double (Allocation b) x
     front (Allocation c) = rw e refl
-    front (Permission ip progress) = refl
-    front (Channel number peer progress) = refl
-    front (Connect peer) = refl
-    front (Offer offer) = refl
-    front (Connection c) = refl
+    front x = refl
 
     behind : (x : Grant) → is_double x (Allocation a) ≡ is_double x (Allocation b)
     behind (Allocation c) = rw e refl
-    behind (Permission ip progress) = refl
-    behind (Channel number peer progress) = refl
-    behind (Connect peer) = refl
-    behind (Offer offer) = refl
-    behind (Connection c) = refl
+    behind x = refl
 
 pub alike-permission : (ip : IpAddr) (p q : Progress) → IsAlike (Permission ip p) (Permission ip q)
 alike-permission ip p q = record { front = front; behind = behind }
   where
     front : (x : Grant) → is_double (Permission ip p) x ≡ is_double (Permission ip q) x
     front (Allocation c) = refl
-    front (Permission other progress) = refl
-    front (Channel number peer progress) = refl
-    front (Connect peer) = refl
-    front (Offer offer) = refl
-    front (Connection c) = refl
+    front x = refl
 
     behind : (x : Grant) → is_double x (Permission ip p) ≡ is_double x (Permission ip q)
     behind (Allocation c) = refl
-    behind (Permission other progress) = refl
-    behind (Channel number peer progress) = refl
-    behind (Connect peer) = refl
-    behind (Offer offer) = refl
-    behind (Connection c) = refl
+    behind x = refl
 
 pub alike-channel : (n : ℕ) (to : SocketAddr) (p q : Progress) → IsAlike (Channel n to p) (Channel n to q)
 alike-channel n to p q = record { front = front; behind = behind }
   where
     front : (x : Grant) → is_double (Channel n to p) x ≡ is_double (Channel n to q) x
     front (Allocation c) = refl
-    front (Permission other progress) = refl
-    front (Channel number peer progress) = refl
-    front (Connect peer) = refl
-    front (Offer offer) = refl
-    front (Connection c) = refl
+    front x = refl
 
     behind : (x : Grant) → is_double x (Channel n to p) ≡ is_double x (Channel n to q)
     behind (Allocation c) = refl
-    behind (Permission other progress) = refl
-    behind (Channel number peer progress) = refl
-    behind (Connect peer) = refl
-    behind (Offer offer) = refl
-    behind (Connection c) = refl
+    behind x = refl
 
 pub alike-connection : (c d : DataConnection) → c.local ≡ d.local → IsAlike (Connection c) (Connection d)
 alike-connection c d e = record { front = front; behind = behind }
   where
     front : (x : Grant) → is_double (Connection c) x ≡ is_double (Connection d) x
-    front (Allocation a) = refl
-    front (Permission ip progress) = refl
-    front (Channel number peer progress) = refl
-    front (Connect peer) = refl
-    front (Offer offer) = refl
     front (Connection x) = rw e refl
+    front x = refl
 
     behind : (x : Grant) → is_double x (Connection c) ≡ is_double x (Connection d)
-    behind (Allocation a) = refl
-    behind (Permission ip progress) = refl
-    behind (Channel number peer progress) = refl
-    behind (Connect peer) = refl
-    behind (Offer offer) = refl
     behind (Connection x) = rw e refl
+    behind x = refl
 
 -- an offer has no double
 pub offer-single : (offer : DataOffer) (x : Grant) → is_double x (Offer offer) ≡ false
 offer-single offer (Allocation a) = refl
-offer-single offer (Permission ip progress) = refl
-offer-single offer (Channel number peer progress) = refl
-offer-single offer (Connect peer) = refl
-offer-single offer (Offer other) = refl
-offer-single offer (Connection c) = refl
+offer-single offer x = refl
 
 pub alike-offer : (a b : DataOffer) → IsAlike (Offer a) (Offer b)
 alike-offer a b = record { front = λ x. refl; behind = λ x. offer-single a x ∙ sym (offer-single b x) }
@@ -182,35 +146,19 @@ offer-IsNew offer (x ∷ gs) = (offer-single offer x, offer-IsNew offer gs)
 
 pub permission-which : (ip : IpAddr) (p : Progress) (x : Grant) → is_double x (Permission ip p) ≡ is_permission_of ip x
 permission-which ip p (Allocation a) = refl
-permission-which ip p (Permission other progress) = refl
-permission-which ip p (Channel number peer progress) = refl
-permission-which ip p (Connect peer) = refl
-permission-which ip p (Offer offer) = refl
-permission-which ip p (Connection c) = refl
+permission-which ip p x = refl
 
 pub channel-which : (n : ℕ) (to : SocketAddr) (p : Progress) (x : Grant) → is_double x (Channel n to p) ≡ is_channel_of n x
 channel-which n to p (Allocation a) = refl
-channel-which n to p (Permission other progress) = refl
-channel-which n to p (Channel number peer progress) = refl
-channel-which n to p (Connect peer) = refl
-channel-which n to p (Offer offer) = refl
-channel-which n to p (Connection c) = refl
+channel-which n to p x = refl
 
 pub connect-which : (peer : SocketAddr) (x : Grant) → is_double x (Connect peer) ≡ is_connect_to peer x
 connect-which peer (Allocation a) = refl
-connect-which peer (Permission other progress) = refl
-connect-which peer (Channel number to progress) = refl
-connect-which peer (Connect other) = refl
-connect-which peer (Offer offer) = refl
-connect-which peer (Connection c) = refl
+connect-which peer x = refl
 
 pub connection-which : (d : DataConnection) (x : Grant) → is_double x (Connection d) ≡ is_connection_from d.local x
 connection-which d (Allocation a) = refl
-connection-which d (Permission other progress) = refl
-connection-which d (Channel number to progress) = refl
-connection-which d (Connect other) = refl
-connection-which d (Offer offer) = refl
-connection-which d (Connection c) = refl
+connection-which d x = refl
 
 -- ---- what a look-up did not find
 
@@ -222,11 +170,7 @@ no-permission ip (Permission other progress ∷ gs) none = by (same_ip other ip)
         → list_any (is_permission_of ip) (Permission other progress ∷ gs) ≡ false
     by true e later = let no : true ≡ false = rw e at none in cc
     by false e later = rw e (later (rw e at none))
-no-permission ip (Allocation a ∷ gs) none = no-permission ip gs none
-no-permission ip (Channel number peer progress ∷ gs) none = no-permission ip gs none
-no-permission ip (Connect peer ∷ gs) none = no-permission ip gs none
-no-permission ip (Offer offer ∷ gs) none = no-permission ip gs none
-no-permission ip (Connection c ∷ gs) none = no-permission ip gs none
+no-permission ip (_ ∷ gs) none = no-permission ip gs none
 
 pub no-connection : (local : SocketAddr) (gs : List Grant) → is_some (find (λ c. same_address c.local local) (filter_map as_connection gs)) ≡ false → list_any (is_connection_from local) gs ≡ false
 no-connection local [] none = refl
@@ -236,11 +180,7 @@ no-connection local (Connection c ∷ gs) none = by (same_address c.local local)
         → list_any (is_connection_from local) (Connection c ∷ gs) ≡ false
     by true e later = let no : true ≡ false = rw e at none in cc
     by false e later = rw e (later (rw e at none))
-no-connection local (Allocation a ∷ gs) none = no-connection local gs none
-no-connection local (Permission ip progress ∷ gs) none = no-connection local gs none
-no-connection local (Channel number peer progress ∷ gs) none = no-connection local gs none
-no-connection local (Connect peer ∷ gs) none = no-connection local gs none
-no-connection local (Offer offer ∷ gs) none = no-connection local gs none
+no-connection local (_ ∷ gs) none = no-connection local gs none
 
 -- ---- offers are removed
 

@@ -90,33 +90,15 @@ late-lt a b less = false_from_ne_true (ltb a b) (λ e. let lt = ltb-true a b e i
 
 early-permission : (now : ℕ) (s : State) (g : Grant) → IsEarly now s g → is_lapsed_permission now g ≡ false
 early-permission now s (Permission ip (Active expiry)) early = late-le expiry now (early expiry refl)
-early-permission now s (Permission ip Pending) early = refl
-early-permission now s (Permission ip (Reserved until)) early = refl
-early-permission now s (Allocation a) early = refl
-early-permission now s (Channel number peer progress) early = refl
-early-permission now s (Connect peer) early = refl
-early-permission now s (Offer offer) early = refl
-early-permission now s (Connection c) early = refl
+early-permission now s g early = refl
 
 early-channel : (now : ℕ) (s : State) (g : Grant) → IsEarly now s g → is_lapsed_channel now g ≡ false
 early-channel now s (Channel number peer (Active expiry)) early = late-le expiry now (early expiry refl)
-early-channel now s (Channel number peer Pending) early = refl
-early-channel now s (Channel number peer (Reserved until)) early = refl
-early-channel now s (Allocation a) early = refl
-early-channel now s (Permission ip progress) early = refl
-early-channel now s (Connect peer) early = refl
-early-channel now s (Offer offer) early = refl
-early-channel now s (Connection c) early = refl
+early-channel now s g early = refl
 
 early-over : (now : ℕ) (s : State) (g : Grant) → IsEarly now s g → is_over now g ≡ false
 early-over now s (Channel number peer (Reserved until)) early = late-lt until now (early (until + 1) refl)
-early-over now s (Channel number peer Pending) early = refl
-early-over now s (Channel number peer (Active expiry)) early = refl
-early-over now s (Allocation a) early = refl
-early-over now s (Permission ip progress) early = refl
-early-over now s (Connect peer) early = refl
-early-over now s (Offer offer) early = refl
-early-over now s (Connection c) early = refl
+early-over now s g early = refl
 
 early-unbound : (now : ℕ) (s : State) (g : Grant) → IsEarly now s g → is_unbound [] now g ≡ false
 early-unbound now s (Connection c) early = by c.deadline refl
@@ -124,16 +106,11 @@ early-unbound now s (Connection c) early = by c.deadline refl
     by : (o : Option ℕ) → c.deadline ≡ o → option_map_or (λ deadline. leb deadline now || false) o false ≡ false
     by None e = refl
     by (Some deadline) e = rw (late-le deadline now (early deadline e)) refl
-early-unbound now s (Channel number peer progress) early = refl
-early-unbound now s (Allocation a) early = refl
-early-unbound now s (Permission ip progress) early = refl
-early-unbound now s (Connect peer) early = refl
-early-unbound now s (Offer offer) early = refl
+early-unbound now s g early = refl
 
 and-false : (a b : Bool) → (a && b && false) ≡ false
 and-false true true = refl
-and-false true false = refl
-and-false false b = refl
+and-false a b = refl
 
 and_then-false : (a b : Bool) → b ≡ false → (a && b) ≡ false
 and_then-false true b e = e
@@ -146,8 +123,7 @@ lapse-else false time e = refl
 -- an expired allocation with a pending request stays, and else one whose expiry has not passed
 stays-by : (past expired asked : Bool) → ((expired && asked) ≡ false → past ≡ false) → (past && (false || not asked || not expired)) ≡ false
 stays-by past true true early = and_then-false past false refl
-stays-by past true false early = rw (early refl) refl
-stays-by past false asked early = rw (early refl) refl
+stays-by past expired asked early = rw (early refl) refl
 
 early-stays : (now : ℕ) (s : State) (a : Relay) → IsEarly now s (Allocation a) → allocation_expires [] now s a ≡ false
 early-stays now s a early =
@@ -213,11 +189,7 @@ lapsed-none now s all = fold-rest (lapsed_allocation None [] now) (allocations s
 
     is-allocation : (g : Grant) (a : Relay) → as_allocation g ≡ Some a → IsEarly now s g → IsEarly now s (Allocation a)
     is-allocation (Allocation b) a e is = rw (← same_Some b a e) is
-    is-allocation (Permission ip progress) a e is = cc
-    is-allocation (Channel number peer progress) a e is = cc
-    is-allocation (Connect peer) a e is = cc
-    is-allocation (Offer offer) a e is = cc
-    is-allocation (Connection c) a e is = cc
+    is-allocation g a e is = cc
 
     by : (a : Relay) → Has a (allocations s) → lapsed_allocation None [] now s a ≡ s
     by a h =

@@ -197,11 +197,7 @@ KeepsAllEdits R = KeepsHeeded ⊤ R
 
 outline-aged : (g : Grant) → outline (aged g) ≡ outline g
 outline-aged (Allocation a) = refl
-outline-aged (Offer offer) = refl
-outline-aged (Permission ip progress) = refl
-outline-aged (Channel number peer progress) = refl
-outline-aged (Connect peer) = refl
-outline-aged (Connection c) = refl
+outline-aged g = refl
 
 outlines-aged : (gs : List Grant) → map outline (map aged gs) ≡ map outline gs
 outlines-aged [] = refl

@@ -63,10 +63,7 @@ use Rattle.turn_client_laws.proofs.EditsOfMessages.{edits-IsKept}
 
 is_allocated-true : (p : Phase) → is_allocated p ≡ true → p ≡ Allocated
 is_allocated-true Allocated e = refl
-is_allocated-true New e = cc
-is_allocated-true Requesting e = cc
-is_allocated-true Authenticating e = cc
-is_allocated-true Closed e = cc
+is_allocated-true p e = cc
 
 allocated-begun : (p : Phase) → is_allocated p ≡ true → IsBegun p
 allocated-begun p e = rw (is_allocated-true p e) tt
@@ -226,10 +223,8 @@ module _ (R : State → State → Type 0) (k : KeepsEdits R) where
 
   bound_by-walk : (peer : SocketAddr) (now : ℕ) (s : State) → Room s.grants (family_of peer) → (l : List ℕ) (b : Bool) → is_allocated s.phase ≡ b → (o : Option ℕ) → free_number s ≡ o
       → R s (bound_by peer now s l b o).1
-  bound_by-walk peer now s room (until ∷ others) b e o free = k.same s
-  bound_by-walk peer now s room [] false e o free = k.same s
-  bound_by-walk peer now s room [] true e None free = k.same s
   bound_by-walk peer now s room [] true e (Some number) free = bind_channel-walk number peer now s (is_allocated-true s.phase e) room free
+  bound_by-walk peer now s room l b e o free = k.same s
 
   channel-walk : (peer : SocketAddr) (now : ℕ) (s : State) → Room s.grants (family_of peer) → R s (channel_step peer now s).1
   channel-walk peer now s room =
@@ -286,17 +281,15 @@ module _ (R : State → State → Type 0) (k : KeepsEdits R) where
           (streams t end.streams)))
 
       by : (from : Origin) → R s (socket_opened id peer local from now s)
-      by OwnConnect = opened s.queue
-      by ServerIndication = opened s.queue
       by (ServerRequest request) = opened (replied (accepted_reply s request) s).queue
+      by from = opened s.queue
 
   refused-walk : (id : ℕ) (peer : SocketAddr) (origin : Origin) (s : State) → IsBegun s.phase → R s (socket_refused id peer origin s)
-  refused-walk id peer OwnConnect s begun = k.takes_offer id peer s
-  refused-walk id peer ServerIndication s begun = k.takes_offer id peer s
   refused-walk id peer (ServerRequest request) s begun =
       let t = offer_taken id peer s in
       let end = socket_refused id peer (ServerRequest request) s in
       then s t end (k.takes_offer id peer s) (k.queues end.queue t begun)
+  refused-walk id peer origin s begun = k.takes_offer id peer s
 
   socket-walk : IgnoresAll R → (id : ℕ) (peer : SocketAddr) (local : Option SocketAddr) (origin : Origin) (now : ℕ) (s : State) → s.phase ≡ Allocated → offer_origin id peer s ≡ Some origin
       → R s (socket_step id peer local origin now s).1
@@ -339,15 +332,11 @@ module _ (R : State → State → Type 0) (k : KeepsEdits R) where
   -- ---- the calls that process nothing
 
   pub quiet-walk : (call : Call) (s : State) → IsQuiet call → R s (state_after call s)
-  quiet-walk (Delete now) s none = absurd none
   quiet-walk (CreatePermission transport peer now) s quiet = permission-walk transport peer now s
   quiet-walk (BindChannel transport peer now) s quiet = bind-walk transport peer now s
   quiet-walk (TcpConnect peer now) s quiet = connect-walk peer now s
-  quiet-walk (AllocatedTcpSocket id tuple peer local now) s none = absurd none
   quiet-walk (TcpClosed local remote now) s quiet = tcp_closed-walk local remote s
   quiet-walk (SendTo transport peer bytes now) s quiet = send-walk transport peer bytes now s
-  quiet-walk (Recv packet now) s none = absurd none
-  quiet-walk (PollRecv now) s none = absurd none
   quiet-walk (Poll now) s quiet = poll-walk R k now s
   quiet-walk (PollTransmit now) s quiet = transmit-walk R k now s
   quiet-walk PollEvent s quiet = k.aside s (event_step s).1
@@ -355,6 +344,7 @@ module _ (R : State → State → Type 0) (k : KeepsEdits R) where
   quiet-walk (Permissions transport relayed) s quiet = k.same s
   quiet-walk (HavePermission transport to) s quiet = k.same s
   quiet-walk ProtocolError s quiet = error-walk s
+  quiet-walk call s none = absurd none
 
 -- ---- all calls
 

@@ -61,11 +61,7 @@ purposes-listed id s p there =
 -- the request that binds a connection that exists
 bind-askable : (c : DataConnection) (p : Purpose) (s : State) → Has (Connection c) s.grants → is_bind_of c.local p ≡ true → list_any (is_asked_by p) s.grants ≡ true
 bind-askable c (ForBind other peer id) s there e = has-any (is_connection_from other) (Connection c) s.grants there (rw (same_address-true other c.local e) (same_address-self c.local))
-bind-askable c ForAllocation s there e = cc
-bind-askable c (ForRefresh family lifetime) s there e = cc
-bind-askable c (ForPermission ip) s there e = cc
-bind-askable c (ForChannel number to) s there e = cc
-bind-askable c (ForConnect to) s there e = cc
+bind-askable c p s there e = cc
 
 -- which is no ALLOCATE
 bind-other : (c : DataConnection) (p : Purpose) → is_bind_of c.local p ≡ true → p ≡ ForAllocation → ⊥
@@ -108,8 +104,7 @@ IsSigned j = IsAccepted j
 
 requesting-unsigned : (b : Bool) (o : Option Challenge) (j : Judgement) → cond b (challenged_or Fatal o) Unrelated ≡ j → IsSigned j → ⊥
 requesting-unsigned true (Some d) j e h = subst IsSigned (sym e) h
-requesting-unsigned true None j e h = subst IsSigned (sym e) h
-requesting-unsigned false o j e h = subst IsSigned (sym e) h
+requesting-unsigned b o j e h = subst IsSigned (sym e) h
 
 new-unsigned : (j : Judgement) → Unrelated ≡ j → IsSigned j → ⊥
 new-unsigned j e h = subst IsSigned (sym e) h
@@ -118,10 +113,8 @@ new-unsigned j e h = subst IsSigned (sym e) h
 
 begun-after : (p : Phase) → IsBegun p → IsBegun (phase_after p)
 begun-after New begun = begun
-begun-after Requesting begun = tt
-begun-after Authenticating begun = tt
-begun-after Allocated begun = tt
 begun-after Closed begun = begun
+begun-after p begun = tt
 
 -- the message is for the client
 abbrev IsDelivered : Judgement → Type 0
@@ -137,9 +130,7 @@ judged-begun s message j e heard = by s.phase refl
     by : (p : Phase) → s.phase ≡ p → IsBegun p
     by New f = unheard (rw f refl)
     by Closed f = unheard (rw f refl)
-    by Requesting f = tt
-    by Authenticating f = tt
-    by Allocated f = tt
+    by p f = tt
 
 -- a client that allocates is granted something, or ends
 pub granted-with : (addresses : List SocketAddr) → IsUngranted (phase_with addresses) → ⊥
@@ -177,13 +168,10 @@ module _ (Heeded : Type 0) (R : State → State → Type 0) (k : KeepsHeeded Hee
       by true f (Some purpose) g = rw (f, g) (retry-walk s message (id_of message) purpose d now begun e f (retried-has (purposes_of (id_of message) s) purpose g))
 
   wrong-walk : (p : Phase) (message : List ℕ) (s : State) → R (record s { phase = p }) (wrong_step message (record s { phase = p })).1
-  wrong-walk New message s = fail-walk R k.edits (record s { phase = New })
-  wrong-walk Authenticating message s = fail-walk R k.edits (record s { phase = Authenticating })
-  wrong-walk Allocated message s = fail-walk R k.edits (record s { phase = Allocated })
-  wrong-walk Closed message s = fail-walk R k.edits (record s { phase = Closed })
   wrong-walk Requesting message s =
       let u = record s { phase = Requesting } in
       then u (transaction_ended (id_of message) u) _ (k.edits.finishes (id_of message) u) (fail-walk R k.edits (transaction_ended (id_of message) u))
+  wrong-walk p message s = fail-walk R k.edits (record s { phase = p })
 
   -- ---- signed replies
 
@@ -254,8 +242,7 @@ module _ (Heeded : Type 0) (R : State → State → Type 0) (k : KeepsHeeded Hee
   signed-walk New g message now s j e h heeded = absurd (new-unsigned j e h)
   signed-walk Requesting g message now s j e h heeded = absurd (requesting-unsigned (answers_one (record s { phase = Requesting }) message)
       (challenge_in (record s { phase = Requesting }) message) j e h)
-  signed-walk Allocated g message now s j e h heeded = reply-walk g message now (record s { phase = Allocated }) heeded (λ u. u)
-  signed-walk Closed g message now s j e h heeded = reply-walk g message now (record s { phase = Closed }) heeded (λ u. u)
+  signed-walk p g message now s j e h heeded = reply-walk g message now (record s { phase = p }) heeded (λ u. u)
 
   -- ---- the server requests a connection
 
@@ -313,15 +300,13 @@ module _ (Heeded : Type 0) (R : State → State → Type 0) (k : KeepsHeeded Hee
       if_asked begun false = k.edits.same s
 
       by : (j : Judgement) → judgement_of s message ≡ j → R s (message_step message now s).1
-      by Unrelated e = rw e (k.edits.same s)
       by (Challenged d) e = rw e (challenge-walk message d now s (judged-begun s message (Challenged d) e tt) (Challenged-is s message d e))
       by Fatal e = rw e (wrong-walk s.phase message s)
-      by LateResponse e = rw e (k.edits.same s)
-      by DataIndication e = rw e (k.edits.same s)
       by ConnectionAttempt e = rw e (indicated (attempt_indicated message s) (indicated-walk message s))
       by SignedRequest e = rw e (if_asked (judged-begun s message SignedRequest e tt) (eqb (method_in message) connection_attempt_method))
       by SignedSuccess e = rw e (signed-walk s.phase true message now s SignedSuccess e tt (heeded SignedSuccess e tt))
       by SignedError e = rw e (signed-walk s.phase false message now s SignedError e tt (heeded SignedError e tt))
+      by j e = rw e (k.edits.same s)
 
   -- ---- connections that wait to be bound
 
@@ -365,18 +350,9 @@ module _ (Heeded : Type 0) (R : State → State → Type 0) (k : KeepsHeeded Hee
       by (Challenged d) e = rw e (again-walk c message d now s allocated there (bind-is s c.local message d e))
       by SignedSuccess e = rw e (then s less _ (k.edits.finishes (id_of message) s) (bound-walk streams c less))
       by SignedError e = rw e (then s less _ (k.edits.finishes (id_of message) s) (not_bound-walk c less))
-      by Unrelated e = rw e (not_bound-walk c s)
-      by Fatal e = rw e (not_bound-walk c s)
-      by LateResponse e = rw e (not_bound-walk c s)
-      by DataIndication e = rw e (not_bound-walk c s)
-      by ConnectionAttempt e = rw e (not_bound-walk c s)
-      by SignedRequest e = rw e (not_bound-walk c s)
+      by j e = rw e (not_bound-walk c s)
 
   bind_in_phase : IgnoresAll R → (p : Phase) (local : SocketAddr) (message : List ℕ) (now : ℕ) (s : State) → R (record s { phase = p }) (bind_step local message now (record s { phase = p }))
-  bind_in_phase streams New local message now s = k.edits.same (record s { phase = New })
-  bind_in_phase streams Requesting local message now s = k.edits.same (record s { phase = Requesting })
-  bind_in_phase streams Authenticating local message now s = k.edits.same (record s { phase = Authenticating })
-  bind_in_phase streams Closed local message now s = k.edits.same (record s { phase = Closed })
   bind_in_phase streams Allocated local message now s = by (connection_at local s) refl
     where
       u : State
@@ -385,6 +361,7 @@ module _ (Heeded : Type 0) (R : State → State → Type 0) (k : KeepsHeeded Hee
       by : (o : Option DataConnection) → connection_at local s ≡ o → R u (bind_step local message now u)
       by None e = rw e (k.edits.same u)
       by (Some c) e = rw e (one-of R k.edits (eqb (method_in message) connection_bind_method) u _ _ (answered-walk streams c message now u refl (connection-there local c u e)) (k.edits.same u))
+  bind_in_phase streams p local message now s = k.edits.same (record s { phase = p })
 
   -- a message of a connection
   pub bind-walk : IgnoresAll R → (local : SocketAddr) (message : List ℕ) (now : ℕ) (s : State) → R s (bind_step local message now s)

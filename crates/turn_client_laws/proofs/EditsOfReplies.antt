@@ -47,39 +47,21 @@ outline-cond false g h same = refl
 
 pub changed-outline : (which : Relay → Bool) (change : Relay → Relay) → ((a : Relay) → (change a).relayed ≡ a.relayed) → (g : Grant) → outline (changed_allocation which change g) ≡ outline g
 changed-outline which change same (Allocation a) = outline-cond (which a) (Allocation a) (Allocation (change a)) (rw (same a) refl)
-changed-outline which change same (Permission ip progress) = refl
-changed-outline which change same (Channel number peer progress) = refl
-changed-outline which change same (Connect peer) = refl
-changed-outline which change same (Offer offer) = refl
-changed-outline which change same (Connection c) = refl
+changed-outline which change same g = refl
 
 lasting-outline : (expiry : ℕ) (g : Grant) → outline (lasting expiry g) ≡ outline g
 lasting-outline expiry (Allocation a) = refl
 lasting-outline expiry (Permission ip Pending) = refl
-lasting-outline expiry (Permission ip (Active was)) = refl
-lasting-outline expiry (Permission ip (Reserved until)) = refl
 lasting-outline expiry (Channel number peer Pending) = refl
-lasting-outline expiry (Channel number peer (Active was)) = refl
-lasting-outline expiry (Channel number peer (Reserved until)) = refl
-lasting-outline expiry (Connect peer) = refl
-lasting-outline expiry (Offer offer) = refl
-lasting-outline expiry (Connection c) = refl
+lasting-outline expiry g = refl
 
 deadline-outline : (local : SocketAddr) (deadline : Option ℕ) (g : Grant) → outline (deadline_set local deadline g) ≡ outline g
 deadline-outline local deadline (Connection c) = outline-cond (same_address c.local local) (Connection c) (Connection (record c { deadline = deadline })) refl
-deadline-outline local deadline (Allocation a) = refl
-deadline-outline local deadline (Permission ip progress) = refl
-deadline-outline local deadline (Channel number peer progress) = refl
-deadline-outline local deadline (Connect peer) = refl
-deadline-outline local deadline (Offer offer) = refl
+deadline-outline local deadline g = refl
 
 told-aged : (g : Grant) → aged (as_reported g) ≡ aged g
 told-aged (Offer offer) = refl
-told-aged (Allocation a) = refl
-told-aged (Permission ip progress) = refl
-told-aged (Channel number peer progress) = refl
-told-aged (Connect peer) = refl
-told-aged (Connection c) = refl
+told-aged g = refl
 
 pub told-alike : (family : AddressFamily) (gs : List Grant) → map aged (first_reported family gs) ≡ map aged gs
 told-alike family [] = refl
@@ -95,11 +77,7 @@ expired-aged family (Allocation a) = by (is_of_family family a.relayed)
     by : (b : Bool) → aged (cond b (Allocation (record a { is_expired = true })) (Allocation a)) ≡ aged (Allocation a)
     by true = refl
     by false = refl
-expired-aged family (Permission ip progress) = refl
-expired-aged family (Channel number peer progress) = refl
-expired-aged family (Connect peer) = refl
-expired-aged family (Offer offer) = refl
-expired-aged family (Connection c) = refl
+expired-aged family g = refl
 
 -- an allocation that is used no more
 pub expired-alike : (family : AddressFamily) (s : State) → map aged (with_expired family s).grants ≡ map aged s.grants
@@ -151,20 +129,15 @@ module _ (number : ℕ) (peer : SocketAddr) (progress : Progress) where
   answered-stays ip is_granted now s = by (permission_state ip s) refl is_granted
     where
       by : (o : Option Progress) → permission_state ip s ≡ o → (g : Bool) → Stays s (permission_answered ip g now s)
-      by None e g = rw e (λ there. there)
       by (Some Pending) e true = rw e (λ there. has-left (Channel number peer progress) (without_grants (is_permission_of ip) s).grants _ (without-stays ip s there))
       by (Some Pending) e false = rw e (without-stays ip s)
       by (Some (Active expiry)) e true = rw e (λ there. map-has (lasting_if (is_permission_of ip) (later_by permission_lifetime now)) (Channel number peer progress) s.grants there)
       by (Some (Active expiry)) e false = rw e (without-stays ip s)
-      by (Some (Reserved until)) e g = rw e (λ there. there)
+      by o e g = rw e (λ there. there)
 
   each-stays : (is_granted : Bool) (now : ℕ) (t : State) (p : Purpose) → Stays t (permission_answered_for is_granted now t p)
   each-stays is_granted now t (ForPermission ip) = answered-stays ip is_granted now t
-  each-stays is_granted now t ForAllocation = λ there. there
-  each-stays is_granted now t (ForRefresh family lifetime) = λ there. there
-  each-stays is_granted now t (ForChannel other to) = λ there. there
-  each-stays is_granted now t (ForConnect to) = λ there. there
-  each-stays is_granted now t (ForBind local to id) = λ there. there
+  each-stays is_granted now t p = λ there. there
 
   all-stay : (is_granted : Bool) (now : ℕ) (purposes : List Purpose) (s : State) → Stays s (fold (permission_answered_for is_granted now) s purposes)
   all-stay is_granted now [] s = λ there. there
@@ -259,11 +232,10 @@ connect-stays peer None s a there = filter-has (λ g. not (is_connect_to peer g)
 effect-stays : (id : ℕ) (is_granted : Bool) (message : List ℕ) (now method : ℕ) (s : State) (p : Purpose) → eqb connect_method method ≡ true → is_answered method p ≡ true
     → AllocationsStay s (effect id is_granted message now s p)
 effect-stays id is_granted message now method s (ForConnect peer) connect answers = connect-stays peer (cond is_granted (connection_id_in message) None) s
-effect-stays id is_granted message now method s ForAllocation connect answers = λ a there. there
-effect-stays id is_granted message now method s (ForBind local peer other) connect answers = λ a there. there
 effect-stays id is_granted message now method s (ForRefresh family lifetime) connect answers = absurd (omega (arith, eqb-true connect_method method connect, eqb-true refresh_method method answers))
 effect-stays id is_granted message now method s (ForPermission ip) connect answers = absurd (omega (arith, eqb-true connect_method method connect, eqb-true create_permission_method method answers))
 effect-stays id is_granted message now method s (ForChannel number peer) connect answers = absurd (omega (arith, eqb-true connect_method method connect, eqb-true channel_bind_method method answers))
+effect-stays id is_granted message now method s p connect answers = λ a there. there
 
 -- ---- effects
 
@@ -285,21 +257,16 @@ module _ (Heeded : Type 0) (R : State → State → Type 0) (k : KeepsHeeded Hee
       gone t = removed R k.edits (is_permission_of ip) (λ a. refl) s t
 
       by : (o : Option Progress) → permission_state ip s ≡ o → (g : Bool) → R s (permission_answered ip g now s)
-      by None e g = rw e (k.edits.same s)
       by (Some Pending) e true = rw e (k.edits.trans s _ _ (k.permits ip (later_by permission_lifetime now) s e) (k.edits.aside _ (pending_permission_answered ip true now s)))
       by (Some Pending) e false = rw e (gone (pending_permission_answered ip false now s))
       by (Some (Active expiry)) e true = rw e (k.edits.trans s (unlisted (is_permission_of ip) s) _ (unlisted-walk R k.edits (is_permission_of ip) s)
           (renewed-walk (is_permission_of ip) _ (unlisted (is_permission_of ip) s)))
       by (Some (Active expiry)) e false = rw e (gone (active_permission_answered ip false now s))
-      by (Some (Reserved until)) e g = rw e (k.edits.same s)
+      by o e g = rw e (k.edits.same s)
 
   permission_state-walk : (is_granted : Bool) (now : ℕ) (t : State) (p : Purpose) → R t (permission_answered_for is_granted now t p)
   permission_state-walk is_granted now t (ForPermission ip) = permission-walk ip is_granted now t
-  permission_state-walk is_granted now t ForAllocation = k.edits.same t
-  permission_state-walk is_granted now t (ForRefresh family lifetime) = k.edits.same t
-  permission_state-walk is_granted now t (ForChannel number peer) = k.edits.same t
-  permission_state-walk is_granted now t (ForConnect peer) = k.edits.same t
-  permission_state-walk is_granted now t (ForBind local peer id) = k.edits.same t
+  permission_state-walk is_granted now t p = k.edits.same t
 
   pending_channel-walk : (number : ℕ) (peer : SocketAddr) (id : ℕ) (is_granted : Bool) (now : ℕ) (s : State) → Has (Channel number peer Pending) s.grants
       → R s (pending_channel_answered number peer id is_granted now s)
@@ -319,7 +286,6 @@ module _ (Heeded : Type 0) (R : State → State → Type 0) (k : KeepsHeeded Hee
   channel-walk number id is_granted now s = by (first_in (channel_at number) s) refl is_granted
     where
       by : (o : Option (SocketAddr × Progress)) → first_in (channel_at number) s ≡ o → (g : Bool) → R s (channel_answered number id g now s)
-      by None e g = rw e (k.edits.same s)
       by (Some (peer, Pending)) e g = rw e (pending_channel-walk number peer id g now s (channel-there number peer Pending s e))
       by (Some (peer, Active expiry)) e true = rw e (k.edits.trans s (unlisted (is_channel_of number) s) _ (unlisted-walk R k.edits (is_channel_of number) s)
           (renewed-walk (is_channel_of number) _ (unlisted (is_channel_of number) s)))
@@ -327,7 +293,7 @@ module _ (Heeded : Type 0) (R : State → State → Type 0) (k : KeepsHeeded Hee
           let t = reserved number peer expiry s in
           rw e (k.edits.trans s t _ (reserved-walk R k.edits number peer (Active expiry) expiry s (channel-there number peer (Active expiry) s e))
           (k.edits.aside t (active_channel_answered number peer expiry false now s)))
-      by (Some (peer, Reserved until)) e g = rw e (k.edits.same s)
+      by o e g = rw e (k.edits.same s)
 
   prolonged-walk : Heeded → (family : AddressFamily) (lifetime now : ℕ) (s : State) → R s (prolonged family lifetime now s)
   prolonged-walk heeded family lifetime now s = one-of R k.edits (leb min_lifetime lifetime) s _ s longer (k.edits.same s)
@@ -381,8 +347,7 @@ module _ (Heeded : Type 0) (R : State → State → Type 0) (k : KeepsHeeded Hee
     effect-walk heeded is_granted message now method s (ForConnect peer) since stay answers =
         let o = cond is_granted (connection_id_in message) None in
         k.edits.trans first (connect_answered peer o s) _ (connect-walk peer o s since (stay answers.1) answers.0) (k.resets heeded (connect_answered peer o s))
-    effect-walk heeded is_granted message now method s ForAllocation since stay answers = since
-    effect-walk heeded is_granted message now method s (ForBind local peer other) since stay answers = since
+    effect-walk heeded is_granted message now method s p since stay answers = since
 
     pub effects-walk : (is_granted : Bool) (message : List ℕ) (now method : ℕ) (purposes : List Purpose) (s : State) → R first s → Stay method s
         → ((p : Purpose) → Has p purposes → Heeded) → ((p : Purpose) → Has p purposes → IsAnswered method p) → R first (fold (effect id is_granted message now) s purposes)

@@ -57,13 +57,7 @@ refresh-for now p (Permission ip (Active expiry)) e = subst (λ (x : Purpose). i
     (same_ip-same ip)
 refresh-for now p (Channel number peer (Active expiry)) e = subst (λ (x : Purpose). is_asked_by x (Channel number peer (Active expiry)) ≡ true)
     (cond_some (ltb now expiry) (ForChannel number peer) p e).1 (channel-asked number peer (Active expiry))
-refresh-for now p (Permission ip Pending) e = absurd (none-some p e)
-refresh-for now p (Permission ip (Reserved until)) e = absurd (none-some p e)
-refresh-for now p (Channel number peer Pending) e = absurd (none-some p e)
-refresh-for now p (Channel number peer (Reserved until)) e = absurd (none-some p e)
-refresh-for now p (Connect peer) e = absurd (none-some p e)
-refresh-for now p (Offer offer) e = absurd (none-some p e)
-refresh-for now p (Connection c) e = absurd (none-some p e)
+refresh-for now p g e = absurd (none-some p e)
 
 has-if : {X : Type 0} (b : Bool) (x : X) (xs : List X) → Has x (cond b xs []) → Has x xs
 has-if true x xs there = there
@@ -141,14 +135,7 @@ module _ (R : State → State → Type 0) (k : KeepsEdits R) where
       let t = reserved number peer expiry s in
       let end = channel_lapsed (Some (Channel number peer (Active expiry))) s in
       then s t end (reserved-walk R k number peer (Active expiry) expiry s (there (Channel number peer (Active expiry)) refl)) (k.aside t end)
-  channel_lapsed-walk None s there = k.same s
-  channel_lapsed-walk (Some (Channel number peer Pending)) s there = k.same s
-  channel_lapsed-walk (Some (Channel number peer (Reserved until))) s there = k.same s
-  channel_lapsed-walk (Some (Allocation a)) s there = k.same s
-  channel_lapsed-walk (Some (Permission ip progress)) s there = k.same s
-  channel_lapsed-walk (Some (Connect peer)) s there = k.same s
-  channel_lapsed-walk (Some (Offer offer)) s there = k.same s
-  channel_lapsed-walk (Some (Connection c)) s there = k.same s
+  channel_lapsed-walk o s there = k.same s
 
   -- in sequence, in the order of `lapsed_in`
   lapsed_in-walk : (family : AddressFamily) (given : Option ℕ) (purposes : List Purpose) (now : ℕ) (s : State) → R s (lapsed_in family given purposes now s)
@@ -184,10 +171,6 @@ module _ (R : State → State → Type 0) (k : KeepsEdits R) where
   answer_by : (closes : List SocketAddr) (p : Phase) (given : Option ℕ) (now : ℕ) (s : State)
       → R (record s { closes = closes; phase = p }) (answer_step given now (record s { closes = closes; phase = p })).1
   answer_by (local ∷ others) p given now s = k.aside (record s { closes = local ∷ others; phase = p }) (record s { closes = others })
-  answer_by [] New given now s = k.same (record s { closes = []; phase = New })
-  answer_by [] Requesting given now s = k.same (record s { closes = []; phase = Requesting })
-  answer_by [] Authenticating given now s = k.same (record s { closes = []; phase = Authenticating })
-  answer_by [] Closed given now s = k.same (record s { closes = []; phase = Closed })
   answer_by [] Allocated given now s = by (allocations s) refl
     where
       u : State
@@ -196,6 +179,7 @@ module _ (R : State → State → Type 0) (k : KeepsEdits R) where
       by : (l : List Relay) → allocations s ≡ l → R u (answer_step given now u).1
       by [] e = rw e (k.same u)
       by (a ∷ others) e = rw e (k.same u)
+  answer_by [] p given now s = k.same (record s { closes = []; phase = p })
 
   answer-walk : (given : Option ℕ) (now : ℕ) (s : State) → R s (answer_step given now s).1
   answer-walk given now s = answer_by s.closes s.phase given now s
@@ -208,7 +192,6 @@ module _ (R : State → State → Type 0) (k : KeepsEdits R) where
       then s t end (closed-walk R k s) (then t u end (k.families [] t (inl (λ none. none))) (k.aside u end))
 
   timed_in_phase : (p : Phase) (given : Option ℕ) (now : ℕ) (s : State) → R (record s { phase = p }) (timed_step p given now (record s { phase = p })).1
-  timed_in_phase New given now s = k.same (record s { phase = New })
   timed_in_phase Requesting (Some id) now s = silent-walk (record s { phase = Requesting })
   timed_in_phase Requesting None now s = answer-walk None now (record s { phase = Requesting })
   timed_in_phase Authenticating (Some id) now s =
@@ -219,7 +202,7 @@ module _ (R : State → State → Type 0) (k : KeepsEdits R) where
   timed_in_phase Allocated given now s =
       let u = record s { phase = Allocated } in
       then u (lapsed given now u) (answer_step given now (lapsed given now u)).1 (lapsed-walk given now u) (answer-walk given now (lapsed given now u))
-  timed_in_phase Closed given now s = k.same (record s { phase = Closed })
+  timed_in_phase p given now s = k.same (record s { phase = p })
 
   given_up-walk : (now : ℕ) (s : State) → R s (timed_out_step now s).1
   given_up-walk now s =
@@ -235,9 +218,6 @@ module _ (R : State → State → Type 0) (k : KeepsEdits R) where
   -- ---- what is sent
 
   idle-walk : (p : Phase) (now : ℕ) (s : State) → R (record s { phase = p }) (idle_step p now (record s { phase = p })).1
-  idle-walk Requesting now s = k.same (record s { phase = Requesting })
-  idle-walk Authenticating now s = k.same (record s { phase = Authenticating })
-  idle-walk Closed now s = k.same (record s { phase = Closed })
   idle-walk New now s =
       let u = record s { phase = New } in
       let t = record s { phase = Requesting; last_send = Some now } in
@@ -250,6 +230,7 @@ module _ (R : State → State → Type 0) (k : KeepsEdits R) where
       let t = request_started (fresh_id u) text (p ∷ []) now u in
       then u t (sent now t) (asked-walk R k (fresh_id u) text p now u tt (inr (inl (refreshes-there now u p (first-has p wanted e))))
       (spelled-else (fresh_id u) text p u refl (refresh-other now u p (first-has p wanted e)))) (k.sends now t (λ new. cc))) (k.same u)
+  idle-walk p now s = k.same (record s { phase = p })
 
   queue-walk : (now : ℕ) (s : State) → R s (queue_step now s).1
   queue-walk now s = found R k _ (slice_get s.queue 0) s (idle_step s.phase now s) by (idle-walk s.phase now s)

@@ -109,14 +109,8 @@ told_of transport which gs = length (filter_map (failure_of transport) (filter w
 -- one that fails could fail
 failure-one : (transport : TransportType) (g : Grant) (more : List TurnEvent) → (IsReserved g → ⊥) → length (cons_option (failure_of transport g) more) ≡ one g + length more
 unfolding one
-failure-one transport (Allocation a) more spared = omega arith
-failure-one transport (Permission ip progress) more spared = omega arith
-failure-one transport (Channel number peer Pending) more spared = omega arith
-failure-one transport (Channel number peer (Active expiry)) more spared = omega arith
 failure-one transport (Channel number peer (Reserved until)) more spared = absurd (spared tt)
-failure-one transport (Connect peer) more spared = omega arith
-failure-one transport (Offer offer) more spared = omega arith
-failure-one transport (Connection c) more spared = omega arith
+failure-one transport g more spared = omega arith
 
 -- those that are removed, and those that stay
 told-count : (transport : TransportType) (which : Grant → Bool) (gs : List Grant) → Spares which → told_of transport which gs + count (filter (λ g. not (which g)) gs) ≤ count gs
@@ -158,15 +152,8 @@ active-tells number peer expiry s there =
     omega (arith, fewer, more)
 
 channel-tells : (o : Option Grant) (s : State) → ((g : Grant) → o ≡ Some g → Has g s.grants) → TellsOfFailed s (channel_lapsed o s)
-channel-tells None s there = tells-self s
 channel-tells (Some (Channel number peer (Active expiry))) s there = active-tells number peer expiry s (there (Channel number peer (Active expiry)) refl)
-channel-tells (Some (Channel number peer Pending)) s there = tells-self s
-channel-tells (Some (Channel number peer (Reserved until))) s there = tells-self s
-channel-tells (Some (Allocation a)) s there = tells-self s
-channel-tells (Some (Permission ip progress)) s there = tells-self s
-channel-tells (Some (Connect peer)) s there = tells-self s
-channel-tells (Some (Offer offer)) s there = tells-self s
-channel-tells (Some (Connection c)) s there = tells-self s
+channel-tells o s there = tells-self s
 
 last-tells : (family : AddressFamily) (now : ℕ) (s : State) → TellsOfFailed s (last_channel_lapsed family now s)
 last-tells family now s =
@@ -180,13 +167,7 @@ last-tells family now s =
 -- a reserved channel passes none of these tests
 spared : (which : Grant → Bool) → ((number : ℕ) (peer : SocketAddr) (until : ℕ) → which (Channel number peer (Reserved until)) ≡ false) → Spares which
 spared which none (Channel number peer (Reserved until)) e is = let no : true ≡ false = sym e ∙ none number peer until in cc
-spared which none (Channel number peer Pending) e is = is
-spared which none (Channel number peer (Active expiry)) e is = is
-spared which none (Allocation a) e is = is
-spared which none (Permission ip progress) e is = is
-spared which none (Connect peer) e is = is
-spared which none (Offer offer) e is = is
-spared which none (Connection c) e is = is
+spared which none g e is = is
 
 and-none : (a : Bool) → (a && false) ≡ false
 and-none true = refl
@@ -289,11 +270,7 @@ told-can_fail family (g ∷ gs) = by (is_some (unreported_in family g)) (told-ca
   where
     same : (g : Grant) → count (as_reported g ∷ gs) ≡ count (g ∷ gs)
     same (Offer offer) = refl
-    same (Allocation a) = refl
-    same (Permission ip progress) = refl
-    same (Channel number peer progress) = refl
-    same (Connect peer) = refl
-    same (Connection c) = refl
+    same g = refl
 
     by : (b : Bool) → count (first_reported family gs) ≡ count gs → count (cond b (as_reported g ∷ gs) (g ∷ first_reported family gs)) ≡ count (g ∷ gs)
     by true later = same g
@@ -306,13 +283,9 @@ answer-tells given now s = by s.closes s.phase (allocations s)
     by (local ∷ others) p relays = tells-self s
     by [] Allocated [] = tells-self s
     by [] Allocated (a ∷ relays) = tells-self s
-    by [] New relays = tells-self s
-    by [] Requesting relays = tells-self s
-    by [] Authenticating relays = tells-self s
-    by [] Closed relays = tells-self s
+    by closes p relays = tells-self s
 
 timed-tells : (p : Phase) (given : Option ℕ) (now : ℕ) (s : State) → p ≢ Requesting → TellsOfFailed s (timed_step p given now s).1
-timed-tells New given now s other = tells-self s
 timed-tells Requesting given now s other = absurd (other refl)
 timed-tells Authenticating None now s other = answer-tells None now s
 timed-tells Authenticating (Some id) now s other = by (is_listed_for_allocation id s)
@@ -321,7 +294,7 @@ timed-tells Authenticating (Some id) now s other = by (is_listed_for_allocation 
     by true = tells-then s (closed s) (answer_step (Some id) now (closed s)).1 (tells-self s) (answer-tells (Some id) now (closed s))
     by false = answer-tells (Some id) now s
 timed-tells Allocated given now s other = tells-then s (lapsed given now s) (answer_step given now (lapsed given now s)).1 (lapsed-tells given now s) (answer-tells given now (lapsed given now s))
-timed-tells Closed given now s other = tells-self s
+timed-tells p given now s other = tells-self s
 
 -- a pair by a test, or by the result of a look-up
 by_test : {A : Type 0} (P : State → Type 0) (b : Bool) (x y : A × State) → P x.1 → P y.1 → P (cond b x y).1
@@ -359,21 +332,15 @@ answer-families given now s = by s.closes s.phase (allocations s)
     by (local ∷ others) p relays = same
     by [] Allocated [] = same
     by [] Allocated (a ∷ relays) = same
-    by [] New relays = same
-    by [] Requesting relays = same
-    by [] Authenticating relays = same
-    by [] Closed relays = same
+    by closes p relays = same
 
 timed-families : (p : Phase) (given : Option ℕ) (now : ℕ) (s : State) → p ≡ Requesting → TellsOfFamilies s (timed_step p given now s).1
-timed-families New given now s e = cc
 timed-families Requesting None now s e = answer-families None now s
 timed-families Requesting (Some id) now s e =
     let events = map AllocationCreateFailed s.families in
     let more = length-append (reverse events) s.events in
     omega (arith, more, length-reverse events, length-map s.families AllocationCreateFailed)
-timed-families Authenticating given now s e = cc
-timed-families Allocated given now s e = cc
-timed-families Closed given now s e = cc
+timed-families p given now s e = cc
 
 pub poll-tells_families : (now : ℕ) (s : State) → s.phase ≡ Requesting → TellsOfFamilies s (poll_step now s).1
 poll-tells_families now s e =

@@ -63,20 +63,10 @@ module _ (a : SocketAddr) (bytes : List ℕ) where
       by : (j : Judgement) → bind_judgement s c.local message ≡ j → bind_answered c message now (with_bytes a bytes s) ≡ with_bytes a bytes (bind_answered c message now s)
       by (Challenged d) e = rw e (again-bytes c (id_of message) d now s)
       by SignedSuccess e = rw e (rw (all-swapped a c.local bytes (Bound c.peer) s.streams) refl)
-      by SignedError e = rw e refl
-      by Unrelated e = rw e refl
-      by Fatal e = rw e refl
-      by LateResponse e = rw e refl
-      by DataIndication e = rw e refl
-      by ConnectionAttempt e = rw e refl
-      by SignedRequest e = rw e refl
+      by j e = rw e refl
 
   bind_in_phase : (p : Phase) (local : SocketAddr) (message : List ℕ) (now : ℕ) (s : State)
       → bind_step local message now (with_bytes a bytes (record s { phase = p })) ≡ with_bytes a bytes (bind_step local message now (record s { phase = p }))
-  bind_in_phase New local message now s = refl
-  bind_in_phase Requesting local message now s = refl
-  bind_in_phase Authenticating local message now s = refl
-  bind_in_phase Closed local message now s = refl
   bind_in_phase Allocated local message now s = by (connection_at local s) refl (eqb (method_in message) connection_bind_method) refl
     where
       u : State
@@ -87,6 +77,7 @@ module _ (a : SocketAddr) (bytes : List ℕ) where
       by None e b f = rw e refl
       by (Some c) e true f = rw (e, f) (answered-bytes c message now u)
       by (Some c) e false f = rw (e, f) refl
+  bind_in_phase p local message now s = refl
 
   pub bind-bytes : (local : SocketAddr) (message : List ℕ) (now : ℕ) (s : State) → bind_step local message now (with_bytes a bytes s) ≡ with_bytes a bytes (bind_step local message now s)
   bind-bytes local message now s = bind_in_phase s.phase local message now s
@@ -112,8 +103,7 @@ module _ (a : SocketAddr) (bytes : List ℕ) where
       by true e c f = rw e refl
       by false e true f = rw (e, f) (ap (λ (t : State). (Handled, t)) (bind-bytes stream.local frame now s))
       by false e false f = rw (e, f) refl
-  frame_in_mode (Bound peer) stream frame now s = refl
-  frame_in_mode Broken stream frame now s = refl
+  frame_in_mode m stream frame now s = refl
 
   pub frame-bytes : (stream : Stream) (frame : List ℕ) (now : ℕ) (s : State) → frame_step stream frame now (with_bytes a bytes s) ≡ both a bytes (frame_step stream frame now s)
   frame-bytes stream frame now s = frame_in_mode stream.mode stream frame now s

@@ -41,11 +41,7 @@ deadline-kept local time (Connection c) = by (same_address c.local local)
     by : (b : Bool) → IsActiveGrant (cond b waits (Connection c)) → IsSameGrant (Connection c) (cond b waits (Connection c))
     by true stands = absurd (none-some time (sym stands))
     by false stands = kept-same (Connection c) stands
-deadline-kept local time (Allocation a) = kept-same (Allocation a)
-deadline-kept local time (Permission ip progress) = kept-same (Permission ip progress)
-deadline-kept local time (Channel number peer progress) = kept-same (Channel number peer progress)
-deadline-kept local time (Connect peer) = kept-same (Connect peer)
-deadline-kept local time (Offer offer) = kept-same (Offer offer)
+deadline-kept local time g = kept-same g
 
 deadline-left : (local : SocketAddr) (time : ℕ) (grants : List Grant) → Left grants (map (deadline_set local (Some time)) grants)
 deadline-left local time grants = left-map (deadline_set local (Some time)) (deadline-kept local time) grants
@@ -84,19 +80,9 @@ answered-leaves local c message now s found method = by (bind_judgement s c.loca
     by : (j : Judgement) → bind_judgement s c.local message ≡ j → BindsOrLeaves local message s (bind_answered c message now s)
     by (Challenged d) e = rw e (inr (again-leaves c (id_of message) d now s, again-streams c (id_of message) d now s))
     by SignedSuccess e = inl (record { c = c; found = found; method = method; judged = e; grants = rw e refl; streams = rw e refl })
-    by SignedError e = rw e (inr (left-filter _ s.grants, refl))
-    by Unrelated e = rw e (inr (left-filter _ s.grants, refl))
-    by Fatal e = rw e (inr (left-filter _ s.grants, refl))
-    by LateResponse e = rw e (inr (left-filter _ s.grants, refl))
-    by DataIndication e = rw e (inr (left-filter _ s.grants, refl))
-    by ConnectionAttempt e = rw e (inr (left-filter _ s.grants, refl))
-    by SignedRequest e = rw e (inr (left-filter _ s.grants, refl))
+    by j e = rw e (inr (left-filter _ s.grants, refl))
 
 bind_in_phase : (p : Phase) (local : SocketAddr) (message : List ℕ) (now : ℕ) (s : State) → BindsOrLeaves local message (record s { phase = p }) (bind_step local message now (record s { phase = p }))
-bind_in_phase New local message now s = inr (leaves-same s, refl)
-bind_in_phase Requesting local message now s = inr (leaves-same s, refl)
-bind_in_phase Authenticating local message now s = inr (leaves-same s, refl)
-bind_in_phase Closed local message now s = inr (leaves-same s, refl)
 bind_in_phase Allocated local message now s = by (connection_at local s) refl (eqb (method_in message) connection_bind_method) refl
   where
     u : State
@@ -106,6 +92,7 @@ bind_in_phase Allocated local message now s = by (connection_at local s) refl (e
     by None e b f = rw e (inr (leaves-same u, refl))
     by (Some c) e false f = rw (e, f) (inr (leaves-same u, refl))
     by (Some c) e true f = subst (BindsOrLeaves local message u) (rw (e, f) refl) (answered-leaves local c message now u e (eqb-true (method_in message) connection_bind_method f))
+bind_in_phase p local message now s = inr (leaves-same s, refl)
 
 pub bind-leaves : (local : SocketAddr) (message : List ℕ) (now : ℕ) (s : State) → BindsOrLeaves local message s (bind_step local message now s)
 bind-leaves local message now s = bind_in_phase s.phase local message now s
@@ -123,35 +110,23 @@ first-left which (g ∷ others) = by (which g) (first-left which others)
 -- whether a grant was reported does not count
 aged-stands : (g : Grant) → IsActiveGrant (aged g) → IsActiveGrant g
 aged-stands (Allocation a) = λ h. h
-aged-stands (Permission ip progress) = λ h. h
-aged-stands (Channel number peer progress) = λ h. h
-aged-stands (Connect peer) = λ h. h
-aged-stands (Offer offer) = λ h. h
-aged-stands (Connection c) = λ h. h
+aged-stands g = λ h. h
 
 stands-aged : (g : Grant) → IsActiveGrant g → IsActiveGrant (aged g)
 stands-aged (Allocation a) = λ h. h
-stands-aged (Permission ip progress) = λ h. h
-stands-aged (Channel number peer progress) = λ h. h
-stands-aged (Connect peer) = λ h. h
-stands-aged (Offer offer) = λ h. h
-stands-aged (Connection c) = λ h. h
+stands-aged g = λ h. h
 
 kept-aged : (g : Grant) → IsActiveGrant g → IsSameGrant g (aged g)
 kept-aged (Allocation a) = λ h. (refl, refl)
-kept-aged (Permission ip progress) = kept-same (Permission ip progress)
-kept-aged (Channel number peer progress) = kept-same (Channel number peer progress)
 kept-aged (Connect peer) = λ h. absurd h
 kept-aged (Offer offer) = λ h. absurd h
-kept-aged (Connection c) = kept-same (Connection c)
+kept-aged g = kept-same g
 
 aged-kept : (g : Grant) → IsActiveGrant g → IsSameGrant (aged g) g
 aged-kept (Allocation a) = λ h. (refl, refl)
-aged-kept (Permission ip progress) = kept-same (Permission ip progress)
-aged-kept (Channel number peer progress) = kept-same (Channel number peer progress)
 aged-kept (Connect peer) = λ h. absurd h
 aged-kept (Offer offer) = λ h. absurd h
-aged-kept (Connection c) = kept-same (Connection c)
+aged-kept g = kept-same g
 
 alike-kept : (g h : Grant) → aged h ≡ aged g → IsActiveGrant h → IsSameGrant g h
 alike-kept g h e stands =
@@ -161,12 +136,11 @@ alike-kept g h e stands =
 
 alike-left : (gs hs : List Grant) → map aged hs ≡ map aged gs → Left gs hs
 alike-left [] [] e = left-same []
-alike-left [] (h ∷ hs) e = cc
-alike-left (g ∷ gs) [] e = cc
 alike-left (g ∷ gs) (h ∷ hs) e =
     let first : aged h ≡ aged g = cc in
     let later : map aged hs ≡ map aged gs = cc in
     left-cons g h gs hs (alike-kept g h first) (alike-left gs hs later)
+alike-left gs hs e = cc
 
 pub Leaves-KeepsEdits : KeepsEdits Leaves
 Leaves-KeepsEdits = record {

@@ -56,11 +56,7 @@ first-channel number peer progress (Channel other to p ∷ grants) e = by (eqb o
         let how : p ≡ progress = ap (λ (x : SocketAddr × Progress). x.1) pair in
         inl (rw (same, ends, how) refl)
     by false f later = inr (later (rw f at e))
-first-channel number peer progress (Allocation a ∷ grants) e = inr (first-channel number peer progress grants e)
-first-channel number peer progress (Permission ip p ∷ grants) e = inr (first-channel number peer progress grants e)
-first-channel number peer progress (Connect to ∷ grants) e = inr (first-channel number peer progress grants e)
-first-channel number peer progress (Offer offer ∷ grants) e = inr (first-channel number peer progress grants e)
-first-channel number peer progress (Connection c ∷ grants) e = inr (first-channel number peer progress grants e)
+first-channel number peer progress (_ ∷ grants) e = inr (first-channel number peer progress grants e)
 
 -- two ways to name one channel
 same-channel : (n number : ℕ) (to peer : SocketAddr) (p q : Progress) (grants : List Grant) → Channel n to p ≡ Channel number peer q → IsChannelIn number peer grants → IsChannelIn n to grants
@@ -131,13 +127,10 @@ module _ (purposes : List Purpose) (message : List ℕ) (now : ℕ) (before : St
       by : (b : Bool) → same_ip other ip ≡ b → Is (Permission other (Active was)) (cond b (Permission other (Active (later_by permission_lifetime now))) (Permission other (Active was)))
       by true e stands = inr (record { purpose = ForPermission ip; one = one; given = (e, refl) })
       by false e stands = inl (kept-same (Permission other (Active was)) stands)
-  permission_lasts ip one (Permission other Pending) = untouched (same_ip other ip) (Permission other Pending)
-  permission_lasts ip one (Permission other (Reserved until)) = untouched (same_ip other ip) (Permission other (Reserved until))
-  permission_lasts ip one (Allocation a) = λ stands. inl (kept-same (Allocation a) stands)
-  permission_lasts ip one (Channel number peer progress) = λ stands. inl (kept-same (Channel number peer progress) stands)
   permission_lasts ip one (Connect peer) = λ stands. absurd stands
   permission_lasts ip one (Offer offer) = λ stands. absurd stands
-  permission_lasts ip one (Connection c) = λ stands. inl (kept-same (Connection c) stands)
+  permission_lasts ip one (Permission other x) = untouched (same_ip other ip) (Permission other x)
+  permission_lasts ip one g = λ stands. inl (kept-same g stands)
 
   -- a channel of this number is granted anew
   channel_lasts : (number : ℕ) (peer : SocketAddr) → Has (ForChannel number peer) purposes → (s : State) → AreKnown s → (g : Grant) → Has g s.grants
@@ -150,13 +143,10 @@ module _ (purposes : List Purpose) (message : List ℕ) (now : ℕ) (before : St
       by : (b : Bool) → eqb other number ≡ b → Is (Channel other to (Active was)) (cond b (Channel other to (Active (later_by channel_lifetime now))) (Channel other to (Active was)))
       by true e stands = inr (record { purpose = ForChannel number peer; one = one; given = (eqb-true other number e, refl, held) })
       by false e stands = inl (kept-same (Channel other to (Active was)) stands)
-  channel_lasts number peer one s known (Channel other to Pending) there = untouched (eqb other number) (Channel other to Pending)
-  channel_lasts number peer one s known (Channel other to (Reserved until)) there = untouched (eqb other number) (Channel other to (Reserved until))
-  channel_lasts number peer one s known (Allocation a) there = λ stands. inl (kept-same (Allocation a) stands)
-  channel_lasts number peer one s known (Permission ip progress) there = λ stands. inl (kept-same (Permission ip progress) stands)
   channel_lasts number peer one s known (Connect to) there = λ stands. absurd stands
   channel_lasts number peer one s known (Offer offer) there = λ stands. absurd stands
-  channel_lasts number peer one s known (Connection c) there = λ stands. inl (kept-same (Connection c) stands)
+  channel_lasts number peer one s known (Channel other to x) there = untouched (eqb other number) (Channel other to x)
+  channel_lasts number peer one s known g there = λ stands. inl (kept-same g stands)
 
   lasting-channels : (which : Grant → Bool) (expiry : ℕ) → KeepsChannels (lasting_if which expiry)
   lasting-channels which expiry g number peer progress e = by (which g) g e
@@ -173,18 +163,12 @@ module _ (purposes : List Purpose) (message : List ℕ) (now : ℕ) (before : St
       by true (Channel other to Pending) f = (progress, sym f)
       by true (Channel other to (Reserved until)) f = (progress, sym f)
       by true (Permission ip (Active was)) f = cc
-      by true (Permission ip Pending) f = cc
-      by true (Permission ip (Reserved until)) f = cc
-      by true (Allocation a) f = cc
-      by true (Connect to) f = cc
-      by true (Offer offer) f = cc
-      by true (Connection c) f = cc
+      by true h f = cc
 
   permission-takes : (ip : IpAddr) (is_granted : Bool) (s : State) → Names is_granted (ForPermission ip) → Taken s (permission_answered ip is_granted now s)
   permission-takes ip is_granted s = by (permission_state ip s) refl is_granted
     where
       by : (o : Option Progress) → permission_state ip s ≡ o → (g : Bool) → Names g (ForPermission ip) → Taken s (permission_answered ip g now s)
-      by None e g one = rw e (same s)
       by (Some Pending) e true one =
           rw e (replaced-takes (is_permission_of ip) (Permission ip (Active (later_by permission_lifetime now))) s
           (λ stands. record { purpose = ForPermission ip; one = one refl; given = (same_ip-same ip, refl) }) (λ number peer progress f. cc))
@@ -193,15 +177,11 @@ module _ (purposes : List Purpose) (message : List ℕ) (now : ℕ) (before : St
           rw e (lasting-takes (is_permission_of ip) (lasting_if (is_permission_of ip) (later_by permission_lifetime now)) s (lasting-channels (is_permission_of ip) (later_by permission_lifetime now))
           (λ g there. permission_lasts ip (one refl) g))
       by (Some (Active expiry)) e false one = rw e (without-takes (is_permission_of ip) s)
-      by (Some (Reserved until)) e g one = rw e (same s)
+      by o e g one = rw e (same s)
 
   permission_state-takes : (is_granted : Bool) (t : State) (p : Purpose) → Names is_granted p → Taken t (permission_answered_for is_granted now t p)
   permission_state-takes is_granted t (ForPermission ip) one = permission-takes ip is_granted t one
-  permission_state-takes is_granted t ForAllocation one = same t
-  permission_state-takes is_granted t (ForRefresh family lifetime) one = same t
-  permission_state-takes is_granted t (ForChannel number peer) one = same t
-  permission_state-takes is_granted t (ForConnect peer) one = same t
-  permission_state-takes is_granted t (ForBind local peer id) one = same t
+  permission_state-takes is_granted t p one = same t
 
   permissions-takes : (id : ℕ) (is_granted : Bool) (s : State) → NamesAll is_granted id s → Taken s (listed_permissions_answered id is_granted now s)
   permissions-takes id is_granted s all =
@@ -217,7 +197,6 @@ module _ (purposes : List Purpose) (message : List ℕ) (now : ℕ) (before : St
       held peer progress there = let (was, here) = known number peer (progress, there) in (was, has-contains (Channel number peer was) before.grants here)
 
       by : (o : Option (SocketAddr × Progress)) → first_in (channel_at number) s ≡ o → (g : Bool) → Names g (ForChannel number asked) → NamesAll g id s → Taken s (channel_answered number id g now s)
-      by None e g one all = rw e (same s)
       by (Some (peer, Pending)) e true one all =
           let t = listed_permissions_answered id true now s in
           let new = Channel number peer (Active (later_by channel_lifetime now)) in
@@ -236,7 +215,7 @@ module _ (purposes : List Purpose) (message : List ℕ) (now : ℕ) (before : St
           let here = first-channel number peer (Active expiry) s.grants e in
           rw e (replaced-takes (is_channel_of number) (Channel number peer (Reserved (later_by reserved_time expiry))) s (λ stands. absurd stands)
           (λ n to progress f. same-channel n number to peer progress (Reserved (later_by reserved_time expiry)) s.grants f (Active expiry, here)))
-      by (Some (peer, Reserved until)) e g one all = rw e (same s)
+      by o e g one all = rw e (same s)
 
   connect-takes : (peer : SocketAddr) (o : Option ℕ) (s : State) → Taken s (connect_answered peer o s)
   connect-takes peer (Some id) s =
@@ -253,11 +232,7 @@ module _ (purposes : List Purpose) (message : List ℕ) (now : ℕ) (before : St
       by : (b : Bool) → Channel number peer progress ≡ cond b (Allocation (record a { expiry = later_by (seconds n) now })) (Allocation a) → (was : Progress) × (Allocation a ≡ Channel number peer was)
       by true h = cc
       by false h = cc
-  prolonged-channels family n (Permission ip p) number peer progress f = (progress, sym f)
-  prolonged-channels family n (Channel other to p) number peer progress f = (progress, sym f)
-  prolonged-channels family n (Connect to) number peer progress f = (progress, sym f)
-  prolonged-channels family n (Offer offer) number peer progress f = (progress, sym f)
-  prolonged-channels family n (Connection c) number peer progress f = (progress, sym f)
+  prolonged-channels family n g number peer progress f = (progress, sym f)
 
   -- a lifetime of so many seconds was requested and is granted
   abbrev Lengthens : AddressFamily → ℕ → ℕ → Type 0
@@ -270,11 +245,9 @@ module _ (purposes : List Purpose) (message : List ℕ) (now : ℕ) (before : St
       by : (b : Bool) → is_of_family family a.relayed ≡ b → Is (Allocation a) (cond b (Allocation (record a { expiry = later_by (seconds n) now })) (Allocation a))
       by true e stands = inr (record { purpose = ForRefresh family lifetime; one = one; given = (asked, e, (n, said, enough, refl)) })
       by false e stands = inl (kept-same (Allocation a) stands)
-  allocation_lasts family lifetime n lengthens (Permission ip progress) = λ stands. inl (kept-same (Permission ip progress) stands)
-  allocation_lasts family lifetime n lengthens (Channel number peer progress) = λ stands. inl (kept-same (Channel number peer progress) stands)
   allocation_lasts family lifetime n lengthens (Connect peer) = λ stands. absurd stands
   allocation_lasts family lifetime n lengthens (Offer offer) = λ stands. absurd stands
-  allocation_lasts family lifetime n lengthens (Connection c) = λ stands. inl (kept-same (Connection c) stands)
+  allocation_lasts family lifetime n lengthens g = λ stands. inl (kept-same g stands)
 
   refreshed-takes : (family : AddressFamily) (lifetime : ℕ) (is_granted : Bool) (s : State) → Names is_granted (ForRefresh family lifetime)
       → Taken s (refreshed family lifetime is_granted message now s)
@@ -307,5 +280,4 @@ module _ (purposes : List Purpose) (message : List ℕ) (now : ℕ) (before : St
   effect-takes id is_granted s (ForPermission ip) known one all = permission-takes ip is_granted s one
   effect-takes id is_granted s (ForChannel number peer) known one all = channel-takes number peer id is_granted s known one all
   effect-takes id is_granted s (ForConnect peer) known one all = connect-takes peer (cond is_granted (connection_id_in message) None) s
-  effect-takes id is_granted s ForAllocation known one all = same s
-  effect-takes id is_granted s (ForBind local peer other) known one all = same s
+  effect-takes id is_granted s p known one all = same s

@@ -50,10 +50,8 @@ pub record IsSignedSuccess (message : List ℕ) (s : State) : Type 0 where
   pub outstanding : is_outstanding (id_of message) s.transactions ≡ true
 
 pub by_class-granted : (class : MessageClass) → by_class class ≡ SignedSuccess → class ≡ Success
-by_class-granted Request e = cc
-by_class-granted Indication e = cc
 by_class-granted Success e = refl
-by_class-granted Error e = cc
+by_class-granted class e = cc
 
 pub challenged_or-granted : (j : Judgement) (o : Option Challenge) → challenged_or j o ≡ SignedSuccess → j ≡ SignedSuccess
 challenged_or-granted j None e = e
@@ -69,12 +67,10 @@ cond-ungranted false j k not_j not_k e = not_k e
 
 -- a signed message that is granted is a success, and what it answers is outstanding
 stray-granted : (class : MessageClass) (outstanding : Bool) → cond (is_response class && not outstanding) Unrelated (by_class class) ≡ SignedSuccess → (class ≡ Success) × (outstanding ≡ true)
-stray-granted Request b e = cc
-stray-granted Indication b e = cc
 stray-granted Success true e = (refl, refl)
 stray-granted Success false e = cc
 stray-granted Error true e = cc
-stray-granted Error false e = cc
+stray-granted class outstanding e = cc
 
 -- the result of the validation
 pub validated : (v w : Validation) → v ≡ w → IsValidated w → IsValidated v
@@ -124,15 +120,10 @@ allocated-granted s message = by (class_in message) refl (validation_of (auth_of
 
     by : (k : MessageClass) → class_in message ≡ k → (v : Validation) → validation_of (auth_of s) message ≡ v → allocated_judgement s message ≡ SignedSuccess → IsSignedSuccess message s
     by Indication e v f = rw e (λ h. absurd (indication-ungranted message h))
-    by Request e (Validated algorithm) f = rw (e, f) (valid (Validated algorithm) f tt)
-    by Request e (Refused integrity) f = rw (e, f) (λ h. cc)
-    by Request e (ResendRequest algorithm) f = rw (e, f) (λ h. cc)
-    by Success e (Validated algorithm) f = rw (e, f) (valid (Validated algorithm) f tt)
-    by Success e (Refused integrity) f = rw (e, f) (λ h. cc)
-    by Success e (ResendRequest algorithm) f = rw (e, f) (λ h. cc)
     by Error e (Validated algorithm) f = rw (e, f) (λ h. valid (Validated algorithm) f tt (challenged_or-granted _ (challenge_in s message) h))
-    by Error e (Refused integrity) f = rw (e, f) (λ h. let n : Unrelated ≡ SignedSuccess = challenged_or-granted Unrelated (challenge_in s message) h in cc)
-    by Error e (ResendRequest algorithm) f = rw (e, f) (λ h. let n : Unrelated ≡ SignedSuccess = challenged_or-granted Unrelated (challenge_in s message) h in cc)
+    by Error e v f = rw (e, f) (λ h. let n : Unrelated ≡ SignedSuccess = challenged_or-granted Unrelated (challenge_in s message) h in cc)
+    by k e (Validated algorithm) f = rw (e, f) (valid (Validated algorithm) f tt)
+    by k e v f = rw (e, f) (λ h. cc)
 
 requesting-ungranted : (s : State) (message : List ℕ) → requesting_judgement s message ≡ SignedSuccess → ⊥
 requesting-ungranted s message h = let n : Fatal ≡ SignedSuccess = challenged_or-granted Fatal (challenge_in s message) (cond-granted (answers_one s message) _ Unrelated (λ e. cc) h).1 in cc
@@ -140,11 +131,7 @@ requesting-ungranted s message h = let n : Fatal ≡ SignedSuccess = challenged_
 for-allocation : (purposes : List Purpose) → list_any is_for_allocation purposes ≡ true → Has ForAllocation purposes
 for-allocation [] e = cc
 for-allocation (ForAllocation ∷ purposes) e = inl refl
-for-allocation (ForRefresh family lifetime ∷ purposes) e = inr (for-allocation purposes e)
-for-allocation (ForPermission ip ∷ purposes) e = inr (for-allocation purposes e)
-for-allocation (ForChannel number peer ∷ purposes) e = inr (for-allocation purposes e)
-for-allocation (ForConnect peer ∷ purposes) e = inr (for-allocation purposes e)
-for-allocation (ForBind local peer id ∷ purposes) e = inr (for-allocation purposes e)
+for-allocation (_ ∷ purposes) e = inr (for-allocation purposes e)
 
 -- what the request that the message answers was made for
 abbrev pub asked_for : List ℕ → State → List Purpose
@@ -160,13 +147,12 @@ IsForAllocation phase message s = phase ≡ Authenticating → Has ForAllocation
 
 granted_in_phase : (p : Phase) (s : State) (message : List ℕ) → judgement_of (record s { phase = p }) message ≡ SignedSuccess → IsSignedSuccess message (record s { phase = p })
     × IsForAllocation p message s
-granted_in_phase New s message h = cc
 granted_in_phase Requesting s message h = absurd (requesting-ungranted (record s { phase = Requesting }) message h)
 granted_in_phase Authenticating s message h =
     let (answers, is) = authenticating-granted (record s { phase = Authenticating }) message h in
     (is, λ e. for-allocation (asked_for message s) (&&-second (is_response (class_in message)) _ answers))
 granted_in_phase Allocated s message h = (allocated-granted (record s { phase = Allocated }) message h, λ e. cc)
-granted_in_phase Closed s message h = cc
+granted_in_phase p s message h = cc
 
 -- before anything is allocated, a request for an allocation is answered
 pub SignedSuccess-is : (s : State) (message : List ℕ) → judgement_of s message ≡ SignedSuccess → IsSignedSuccess message s × IsForAllocation s.phase message s
@@ -268,22 +254,15 @@ granted-gives : (p : Phase) (message : List ℕ) (now : ℕ) (s : State) → IsF
     → Gives (asked_for message s) message now (record s { phase = p }) s.grants (signed_step true message now (record s { phase = p })).1.grants
 granted-gives Authenticating message now s one = allocate-gives message now (record s { phase = Authenticating }) (transaction_ended (id_of message) (record s { phase = Authenticating }))
     (asked_for message s) refl (one refl)
-granted-gives New message now s one = (reply-takes (asked_for message s) true message now (record s { phase = New }) (record s { phase = New }) (λ number peer h. h) (λ e p there. there)).1
-granted-gives Requesting message now s one = (reply-takes (asked_for message s) true message now (record s { phase = Requesting }) (record s { phase = Requesting }) (λ number peer h. h)
-    (λ e p there. there)).1
-granted-gives Allocated message now s one = (reply-takes (asked_for message s) true message now (record s { phase = Allocated }) (record s { phase = Allocated }) (λ number peer h. h)
-    (λ e p there. there)).1
-granted-gives Closed message now s one = (reply-takes (asked_for message s) true message now (record s { phase = Closed }) (record s { phase = Closed }) (λ number peer h. h) (λ e p there. there)).1
+granted-gives p message now s one =
+    (reply-takes (asked_for message s) true message now (record s { phase = p }) (record s { phase = p }) (λ number peer h. h) (λ e p there. there)).1
 
 refused-leaves : (message : List ℕ) (now : ℕ) (s : State) → Leaves s (response_step false message now s).1
 refused-leaves message now s = takes-left message now s s.grants _ (reply-takes [] false message now s s (λ number peer h. h) (λ e. cc)).1
 
 denied-leaves : (p : Phase) (message : List ℕ) (now : ℕ) (s : State) → Leaves s (signed_step false message now (record s { phase = p })).1
 denied-leaves Authenticating message now s = leaves-cond (has_code family_not_supported message && leb 2 (length s.families)) s _ _ (leaves-same s) (leaves-same s)
-denied-leaves New message now s = refused-leaves message now (record s { phase = New })
-denied-leaves Requesting message now s = refused-leaves message now (record s { phase = Requesting })
-denied-leaves Allocated message now s = refused-leaves message now (record s { phase = Allocated })
-denied-leaves Closed message now s = refused-leaves message now (record s { phase = Closed })
+denied-leaves p message now s = refused-leaves message now (record s { phase = p })
 
 -- ---- other messages
 
@@ -297,10 +276,7 @@ challenge-leaves message d now s = by (ltb s.challenges s.config.max_stale_nonce
 
 wrong-leaves : (p : Phase) (message : List ℕ) (s : State) → Leaves s (wrong_step message (record s { phase = p })).1
 wrong-leaves New message s = leaves-same s
-wrong-leaves Requesting message s = leaves-same s
-wrong-leaves Authenticating message s = leaves-same s
-wrong-leaves Allocated message s = leaves-same s
-wrong-leaves Closed message s = leaves-same s
+wrong-leaves p message s = leaves-same s
 
 -- an offer is not active
 offer-leaves : (id : ℕ) (peer : SocketAddr) (origin : Origin) (s : State) → Leaves s (with_offer id peer origin s)
@@ -380,15 +356,13 @@ message-grants g message now s = by (judgement_of s message) refl
     gives e = granted-gives s.phase message now s (SignedSuccess-is s message e).1
 
     by : (j : Judgement) → judgement_of s message ≡ j → Brings j
-    by Unrelated e = rw e (left s (leaves-same s))
     by (Challenged d) e = rw e (left (challenge_step message d now s).1 (challenge-leaves message d now s))
     by Fatal e = rw e (left (wrong_step message s).1 (wrong-leaves s.phase message s))
-    by LateResponse e = rw e (left s (leaves-same s))
-    by DataIndication e = rw e (left s (leaves-same s))
     by ConnectionAttempt e = rw e (left attempt.1 (indicated (attempt_indicated message s) (indicated-leaves message s)))
     by SignedRequest e = rw e (left request.1 (asked (eqb (method_in message) connection_attempt_method)))
     by SignedSuccess e = rw e (λ covers. granted e (gives-covers (asked_for message s) message now s s.grants (signed_step true message now s).1.grants g (gives e) covers))
     by SignedError e = rw e (left (signed_step false message now s).1 (denied-leaves s.phase message now s))
+    by j e = rw e (left s (leaves-same s))
 
 pub message-brings : (g : Grant) (message : List ℕ) (now : ℕ) (s : State) → Covers (message_step message now s).1.grants g → Covers s.grants g ⊎ IsGrant g message now s
 message-brings g message now s covers = by (message-grants g message now s covers)

@@ -50,11 +50,9 @@ delete-ends now s g = by (is_allocated s.phase)
 
     at : (x : Grant) → Has x s.grants → IsActiveGrant (all x) → WasActive s (all x) ⊎ IsEndedNow (Delete now) s (all x)
     at (Allocation a) there stands = inr (refl, (a, has-contains (Allocation a) s.grants there, refl))
-    at (Permission ip progress) there stands = inl (covers-stood s (Permission ip progress) (covers-has s.grants (Permission ip progress) there stands))
-    at (Channel number peer progress) there stands = inl (covers-stood s (Channel number peer progress) (covers-has s.grants (Channel number peer progress) there stands))
     at (Connect peer) there stands = absurd stands
     at (Offer offer) there stands = absurd stands
-    at (Connection c) there stands = inl (covers-stood s (Connection c) (covers-has s.grants (Connection c) there stands))
+    at x there stands = inl (covers-stood s x (covers-has s.grants x there stands))
 
     by : (b : Bool) → Has g (cond {A = Result Unit DeleteError × State} b (Ok tt, deleted now s) (Err No.NoAllocation, s)).1.grants → IsActiveGrant g → WasActive s g ⊎ IsEndedNow (Delete now) s g
     by false there stands = inl (covers-stood s g (covers-has s.grants g there stands))
@@ -82,29 +80,15 @@ control-grants g one over whole covers = by g (message-brings g one.bytes one.ti
       where
         unlike : (p : Purpose) → IsGivenFor p one.bytes one.time one.before (Connection d) → ⊥
         unlike ForAllocation given = given
-        unlike (ForRefresh family lifetime) given = given
-        unlike (ForPermission ip) given = given
-        unlike (ForChannel number peer) given = given
-        unlike (ForConnect peer) given = given
-        unlike (ForBind local peer number) given = given
-    connection c (Allocation a) is kept = kept
+        unlike p given = given
     connection c (Permission ip Pending) is kept = kept
-    connection c (Permission ip (Active expiry)) is kept = kept
-    connection c (Permission ip (Reserved until)) is kept = kept
     connection c (Channel number peer Pending) is kept = kept
-    connection c (Channel number peer (Active expiry)) is kept = kept
-    connection c (Channel number peer (Reserved until)) is kept = kept
-    connection c (Connect peer) is kept = kept
-    connection c (Offer offer) is kept = kept
+    connection c was is kept = kept
 
     by : (g : Grant) → Covers one.before.grants g ⊎ Grants g → Covers one.before.grants g ⊎ IsGrantedIn g one
     by g (inl there) = inl there
-    by (Allocation a) (inr grant) = inr (turn (Allocation a) grant)
-    by (Permission ip progress) (inr grant) = inr (turn (Permission ip progress) grant)
-    by (Channel number peer progress) (inr grant) = inr (turn (Channel number peer progress) grant)
-    by (Connect peer) (inr grant) = inr (turn (Connect peer) grant)
-    by (Offer offer) (inr grant) = inr (turn (Offer offer) grant)
     by (Connection c) (inr (was, is, kept)) = absurd (connection c was is kept)
+    by g (inr grant) = inr (turn g grant)
 
 -- a grant that a map leaves existed before, or is a connection at this local address
 pub deadline-has : (local : SocketAddr) (g x : Grant) → g ≡ deadline_set local None x → (g ≡ x) ⊎ ((c : DataConnection) × (g ≡ Connection c) × (c.local ≡ local))
@@ -113,11 +97,7 @@ deadline-has local g (Connection c) e = by (same_address c.local local) refl
     by : (b : Bool) → same_address c.local local ≡ b → (g ≡ Connection c) ⊎ ((d : DataConnection) × (g ≡ Connection d) × (d.local ≡ local))
     by true f = inr (record c { deadline = None }, e ∙ rw f refl, same_address-true c.local local f)
     by false f = inl (e ∙ rw f refl)
-deadline-has local g (Allocation a) e = inl e
-deadline-has local g (Permission ip progress) e = inl e
-deadline-has local g (Channel number peer progress) e = inl e
-deadline-has local g (Connect peer) e = inl e
-deadline-has local g (Offer offer) e = inl e
+deadline-has local g x e = inl e
 
 bind-covers : (one : Input) (stream : Stream) (g : Grant) (t : State) → one.stream ≡ Some stream → stream.mode ≡ Waiting → is_message one.bytes ≡ true → Binds stream.local one.bytes one.before t
     → Covers t.grants g → Covers one.before.grants g ⊎ IsGrantedIn g one
@@ -127,11 +107,7 @@ bind-covers one stream g t of waits whole b (is, there, kept) = by (has-mapped (
     bound c (Connection d) at (same, none) =
         let ends : stream.local ≡ d.local = sym (found-local stream.local b.c _ b.found) ∙ (sym at ∙ ap (λ (x : DataConnection). x.local) same) in
         (b.c.peer, subst (λ (local : SocketAddr). IsBindInput local b.c.peer one) ends (binds-turn one stream t of waits whole b))
-    bound c (Allocation a) at k = absurd k
-    bound c (Permission ip progress) at k = absurd k
-    bound c (Channel number peer progress) at k = absurd k
-    bound c (Connect peer) at k = absurd k
-    bound c (Offer offer) at k = absurd k
+    bound c h at k = absurd k
 
     by : (x : Grant) × Has x one.before.grants × (is ≡ deadline_set b.c.local None x) → Covers one.before.grants g ⊎ IsGrantedIn g one
     by (x, before, e) = at (deadline-has b.c.local is x e)
@@ -170,16 +146,12 @@ module _ (s : State) (g : Grant) where
     where
       ended : (h i : Grant) → IsEndedNow (Delete now) s h → IsSameGrant h i → IsEndedNow (Delete now) s i
       ended (Allocation a) (Allocation b) (e, (was, before, same)) (f, d) = (sym d ∙ e, (was, before, same ∙ f))
-      ended (Allocation a) (Permission ip progress) e k = absurd k
-      ended (Allocation a) (Channel number peer progress) e k = absurd k
-      ended (Allocation a) (Connect peer) e k = absurd k
-      ended (Allocation a) (Offer offer) e k = absurd k
-      ended (Allocation a) (Connection c) e k = absurd k
       ended (Permission ip progress) i e k = absurd e
       ended (Channel number peer progress) i e k = absurd e
       ended (Connect peer) i e k = absurd e
       ended (Offer offer) i e k = absurd e
       ended (Connection c) i e k = absurd e
+      ended (Allocation a) i e k = absurd k
 
       stood : WasActive s is → Before (Delete now)
       stood (was, before, k) = inl (was, contains-has was s.grants before, kept-trans was is g k kept)

@@ -64,10 +64,9 @@ framed-AreOf is_lent stream now t = by (begins_no_frame stream.bytes) (frame_len
     by false o = frame-AreOf is_lent stream now t o
 
 turned_in_mode : (m : Mode) (stream : Stream) (now : ℕ) (t : State) → AreOf (taken_in false (record stream { mode = m }) now t) (owned (detached_frame_step (record stream { mode = m }) now t).0)
-turned_in_mode Control stream now t = framed-AreOf false (record stream { mode = Control }) now t
-turned_in_mode Waiting stream now t = framed-AreOf false (record stream { mode = Waiting }) now t
 turned_in_mode (Bound peer) stream now t = refl
 turned_in_mode Broken stream now t = refl
+turned_in_mode m stream now t = framed-AreOf false (record stream { mode = m }) now t
 
 turn-AreOf : (stream : Stream) (now : ℕ) (s : State) → AreOf (stream_inputs_taken false stream now s) (owned (next_frame_step stream now s).0)
 turn-AreOf stream now s = turned_in_mode stream.mode stream now (with_bytes stream.local [] s)
@@ -81,9 +80,7 @@ Gives turns p = payloads turns ≡ option_to_list p.0
 go_on-Gives : (next : State → Option Payload × State) (later : State → List Input) (front : List Input) (p : Outcome × State) → AreOf front (owned p.0) → ((t : State) → Gives (later t) (next t))
     → Gives (front ++ unless_given (payload_in p.0) (later p.1)) (go_on next p)
 go_on-Gives next later front (PeerData payload, t) first more = payloads-append front [] ∙ ap (λ ps. ps ++ []) first
-go_on-Gives next later front (Handled, t) first more = payloads-append front (later t) ∙ (ap (λ ps. ps ++ payloads (later t)) first ∙ more t)
-go_on-Gives next later front (Ignored, t) first more = payloads-append front (later t) ∙ (ap (λ ps. ps ++ payloads (later t)) first ∙ more t)
-go_on-Gives next later front (PeerIcmp transport peer icmp, t) first more = payloads-append front (later t) ∙ (ap (λ ps. ps ++ payloads (later t)) first ∙ more t)
+go_on-Gives next later front (_, t) first more = payloads-append front (later t) ∙ (ap (λ ps. ps ++ payloads (later t)) first ∙ more t)
 
 turns-Gives : (n now : ℕ) (s : State) → Gives (inputs_taken n now s) (steps_until_payload n now s)
 unfolding steps_until_payload inputs_taken
@@ -109,12 +106,11 @@ others-AreOf now t o none = poll_recv-Gives now t ∙ by (poll_recv_step now t).
     by (Some payload) = refl
 
 then_all-AreOf : (now : ℕ) (front : List Input) (p : Outcome × State) → AreOf front p.0 → AreOf (front ++ then_taken now p) (then_all now p).0
-then_all-AreOf now front (PeerData payload, t) first = payloads-append front [] ∙ ap (λ ps. ps ++ []) first
-then_all-AreOf now front (PeerIcmp transport peer icmp, t) first = payloads-append front [] ∙ ap (λ ps. ps ++ []) first
 then_all-AreOf now front (Handled, t) first =
     payloads-append front (poll_recv_inputs now t) ∙ (ap (λ ps. ps ++ payloads (poll_recv_inputs now t)) first ∙ others-AreOf now t Handled refl)
 then_all-AreOf now front (Ignored, t) first =
     payloads-append front (poll_recv_inputs now t) ∙ (ap (λ ps. ps ++ payloads (poll_recv_inputs now t)) first ∙ others-AreOf now t Ignored refl)
+then_all-AreOf now front (_, t) first = payloads-append front [] ∙ ap (λ ps. ps ++ []) first
 
 kept-given : (waited : List ℕ) (o : Outcome) → given (is_front waited) o ≡ place_kept waited o
 kept-given [] o = refl
@@ -162,8 +158,7 @@ recv_over Udp transport from to bytes now s = by (is_from_server transport from 
 
     by : (b c : Bool) → AreOf (cond b (cond c (one ∷ []) []) []) (cond {A = Outcome × State} b (cond {A = Outcome × State} c (datagram_step bytes now u) (Ignored, u)) (Ignored, u)).0
     by true true = one-AreOf one
-    by true false = refl
-    by false c = refl
+    by b c = refl
 recv_over Tcp transport from to bytes now s = by (is_from_server transport from u) (stream_at to s)
   where
     u : State
@@ -179,8 +174,7 @@ recv_over Tcp transport from to bytes now s = by (is_from_server transport from 
 
     by : (b : Bool) (o : Option Stream) → AreOf (cond b (turns_by o) []) (cond {A = Outcome × State} b (by_stream o) (Ignored, u)).0
     by true (Some stream) = stream-AreOf stream bytes now u
-    by true None = refl
-    by false o = refl
+    by b o = refl
 
 pub recv-AreOf : (packet : Transmit (List ℕ)) (now : ℕ) (s : State) → payloads (handled (Recv packet now) s) ≡ option_to_list (payload_in (packet_step packet now s).0)
 recv-AreOf packet now s = recv_over s.transport packet.transport packet.from packet.to packet.payload now s
@@ -228,17 +222,14 @@ Tells turns o = IsIcmp o → (one : Input) × Has one turns × ((processed one).
 tells-kept : (waited : List ℕ) (turns : List Input) (o : Outcome) → Tells turns o → Tells turns (place_kept waited o)
 tells-kept [] turns o tells = tells
 tells-kept (b ∷ bs) turns (PeerIcmp transport peer icmp) tells = tells
-tells-kept (b ∷ bs) turns (PeerData payload) tells = λ h. absurd h
-tells-kept (b ∷ bs) turns Handled tells = λ h. absurd h
-tells-kept (b ∷ bs) turns Ignored tells = λ h. absurd h
+tells-kept (b ∷ bs) turns o tells = λ h. absurd h
 
 framed-tells : (is_lent : Bool) (stream : Stream) (now : ℕ) (t : State) → Tells (frame_taken is_lent stream now t) (framed_stream_step stream now t).0
 framed-tells is_lent stream now t = by (begins_no_frame stream.bytes) (frame_len stream.bytes)
   where
     by : (b : Bool) (o : Option ℕ) → Tells (cond b [] (taken_of_len is_lent stream now t o)) (cond {A = Outcome × State} b (Handled, broken_at stream.local t) (framed_by stream now t o)).0
-    by true o h = absurd h
-    by false None h = absurd h
     by false (Some len) h = (stream_input is_lent stream (take len stream.bytes) now t, inl refl, refl)
+    by b o h = absurd h
 
 fed-tells : (stream : Stream) (piece : List ℕ) (now : ℕ) (t : State) → Tells (frame_taken (is_front stream.bytes) (stream_with_piece stream piece) now t)
     (place_kept stream.bytes (framed_stream_step (stream_with_piece stream piece) now t).0)
@@ -252,8 +243,7 @@ no-icmp (Some payload) p no_more h = h
 then_all-tells : (now : ℕ) (front : List Input) (p : Outcome × State) → Tells front p.0 → Tells (front ++ then_taken now p) (then_all now p).0
 then_all-tells now front (PeerData payload, t) first h = absurd h
 then_all-tells now front (PeerIcmp transport peer icmp, t) first h = let (one, there, is) = first h in (one, has-left one front [] there, is)
-then_all-tells now front (Handled, t) first h = absurd (no-icmp (poll_recv_step now t).0 Handled (λ k. k) h)
-then_all-tells now front (Ignored, t) first h = absurd (no-icmp (poll_recv_step now t).0 Ignored (λ k. k) h)
+then_all-tells now front (outcome, t) first h = absurd (no-icmp (poll_recv_step now t).0 outcome (λ k. k) h)
 
 piece-tells : (m : Mode) (stream : Stream) (piece : List ℕ) (now : ℕ) (s : State)
     → Tells (piece_inputs (record stream { mode = m }) piece now s) (piece_step (record stream { mode = m }) piece now s).0
@@ -284,8 +274,7 @@ tells_over Udp transport from to bytes now s = by (is_from_server transport from
 
     by : (b c : Bool) → Tells (cond b (cond c (one ∷ []) []) []) (cond {A = Outcome × State} b (cond {A = Outcome × State} c (datagram_step bytes now u) (Ignored, u)) (Ignored, u)).0
     by true true h = (one, inl refl, refl)
-    by true false h = absurd h
-    by false c h = absurd h
+    by b c h = absurd h
 tells_over Tcp transport from to bytes now s = by (is_from_server transport from u) (stream_at to s)
   where
     u : State
@@ -301,14 +290,11 @@ tells_over Tcp transport from to bytes now s = by (is_from_server transport from
 
     by : (b : Bool) (o : Option Stream) → Tells (cond b (turns_by o) []) (cond {A = Outcome × State} b (by_stream o) (Ignored, u)).0
     by true (Some stream) h = stream-tells stream bytes now u h
-    by true None h = absurd h
-    by false o h = absurd h
+    by b o h = absurd h
 
 told : (call : Call) (s : State) (o : Outcome) → Tells (handled call s) o → IsToldBy o call s
 told call s (PeerIcmp transport peer icmp) tells = let (one, there, is) = tells tt in (one, has-contains one (handled call s) there, (is, turn-IsFromPermitted one))
-told call s (PeerData payload) tells = tt
-told call s Handled tells = tt
-told call s Ignored tells = tt
+told call s o tells = tt
 
 pub recv-IsToldBy : (packet : Transmit (List ℕ)) (now : ℕ) (s : State) → IsToldBy (packet_step packet now s).0 (Recv packet now) s
 recv-IsToldBy packet now s = told (Recv packet now) s (packet_step packet now s).0 (tells_over s.transport packet.transport packet.from packet.to packet.payload now s)

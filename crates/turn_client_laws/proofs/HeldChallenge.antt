@@ -17,11 +17,9 @@ use Rattle.turn_client_laws.proofs.Edits.{KeepsAllEdits, KeepsEdits}
 use Rattle.turn_client_laws.proofs.EditsOfCalls.{leaves-walk}
 
 held-any : (p : Phase) (held : Option Challenge) → IsSome held → IsHeldIn p held
-held-any New held some = tt
-held-any Requesting held some = tt
 held-any Authenticating held some = some
 held-any Allocated held some = some
-held-any Closed held some = tt
+held-any p held some = tt
 
 held-with : (addresses : List SocketAddr) (held : Option Challenge) → IsHeldIn Authenticating held → IsHeldIn (phase_with addresses) held
 held-with [] held some = tt

@@ -67,10 +67,9 @@ taken-houses id peer s h = record {
 }
 
 same_address-family : (a b : SocketAddr) → same_address a b ≡ true → family_of a ≡ family_of b
-same_address-family (V4 a) (V4 b) e = refl
-same_address-family (V6 a) (V6 b) e = refl
 same_address-family (V4 a) (V6 b) e = cc
 same_address-family (V6 a) (V4 b) e = cc
+same_address-family a b e = refl
 
 -- an offer that exists has an allocation
 offer-room : (id : ℕ) (peer : SocketAddr) (origin : Origin) (s : State) → offer_origin id peer s ≡ Some origin → Housed s.grants s.listed → Room s.grants (family_of peer)
@@ -111,11 +110,7 @@ permission-room ip p s e h =
 
 shape-outline : (g : Grant) → shape (outline g) ≡ shape g
 shape-outline (Allocation a) = refl
-shape-outline (Permission ip progress) = refl
-shape-outline (Channel number peer progress) = refl
-shape-outline (Connect peer) = refl
-shape-outline (Offer offer) = refl
-shape-outline (Connection c) = refl
+shape-outline g = refl
 
 shapes-outline : (gs : List Grant) → map shape (map outline gs) ≡ map shape gs
 shapes-outline [] = refl
@@ -138,17 +133,8 @@ asked-backed gs (ForBind local peer id) g there is = unbacked gs (ForBind local 
 asked-backed gs (ForChannel number peer) (Channel other to progress) there is = λ family e.
     let (same, ends) = and_parts (eqb other number) (same_address to peer) is in
     (Channel other to progress, there, same, same_address-family to peer ends ∙ same_Some (family_of peer) family e)
-asked-backed gs (ForChannel number peer) (Allocation a) there is = cc
-asked-backed gs (ForChannel number peer) (Permission ip progress) there is = cc
-asked-backed gs (ForChannel number peer) (Connect to) there is = cc
-asked-backed gs (ForChannel number peer) (Offer offer) there is = cc
-asked-backed gs (ForChannel number peer) (Connection c) there is = cc
 asked-backed gs (ForConnect peer) (Connect to) there is = λ family e. (Connect to, there, is, same_address-family to peer is ∙ same_Some (family_of peer) family e)
-asked-backed gs (ForConnect peer) (Allocation a) there is = cc
-asked-backed gs (ForConnect peer) (Permission ip progress) there is = cc
-asked-backed gs (ForConnect peer) (Channel number to progress) there is = cc
-asked-backed gs (ForConnect peer) (Offer offer) there is = cc
-asked-backed gs (ForConnect peer) (Connection c) there is = cc
+asked-backed gs p g there is = cc
 
 askable-backed : (s : State) (p : Purpose) → Housed s.grants s.listed → IsAskable s p → Backed s.grants p
 askable-backed s p h (inl e) = subst (λ (x : Purpose). Backed s.grants x) (sym e) (unbacked s.grants ForAllocation refl)

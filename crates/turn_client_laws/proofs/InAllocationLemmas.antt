@@ -25,16 +25,14 @@ use Rattle.turn_client_laws.proofs.HasLemmas.{Has, has-left, has-append, has-fil
 -- ---- families and tests
 
 pub same_family-true : (a b : AddressFamily) → same_family a b ≡ true → a ≡ b
-same_family-true IPV4 IPV4 e = refl
-same_family-true IPV6 IPV6 e = refl
 same_family-true IPV4 IPV6 e = cc
 same_family-true IPV6 IPV4 e = cc
+same_family-true a b e = refl
 
 pub same_family-self : (a b : AddressFamily) → a ≡ b → same_family a b ≡ true
-same_family-self IPV4 IPV4 e = refl
-same_family-self IPV6 IPV6 e = refl
 same_family-self IPV4 IPV6 e = cc
 same_family-self IPV6 IPV4 e = cc
+same_family-self a b e = refl
 
 pub not-both : (b : Bool) → b ≡ true → not b ≡ true → ⊥
 not-both true e f = cc
@@ -88,11 +86,7 @@ room-of family s = by (find_allocation family s) refl
       where
         the : (g : Grant) → as_allocation g ≡ Some a → g ≡ Allocation a
         the (Allocation b) e = cc
-        the (Permission ip progress) e = cc
-        the (Channel number peer progress) e = cc
-        the (Connect peer) e = cc
-        the (Offer offer) e = cc
-        the (Connection c) e = cc
+        the g e = cc
 
 -- an allocation that relays to this address
 pub allocation-room : (transport : TransportType) (ip : IpAddr) (s : State) → is_some (find_allocation_to transport ip s) ≡ true → Room s.grants (family_of_ip ip)
@@ -225,38 +219,21 @@ shape (Connection c) = Connection (record c { deadline = None })
 
 shape-family : (g : Grant) → family_of_grant (shape g) ≡ family_of_grant g
 shape-family (Allocation a) = refl
-shape-family (Permission ip progress) = refl
-shape-family (Channel number peer progress) = refl
-shape-family (Connect peer) = refl
-shape-family (Offer offer) = refl
-shape-family (Connection c) = refl
+shape-family g = refl
 
 shape-for : (p : Purpose) (family : AddressFamily) → asked_family p ≡ Some family → (g : Grant) → is_for p (shape g) ≡ is_for p g
-shape-for (ForChannel number peer) family e (Allocation a) = refl
-shape-for (ForChannel number peer) family e (Permission ip progress) = refl
-shape-for (ForChannel number peer) family e (Channel other to progress) = refl
-shape-for (ForChannel number peer) family e (Connect to) = refl
-shape-for (ForChannel number peer) family e (Offer offer) = refl
-shape-for (ForChannel number peer) family e (Connection c) = refl
-shape-for (ForConnect peer) family e (Allocation a) = refl
-shape-for (ForConnect peer) family e (Permission ip progress) = refl
-shape-for (ForConnect peer) family e (Channel other to progress) = refl
-shape-for (ForConnect peer) family e (Connect to) = refl
-shape-for (ForConnect peer) family e (Offer offer) = refl
-shape-for (ForConnect peer) family e (Connection c) = refl
 shape-for ForAllocation family e g = cc
 shape-for (ForRefresh of lifetime) family e g = cc
 shape-for (ForPermission ip) family e g = cc
 shape-for (ForBind local peer id) family e g = cc
+shape-for (ForChannel number peer) family e (Allocation a) = refl
+shape-for (ForConnect peer) family e (Allocation a) = refl
+shape-for p family e g = refl
 
 -- what has the shape of an allocation is one, of the same address
 shape-allocation : (a : Relay) (g : Grant) → shape g ≡ shape (Allocation a) → (b : Relay) × (g ≡ Allocation b) × (family_of b.relayed ≡ family_of a.relayed)
 shape-allocation a (Allocation b) e = (b, refl, ap family_of_grant e)
-shape-allocation a (Permission ip progress) e = cc
-shape-allocation a (Channel number peer progress) e = cc
-shape-allocation a (Connect peer) e = cc
-shape-allocation a (Offer offer) e = cc
-shape-allocation a (Connection c) e = cc
+shape-allocation a g e = cc
 
 shaped : (gs hs : List Grant) → map shape gs ≡ map shape hs → (g : Grant) → Has g gs → (h : Grant) × Has h hs × (shape h ≡ shape g)
 shaped gs hs e g there = from hs (subst (λ (l : List Grant). Has (shape g) l) e (map-has shape g gs there))

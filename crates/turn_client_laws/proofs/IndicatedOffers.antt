@@ -58,11 +58,7 @@ indicated-without_first which (g ∷ gs) = by (which g) (indicated-without_first
 
 outline-indicated : (g : Grant) → is_indicated (outline g) ≡ is_indicated g
 outline-indicated (Allocation a) = refl
-outline-indicated (Permission ip progress) = refl
-outline-indicated (Channel number peer progress) = refl
-outline-indicated (Connect peer) = refl
-outline-indicated (Offer offer) = refl
-outline-indicated (Connection c) = refl
+outline-indicated g = refl
 
 indicated-outlined : (gs : List Grant) → indicated (map outline gs) ≡ indicated gs
 indicated-outlined [] = refl

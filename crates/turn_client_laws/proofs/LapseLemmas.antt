@@ -116,18 +116,11 @@ reserved-shrinks number peer expiry s = record { agent = refl; transactions = re
         of (inr (inr none)) = absurd none
 
 channel-shrinks : (o : Option Grant) (s : State) → Shrinks s (channel_lapsed o s)
-channel-shrinks None s = shrinks-self s
 channel-shrinks (Some (Channel number peer (Active expiry))) s =
     let t = reserved number peer expiry s in
     let failure = ChannelCreateFailed s.config.allocation_transport peer ∷ [] in
     shrinks-then s t (jump failure t) (reserved-shrinks number peer expiry s) (jump-shrinks failure t)
-channel-shrinks (Some (Channel number peer Pending)) s = shrinks-self s
-channel-shrinks (Some (Channel number peer (Reserved until))) s = shrinks-self s
-channel-shrinks (Some (Allocation a)) s = shrinks-self s
-channel-shrinks (Some (Permission ip progress)) s = shrinks-self s
-channel-shrinks (Some (Connect peer)) s = shrinks-self s
-channel-shrinks (Some (Offer offer)) s = shrinks-self s
-channel-shrinks (Some (Connection c)) s = shrinks-self s
+channel-shrinks o s = shrinks-self s
 
 -- ---- one allocation
 
@@ -199,13 +192,7 @@ no_channel_lapsed family now s none = by (find test (reverse s.grants)) refl
     lapsed_is : (g : Grant) → Has g s.grants → is_lapsed_channel now g ≡ true → (channel_lapsed (Some g) s).events ≡ [] → ⊥
     lapsed_is (Channel number peer (Active expiry)) h is e =
         let no : ChannelCreateFailed s.config.allocation_transport peer ∷ s.events ≡ [] = e in cc
-    lapsed_is (Channel number peer Pending) h is e = cc
-    lapsed_is (Channel number peer (Reserved until)) h is e = cc
-    lapsed_is (Allocation a) h is e = cc
-    lapsed_is (Permission ip progress) h is e = cc
-    lapsed_is (Connect peer) h is e = cc
-    lapsed_is (Offer offer) h is e = cc
-    lapsed_is (Connection c) h is e = cc
+    lapsed_is g h is e = cc
 
     by : (o : Option Grant) → find test (reverse s.grants) ≡ o → find test (reverse s.grants) ≡ None
     by None e = e
@@ -275,13 +262,7 @@ alive_in family given purposes now s none g h here = by g h here
         of : (d : Option ℕ) → c.deadline ≡ d → is_unbound purposes now (Connection c) ≡ false → IfSome c.deadline (λ deadline. now < deadline)
         of None e f = rw e tt
         of (Some deadline) e f = rw e (leb-false deadline now (or-left _ _ (rw e at f)))
-    by (Allocation a) h here = tt
-    by (Permission ip Pending) h here = tt
-    by (Permission ip (Reserved until)) h here = tt
-    by (Channel number peer Pending) h here = tt
-    by (Channel number peer (Reserved until)) h here = tt
-    by (Connect peer) h here = tt
-    by (Offer offer) h here = tt
+    by g h here = tt
 
 -- ---- all allocations
 
@@ -303,13 +284,7 @@ lapsed-shrinks given now s = each-shrinks given (timed_out_purposes given s) now
 
 reserved-outlives : (now : ℕ) (g : Grant) → IsReserved g → Outlives now g
 reserved-outlives now (Channel number peer (Reserved until)) is = tt
-reserved-outlives now (Channel number peer Pending) is = absurd is
-reserved-outlives now (Channel number peer (Active expiry)) is = absurd is
-reserved-outlives now (Allocation a) is = absurd is
-reserved-outlives now (Permission ip progress) is = absurd is
-reserved-outlives now (Connect peer) is = absurd is
-reserved-outlives now (Offer offer) is = absurd is
-reserved-outlives now (Connection c) is = absurd is
+reserved-outlives now g is = absurd is
 
 -- what remains of one allocation after it was processed
 after-turn : (given : Option ℕ) (purposes : List Purpose) (now : ℕ) (s : State) (a : Relay) (g : Grant) → (lapsed_allocation given purposes now s a).events ≡ []
@@ -341,10 +316,9 @@ same_family-self IPV4 = refl
 same_family-self IPV6 = refl
 
 same_family-swap : (a b : AddressFamily) → same_family a b ≡ true → same_family b a ≡ true
-same_family-swap IPV4 IPV4 e = refl
-same_family-swap IPV6 IPV6 e = refl
 same_family-swap IPV4 IPV6 e = e
 same_family-swap IPV6 IPV4 e = e
+same_family-swap a b e = refl
 
 -- an allocation in use is removed at its expiry
 stays-alive : (given : Option ℕ) (purposes : List Purpose) (now : ℕ) (s : State) (a : Relay) → Has (Allocation a) (lapsed_allocation given purposes now s a).grants → a.is_expired ≡ false
@@ -401,11 +375,9 @@ lapsed-alive given now s stand none g h = by g h ((each-shrinks given purposes n
     by (Allocation a) h (inl there) =
         allocation-alive given purposes now (allocations s) s a (filter_map-has as_allocation (Allocation a) a s.grants there refl) h
     by (Allocation a) h (inr is) = absurd is
-    by (Permission ip progress) h o = other (Permission ip progress) h o
-    by (Channel number peer progress) h o = other (Channel number peer progress) h o
     by (Connect peer) h o = tt
     by (Offer offer) h o = tt
-    by (Connection c) h o = other (Connection c) h o
+    by g h o = other g h o
 
 -- no offer is added
 pub lapsed-no_offer : (s t : State) → Shrinks s t → next_offer s ≡ None → next_offer t ≡ None
@@ -434,23 +406,11 @@ lapsed-no_offer s t shrinks none = by (is_allocated t.phase) refl
 
     is_offer : (family : AddressFamily) (g : Grant) (offer : DataOffer) → unreported_in family g ≡ Some offer → IsReserved g → ⊥
     is_offer family (Channel number peer (Reserved until)) offer e is = none-some offer e
-    is_offer family (Channel number peer Pending) offer e is = is
-    is_offer family (Channel number peer (Active expiry)) offer e is = is
-    is_offer family (Allocation a) offer e is = is
-    is_offer family (Permission ip progress) offer e is = is
-    is_offer family (Connect peer) offer e is = is
-    is_offer family (Offer o) offer e is = is
-    is_offer family (Connection c) offer e is = is
+    is_offer family g offer e is = is
 
     is_allocation : (g : Grant) (a : Relay) → as_allocation g ≡ Some a → IsReserved g → ⊥
     is_allocation (Channel number peer (Reserved until)) a e is = none-some a e
-    is_allocation (Channel number peer Pending) a e is = is
-    is_allocation (Channel number peer (Active expiry)) a e is = is
-    is_allocation (Allocation b) a e is = is
-    is_allocation (Permission ip progress) a e is = is
-    is_allocation (Connect peer) a e is = is
-    is_allocation (Offer o) a e is = is
-    is_allocation (Connection c) a e is = is
+    is_allocation g a e is = is
 
     -- if an offer is pending, one was so before
     before : (x : DataOffer) → Has x (offers t) → (y : DataOffer) × Has y (offers s)

@@ -64,24 +64,20 @@ allocated-stray : (s : State) (message : List ℕ) → is_response (class_in mes
 allocated-stray s message answers none = by (class_in message) refl (validation_of (auth_of s) message) refl
   where
     by : (k : MessageClass) → class_in message ≡ k → (v : Validation) → validation_of (auth_of s) message ≡ v → IsStray (allocated_judgement s message)
-    by Indication e v f = let no_response : is_response Indication ≡ true = rw e at answers in cc
-    by Request e v f = let no_response : is_response Request ≡ true = rw e at answers in cc
     by Success e (Validated algorithm) f = rw (e, f, e, none) tt
-    by Success e (Refused integrity) f = rw (e, f) tt
-    by Success e (ResendRequest algorithm) f = rw (e, f) tt
     by Error e (Validated algorithm) f = rw (e, f, e, none) (challenged_or-stray Unrelated _ tt)
-    by Error e (Refused integrity) f = rw (e, f) (challenged_or-stray Unrelated _ tt)
-    by Error e (ResendRequest algorithm) f = rw (e, f) (challenged_or-stray Unrelated _ tt)
+    by Error e v f = rw (e, f) (challenged_or-stray Unrelated _ tt)
+    by Success e v f = rw (e, f) tt
+    by k e v f = let no_response : is_response k ≡ true = rw e at answers in cc
 
 judgement-stray : (message : List ℕ) (s : State) → is_response (class_in message) ≡ true → IsUnasked message s → IsStray (judgement_of s message)
 judgement-stray message s answers none = by s.phase refl
   where
     by : (p : Phase) → s.phase ≡ p → IsStray (judgement_of s message)
-    by New e = rw e tt
     by Requesting e = rw e (if-stray (answers_one s message) _ Unrelated (challenged_or-stray Fatal _ tt) tt)
     by Authenticating e = rw e (authenticating-stray s message none)
     by Allocated e = rw e (allocated-stray s message answers none)
-    by Closed e = rw e tt
+    by p e = rw e tt
 
 bind-stray : (local : SocketAddr) (message : List ℕ) (s : State) → IsUnasked message s → IsStray (bind_judgement s local message)
 bind-stray local message s none = by (validation_of (auth_of s) message) refl
@@ -91,8 +87,7 @@ bind-stray local message s none = by (validation_of (auth_of s) message) refl
 
     by : (v : Validation) → validation_of (auth_of s) message ≡ v → IsStray (bind_judgement s local message)
     by (Validated algorithm) e = rw (e, none) (if-stray is_answer _ Fatal (challenged_or-stray Fatal _ tt) tt)
-    by (Refused integrity) e = rw e (if-stray is_answer _ Fatal (challenged_or-stray Fatal _ tt) tt)
-    by (ResendRequest algorithm) e = rw e (if-stray is_answer _ Fatal (challenged_or-stray Fatal _ tt) tt)
+    by v e = rw e (if-stray is_answer _ Fatal (challenged_or-stray Fatal _ tt) tt)
 
 -- ---- it changes no grant
 
@@ -106,10 +101,7 @@ challenge-grants message d now s = by (ltb s.challenges s.config.max_stale_nonce
 
 wrong-grants : (p : Phase) (message : List ℕ) (s : State) → (wrong_step message (record s { phase = p })).1.grants ≡ s.grants
 wrong-grants New message s = refl
-wrong-grants Requesting message s = refl
-wrong-grants Authenticating message s = refl
-wrong-grants Allocated message s = refl
-wrong-grants Closed message s = refl
+wrong-grants p message s = refl
 
 pub stray-grants : (message : List ℕ) (now : ℕ) (s : State) → is_response (class_in message) ≡ true → IsUnasked message s → (message_step message now s).1.grants ≡ s.grants
 stray-grants message now s answers none = by (judgement_of s message) refl (judgement-stray message s answers none)
@@ -119,11 +111,7 @@ stray-grants message now s answers none = by (judgement_of s message) refl (judg
     by (Challenged d) e stray = rw e (challenge-grants message d now s)
     by Fatal e stray = rw e (wrong-grants s.phase message s)
     by LateResponse e stray = rw e refl
-    by DataIndication e stray = absurd (rw e at stray)
-    by ConnectionAttempt e stray = absurd (rw e at stray)
-    by SignedRequest e stray = absurd (rw e at stray)
-    by SignedSuccess e stray = absurd (rw e at stray)
-    by SignedError e stray = absurd (rw e at stray)
+    by j e stray = absurd (rw e at stray)
 
 -- ---- it binds no connection
 
@@ -150,16 +138,8 @@ deadline-has local time c (Connection d ∷ gs) s none h = by (same_address d.lo
     by : (b : Bool) → same_address d.local local ≡ b → (Later → Has (Connection c) gs) → Has (Connection c) (Connection d ∷ gs)
     by true e later = anew (rw e at h) later
     by false e later = stays (rw e at h) later
-deadline-has local time c (Allocation a ∷ gs) s none (inl e) = inl e
-deadline-has local time c (Allocation a ∷ gs) s none (inr h) = inr (deadline-has local time c gs s none h)
-deadline-has local time c (Permission ip progress ∷ gs) s none (inl e) = inl e
-deadline-has local time c (Permission ip progress ∷ gs) s none (inr h) = inr (deadline-has local time c gs s none h)
-deadline-has local time c (Channel number peer progress ∷ gs) s none (inl e) = inl e
-deadline-has local time c (Channel number peer progress ∷ gs) s none (inr h) = inr (deadline-has local time c gs s none h)
-deadline-has local time c (Connect peer ∷ gs) s none (inl e) = inl e
-deadline-has local time c (Connect peer ∷ gs) s none (inr h) = inr (deadline-has local time c gs s none h)
-deadline-has local time c (Offer offer ∷ gs) s none (inl e) = inl e
-deadline-has local time c (Offer offer ∷ gs) s none (inr h) = inr (deadline-has local time c gs s none h)
+deadline-has local time c (_ ∷ gs) s none (inr h) = inr (deadline-has local time c gs s none h)
+deadline-has local time c (_ ∷ gs) s none (inl e) = inl e
 
 -- a connection that is bound afterwards existed before
 abbrev BindsNothing : DataConnection → State → State → Type 0
@@ -180,18 +160,10 @@ answered-stray c d message now s unasked none = by (bind_judgement s d.local mes
     by Unrelated e stray = rw e (λ h. (has-filter _ (Connection c) s.grants h).0)
     by Fatal e stray = rw e (λ h. (has-filter _ (Connection c) s.grants h).0)
     by LateResponse e stray = rw e (λ h. (has-filter _ (Connection c) s.grants h).0)
-    by DataIndication e stray = absurd (rw e at stray)
-    by ConnectionAttempt e stray = absurd (rw e at stray)
-    by SignedRequest e stray = absurd (rw e at stray)
-    by SignedSuccess e stray = absurd (rw e at stray)
-    by SignedError e stray = absurd (rw e at stray)
+    by j e stray = absurd (rw e at stray)
 
 bind_in_phase : (p : Phase) (c : DataConnection) (local : SocketAddr) (message : List ℕ) (now : ℕ) (s : State) → IsUnasked message s → c.deadline ≡ None
     → BindsNothing c s (bind_step local message now (record s { phase = p }))
-bind_in_phase New c local message now s unasked none = λ h. h
-bind_in_phase Requesting c local message now s unasked none = λ h. h
-bind_in_phase Authenticating c local message now s unasked none = λ h. h
-bind_in_phase Closed c local message now s unasked none = λ h. h
 bind_in_phase Allocated c local message now s unasked none = by (connection_at local s) refl
   where
     u : State
@@ -204,6 +176,7 @@ bind_in_phase Allocated c local message now s unasked none = by (connection_at l
     by : (o : Option DataConnection) → connection_at local s ≡ o → BindsNothing c s (bind_step local message now u)
     by None e = rw e (λ h. h)
     by (Some d) e = rw e (about d (eqb (method_in message) connection_bind_method))
+bind_in_phase p c local message now s unasked none = λ h. h
 
 pub stray-binds : (local : SocketAddr) (message : List ℕ) (now : ℕ) (s : State) (c : DataConnection) → IsUnasked message s → Contains (bind_step local message now s).grants (Connection c)
     → c.deadline ≡ None → Contains s.grants (Connection c)

@@ -29,16 +29,7 @@ use Rattle.turn_client_laws.proofs.EditsOfCalls.{leaves-walk}
 -- what is requested, the request is for
 pub asked-for : (p : Purpose) (g : Grant) → is_asked_by p g ≡ true → is_for p g ≡ true
 asked-for (ForChannel number peer) (Channel other to progress) e = (and_parts (eqb other number) (same_address to peer) e).0
-asked-for (ForChannel number peer) (Allocation a) e = e
-asked-for (ForChannel number peer) (Permission ip progress) e = e
-asked-for (ForChannel number peer) (Connect to) e = e
-asked-for (ForChannel number peer) (Offer offer) e = e
-asked-for (ForChannel number peer) (Connection c) e = e
-asked-for ForAllocation g e = e
-asked-for (ForRefresh family lifetime) g e = e
-asked-for (ForPermission ip) g e = e
-asked-for (ForConnect peer) g e = e
-asked-for (ForBind local peer id) g e = e
+asked-for p g e = e
 
 -- the request is an ALLOCATE, or is for one of these
 abbrev pub HasGrant : List Grant → Purpose → Type 0
@@ -95,35 +86,11 @@ taken-founded id peer s h l there = by (h l there)
 asked-outline : (p : Purpose) (g : Grant) → is_asked_by p (outline g) ≡ is_asked_by p g
 asked-outline ForAllocation g = refl
 asked-outline (ForRefresh family lifetime) (Allocation a) = refl
-asked-outline (ForRefresh family lifetime) (Permission ip progress) = refl
-asked-outline (ForRefresh family lifetime) (Channel number peer progress) = refl
-asked-outline (ForRefresh family lifetime) (Connect peer) = refl
-asked-outline (ForRefresh family lifetime) (Offer offer) = refl
-asked-outline (ForRefresh family lifetime) (Connection c) = refl
 asked-outline (ForPermission ip) (Allocation a) = refl
-asked-outline (ForPermission ip) (Permission other progress) = refl
-asked-outline (ForPermission ip) (Channel number peer progress) = refl
-asked-outline (ForPermission ip) (Connect peer) = refl
-asked-outline (ForPermission ip) (Offer offer) = refl
-asked-outline (ForPermission ip) (Connection c) = refl
 asked-outline (ForChannel number peer) (Allocation a) = refl
-asked-outline (ForChannel number peer) (Permission ip progress) = refl
-asked-outline (ForChannel number peer) (Channel other to progress) = refl
-asked-outline (ForChannel number peer) (Connect to) = refl
-asked-outline (ForChannel number peer) (Offer offer) = refl
-asked-outline (ForChannel number peer) (Connection c) = refl
 asked-outline (ForConnect peer) (Allocation a) = refl
-asked-outline (ForConnect peer) (Permission ip progress) = refl
-asked-outline (ForConnect peer) (Channel number to progress) = refl
-asked-outline (ForConnect peer) (Connect to) = refl
-asked-outline (ForConnect peer) (Offer offer) = refl
-asked-outline (ForConnect peer) (Connection c) = refl
 asked-outline (ForBind local peer id) (Allocation a) = refl
-asked-outline (ForBind local peer id) (Permission ip progress) = refl
-asked-outline (ForBind local peer id) (Channel number to progress) = refl
-asked-outline (ForBind local peer id) (Connect to) = refl
-asked-outline (ForBind local peer id) (Offer offer) = refl
-asked-outline (ForBind local peer id) (Connection c) = refl
+asked-outline p g = refl
 
 any-outline : (p : Purpose) (gs : List Grant) → list_any (is_asked_by p) (map outline gs) ≡ list_any (is_asked_by p) gs
 any-outline p [] = refl

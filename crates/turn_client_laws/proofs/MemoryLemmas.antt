@@ -35,10 +35,9 @@ IsBehind to piece now s u =
 
 behind-same : (p : Outcome × State) (u : State) → behind p ≡ Some u → u ≡ p.1
 unfolding behind
-behind-same (Handled, t) u e = sym (same_Some t u e)
-behind-same (Ignored, t) u e = sym (same_Some t u e)
 behind-same (PeerData payload, t) u e = absurd (none-some u e)
 behind-same (PeerIcmp transport peer icmp, t) u e = absurd (none-some u e)
+behind-same (_, t) u e = sym (same_Some t u e)
 
 pub before-IsBehind : (to : SocketAddr) (piece : List ℕ) (now : ℕ) (s u : State) → before_others to piece now s ≡ Some u → IsBehind to piece now s u
 unfolding behind
@@ -53,8 +52,7 @@ before-IsBehind to piece now s u e = by (stream_at to s) refl
         at : (b : Bool) → cond b (Some s) None ≡ Some u → u ≡ s
         at true g = sym (same_Some s u g)
         at false g = absurd (none-some u g)
-    in_mode Waiting stream f = absurd (none-some u (rw f at e))
-    in_mode (Bound peer) stream f = absurd (none-some u (rw f at e))
+    in_mode m stream f = absurd (none-some u (rw f at e))
 
     by : (o : Option Stream) → stream_at to s ≡ o → IsBehind to piece now s u
     by None f = absurd (none-some u (rw f at e))
@@ -95,12 +93,6 @@ module _ (R : State → State → Type 0) (k : IsKept R) (ends : (s : State) →
   same-kept s t e = subst (λ (x : State). R s x) (sym e) (k.same s)
 
   memory-kept : (call : Call) (s t : State) → EndsWithoutMemory call s t → R s t
-  memory-kept (Delete now) s t e = same-kept s t e
-  memory-kept (CreatePermission transport peer now) s t e = same-kept s t e
-  memory-kept (BindChannel transport peer now) s t e = same-kept s t e
-  memory-kept (TcpConnect peer now) s t e = same-kept s t e
-  memory-kept (AllocatedTcpSocket id tuple peer local now) s t e = same-kept s t e
-  memory-kept (TcpClosed local remote now) s t e = same-kept s t e
   memory-kept (SendTo transport peer bytes now) s t none = absurd none
   memory-kept (Recv packet now) s t (asks, end) = recv_end-kept packet.to packet.payload now s t end
   memory-kept (PollRecv now) s t h = turns_end-kept now s t h
@@ -111,6 +103,7 @@ module _ (R : State → State → Type 0) (k : IsKept R) (ends : (s : State) →
   memory-kept (Permissions transport relayed) s t none = absurd none
   memory-kept (HavePermission transport to) s t none = absurd none
   memory-kept ProtocolError s t e = closed-kept s s t (k.same s) e
+  memory-kept call s t e = same-kept s t e
 
   -- what each call keeps without an allocation failure, each call keeps with one
   pub leaves-kept : ((call : Call) (s : State) → R s (state_after call s)) → (call : Call) (s t : State) → Leaves call s t → R s t

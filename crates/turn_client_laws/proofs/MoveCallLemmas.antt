@@ -72,11 +72,7 @@ expired-grant_identity family (Allocation a) = by (is_of_family family a.relayed
     by : (b : Bool) → grant_identity (Allocation a) ≡ grant_identity (cond b (Allocation (record a { is_expired = true })) (Allocation a))
     by true = refl
     by false = refl
-expired-grant_identity family (Permission ip progress) = refl
-expired-grant_identity family (Channel number peer progress) = refl
-expired-grant_identity family (Connect peer) = refl
-expired-grant_identity family (Offer offer) = refl
-expired-grant_identity family (Connection c) = refl
+expired-grant_identity family g = refl
 
 does-in : {E : Type 0} (call : Call) (o : Option Relay) (ip : IpAddr) (now : ℕ) (refusal : E) (s : State) (otherwise : Result Unit E × State) → Does call s otherwise.1
     → Does call s (in_allocation o ip now refusal s otherwise).1
@@ -163,10 +159,8 @@ module _ (transport : TransportType) (peer : SocketAddr) (now : ℕ) (s : State)
           by (p, h, e) = rw e (purpose, now, asks, listed-with number (missing_permission peer s) (is_none (permission_state (socket_ip peer) s)) refl p h, (made, refl))
 
   bound_by-does : (l : List ℕ) (b : Bool) (o : Option ℕ) → free_number s ≡ o → Does binding s (bound_by peer now s l b o).1
-  bound_by-does (until ∷ others) b o e = does-same binding s
-  bound_by-does [] false o e = does-same binding s
-  bound_by-does [] true None e = does-same binding s
   bound_by-does [] true (Some number) e = bound-does number e
+  bound_by-does l b o e = does-same binding s
 
   pub channel-does : Does binding s (bind_channel_step transport peer now s).1
   channel-does =

@@ -123,13 +123,10 @@ challenge-turns Taken message d now s = by (ltb s.challenges s.config.max_stale_
     by true e (Some purpose) f = rw (e, f) (retry-turns Taken message purpose d now s (retried-has (purposes_of (id_of message) s) purpose f))
 
 wrong-turns : (Taken : Grant → Type 0) (p : Phase) (message : List ℕ) (now : ℕ) (s : State) → Turns Taken message now (record s { phase = p }) (wrong_step message (record s { phase = p })).1
-wrong-turns Taken New message now s = turns-settled Taken message now (record s { phase = New }) _ (adds-same Never s.transactions, adds-filter Never _ s.listed, loses-same Taken s.grants)
 wrong-turns Taken Requesting message now s = turns-settled Taken message now (record s { phase = Requesting }) _
     (adds-filter Never _ s.transactions, adds-filter Never _ s.listed, loses-same Taken s.grants)
-wrong-turns Taken Authenticating message now s = turns-settled Taken message now (record s { phase = Authenticating }) _
-    (adds-same Never s.transactions, adds-filter Never _ s.listed, loses-same Taken s.grants)
-wrong-turns Taken Allocated message now s = turns-settled Taken message now (record s { phase = Allocated }) _ (adds-same Never s.transactions, adds-filter Never _ s.listed, loses-same Taken s.grants)
-wrong-turns Taken Closed message now s = turns-settled Taken message now (record s { phase = Closed }) _ (adds-same Never s.transactions, adds-filter Never _ s.listed, loses-same Taken s.grants)
+wrong-turns Taken p message now s =
+    turns-settled Taken message now (record s { phase = p }) _ (adds-same Never s.transactions, adds-filter Never _ s.listed, loses-same Taken s.grants)
 
 granted-turns : (Taken : Grant → Type 0) (message : List ℕ) (now : ℕ) (s : State) → Turns Taken message now s (allocate_granted message now (transaction_ended (id_of message) s))
 granted-turns Taken message now s = by (lifetime_in message) refl
@@ -174,11 +171,7 @@ denied-turns Taken message now s answers = by (has_code family_not_supported mes
 any-allocation : (all : List Purpose) → list_any is_for_allocation all ≡ true → Has ForAllocation all
 any-allocation [] e = cc
 any-allocation (ForAllocation ∷ all) e = inl refl
-any-allocation (ForRefresh family lifetime ∷ all) e = inr (any-allocation all e)
-any-allocation (ForPermission ip ∷ all) e = inr (any-allocation all e)
-any-allocation (ForChannel number peer ∷ all) e = inr (any-allocation all e)
-any-allocation (ForConnect peer ∷ all) e = inr (any-allocation all e)
-any-allocation (ForBind local peer id ∷ all) e = inr (any-allocation all e)
+any-allocation (_ ∷ all) e = inr (any-allocation all e)
 
 error-answers : (s : State) (message : List ℕ) → authenticating_judgement s message ≡ SignedError → Has ForAllocation (purposes_of (id_of message) s)
 error-answers s message e = by (answers_allocate s message) refl
@@ -207,19 +200,13 @@ reply-turns j accepted is_granted message now s =
 success-turns : (p : Phase) (message : List ℕ) (now : ℕ) (s : State) → Turns (TakesFor SignedSuccess message (record s { phase = p })) message now (record s { phase = p })
     (signed_step true message now (record s { phase = p })).1
 success-turns Authenticating message now s = granted-turns _ message now (record s { phase = Authenticating })
-success-turns New message now s = reply-turns SignedSuccess tt true message now (record s { phase = New })
-success-turns Requesting message now s = reply-turns SignedSuccess tt true message now (record s { phase = Requesting })
-success-turns Allocated message now s = reply-turns SignedSuccess tt true message now (record s { phase = Allocated })
-success-turns Closed message now s = reply-turns SignedSuccess tt true message now (record s { phase = Closed })
+success-turns p message now s = reply-turns SignedSuccess tt true message now (record s { phase = p })
 
 error-turns : (p : Phase) (message : List ℕ) (now : ℕ) (s : State) → judgement_of (record s { phase = p }) message ≡ SignedError
     → Turns (TakesFor SignedError message (record s { phase = p })) message now (record s { phase = p }) (signed_step false message now (record s { phase = p })).1
 error-turns Authenticating message now s e =
     let u = record s { phase = Authenticating } in denied-turns _ message now u (error-answers u message e)
-error-turns New message now s e = reply-turns SignedError tt false message now (record s { phase = New })
-error-turns Requesting message now s e = reply-turns SignedError tt false message now (record s { phase = Requesting })
-error-turns Allocated message now s e = reply-turns SignedError tt false message now (record s { phase = Allocated })
-error-turns Closed message now s e = reply-turns SignedError tt false message now (record s { phase = Closed })
+error-turns p message now s e = reply-turns SignedError tt false message now (record s { phase = p })
 
 -- ---- what the server requests
 
@@ -266,15 +253,13 @@ message-turns message now s = by (judgement_of s message) refl
     asked Taken false = turns-same Taken message now s
 
     by : (j : Judgement) → judgement_of s message ≡ j → Turns (TakesFor j message s) message now s (message_step message now s).1
-    by Unrelated e = rw e (turns-same _ message now s)
     by (Challenged d) e = rw e (challenge-turns _ message d now s)
     by Fatal e = rw e (wrong-turns _ s.phase message now s)
-    by LateResponse e = rw e (turns-same _ message now s)
-    by DataIndication e = rw e (turns-same _ message now s)
     by ConnectionAttempt e = rw e (indicated _ (attempt_indicated message s) (indicated-settles _ message s))
     by SignedRequest e = rw e (asked _ (eqb (method_in message) connection_attempt_method))
     by SignedSuccess e = rw e (success-turns s.phase message now s)
     by SignedError e = rw e (error-turns s.phase message now s e)
+    by j e = rw e (turns-same _ message now s)
 
 -- ---- connections that wait to be bound
 
@@ -284,11 +269,7 @@ deadline-grant_identity local deadline (Connection c) = by (same_address c.local
     by : (b : Bool) → grant_identity (Connection c) ≡ grant_identity (cond b (Connection (record c { deadline = deadline })) (Connection c))
     by true = refl
     by false = refl
-deadline-grant_identity local deadline (Allocation a) = refl
-deadline-grant_identity local deadline (Permission ip progress) = refl
-deadline-grant_identity local deadline (Channel number peer progress) = refl
-deadline-grant_identity local deadline (Connect peer) = refl
-deadline-grant_identity local deadline (Offer offer) = refl
+deadline-grant_identity local deadline g = refl
 
 again-turns : (c : DataConnection) (message : List ℕ) (d : Challenge) (now : ℕ) (s : State) → Turns (λ g. is_connection_from c.local g ≡ true) message now s (bind_again c (id_of message) d now s)
 again-turns c message d now s = by (find (is_bind_of c.local) (purposes_of (id_of message) s)) refl
@@ -328,19 +309,10 @@ answered-turns c message now s = by (bind_judgement s c.local message) refl
         (adds-filter Never _ s.transactions, adds-filter Never _ s.listed, loses-map Taken (deadline_set c.local None) s.grants (deadline-grant_identity c.local None)))
     by SignedError e = rw e (turns-settled Taken message now s (not_bound c (transaction_ended (id_of message) s))
         (adds-filter Never _ s.transactions, adds-filter Never _ s.listed, loses-filter Taken (is_connection_from c.local) s.grants (λ g e. e)))
-    by Unrelated e = rw e unbound
-    by Fatal e = rw e unbound
-    by LateResponse e = rw e unbound
-    by DataIndication e = rw e unbound
-    by ConnectionAttempt e = rw e unbound
-    by SignedRequest e = rw e unbound
+    by j e = rw e unbound
 
 bind_in_phase : (p : Phase) (local : SocketAddr) (message : List ℕ) (now : ℕ) (s : State)
     → Turns (λ g. is_connection_from local g ≡ true) message now (record s { phase = p }) (bind_step local message now (record s { phase = p }))
-bind_in_phase New local message now s = turns-same _ message now (record s { phase = New })
-bind_in_phase Requesting local message now s = turns-same _ message now (record s { phase = Requesting })
-bind_in_phase Authenticating local message now s = turns-same _ message now (record s { phase = Authenticating })
-bind_in_phase Closed local message now s = turns-same _ message now (record s { phase = Closed })
 bind_in_phase Allocated local message now s = by (connection_at local s) refl
   where
     u : State
@@ -357,6 +329,7 @@ bind_in_phase Allocated local message now s = by (connection_at local s) refl
     by (Some c) e =
         let found = has-found (λ (d : DataConnection). same_address d.local local) c (filter_map as_connection s.grants) e in
         rw e (on_test Claim (eqb (method_in message) connection_bind_method) (bind_answered c message now u) u (about c (same_address-true c.local local found.1)) (turns-same _ message now u))
+bind_in_phase p local message now s = turns-same _ message now (record s { phase = p })
 
 bind-turns : (local : SocketAddr) (message : List ℕ) (now : ℕ) (s : State) → Turns (λ g. is_connection_from local g ≡ true) message now s (bind_step local message now s)
 bind-turns local message now s = bind_in_phase s.phase local message now s
@@ -413,8 +386,7 @@ frame_in_mode Waiting stream bytes now s =
 
     bind : Claim (bind_step stream.local bytes now s)
     bind = turns-wider (λ g. is_connection_from stream.local g ≡ true) (TakenBy o bytes s) bytes now s (bind_step stream.local bytes now s) (λ g h. inr (refl, h)) (bind-turns stream.local bytes now s)
-frame_in_mode (Bound peer) stream bytes now s = turns-same _ bytes now s
-frame_in_mode Broken stream bytes now s = turns-same _ bytes now s
+frame_in_mode m stream bytes now s = turns-same _ bytes now s
 
 -- an input that is processed requests this, and removes grants so
 pub turn-turns : (one : Input) → Turns (λ g. IsRemovedByInput g one) one.bytes one.time one.before (processed one).1

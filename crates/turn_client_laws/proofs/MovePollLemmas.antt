@@ -62,15 +62,8 @@ in_sequence-fewer [] s all = fewer-same s
 in_sequence-fewer (step ∷ steps) s all = fewer-then s (step s) (in_sequence steps (step s)) (all.0 s) (in_sequence-fewer steps (step s) all.1)
 
 channel-fewer : (o : Option Grant) (s : State) → Fewer s (channel_lapsed o s)
-channel-fewer None s = fewer-same s
 channel-fewer (Some (Channel number peer (Active expiry))) s = adds-filter Never _ s.listed
-channel-fewer (Some (Channel number peer Pending)) s = fewer-same s
-channel-fewer (Some (Channel number peer (Reserved until))) s = fewer-same s
-channel-fewer (Some (Allocation a)) s = fewer-same s
-channel-fewer (Some (Permission ip progress)) s = fewer-same s
-channel-fewer (Some (Connect peer)) s = fewer-same s
-channel-fewer (Some (Offer offer)) s = fewer-same s
-channel-fewer (Some (Connection c)) s = fewer-same s
+channel-fewer o s = fewer-same s
 
 lapsed_in-fewer : (family : AddressFamily) (given : Option ℕ) (purposes : List Purpose) (now : ℕ) (s : State) → Fewer s (lapsed_in family given purposes now s)
 lapsed_in-fewer family given purposes now s = in_sequence-fewer steps s (
@@ -153,10 +146,7 @@ module _ (now : ℕ) (s : State) where
       by (local ∷ others) p relays = ends
       by [] Allocated [] = ends
       by [] Allocated (a ∷ relays) = ends
-      by [] New relays = ends
-      by [] Requesting relays = ends
-      by [] Authenticating relays = ends
-      by [] Closed relays = ends
+      by closes p relays = ends
 
   up-loses : IsTimeUp now s → (gs : List Grant) → Loses (IsTakenBy (Poll now) s) s.grants gs
   up-loses up gs g h = inr up
@@ -166,10 +156,8 @@ module _ (now : ℕ) (s : State) where
 
   -- no transaction timed out
   none-ends : (p : Phase) → s.phase ≡ p → Ends (timed_step p None now s).1
-  none-ends New e = same-ends
   none-ends Requesting e = answer-ends None s same-ends
   none-ends Authenticating e = answer-ends None s same-ends
-  none-ends Closed e = same-ends
   none-ends Allocated e = answer-ends None (lapsed None now s) (by (early-or now (expiry_times s)))
     where
       by : All (λ m. now < m) (expiry_times s) ⊎ ((m : ℕ) × Contains (expiry_times s) m × (m ≤ now)) → Ends (lapsed None now s)
@@ -179,6 +167,7 @@ module _ (now : ℕ) (s : State) where
         lapsed-fewer None (timed_out_purposes None s) now (allocations s) s,
         up-loses (inr (e, come)) (lapsed None now s).grants,
       )
+  none-ends p e = same-ends
 
   -- the transaction timed out
   given-ends : (x : Transaction) → IsTimeUp now s → (p : Phase) → Ends (timed_step p (Some x.id) now (transaction_ended x.id s)).1
@@ -194,9 +183,7 @@ module _ (now : ℕ) (s : State) where
       shut = (adds-filter Never _ s.transactions, adds-filter Never _ s.listed, up-loses up s.grants)
 
       by : (p : Phase) → Ends (timed_step p (Some x.id) now u).1
-      by New = over
       by Requesting = shut
-      by Closed = over
       by Authenticating = at (is_listed_for_allocation x.id u)
         where
           at : (b : Bool) → Ends (answer_step (Some x.id) now (cond b (closed u) u)).1
@@ -207,6 +194,7 @@ module _ (now : ℕ) (s : State) where
         lapsed-fewer (Some x.id) (timed_out_purposes (Some x.id) u) now (allocations u) u,
         up-loses up (lapsed (Some x.id) now u).grants,
       )
+      by p = over
 
 pub told-loses : (Taken : Grant → Type 0) (family : AddressFamily) (gs : List Grant) → Loses Taken gs (first_reported family gs)
 told-loses Taken family [] g h = absurd h
@@ -214,11 +202,7 @@ told-loses Taken family (x ∷ gs) g h = by (is_some (unreported_in family x)) h
   where
     told-grant_identity : (g : Grant) → grant_identity g ≡ grant_identity (as_reported g)
     told-grant_identity (Offer offer) = refl
-    told-grant_identity (Allocation a) = refl
-    told-grant_identity (Permission ip progress) = refl
-    told-grant_identity (Channel number peer progress) = refl
-    told-grant_identity (Connect peer) = refl
-    told-grant_identity (Connection c) = refl
+    told-grant_identity g = refl
 
     further : Remains g (first_reported family gs) ⊎ Taken g → Remains g (x ∷ first_reported family gs) ⊎ Taken g
     further (inl (is, there, same)) = inl (is, inr there, same)
@@ -284,9 +268,6 @@ module _ (now : ℕ) (s : State) where
       wider (inr never) = absurd never
 
 idle-does : (p : Phase) (now : ℕ) (s : State) → Does (PollTransmit now) (record s { phase = p }) (idle_step p now (record s { phase = p })).1
-idle-does Requesting now s = does-same (PollTransmit now) (record s { phase = Requesting })
-idle-does Authenticating now s = does-same (PollTransmit now) (record s { phase = Authenticating })
-idle-does Closed now s = does-same (PollTransmit now) (record s { phase = Closed })
 idle-does New now s =
     at_once-does now was text ForAllocation u (refl, inl (refl, refl)) (settles-same (IsTakenBy (PollTransmit now) was) was) made refl refl
   where
@@ -323,6 +304,7 @@ idle-does Allocated now s =
           outstanding = has-contains (first_sent (fresh_id u) u.remote now (request_for u purpose (fresh_id u)))
               (s.transactions ++ first_sent (fresh_id u) u.remote now (request_for u purpose (fresh_id u)) ∷ []) (has-right _ s.transactions _ (inl refl));
         }
+idle-does p now s = does-same (PollTransmit now) (record s { phase = p })
 
 pub transmit-does : (now : ℕ) (s : State) → Does (PollTransmit now) s (transmit_step now s).1
 transmit-does now s =

@@ -34,17 +34,12 @@ IsFor all g = (p : Purpose) × Has p all × ((is_for p g ≡ true) ⊎ GivesBack
 
 is_for-grant_identity : (p : Purpose) (g : Grant) → is_for p (grant_identity g) ≡ is_for p g
 is_for-grant_identity ForAllocation (Allocation a) = refl
-is_for-grant_identity ForAllocation g = refl
 is_for-grant_identity (ForRefresh family lifetime) (Allocation a) = refl
-is_for-grant_identity (ForRefresh family lifetime) g = refl
 is_for-grant_identity (ForPermission ip) (Allocation a) = refl
-is_for-grant_identity (ForPermission ip) g = refl
 is_for-grant_identity (ForChannel number peer) (Allocation a) = refl
-is_for-grant_identity (ForChannel number peer) g = refl
 is_for-grant_identity (ForConnect peer) (Allocation a) = refl
-is_for-grant_identity (ForConnect peer) g = refl
 is_for-grant_identity (ForBind local peer id) (Allocation a) = refl
-is_for-grant_identity (ForBind local peer id) g = refl
+is_for-grant_identity p g = refl
 
 pub is_for-whole : (p : Purpose) (g is : Grant) → grant_identity g ≡ grant_identity is → is_for p is ≡ true → is_for p g ≡ true
 is_for-whole p g is same h = sym (is_for-grant_identity p g) ∙ (ap (is_for p) same ∙ (is_for-grant_identity p is ∙ h))
@@ -74,15 +69,8 @@ purposes-stay id s t within p there = by (has-mapped (λ (l : Listing). l.purpos
 
 lasting-grant_identity : (expiry : ℕ) (g : Grant) → grant_identity g ≡ grant_identity (lasting expiry g)
 lasting-grant_identity expiry (Permission ip (Active was)) = refl
-lasting-grant_identity expiry (Permission ip Pending) = refl
-lasting-grant_identity expiry (Permission ip (Reserved until)) = refl
 lasting-grant_identity expiry (Channel number peer (Active was)) = refl
-lasting-grant_identity expiry (Channel number peer Pending) = refl
-lasting-grant_identity expiry (Channel number peer (Reserved until)) = refl
-lasting-grant_identity expiry (Allocation a) = refl
-lasting-grant_identity expiry (Connect peer) = refl
-lasting-grant_identity expiry (Offer offer) = refl
-lasting-grant_identity expiry (Connection c) = refl
+lasting-grant_identity expiry g = refl
 
 renewed-grant_identity : (which : Grant → Bool) (expiry : ℕ) (g : Grant) → grant_identity g ≡ grant_identity (lasting_if which expiry g)
 renewed-grant_identity which expiry g = by (which g)
@@ -97,11 +85,7 @@ prolonged-grant_identity which lasts (Allocation a) = by (which a)
     by : (b : Bool) → grant_identity (Allocation a) ≡ grant_identity (cond b (Allocation (record a { expiry = lasts })) (Allocation a))
     by true = refl
     by false = refl
-prolonged-grant_identity which lasts (Permission ip progress) = refl
-prolonged-grant_identity which lasts (Channel number peer progress) = refl
-prolonged-grant_identity which lasts (Connect peer) = refl
-prolonged-grant_identity which lasts (Offer offer) = refl
-prolonged-grant_identity which lasts (Connection c) = refl
+prolonged-grant_identity which lasts g = refl
 
 module _ (all : List Purpose) where
   -- a signed reply may do this
@@ -138,20 +122,15 @@ module _ (all : List Purpose) where
       takes g e = of-one (ForPermission ip) h g e
 
       by : (o : Option Progress) → permission_state ip s ≡ o → (g : Bool) → Fits s (permission_answered ip g now s)
-      by None e g = rw e (fits-same s)
       by (Some Pending) e true = rw e (fits-instead (is_permission_of ip) _ s takes)
       by (Some Pending) e false = rw e (fits-without (is_permission_of ip) s takes)
       by (Some (Active expiry)) e true = rw e (fits-unlisted (is_permission_of ip) (is_permission_of ip) _ s)
       by (Some (Active expiry)) e false = rw e (fits-without (is_permission_of ip) s takes)
-      by (Some (Reserved until)) e g = rw e (fits-same s)
+      by o e g = rw e (fits-same s)
 
   permission_state-fits : (is_granted : Bool) (now : ℕ) (s : State) (p : Purpose) → Has p all → Fits s (permission_answered_for is_granted now s p)
   permission_state-fits is_granted now s (ForPermission ip) h = permission-fits ip is_granted now s h
-  permission_state-fits is_granted now s ForAllocation h = fits-same s
-  permission_state-fits is_granted now s (ForRefresh family lifetime) h = fits-same s
-  permission_state-fits is_granted now s (ForChannel number peer) h = fits-same s
-  permission_state-fits is_granted now s (ForConnect peer) h = fits-same s
-  permission_state-fits is_granted now s (ForBind local peer id) h = fits-same s
+  permission_state-fits is_granted now s p h = fits-same s
 
   -- one purpose after the other
   fits-fold : (f : State → Purpose → State) (start : State) → ((t : State) (p : Purpose) → Fits start t → Has p all → Fits t (f t p)) → (some : List Purpose)
@@ -197,11 +176,10 @@ module _ (all : List Purpose) where
       takes g e = of-one (ForChannel number peer) h g e
 
       by : (o : Option (SocketAddr × Progress)) → first_in (channel_at number) s ≡ o → (g : Bool) → Fits s (channel_answered number id g now s)
-      by None e g = rw e (fits-same s)
       by (Some (to, Pending)) e g = rw e (pending_channel-fits number peer to id g now s h are)
       by (Some (to, Active expiry)) e true = rw e (fits-unlisted (is_channel_of number) (is_channel_of number) _ s)
       by (Some (to, Active expiry)) e false = rw e (fits-instead (is_channel_of number) _ s takes)
-      by (Some (to, Reserved until)) e g = rw e (fits-same s)
+      by o e g = rw e (fits-same s)
 
   connect-fits : (peer : SocketAddr) (o : Option ℕ) (s : State) → Has (ForConnect peer) all → Fits s (connect_answered peer o s)
   connect-fits peer (Some id) s h = fits-instead (is_connect_to peer) _ s (of-one (ForConnect peer) h)
@@ -240,8 +218,7 @@ module _ (all : List Purpose) where
   effect-fits id is_granted message now s (ForPermission ip) h are = permission-fits ip is_granted now s h
   effect-fits id is_granted message now s (ForChannel number peer) h are = channel-fits number peer id is_granted now s h are
   effect-fits id is_granted message now s (ForConnect peer) h are = connect-fits peer (cond is_granted (connection_id_in message) None) s h
-  effect-fits id is_granted message now s ForAllocation h are = fits-same s
-  effect-fits id is_granted message now s (ForBind local peer other) h are = fits-same s
+  effect-fits id is_granted message now s p h are = fits-same s
 
 -- a signed reply removes only what its request was made for, and requests nothing
 pub response-fits : (is_granted : Bool) (message : List ℕ) (now : ℕ) (s : State) → Settles (IsFor (purposes_of (id_of message) s)) s (response_step is_granted message now s).1

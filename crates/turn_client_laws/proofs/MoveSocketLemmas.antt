@@ -97,8 +97,7 @@ module _ (id : ℕ) (tuple : Socket5Tuple) (peer : SocketAddr) (now : ℕ) (s : 
 
   refused-does : (origin : Origin) → Does (taking None) s (socket_refused id peer origin s)
   refused-does OwnConnect = does-settled (taking None) s _ (adds-same Never s.transactions, adds-same Never s.listed, taken-loses None)
-  refused-does ServerIndication = does-settled (taking None) s _ (adds-same Never s.transactions, adds-same Never s.listed, taken-loses None)
-  refused-does (ServerRequest request) = does-settled (taking None) s _ (adds-same Never s.transactions, adds-same Never s.listed, taken-loses None)
+  refused-does origin = does-settled (taking None) s _ (adds-same Never s.transactions, adds-same Never s.listed, taken-loses None)
 
   opened-does : (local : SocketAddr) (origin : Origin) → Does (taking (Some local)) s (socket_opened id peer local origin now s)
   opened-does local origin = by origin
@@ -135,11 +134,10 @@ module _ (id : ℕ) (tuple : Socket5Tuple) (peer : SocketAddr) (now : ℕ) (s : 
           further l (inr never) = absurd never
 
       by : (origin : Origin) → Does call s (socket_opened id peer local origin now s)
-      by OwnConnect = asked (with_grant c (offer_taken id peer s)) (adds-same Never s.transactions, adds-same Never s.listed, lost)
-      by ServerIndication = asked (with_grant c (offer_taken id peer s)) (adds-same Never s.transactions, adds-same Never s.listed, lost)
       by (ServerRequest request) =
           asked (with_grant c (answered_with (accepted_reply (offer_taken id peer s)) (ServerRequest request) (offer_taken id peer s)))
           (adds-same Never s.transactions, adds-same Never s.listed, lost)
+      by origin = asked (with_grant c (offer_taken id peer s)) (adds-same Never s.transactions, adds-same Never s.listed, lost)
 
   socket-does : (local : Option SocketAddr) (origin : Origin) → Does (taking local) s (socket_step id peer local origin now s).1
   socket-does None origin = refused-does origin
@@ -156,11 +154,7 @@ module _ (id : ℕ) (tuple : Socket5Tuple) (peer : SocketAddr) (now : ℕ) (s : 
 
 all-grant_identity : (now : ℕ) (g : Grant) → grant_identity g ≡ grant_identity (changed_allocation (λ a. true) (λ a. record a { expiry = now; is_expired = true }) g)
 all-grant_identity now (Allocation a) = refl
-all-grant_identity now (Permission ip progress) = refl
-all-grant_identity now (Channel number peer progress) = refl
-all-grant_identity now (Connect peer) = refl
-all-grant_identity now (Offer offer) = refl
-all-grant_identity now (Connection c) = refl
+all-grant_identity now g = refl
 
 module _ (now : ℕ) (s : State) where
   left : List Grant

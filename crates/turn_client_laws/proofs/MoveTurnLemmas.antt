@@ -184,10 +184,8 @@ all-obey (PollRecv now) s = poll_recv-obeys now s
 all-obey (Poll now) s = poll-does now s
 all-obey (PollTransmit now) s = transmit-does now s
 all-obey PollEvent s = does-settled PollEvent s (state_after PollEvent s) (settles-same (IsTakenBy PollEvent s) s)
-all-obey RelayedAddresses s = does-same RelayedAddresses s
-all-obey (Permissions transport relayed) s = does-same (Permissions transport relayed) s
-all-obey (HavePermission transport to) s = does-same (HavePermission transport to) s
 all-obey ProtocolError s = error-does s
+all-obey call s = does-same call s
 
 -- ---- allocation failure
 
@@ -223,12 +221,6 @@ none-obeys (Recv packet now) s t end =
     let (made, listed, lost) = end-obeys (Recv packet now) s t (calls-end (Recv packet now) s t tt end) in
     (made, listed, loses-wider (λ g. IsDoneBy (IsRemovedByInput g) (Recv packet now) s) (IsTakenBy (Recv packet now) s) s.grants t.grants (λ g h. inl h) lost)
 none-obeys (PollRecv now) s t end = end-obeys (PollRecv now) s t (calls-end (PollRecv now) s t tt end)
-none-obeys (Delete now) s t e = same-obeys (Delete now) s t e
-none-obeys (CreatePermission transport peer now) s t e = same-obeys (CreatePermission transport peer now) s t e
-none-obeys (BindChannel transport peer now) s t e = same-obeys (BindChannel transport peer now) s t e
-none-obeys (TcpConnect peer now) s t e = same-obeys (TcpConnect peer now) s t e
-none-obeys (AllocatedTcpSocket id tuple peer local now) s t e = same-obeys (AllocatedTcpSocket id tuple peer local now) s t e
-none-obeys (TcpClosed local remote now) s t e = same-obeys (TcpClosed local remote now) s t e
 none-obeys (SendTo transport peer bytes now) s t none = absurd none
 none-obeys (Poll now) s t e = closed-obeys (Poll now) s t e
 none-obeys (PollTransmit now) s t e = closed-obeys (PollTransmit now) s t e
@@ -237,6 +229,7 @@ none-obeys RelayedAddresses s t none = absurd none
 none-obeys (Permissions transport relayed) s t none = absurd none
 none-obeys (HavePermission transport to) s t none = absurd none
 none-obeys ProtocolError s t e = closed-obeys ProtocolError s t e
+none-obeys call s t e = same-obeys call s t e
 
 -- even if memory allocation fails
 leaves-obeys : (call : Call) (s t : State) → Leaves call s t → ObeysTo call s t

@@ -55,13 +55,7 @@ use Rattle.turn_client_laws.proofs.TurnLemmas.{IsBringing, message-brings}
 channel_lapsed-asks : (o : Option Grant) (s : State) → AsksNothing s (channel_lapsed o s)
 channel_lapsed-asks None s = refl
 channel_lapsed-asks (Some (Channel number peer (Active expiry))) s = refl
-channel_lapsed-asks (Some (Channel number peer Pending)) s = refl
-channel_lapsed-asks (Some (Channel number peer (Reserved until))) s = refl
-channel_lapsed-asks (Some (Allocation a)) s = refl
-channel_lapsed-asks (Some (Permission ip progress)) s = refl
-channel_lapsed-asks (Some (Connect peer)) s = refl
-channel_lapsed-asks (Some (Offer offer)) s = refl
-channel_lapsed-asks (Some (Connection c)) s = refl
+channel_lapsed-asks o s = refl
 
 lapsed_in-asks : (family : AddressFamily) (given : Option ℕ) (purposes : List Purpose) (now : ℕ) (s : State) → AsksNothing s (lapsed_in family given purposes now s)
 lapsed_in-asks family given purposes now s =
@@ -78,23 +72,17 @@ lapsed-asks given now s = asks-fold (lapsed_allocation given purposes now) by (a
     by t a = asks-cond (allocation_expires purposes now t a) t _ _ refl (lapsed_in-asks (family_of a.relayed) given purposes now t)
 
 answer_by : (closes : List SocketAddr) (p : Phase) (given : Option ℕ) (now : ℕ) (s : State) → AsksNothing s (answer_step given now (record s { closes = closes; phase = p })).1
-answer_by (local ∷ others) p given now s = refl
-answer_by [] New given now s = refl
-answer_by [] Requesting given now s = refl
-answer_by [] Authenticating given now s = refl
-answer_by [] Closed given now s = refl
 answer_by [] Allocated given now s = by (allocations s) refl
   where
     by : (l : List Relay) → allocations s ≡ l → AsksNothing s (answer_step given now (record s { closes = []; phase = Allocated })).1
     by [] e = rw e refl
     by (a ∷ others) e = rw e refl
+answer_by closes p given now s = refl
 
 answer-asks : (given : Option ℕ) (now : ℕ) (s : State) → AsksNothing s (answer_step given now s).1
 answer-asks given now s = answer_by s.closes s.phase given now s
 
 timed_in_phase : (p : Phase) (given : Option ℕ) (now : ℕ) (s : State) → AsksNothing s (timed_step p given now (record s { phase = p })).1
-timed_in_phase New given now s = refl
-timed_in_phase Requesting (Some id) now s = refl
 timed_in_phase Requesting None now s = answer-asks None now (record s { phase = Requesting })
 timed_in_phase Authenticating (Some id) now s =
     let u = record s { phase = Authenticating } in
@@ -104,7 +92,7 @@ timed_in_phase Authenticating None now s = answer-asks None now (record s { phas
 timed_in_phase Allocated given now s =
     let u = record s { phase = Allocated } in
     answer-asks given now (lapsed given now u) ∙ lapsed-asks given now u
-timed_in_phase Closed given now s = refl
+timed_in_phase p given now s = refl
 
 gone-asks : (local : SocketAddr) (s : State) → AsksNothing s (connection_gone local s)
 gone-asks local s = asks-cond (is_some (connection_at local s)) s _ _ refl refl
@@ -115,10 +103,8 @@ tcp_closed-asks local remote s = asks-cond (same_transport s.transport Tcp && sa
 -- ---- what the caller requests
 
 bound_by-draws : (id : ℕ) (peer : SocketAddr) (now : ℕ) (s : State) (l : List ℕ) (b : Bool) (o : Option ℕ) → Draws id s (bound_by peer now s l b o).1
-bound_by-draws id peer now s (until ∷ others) b o = draws-same id s
-bound_by-draws id peer now s [] false o = draws-same id s
-bound_by-draws id peer now s [] true None = draws-same id s
 bound_by-draws id peer now s [] true (Some number) = draws-more id s _ refl
+bound_by-draws id peer now s l b o = draws-same id s
 
 module _ (id : ℕ) where
   -- a pair by a test
@@ -163,13 +149,11 @@ module _ (id : ℕ) where
 
   opened-draws : (offer : ℕ) (peer local : SocketAddr) (origin : Origin) (now : ℕ) (s : State) → Draws id s (socket_opened offer peer local origin now s)
   opened-draws offer peer local OwnConnect now s = draws-more id s _ refl
-  opened-draws offer peer local ServerIndication now s = draws-more id s _ refl
-  opened-draws offer peer local (ServerRequest request) now s = draws-more id s _ refl
+  opened-draws offer peer local origin now s = draws-more id s _ refl
 
   refused-draws : (offer : ℕ) (peer : SocketAddr) (origin : Origin) (s : State) → Draws id s (socket_refused offer peer origin s)
   refused-draws offer peer OwnConnect s = draws-same id s
-  refused-draws offer peer ServerIndication s = draws-same id s
-  refused-draws offer peer (ServerRequest request) s = draws-same id s
+  refused-draws offer peer origin s = draws-same id s
 
   socket-draws : (offer : ℕ) (peer : SocketAddr) (local : Option SocketAddr) (origin : Origin) (now : ℕ) (s : State) → Draws id s (socket_step offer peer local origin now s).1
   socket-draws offer peer None origin now s = refused-draws offer peer origin s
@@ -210,12 +194,10 @@ module _ (id : ℕ) where
 
   idle-draws : (p : Phase) (now : ℕ) (s : State) → Draws id (record s { phase = p }) (idle_step p now (record s { phase = p })).1
   idle-draws New now s = draws-more id s _ refl
-  idle-draws Requesting now s = draws-same id (record s { phase = Requesting })
-  idle-draws Authenticating now s = draws-same id (record s { phase = Authenticating })
-  idle-draws Closed now s = draws-same id (record s { phase = Closed })
   idle-draws Allocated now s =
       let u = record s { phase = Allocated } in
       found _ (slice_get (flat_map (refreshes_in now u) (allocations u)) 0) u (None, u) (λ purpose. draws-more id u _ refl) (draws-same id u)
+  idle-draws p now s = draws-same id (record s { phase = p })
 
   transmit-draws : (now : ℕ) (s : State) → Draws id s (transmit_step now s).1
   transmit-draws now s =
@@ -247,11 +229,8 @@ module _ (id : ℕ) where
   call-draws (PollRecv now) s other = absurd (other tt)
   call-draws (Poll now) s other = poll-draws now s
   call-draws (PollTransmit now) s other = transmit-draws now s
-  call-draws PollEvent s other = draws-same id s
-  call-draws RelayedAddresses s other = draws-same id s
-  call-draws (Permissions transport relayed) s other = draws-same id s
-  call-draws (HavePermission transport to) s other = draws-same id s
   call-draws ProtocolError s other = draws-nothing id s (protocol_error_step s) (asks-cond (is_closed s.phase) s s _ refl refl)
+  call-draws call s other = draws-same id s
 
   -- even if memory allocation fails
   pub leaves-draws : (call : Call) (s t : State) → Leaves call s t → is_outstanding id t.transactions ≡ true → IsDrawn call id s ⊎ (is_outstanding id s.transactions ≡ true)

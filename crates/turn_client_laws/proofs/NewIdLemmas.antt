@@ -96,20 +96,15 @@ any-ids id q (x ∷ xs) = rw (nat_eq_equiv.symm q (id x), any-ids id q xs) refl
 any-offered : (q : ℕ) (gs : List Grant) → list_any (eqb q) (filter_map offered_id gs) ≡ list_any (is_of_request q) gs
 unfolding offered_id request_in
 any-offered q [] = refl
-any-offered q (Allocation a ∷ gs) = any-offered q gs
-any-offered q (Permission ip progress ∷ gs) = any-offered q gs
-any-offered q (Channel number peer progress ∷ gs) = any-offered q gs
-any-offered q (Connect peer ∷ gs) = any-offered q gs
-any-offered q (Connection c ∷ gs) = any-offered q gs
 any-offered q (Offer offer ∷ gs) = by offer.origin (any-offered q gs)
   where
     Same : List Grant → Type 0
     Same list = list_any (eqb q) (filter_map offered_id list) ≡ list_any (is_of_request q) list
 
     by : (o : Origin) → Same gs → Same (Offer (record offer { origin = o }) ∷ gs)
-    by OwnConnect later = later
-    by ServerIndication later = later
     by (ServerRequest id) later = rw (nat_eq_equiv.symm q id, later) refl
+    by o later = later
+any-offered q (_ ∷ gs) = any-offered q gs
 
 any-taken : (q : ℕ) (s : State) → list_any (eqb q) (taken_ids s) ≡ is_taken q s
 unfolding taken_ids

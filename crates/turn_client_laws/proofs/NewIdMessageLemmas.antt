@@ -86,16 +86,11 @@ permission-asks ip is_granted now s = by (permission_state ip s) refl is_granted
     by (Some Pending) e true = rw e refl
     by (Some Pending) e false = rw e refl
     by (Some (Active expiry)) e true = rw e refl
-    by (Some (Active expiry)) e false = rw e refl
-    by (Some (Reserved until)) e g = rw e refl
+    by o e g = rw e refl
 
 permission_state-asks : (is_granted : Bool) (now : ℕ) (t : State) (p : Purpose) → AsksNothing t (permission_answered_for is_granted now t p)
 permission_state-asks is_granted now t (ForPermission ip) = permission-asks ip is_granted now t
-permission_state-asks is_granted now t ForAllocation = refl
-permission_state-asks is_granted now t (ForRefresh family lifetime) = refl
-permission_state-asks is_granted now t (ForChannel number peer) = refl
-permission_state-asks is_granted now t (ForConnect peer) = refl
-permission_state-asks is_granted now t (ForBind local peer id) = refl
+permission_state-asks is_granted now t p = refl
 
 permissions-asks : (id : ℕ) (is_granted : Bool) (now : ℕ) (s : State) → AsksNothing s (listed_permissions_answered id is_granted now s)
 permissions-asks id is_granted now s = asks-fold (permission_answered_for is_granted now) (permission_state-asks is_granted now) (purposes_of id s) s
@@ -104,12 +99,10 @@ channel-asks : (number id : ℕ) (is_granted : Bool) (now : ℕ) (s : State) →
 channel-asks number id is_granted now s = by (first_in (channel_at number) s) refl is_granted
   where
     by : (o : Option (SocketAddr × Progress)) → first_in (channel_at number) s ≡ o → (g : Bool) → AsksNothing s (channel_answered number id g now s)
-    by None e g = rw e refl
     by (Some (peer, Pending)) e true = rw e (permissions-asks id true now s)
     by (Some (peer, Pending)) e false = rw e refl
     by (Some (peer, Active expiry)) e true = rw e refl
-    by (Some (peer, Active expiry)) e false = rw e refl
-    by (Some (peer, Reserved until)) e g = rw e refl
+    by o e g = rw e refl
 
 connect-asks : (peer : SocketAddr) (o : Option ℕ) (s : State) → AsksNothing s (connect_answered peer o s)
 connect-asks peer (Some id) s = refl
@@ -130,8 +123,7 @@ effect-asks id is_granted message now s (ForRefresh family lifetime) = refreshed
 effect-asks id is_granted message now s (ForPermission ip) = permission-asks ip is_granted now s
 effect-asks id is_granted message now s (ForChannel number peer) = channel-asks number id is_granted now s
 effect-asks id is_granted message now s (ForConnect peer) = connect-asks peer (cond is_granted (connection_id_in message) None) s
-effect-asks id is_granted message now s ForAllocation = refl
-effect-asks id is_granted message now s (ForBind local peer other) = refl
+effect-asks id is_granted message now s p = refl
 
 -- a signed reply ends its request, and requests nothing
 pub reply-asks : (is_granted : Bool) (message : List ℕ) (now : ℕ) (s : State) → AsksNothing (transaction_ended (id_of message) s) (response_step is_granted message now s).1
@@ -190,11 +182,8 @@ challenge-draws id message d now s = by (ltb s.challenges s.config.max_stale_non
     by true f (Some purpose) g = rw (f, g) (retry-draws id s (id_of message) purpose d now)
 
 wrong-draws : (id : ℕ) (p : Phase) (message : List ℕ) (s : State) → Draws id (record s { phase = p }) (wrong_step message (record s { phase = p })).1
-wrong-draws id New message s = draws-same id (record s { phase = New })
 wrong-draws id Requesting message s = λ h. inl (outstanding-without id (id_of message) s.transactions h)
-wrong-draws id Authenticating message s = draws-same id (record s { phase = Authenticating })
-wrong-draws id Allocated message s = draws-same id (record s { phase = Allocated })
-wrong-draws id Closed message s = draws-same id (record s { phase = Closed })
+wrong-draws id p message s = draws-same id (record s { phase = p })
 
 -- of those that a signed reply leaves outstanding, and one that is used
 pub denied-one : (id : ℕ) (message : List ℕ) (now : ℕ) (s : State) → is_outstanding id (allocate_denied (fresh_id s) message now (transaction_ended (id_of message) s)).transactions ≡ true
@@ -211,10 +200,7 @@ pub signed-one : (id : ℕ) (p : Phase) (is_granted : Bool) (message : List ℕ)
     → is_outstanding id (signed_step is_granted message now (record s { phase = p })).1.transactions ≡ true → IsOneOf id (A.without_transaction (id_of message) s.transactions) s
 signed-one id Authenticating true message now s h = inl (rw (granted-asks message now (transaction_ended (id_of message) (record s { phase = Authenticating }))) at h)
 signed-one id Authenticating false message now s h = denied-one id message now (record s { phase = Authenticating }) h
-signed-one id New g message now s h = inl (rw (reply-asks g message now (record s { phase = New })) at h)
-signed-one id Requesting g message now s h = inl (rw (reply-asks g message now (record s { phase = Requesting })) at h)
-signed-one id Allocated g message now s h = inl (rw (reply-asks g message now (record s { phase = Allocated })) at h)
-signed-one id Closed g message now s h = inl (rw (reply-asks g message now (record s { phase = Closed })) at h)
+signed-one id p g message now s h = inl (rw (reply-asks g message now (record s { phase = p })) at h)
 
 signed-draws : (id : ℕ) (is_granted : Bool) (message : List ℕ) (now : ℕ) (s : State) → Draws id s (signed_step is_granted message now s).1
 signed-draws id is_granted message now s h = by (signed-one id s.phase is_granted message now s h)
@@ -255,15 +241,13 @@ message-draws id message now s = by (judgement_of s message) refl
     asked false = draws-same id s
 
     by : (j : Judgement) → judgement_of s message ≡ j → Draws id s (message_step message now s).1
-    by Unrelated e = rw e (draws-same id s)
     by (Challenged d) e = rw e (challenge-draws id message d now s)
     by Fatal e = rw e (wrong-draws id s.phase message s)
-    by LateResponse e = rw e (draws-same id s)
-    by DataIndication e = rw e (draws-same id s)
     by ConnectionAttempt e = rw e (indicated (attempt_indicated message s) (indicated-asks message s))
     by SignedRequest e = rw e (asked (eqb (method_in message) connection_attempt_method))
     by SignedSuccess e = rw e (signed-draws id true message now s)
     by SignedError e = rw e (signed-draws id false message now s)
+    by j e = rw e (draws-same id s)
 
 -- ---- connections that wait to be bound
 
@@ -281,18 +265,9 @@ answered-draws id c message now s = by (bind_judgement s c.local message) refl
     by (Challenged d) e = rw e (again-draws id c message d now s)
     by SignedSuccess e = rw e (λ h. inl (outstanding-without id (id_of message) s.transactions h))
     by SignedError e = rw e (λ h. inl (outstanding-without id (id_of message) s.transactions h))
-    by Unrelated e = rw e (draws-same id s)
-    by Fatal e = rw e (draws-same id s)
-    by LateResponse e = rw e (draws-same id s)
-    by DataIndication e = rw e (draws-same id s)
-    by ConnectionAttempt e = rw e (draws-same id s)
-    by SignedRequest e = rw e (draws-same id s)
+    by j e = rw e (draws-same id s)
 
 bind_in_phase : (id : ℕ) (p : Phase) (local : SocketAddr) (message : List ℕ) (now : ℕ) (s : State) → Draws id (record s { phase = p }) (bind_step local message now (record s { phase = p }))
-bind_in_phase id New local message now s = draws-same id (record s { phase = New })
-bind_in_phase id Requesting local message now s = draws-same id (record s { phase = Requesting })
-bind_in_phase id Authenticating local message now s = draws-same id (record s { phase = Authenticating })
-bind_in_phase id Closed local message now s = draws-same id (record s { phase = Closed })
 bind_in_phase id Allocated local message now s = by (connection_at local s) refl
   where
     u : State
@@ -301,6 +276,7 @@ bind_in_phase id Allocated local message now s = by (connection_at local s) refl
     by : (o : Option DataConnection) → connection_at local s ≡ o → Draws id u (bind_step local message now u)
     by None e = rw e (draws-same id u)
     by (Some c) e = rw e (draws-cond id (eqb (method_in message) connection_bind_method) u _ _ (answered-draws id c message now u) (draws-same id u))
+bind_in_phase id p local message now s = draws-same id (record s { phase = p })
 
 pub bind-draws : (id : ℕ) (local : SocketAddr) (message : List ℕ) (now : ℕ) (s : State) → Draws id s (bind_step local message now s)
 bind-draws id local message now s = bind_in_phase id s.phase local message now s

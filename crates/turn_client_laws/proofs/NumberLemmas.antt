@@ -58,11 +58,7 @@ distinct-last n (m ∷ ns) free h = (all-last (λ k. eqb m k ≡ false) n ns fre
 all-free : (n : ℕ) (gs : List Grant) → list_any (is_channel_of n) gs ≡ false → AllByRecursion (λ m. eqb m n ≡ false) (numbers gs)
 all-free n [] free = tt
 all-free n (Channel m peer progress ∷ gs) free = let parts = or_parts (eqb m n) (list_any (is_channel_of n) gs) free in (parts.0, all-free n gs parts.1)
-all-free n (Allocation a ∷ gs) free = all-free n gs free
-all-free n (Permission ip progress ∷ gs) free = all-free n gs free
-all-free n (Connect peer ∷ gs) free = all-free n gs free
-all-free n (Offer offer ∷ gs) free = all-free n gs free
-all-free n (Connection c ∷ gs) free = all-free n gs free
+all-free n (_ ∷ gs) free = all-free n gs free
 
 -- a channel of a number that none has
 pub apart-channel : (n : ℕ) (gs hs : List Grant) → list_any (is_channel_of n) gs ≡ false → numbers hs ≡ n ∷ [] → AreApart gs → AreApart (gs ++ hs)
@@ -82,12 +78,9 @@ none-filter p (x ∷ xs) = by (p x) refl (none-filter p xs)
 pub numbers-without_first : (id : ℕ) (peer : SocketAddr) (gs : List Grant) → numbers (without_first (is_offer_of id peer) gs) ≡ numbers gs
 numbers-without_first id peer [] = refl
 numbers-without_first id peer (Channel number other progress ∷ gs) = rw (numbers-without_first id peer gs) refl
-numbers-without_first id peer (Allocation a ∷ gs) = numbers-without_first id peer gs
-numbers-without_first id peer (Permission ip progress ∷ gs) = numbers-without_first id peer gs
-numbers-without_first id peer (Connect other ∷ gs) = numbers-without_first id peer gs
-numbers-without_first id peer (Connection c ∷ gs) = numbers-without_first id peer gs
 numbers-without_first id peer (Offer offer ∷ gs) = by (is_offer_of id peer (Offer offer)) (numbers-without_first id peer gs)
   where
     by : (b : Bool) → numbers (without_first (is_offer_of id peer) gs) ≡ numbers gs → numbers (cond b gs (Offer offer ∷ without_first (is_offer_of id peer) gs)) ≡ numbers gs
     by true later = refl
     by false later = later
+numbers-without_first id peer (_ ∷ gs) = numbers-without_first id peer gs

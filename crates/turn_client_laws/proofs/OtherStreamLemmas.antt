@@ -100,19 +100,9 @@ answered-aside c message now s = by (bind_judgement s c.local message) refl
     by : (j : Judgement) → bind_judgement s c.local message ≡ j → IsAsideFrom c.local s (bind_answered c message now s)
     by (Challenged d) e = rw e (nothing _ (again-same c (id_of message) d now s))
     by SignedSuccess e = rw e (aside-alike c.local s (with_mode c.local (Bound c.peer) s) _ (mode-aside c.local (Bound c.peer) s) refl)
-    by SignedError e = rw e (nothing _ refl)
-    by Unrelated e = rw e (nothing _ refl)
-    by Fatal e = rw e (nothing _ refl)
-    by LateResponse e = rw e (nothing _ refl)
-    by DataIndication e = rw e (nothing _ refl)
-    by ConnectionAttempt e = rw e (nothing _ refl)
-    by SignedRequest e = rw e (nothing _ refl)
+    by j e = rw e (nothing _ refl)
 
 bind_in_phase : (p : Phase) (local : SocketAddr) (message : List ℕ) (now : ℕ) (s : State) → IsAsideFrom local (record s { phase = p }) (bind_step local message now (record s { phase = p }))
-bind_in_phase New local message now s = same-aside local (record s { phase = New }) _ refl
-bind_in_phase Requesting local message now s = same-aside local (record s { phase = Requesting }) _ refl
-bind_in_phase Authenticating local message now s = same-aside local (record s { phase = Authenticating }) _ refl
-bind_in_phase Closed local message now s = same-aside local (record s { phase = Closed }) _ refl
 bind_in_phase Allocated local message now s = by (connection_at local s) refl
   where
     u : State
@@ -130,6 +120,7 @@ bind_in_phase Allocated local message now s = by (connection_at local s) refl
     by (Some c) e =
         let found = has-found (λ (d : DataConnection). same_address d.local local) c (filter_map as_connection s.grants) e in
         rw e (test (eqb (method_in message) connection_bind_method) c (same_address-true c.local local found.1))
+bind_in_phase p local message now s = same-aside local (record s { phase = p }) _ refl
 
 bind-aside : (local : SocketAddr) (message : List ℕ) (now : ℕ) (s : State) → IsAsideFrom local s (bind_step local message now s)
 bind-aside local message now s = bind_in_phase s.phase local message now s
@@ -143,8 +134,7 @@ frame_in_mode Waiting stream frame now s =
     let same = same-aside stream.local s s refl in
     either stream.local (not (begins_message frame)) s (Ignored, s) _ same
     (either stream.local (is_message frame) s (Handled, bind_step stream.local frame now s) (Handled, s) (bind-aside stream.local frame now s) same)
-frame_in_mode (Bound peer) stream frame now s = same-aside stream.local s s refl
-frame_in_mode Broken stream frame now s = same-aside stream.local s s refl
+frame_in_mode m stream frame now s = same-aside stream.local s s refl
 
 pub frame-aside : (stream : Stream) (frame : List ℕ) (now : ℕ) (s : State) → IsAsideFrom stream.local s (frame_step stream frame now s).1
 frame-aside stream frame now s = frame_in_mode stream.mode stream frame now s
@@ -162,10 +152,9 @@ framed-aside stream now t = by (begins_no_frame stream.bytes) (frame_len stream.
         aside-then stream.local t u _ (frame-aside stream (take len stream.bytes) now t) (bytes-aside stream.local (drop len stream.bytes) u)
 
 turned_in_mode : (m : Mode) (stream : Stream) (now : ℕ) (t : State) → IsAsideFrom stream.local t (detached_frame_step (record stream { mode = m }) now t).1
-turned_in_mode Control stream now t = framed-aside (record stream { mode = Control }) now t
-turned_in_mode Waiting stream now t = framed-aside (record stream { mode = Waiting }) now t
 turned_in_mode (Bound peer) stream now t = same-aside stream.local t t refl
 turned_in_mode Broken stream now t = same-aside stream.local t t refl
+turned_in_mode m stream now t = framed-aside (record stream { mode = m }) now t
 
 pub turn-aside : (stream : Stream) (now : ℕ) (s : State) → IsAsideFrom stream.local s (next_frame_step stream now s).1
 turn-aside stream now s =

@@ -90,11 +90,7 @@ ages-number n g is (inr (m, peer, expiry, e, f)) of = rw e (rw f at of)
 -- a channel of the number
 channel-of : (n : ℕ) (g : Grant) → is_channel_of n g ≡ true → (peer : SocketAddr) × (progress : Progress) × (g ≡ Channel n peer progress)
 channel-of n (Channel other peer progress) e = (peer, progress, rw (eqb-true other n e) refl)
-channel-of n (Allocation a) e = cc
-channel-of n (Permission ip progress) e = cc
-channel-of n (Connect peer) e = cc
-channel-of n (Offer offer) e = cc
-channel-of n (Connection c) e = cc
+channel-of n g e = cc
 
 module _ (now : ℕ) (s : State) (apart : HasDistinctNumbers s) where
   -- it has expired
@@ -177,14 +173,7 @@ module _ (now : ℕ) (s : State) (apart : HasDistinctNumbers s) where
 
   channel-traces : (o : Option Grant) (t : State) → ((g : Grant) → o ≡ Some g → Has g t.grants) → Traces t.grants → Traces (channel_lapsed o t).grants
   channel-traces (Some (Channel n peer (Active expiry))) t there traces = reserved-traces n peer expiry t.grants (there (Channel n peer (Active expiry)) refl) traces
-  channel-traces None t there traces = traces
-  channel-traces (Some (Channel n peer Pending)) t there traces = traces
-  channel-traces (Some (Channel n peer (Reserved until))) t there traces = traces
-  channel-traces (Some (Allocation a)) t there traces = traces
-  channel-traces (Some (Permission ip progress)) t there traces = traces
-  channel-traces (Some (Connect peer)) t there traces = traces
-  channel-traces (Some (Offer offer)) t there traces = traces
-  channel-traces (Some (Connection c)) t there traces = traces
+  channel-traces o t there traces = traces
 
   -- ---- what is removed has expired
 
@@ -195,13 +184,7 @@ module _ (now : ℕ) (s : State) (apart : HasDistinctNumbers s) where
       by : (is : Grant) → Ages g is → is_lapsed_permission now is ≡ true → Over g
       by (Permission ip (Active expiry)) (inl e) lapsed = inl (rw (sym e) (leb-true expiry now lapsed))
       by (Permission ip (Active expiry)) (inr (n, peer, end, e, f)) lapsed = cc
-      by (Permission ip Pending) a lapsed = cc
-      by (Permission ip (Reserved until)) a lapsed = cc
-      by (Channel n peer progress) a lapsed = cc
-      by (Allocation a) b lapsed = cc
-      by (Connect peer) a lapsed = cc
-      by (Offer offer) a lapsed = cc
-      by (Connection c) a lapsed = cc
+      by is _ lapsed = cc
 
   -- what was reserved long enough
   free-over : (family : AddressFamily) → TakesOver (λ g. is_of family g && is_over now g)
@@ -212,13 +195,7 @@ module _ (now : ℕ) (s : State) (apart : HasDistinctNumbers s) where
       by (Channel n peer (Reserved until)) (inr (m, to, expiry, e, f)) over =
           let same : until ≡ later_by reserved_time expiry = cc in
           inl (rw e (ltb-true (later_by reserved_time expiry) now (rw same at over)))
-      by (Channel n peer Pending) a over = cc
-      by (Channel n peer (Active expiry)) a over = cc
-      by (Permission ip progress) a over = cc
-      by (Allocation a) b over = cc
-      by (Connect peer) a over = cc
-      by (Offer offer) a over = cc
-      by (Connection c) a over = cc
+      by is a over = cc
 
   -- all grants in an allocation whose expiry has passed
   family-over : (a : Relay) → Has (Allocation a) s.grants → a.expiry ≤ now → TakesOver (is_of (family_of a.relayed))
@@ -255,31 +232,15 @@ module _ (now : ℕ) (s : State) (apart : HasDistinctNumbers s) where
 
     channel-vain : IsVain is_pending_channel
     channel-vain (Channel n peer Pending) e = (λ up. up, λ m to until f. cc)
-    channel-vain (Channel n peer (Active expiry)) e = cc
-    channel-vain (Channel n peer (Reserved until)) e = cc
-    channel-vain (Allocation a) e = cc
-    channel-vain (Permission ip progress) e = cc
-    channel-vain (Connect peer) e = cc
-    channel-vain (Offer offer) e = cc
-    channel-vain (Connection c) e = cc
+    channel-vain g e = cc
 
     permission-vain : IsVain is_pending_permission
     permission-vain (Permission ip Pending) e = (λ up. up, λ m to until f. cc)
-    permission-vain (Permission ip (Active expiry)) e = cc
-    permission-vain (Permission ip (Reserved until)) e = cc
-    permission-vain (Allocation a) e = cc
-    permission-vain (Channel n peer progress) e = cc
-    permission-vain (Connect peer) e = cc
-    permission-vain (Offer offer) e = cc
-    permission-vain (Connection c) e = cc
+    permission-vain g e = cc
 
     connect-vain : IsVain is_connect
     connect-vain (Connect peer) e = (λ up. up, λ m to until f. cc)
-    connect-vain (Allocation a) e = cc
-    connect-vain (Permission ip progress) e = cc
-    connect-vain (Channel n peer progress) e = cc
-    connect-vain (Offer offer) e = cc
-    connect-vain (Connection c) e = cc
+    connect-vain g e = cc
 
     -- a connection that is not bound in time, or whose request timed out
     unbound-over : (family : AddressFamily) → TakesOver (λ g. is_of family g && is_unbound purposes now g)
@@ -297,11 +258,7 @@ module _ (now : ℕ) (s : State) (apart : HasDistinctNumbers s) where
         by : (is : Grant) → Ages g is → is_unbound purposes now is ≡ true → Over g
         by (Connection c) (inl same) unbound = inl (subst (HasExpiredOrFailed now s) same (spent c c.deadline refl unbound))
         by (Connection c) (inr (n, peer, expiry, e, f)) unbound = cc
-        by (Channel n peer progress) a unbound = cc
-        by (Permission ip progress) a unbound = cc
-        by (Allocation a) b unbound = cc
-        by (Connect peer) a unbound = cc
-        by (Offer offer) a unbound = cc
+        by is _ unbound = cc
 
     -- an offer whose request timed out
     offer-over : (family : AddressFamily) → TakesOver (λ g. is_of family g && is_timed_out_offer given g)
@@ -319,11 +276,7 @@ module _ (now : ℕ) (s : State) (apart : HasDistinctNumbers s) where
         by : (is : Grant) → Ages g is → is_timed_out_offer given is ≡ true → Over g
         by (Offer offer) (inl same) of = inl (subst (HasExpiredOrFailed now s) same (up offer x e of))
         by (Offer offer) (inr (n, peer, expiry, e, f)) of = cc
-        by (Channel n peer progress) a of = absurd (no (Channel n peer progress) x (λ id. refl) of)
-        by (Permission ip progress) a of = absurd (no (Permission ip progress) x (λ id. refl) of)
-        by (Allocation b) a of = absurd (no (Allocation b) x (λ id. refl) of)
-        by (Connect peer) a of = absurd (no (Connect peer) x (λ id. refl) of)
-        by (Connection c) a of = absurd (no (Connection c) x (λ id. refl) of)
+        by is a of = absurd (no is x (λ id. refl) of)
 
     -- ---- one allocation after the other
 
@@ -397,22 +350,15 @@ module _ (now : ℕ) (s : State) (apart : HasDistinctNumbers s) where
       by (local ∷ others) p relays = refl
       by [] Allocated [] = refl
       by [] Allocated (a ∷ relays) = refl
-      by [] New relays = refl
-      by [] Requesting relays = refl
-      by [] Authenticating relays = refl
-      by [] Closed relays = refl
+      by closes p relays = refl
 
   none-spares : timed_out_transaction (agent_of s) now ≡ None → (p : Phase) → s.phase ≡ p → Spares (timed_step p None now s).1.grants
-  none-spares e New f = spares-same
   none-spares e Requesting f = subst Spares (sym (answer-grants None s)) spares-same
   none-spares e Authenticating f = subst Spares (sym (answer-grants None s)) spares-same
-  none-spares e Closed f = spares-same
   none-spares e Allocated f = subst Spares (sym (answer-grants None (lapsed None now s))) (traces-spare (lapsed None now s).grants f (lapsed-traces None e s refl refl))
+  none-spares e p f = spares-same
 
   given-spares : (x : Transaction) → timed_out_transaction (agent_of s) now ≡ Some x → (p : Phase) → s.phase ≡ p → Spares (timed_step p (Some x.id) now (transaction_ended x.id s)).1.grants
-  given-spares x e New f = spares-same
-  given-spares x e Requesting f = spares-same
-  given-spares x e Closed f = spares-same
   given-spares x e Authenticating f = by (is_listed_for_allocation x.id u)
     where
       u : State
@@ -424,6 +370,7 @@ module _ (now : ℕ) (s : State) (apart : HasDistinctNumbers s) where
   given-spares x e Allocated f =
       let u = transaction_ended x.id s in
       subst Spares (sym (answer-grants (Some x.id) (lapsed (Some x.id) now u))) (traces-spare (lapsed (Some x.id) now u).grants f (lapsed-traces (Some x) e u refl refl))
+  given-spares x e p f = spares-same
 
   timed-spares : (o : Option Transaction) → timed_out_transaction (agent_of s) now ≡ o
       → Spares (option_map_or (λ (t : Transaction). timed_step s.phase (Some t.id) now (transaction_ended t.id s)) o (timed_step s.phase None now s)).1.grants

@@ -60,9 +60,8 @@ later : (ip : IpAddr) (g : Grant) (gs : List Grant) → (expiry : ℕ) × Contai
 later ip g gs (expiry, at) = (expiry, Contains-later (Permission ip (Active expiry)) g gs at)
 
 active-here : (ip other : IpAddr) (p : Progress) (gs : List Grant) → other ≡ ip → is_active (Some p) ≡ true → (expiry : ℕ) × Contains (Permission other p ∷ gs) (Permission ip (Active expiry))
-active-here ip other Pending gs e h = cc
-active-here ip other (Reserved until) gs e h = cc
 active-here ip other (Active expiry) gs e h = rw e (expiry, Contains-here (Permission ip (Active expiry)) gs)
+active-here ip other p gs e h = cc
 
 -- the first of the permissions of an IP address, if it is active, is one of the grants
 permitted-in : (ip : IpAddr) (grants : List Grant) → is_active (slice_get (filter_map (permission_progress ip) grants) 0) ≡ true → (expiry : ℕ) × Contains grants (Permission ip (Active expiry))
@@ -73,11 +72,7 @@ permitted-in ip (Permission other p ∷ gs) h = by (permitted-in ip gs) (same_ip
         × Contains (Permission other p ∷ gs) (Permission ip (Active expiry))
     by more true e = active-here ip other p gs (same_ip-true other ip e) (rw e at h)
     by more false e = later ip (Permission other p) gs (more (rw e at h))
-permitted-in ip (Allocation a ∷ gs) h = later ip (Allocation a) gs (permitted-in ip gs h)
-permitted-in ip (Channel number peer progress ∷ gs) h = later ip (Channel number peer progress) gs (permitted-in ip gs h)
-permitted-in ip (Connect peer ∷ gs) h = later ip (Connect peer) gs (permitted-in ip gs h)
-permitted-in ip (Offer offer ∷ gs) h = later ip (Offer offer) gs (permitted-in ip gs h)
-permitted-in ip (Connection c ∷ gs) h = later ip (Connection c) gs (permitted-in ip gs h)
+permitted-in ip (x ∷ gs) h = later ip x gs (permitted-in ip gs h)
 
 later-channel : (number : ℕ) (peer : SocketAddr) (g : Grant) (gs : List Grant) → (expiry : ℕ) × Contains gs (Channel number peer (Active expiry)) → (expiry : ℕ)
     × Contains (g ∷ gs) (Channel number peer (Active expiry))
@@ -108,10 +103,9 @@ channel-in number peer (Connection c ∷ gs) h = later-channel number peer (Conn
 -- ---- replies and challenges return no data of a peer
 
 nobodys : (bytes : List ℕ) (s : State) (outcome : Outcome) → HasNoPeer outcome → IsMessageFromPermitted bytes s outcome
-nobodys bytes s Handled is = tt
-nobodys bytes s Ignored is = tt
 nobodys bytes s (PeerData payload) is = absurd is
 nobodys bytes s (PeerIcmp transport peer icmp) is = absurd is
+nobodys bytes s outcome is = tt
 
 handled-if : (b : Bool) (t u : State) → HasNoPeer (cond {A = Outcome × State} b (Handled, t) (Ignored, u)).0
 handled-if true t u = tt
@@ -131,10 +125,7 @@ signed_step-nobodys is_granted message now s = by s.phase refl is_granted
     by : (p : Phase) → s.phase ≡ p → (g : Bool) → HasNoPeer (signed_step g message now s).0
     by Authenticating e true = rw e tt
     by Authenticating e false = rw e tt
-    by New e g = rw e (outcome_for-nobodys message (answered_purposes message s))
-    by Requesting e g = rw e (outcome_for-nobodys message (answered_purposes message s))
-    by Allocated e g = rw e (outcome_for-nobodys message (answered_purposes message s))
-    by Closed e g = rw e (outcome_for-nobodys message (answered_purposes message s))
+    by p e g = rw e (outcome_for-nobodys message (answered_purposes message s))
 
 challenge_step-nobodys : (message : List ℕ) (challenge : Challenge) (now : ℕ) (s : State) → HasNoPeer (challenge_step message challenge now s).0
 challenge_step-nobodys message challenge now s = by (ltb s.challenges s.config.max_stale_nonces) refl (retried (purposes_of (id_of message) s)) refl
@@ -152,9 +143,7 @@ attempt-nobodys (Some t) s = tt
 
 by_class-unlike : (class : MessageClass) → by_class class ≡ DataIndication → ⊥
 by_class-unlike Request e = cc
-by_class-unlike Indication e = cc
-by_class-unlike Success e = cc
-by_class-unlike Error e = cc
+by_class-unlike class e = cc
 
 challenged_or-unlike : (j : Judgement) (o : Option Challenge) → (j ≡ DataIndication → ⊥) → challenged_or j o ≡ DataIndication → ⊥
 challenged_or-unlike j None not_j e = not_j e
@@ -194,26 +183,20 @@ allocated-indication s message = by (class_in message) refl (validation_of (auth
 
     by : (c : MessageClass) → class_in message ≡ c → (v : Validation) → validation_of (auth_of s) message ≡ v → allocated_judgement s message ≡ DataIndication → is_data_indication message ≡ true
     by Indication e v f = rw e (data_or (eqb (method_in message) data_method) (eqb (method_in message) connection_attempt_method))
-    by Request e (Validated algorithm) f = rw (e, f) (λ h. absurd (stray (class_in message) h))
-    by Request e (Refused integrity) f = rw (e, f) (λ h. cc)
-    by Request e (ResendRequest algorithm) f = rw (e, f) (λ h. cc)
-    by Success e (Validated algorithm) f = rw (e, f) (λ h. absurd (stray (class_in message) h))
-    by Success e (Refused integrity) f = rw (e, f) (λ h. cc)
-    by Success e (ResendRequest algorithm) f = rw (e, f) (λ h. cc)
     by Error e (Validated algorithm) f = rw (e, f) (λ h. absurd (challenged_or-unlike _ (challenge_in s message) (stray (class_in message)) h))
-    by Error e (Refused integrity) f = rw (e, f) (λ h. absurd (challenged_or-unlike Unrelated (challenge_in s message) (λ e. cc) h))
-    by Error e (ResendRequest algorithm) f = rw (e, f) (λ h. absurd (challenged_or-unlike Unrelated (challenge_in s message) (λ e. cc) h))
+    by Error e v f = rw (e, f) (λ h. absurd (challenged_or-unlike Unrelated (challenge_in s message) (λ e. cc) h))
+    by c e (Validated algorithm) f = rw (e, f) (λ h. absurd (stray (class_in message) h))
+    by c e v f = rw (e, f) (λ h. cc)
 
 -- only a DATA indication is judged to be from a peer, and only in this phase
 DataIndication-indication : (s : State) (message : List ℕ) → judgement_of s message ≡ DataIndication → (s.phase ≡ Allocated) × (is_data_indication message ≡ true)
 DataIndication-indication s message = by s.phase refl
   where
     by : (p : Phase) → s.phase ≡ p → judgement_of s message ≡ DataIndication → (s.phase ≡ Allocated) × (is_data_indication message ≡ true)
-    by New e = rw e (λ h. cc)
     by Requesting e = rw e (λ h. absurd (requesting-unlike s message h))
     by Authenticating e = rw e (λ h. absurd (authenticating-unlike s message h))
     by Allocated e = rw e (λ h. (refl, allocated-indication s message h))
-    by Closed e = rw e (λ h. cc)
+    by p e = rw e (λ h. cc)
 
 indicated-IsMessageFromPermitted : (message : List ℕ) (s : State) → s.phase ≡ Allocated → is_data_indication message ≡ true → IsMessageFromPermitted message s (data_indicated s message)
 indicated-IsMessageFromPermitted message s phase is =
@@ -238,15 +221,13 @@ message-IsMessageFromPermitted : (message : List ℕ) (now : ℕ) (s : State) �
 message-IsMessageFromPermitted message now s = by (judgement_of s message) refl
   where
     by : (j : Judgement) → judgement_of s message ≡ j → IsMessageFromPermitted message s (message_step message now s).0
-    by Unrelated e = rw e tt
     by (Challenged challenge) e = rw e (nobodys message s _ (challenge_step-nobodys message challenge now s))
-    by Fatal e = rw e tt
-    by LateResponse e = rw e tt
     by DataIndication e = let (phase, is) = DataIndication-indication s message e in rw e (indicated-IsMessageFromPermitted message s phase is)
     by ConnectionAttempt e = rw e (nobodys message s _ (attempt-nobodys (attempt_indicated message s) s))
     by SignedRequest e = rw e (nobodys message s _ (handled-if (eqb (method_in message) connection_attempt_method) (attempt_requested message s) s))
     by SignedSuccess e = rw e (nobodys message s _ (signed_step-nobodys true message now s))
     by SignedError e = rw e (nobodys message s _ (signed_step-nobodys false message now s))
+    by j e = rw e tt
 
 channel_sent-IsMessageFromPermitted : (frame : List ℕ) (s : State) → IsMessageFromPermitted frame s (channel_sent s frame)
 channel_sent-IsMessageFromPermitted frame s = by (first_in (channel_peer (channel_data_at frame).id) s) refl

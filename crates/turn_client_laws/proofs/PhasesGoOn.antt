@@ -37,10 +37,7 @@ Keeps s t = StaysClosed s t × KeepsChallengeLimit s t × KeepsRealm s t × Goes
 
 pub rank-le : (p : Phase) → rank p ≤ 4
 rank-le New = omega arith
-rank-le Requesting = omega arith
-rank-le Authenticating = omega arith
-rank-le Allocated = omega arith
-rank-le Closed = omega arith
+rank-le p = omega arith
 
 pub keeps-same : (s : State) → Keeps s s
 keeps-same s = (λ h. h, λ h. h, λ c e. (c, e, refl, refl), (omega arith, λ h. h))
@@ -72,10 +69,7 @@ takes-realm s message d e c f = let (r, a) = challenge-realm s.held s message d 
 
 rank-after : (p : Phase) → rank p ≤ rank (phase_after p)
 rank-after New = omega arith
-rank-after Requesting = omega arith
-rank-after Authenticating = omega arith
-rank-after Allocated = omega arith
-rank-after Closed = omega arith
+rank-after p = omega arith
 
 pub rank-with : (addresses : List SocketAddr) → 3 ≤ rank (phase_with addresses)
 rank-with [] = omega arith
@@ -95,18 +89,12 @@ challenge-IsCounted message now s d e = rw e (by (ltb s.challenges s.config.max_
 -- the client begins
 begins-keeps : (p : Phase) (now : ℕ) (s : State) → p ≡ New → Keeps (record s { phase = p }) (record s { phase = Requesting; last_send = Some now })
 begins-keeps New now s e = (λ h. cc, λ h. h, (keeps-same s).2, (omega arith, λ h. refl))
-begins-keeps Requesting now s e = cc
-begins-keeps Authenticating now s e = cc
-begins-keeps Allocated now s e = cc
-begins-keeps Closed now s e = cc
+begins-keeps p now s e = cc
 
 -- the server allocates
 allocates-keeps : (addresses : List SocketAddr) (p : Phase) (s : State) → p ≡ Authenticating → Keeps (record s { phase = p }) (record s { phase = phase_with addresses })
 allocates-keeps addresses Authenticating s e = (λ h. cc, λ h. h, (keeps-same s).2, (omega (arith, rank-with addresses), λ h. h))
-allocates-keeps addresses New s e = cc
-allocates-keeps addresses Requesting s e = cc
-allocates-keeps addresses Allocated s e = cc
-allocates-keeps addresses Closed s e = cc
+allocates-keeps addresses p s e = cc
 
 pub Keeps-KeepsEdits : KeepsEdits Keeps
 Keeps-KeepsEdits = record {
@@ -166,11 +154,6 @@ leaves-keeps = leaves-walk Keeps Keeps-KeepsAllEdits (λ s streams. keeps-same s
 
 -- a client that has ended reports so when nothing is pending
 told_of : (p : Phase) (events : List TurnEvent) (now : ℕ) (s : State) → p ≡ Closed → events ≡ [] → has_reply s ≡ false → (poll_step now (record s { phase = p; events = events })).0 ≡ Do.Closed
-told_of New events now s e f g = cc
-told_of Requesting events now s e f g = cc
-told_of Authenticating events now s e f g = cc
-told_of Allocated events now s e f g = cc
-told_of Closed (x ∷ xs) now s e f g = cc
 told_of Closed [] now s e f g = rw g (by (timed_out_transaction (agent_of s) now))
   where
     u : State
@@ -179,6 +162,7 @@ told_of Closed [] now s e f g = rw g (by (timed_out_transaction (agent_of s) now
     by : (o : Option Transaction) → (option_map_or (λ (t : Transaction). timed_step Closed (Some t.id) now (transaction_ended t.id u)) o (timed_step Closed None now u)).0 ≡ Do.Closed
     by None = refl
     by (Some t) = refl
+told_of p events now s e f g = cc
 
 pub closed-told : (now : ℕ) (s : State) → s.phase ≡ Closed → s.events ≡ [] → has_reply s ≡ false → (poll_step now s).0 ≡ Do.Closed
 closed-told now s = told_of s.phase s.events now s

@@ -150,11 +150,9 @@ flat_map-none f (x ∷ xs) none = rw (none x) (flat_map-none f xs none)
 
 idle_silent : (now m : ℕ) (t : State) → m < least_due now t → is_paused m t ≡ false → (p : Phase) → p ≢ New → idle_step p m t ≡ (None, t)
 idle_silent now m t before idle New old = absurd (old refl)
-idle_silent now m t before idle Requesting old = refl
-idle_silent now m t before idle Authenticating old = refl
-idle_silent now m t before idle Closed old = refl
 idle_silent now m t before idle Allocated old =
     rw (flat_map-none (refreshes_in m t) (allocations t) (no_refreshes now m t before idle)) refl
+idle_silent now m t before idle p old = refl
 
 -- what is sent if nothing is to be retransmitted
 not_due-transmit : (m : ℕ) (t : State) → due (agent_of t) m ≡ None → transmit_step m t ≡ (if is_paused m t then reply_step t else queue_step m t)
@@ -199,17 +197,12 @@ lasts now m t ready until g h = by g h (ready.alive g h)
     by (Allocation a) h alive = λ used. due_end (Allocation a) h a.expiry (rw (lt-ltb now a.expiry (alive used)) (inl refl))
     by (Permission ip (Active expiry)) h alive = due_end (Permission ip (Active expiry)) h expiry (inl refl)
     by (Channel number peer (Active expiry)) h alive = due_end (Channel number peer (Active expiry)) h expiry (inl refl)
-    by (Permission ip Pending) h alive = tt
-    by (Permission ip (Reserved until)) h alive = tt
-    by (Channel number peer Pending) h alive = tt
-    by (Channel number peer (Reserved until)) h alive = tt
-    by (Connect peer) h alive = tt
-    by (Offer offer) h alive = tt
     by (Connection c) h alive = of c.deadline refl
       where
         of : (d : Option ℕ) → c.deadline ≡ d → IfSome c.deadline (λ deadline. m ≤ deadline)
         of None e = rw e tt
         of (Some deadline) e = rw e (due_end (Connection c) h deadline (rw e (inl refl)))
+    by g h alive = tt
 
 -- a client that is ready is idle before the earliest of the times at which something is due
 pub ready-silent : (now m : ℕ) (t : State) → IsReady now t → m ≤ least_due now t → IsIdleUntil now m t
@@ -299,10 +292,9 @@ refresh-sends now t [] e p h = absurd h
 refresh-sends now t (q ∷ qs) e p h = rw e refl
 
 same_family-swap : (a b : AddressFamily) → same_family a b ≡ true → same_family b a ≡ true
-same_family-swap IPV4 IPV4 e = refl
-same_family-swap IPV6 IPV6 e = refl
 same_family-swap IPV4 IPV6 e = e
 same_family-swap IPV6 IPV4 e = e
+same_family-swap a b e = refl
 
 same_family-self : (a : AddressFamily) → same_family a a ≡ true
 same_family-self IPV4 = refl
@@ -359,11 +351,7 @@ refresh-busy now t ready g h due = by g h due
         lives a (Allocation b, inside, same) used =
             let equal : b ≡ a = same_Some b a same in
             rw equal at (ready.alive (Allocation b) inside) used
-        lives a (Permission ip progress, inside, same) used = absurd (none-some _ same)
-        lives a (Channel number peer progress, inside, same) used = absurd (none-some _ same)
-        lives a (Connect peer, inside, same) used = absurd (none-some _ same)
-        lives a (Offer offer, inside, same) used = absurd (none-some _ same)
-        lives a (Connection c, inside, same) used = absurd (none-some _ same)
+        lives a (_, inside, same) used = absurd (none-some _ same)
 
     by : (g : Grant) → Has g t.grants → is_refresh_due now t g ≡ true → Sends
     by (Allocation a) h due =
@@ -376,13 +364,7 @@ refresh-busy now t ready g h due = by g h due
     by (Channel number peer (Active expiry)) h due =
         within (Channel number peer (Active expiry)) h due 1 (inr (inl refl)) refl (ForChannel number peer) (rw (lt-ltb now expiry (ready.alive (Channel number peer (Active expiry)) h)) refl)
         (find_allocation (family_of peer) t) refl (used-due now t (Channel number peer (Active expiry)) due)
-    by (Permission ip Pending) h due = absurd (untimed now t (Permission ip Pending) refl due)
-    by (Permission ip (Reserved until)) h due = absurd (untimed now t (Permission ip (Reserved until)) refl due)
-    by (Channel number peer Pending) h due = absurd (untimed now t (Channel number peer Pending) refl due)
-    by (Channel number peer (Reserved until)) h due = absurd (untimed now t (Channel number peer (Reserved until)) refl due)
-    by (Connect peer) h due = absurd (untimed now t (Connect peer) refl due)
-    by (Offer offer) h due = absurd (untimed now t (Offer offer) refl due)
-    by (Connection c) h due = absurd (untimed now t (Connection c) refl due)
+    by g h due = absurd (untimed now t g refl due)
 
 -- the expiry of a grant that is active
 end-later : (now m : ℕ) (g : Grant) → Alive now g → Has m (end_of now g) → now < m
@@ -399,12 +381,6 @@ end-later now m (Permission ip (Active expiry)) alive (inl same) = rw same alive
 end-later now m (Permission ip (Active expiry)) alive (inr none) = absurd none
 end-later now m (Channel number peer (Active expiry)) alive (inl same) = rw same alive
 end-later now m (Channel number peer (Active expiry)) alive (inr none) = absurd none
-end-later now m (Permission ip Pending) alive h = absurd h
-end-later now m (Permission ip (Reserved until)) alive h = absurd h
-end-later now m (Channel number peer Pending) alive h = absurd h
-end-later now m (Channel number peer (Reserved until)) alive h = absurd h
-end-later now m (Connect peer) alive h = absurd h
-end-later now m (Offer offer) alive h = absurd h
 end-later now m (Connection c) alive h = by c.deadline refl
   where
     by : (d : Option ℕ) → c.deadline ≡ d → now < m
@@ -414,6 +390,7 @@ end-later now m (Connection c) alive h = by c.deadline refl
         at : (m ≡ deadline) ⊎ ⊥ → now < m
         at (inl same) = rw same (rw e at alive)
         at (inr none) = absurd none
+end-later now m g alive h = absurd h
 
 -- the time to refresh it, after the pause
 refresh-later : (now m : ℕ) (t : State) (g : Grant) → (is_refresh_due now t g ≡ true → now < pause_end t) → Has m (refresh_of t g) → now < m

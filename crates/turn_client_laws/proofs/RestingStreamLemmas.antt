@@ -25,10 +25,9 @@ no_frame-waits bytes h = by (begins_no_frame bytes) (frame_len bytes) h.0 refl
         absurd (h.1 (take k bytes) (drop k bytes) (sym (take-append-drop k bytes)) (IsWhole-IsFrame bytes k is))
 
 waits-in : (mode : Mode) (stream : Stream) → NeedsMoreBytes (record stream { mode = mode }) → ready_len (record stream { mode = mode }) ≡ None
-waits-in Control stream h = no_frame-waits stream.bytes h
-waits-in Waiting stream h = no_frame-waits stream.bytes h
 waits-in (Bound peer) stream h = rw h refl
 waits-in Broken stream h = refl
+waits-in mode stream h = no_frame-waits stream.bytes h
 
 drained-waits : (stream : Stream) → NeedsMoreBytes stream → is_ready stream ≡ false
 drained-waits stream h = rw (waits-in stream.mode stream h) refl

@@ -45,8 +45,7 @@ module _ (R : State → State → Type 0) (k : IsKept R) where
   frame_in_mode : (m : Mode) (stream : Stream) (frame : List ℕ) (now : ℕ) (s : State) → R s (frame_step (record stream { mode = m }) frame now s).1
   frame_in_mode Control stream frame now s = control-kept frame now s
   frame_in_mode Waiting stream frame now s = waiting-kept stream.local frame now s
-  frame_in_mode (Bound peer) stream frame now s = k.same s
-  frame_in_mode Broken stream frame now s = k.same s
+  frame_in_mode m stream frame now s = k.same s
 
   pub frame-kept : (stream : Stream) (frame : List ℕ) (now : ℕ) (s : State) → R s (frame_step stream frame now s).1
   frame-kept stream frame now s = frame_in_mode stream.mode stream frame now s
@@ -64,10 +63,9 @@ module _ (R : State → State → Type 0) (k : IsKept R) where
       (k.streams t (broken_at stream.local t).streams) (framed_by-kept stream now t (frame_len stream.bytes))
 
   turned_in_mode : (m : Mode) (stream : Stream) (now : ℕ) (t : State) → R t (detached_frame_step (record stream { mode = m }) now t).1
-  turned_in_mode Control stream now t = framed_stream_step-kept (record stream { mode = Control }) now t
-  turned_in_mode Waiting stream now t = framed_stream_step-kept (record stream { mode = Waiting }) now t
   turned_in_mode (Bound peer) stream now t = k.same t
   turned_in_mode Broken stream now t = k.same t
+  turned_in_mode m stream now t = framed_stream_step-kept (record stream { mode = m }) now t
 
   turn-kept : (stream : Stream) (now : ℕ) (s : State) → R s (next_frame_step stream now s).1
   turn-kept stream now s =
@@ -76,9 +74,7 @@ module _ (R : State → State → Type 0) (k : IsKept R) where
 
   go_on-kept : (next : State → Option Payload × State) (s : State) (p : Outcome × State) → R s p.1 → ((t : State) → R t (next t).1) → R s (go_on next p).1
   go_on-kept next s (PeerData payload, t) first more = first
-  go_on-kept next s (Handled, t) first more = k.trans s t (next t).1 first (more t)
-  go_on-kept next s (Ignored, t) first more = k.trans s t (next t).1 first (more t)
-  go_on-kept next s (PeerIcmp transport peer icmp, t) first more = k.trans s t (next t).1 first (more t)
+  go_on-kept next s (_, t) first more = k.trans s t (next t).1 first (more t)
 
   pub turns-kept : (n now : ℕ) (s : State) → R s (steps_until_payload n now s).1
   unfolding steps_until_payload
@@ -93,10 +89,9 @@ module _ (R : State → State → Type 0) (k : IsKept R) where
   poll_recv-kept now s = turns-kept (max_steps s) now s
 
   then_all-kept : (now : ℕ) (s : State) (p : Outcome × State) → R s p.1 → R s (then_all now p).1
-  then_all-kept now s (PeerData payload, t) first = first
-  then_all-kept now s (PeerIcmp transport peer icmp, t) first = first
   then_all-kept now s (Handled, t) first = k.trans s t (poll_recv_step now t).1 first (poll_recv-kept now t)
   then_all-kept now s (Ignored, t) first = k.trans s t (poll_recv_step now t).1 first (poll_recv-kept now t)
+  then_all-kept now s (_, t) first = first
 
   pub first_frame_step-kept : (stream : Stream) (piece : List ℕ) (now : ℕ) (s : State) → R s (first_frame_step stream piece now s).1
   first_frame_step-kept stream piece now s = turn-kept (record stream { bytes = stream.bytes ++ piece }) now s

@@ -36,38 +36,29 @@ Steadies s t = (FitsPhase s → FitsPhase t) × Keeps s t
 
 -- once something was sent, all holds after an allocation
 well : (p : Phase) (s : State) → 3 ≤ rank p → IsSome s.last_send → FitsPhase (record s { phase = p })
-well New s far sent = absurd (omega arith)
-well Requesting s far sent = absurd (omega arith)
-well Authenticating s far sent = absurd (omega arith)
 well Allocated s far sent = (λ e. cc, λ b. sent, λ q. sent, λ u. absurd u)
 well Closed s far sent = (λ e. cc, λ b. absurd b, λ q. sent, λ u. absurd u)
+well p s far sent = absurd (omega arith)
 
 -- ---- phases
 
 granted-rank : (p : Phase) → (IsUngranted p → ⊥) → 3 ≤ rank p
-granted-rank New granted = absurd (granted tt)
-granted-rank Requesting granted = absurd (granted tt)
-granted-rank Authenticating granted = absurd (granted tt)
 granted-rank Allocated granted = omega arith
 granted-rank Closed granted = omega arith
+granted-rank p granted = absurd (granted tt)
 
 rank-granted : (p : Phase) → 3 ≤ rank p → IsUngranted p → ⊥
-rank-granted New far ungranted = absurd (omega (arith, far))
-rank-granted Requesting far ungranted = absurd (omega (arith, far))
-rank-granted Authenticating far ungranted = absurd (omega (arith, far))
 rank-granted Allocated far ungranted = ungranted
 rank-granted Closed far ungranted = ungranted
+rank-granted p far ungranted = absurd (omega (arith, far))
 
 -- a client to which the server allocated stays one
 stays-granted : (s t : State) → GoesOn s t → (IsUngranted s.phase → ⊥) → IsUngranted t.phase → ⊥
 stays-granted s t on granted = rank-granted t.phase (omega (arith, granted-rank s.phase granted, on.0))
 
 counts-steady : (p : Phase) (challenges : ℕ) (s : State) → FitsPhase (record s { phase = p }) → FitsPhase (record s { phase = phase_after p; challenges = challenges })
-counts-steady New challenges s h = h
 counts-steady Requesting challenges s h = (λ e. cc, λ b. h.1 tt, h.2, λ u. h.3 tt)
-counts-steady Authenticating challenges s h = h
-counts-steady Allocated challenges s h = h
-counts-steady Closed challenges s h = h
+counts-steady p challenges s h = h
 
 -- ---- lists
 
@@ -143,10 +134,9 @@ leaves-steadies call s t leaves = (leaves-walk Steadies Steadies-KeepsAllEdits (
 
 orderly_in : (p : Phase) (s : State) → FitsPhase (record s { phase = p }) → FitsPhaseForPoll (record s { phase = p })
 orderly_in New s steady = record { nothing_sent = λ e. (steady.0 e).0; sent_before = λ n q. steady.2 q; no_grants = λ b. absurd b }
-orderly_in Requesting s steady = record { nothing_sent = λ e. cc; sent_before = λ n q. steady.2 q; no_grants = λ b. steady.3 tt }
-orderly_in Authenticating s steady = record { nothing_sent = λ e. cc; sent_before = λ n q. steady.2 q; no_grants = λ b. steady.3 tt }
 orderly_in Allocated s steady = record { nothing_sent = λ e. cc; sent_before = λ n q. steady.2 q; no_grants = λ b. absurd b }
 orderly_in Closed s steady = record { nothing_sent = λ e. cc; sent_before = λ n q. steady.2 q; no_grants = λ b. absurd b }
+orderly_in p s steady = record { nothing_sent = λ e. cc; sent_before = λ n q. steady.2 q; no_grants = λ b. steady.3 tt }
 
 pub steady-FitsPhaseForPoll : (s : State) → FitsPhase s → FitsPhaseForPoll s
 steady-FitsPhaseForPoll s = orderly_in s.phase s

@@ -31,104 +31,40 @@ contains-has x (y ∷ xs) (suc k, within, is) = inr (contains-has x xs (k, omega
 pub kept-same : (g : Grant) → IsActiveGrant g → IsSameGrant g g
 kept-same (Allocation a) h = (refl, refl)
 kept-same (Permission ip (Active expiry)) h = (refl, refl)
-kept-same (Permission ip Pending) h = absurd h
-kept-same (Permission ip (Reserved until)) h = absurd h
 kept-same (Channel number peer (Active expiry)) h = (refl, refl, refl)
-kept-same (Channel number peer Pending) h = absurd h
-kept-same (Channel number peer (Reserved until)) h = absurd h
-kept-same (Connect peer) h = absurd h
-kept-same (Offer offer) h = absurd h
 kept-same (Connection c) h = (refl, h)
+kept-same g h = absurd h
 
 -- what is kept was active
 pub kept-stood : (g h : Grant) → IsSameGrant g h → IsActiveGrant g
 kept-stood (Allocation a) h k = tt
 kept-stood (Permission ip (Active expiry)) h k = tt
-kept-stood (Permission ip Pending) h k = absurd k
-kept-stood (Permission ip (Reserved until)) h k = absurd k
 kept-stood (Channel number peer (Active expiry)) h k = tt
-kept-stood (Channel number peer Pending) h k = absurd k
-kept-stood (Channel number peer (Reserved until)) h k = absurd k
-kept-stood (Connect peer) h k = absurd k
-kept-stood (Offer offer) h k = absurd k
 kept-stood (Connection c) (Connection d) (e, none) = none
-kept-stood (Connection c) (Allocation a) k = absurd k
-kept-stood (Connection c) (Permission ip progress) k = absurd k
-kept-stood (Connection c) (Channel number peer progress) k = absurd k
-kept-stood (Connection c) (Connect peer) k = absurd k
-kept-stood (Connection c) (Offer offer) k = absurd k
+kept-stood g h k = absurd k
 
 allocation-kept : (a b : Relay) (i : Grant) → IsSameGrant (Allocation a) (Allocation b) → IsSameGrant (Allocation b) i → IsSameGrant (Allocation a) i
 allocation-kept a b (Allocation c) (e, d) (f, l) = (e ∙ f, d ∙ l)
-allocation-kept a b (Permission ip progress) k l = absurd l
-allocation-kept a b (Channel number peer progress) k l = absurd l
-allocation-kept a b (Connect peer) k l = absurd l
-allocation-kept a b (Offer offer) k l = absurd l
-allocation-kept a b (Connection c) k l = absurd l
+allocation-kept a b i k l = absurd l
 
 permission-kept : (a b : IpAddr) (m n : ℕ) (i : Grant) → (a ≡ b) × (m ≡ n) → IsSameGrant (Permission b (Active n)) i → IsSameGrant (Permission a (Active m)) i
 permission-kept a b m n (Permission ip (Active expiry)) (e, d) (f, l) = (e ∙ f, d ∙ l)
-permission-kept a b m n (Permission ip Pending) k l = absurd l
-permission-kept a b m n (Permission ip (Reserved until)) k l = absurd l
-permission-kept a b m n (Allocation c) k l = absurd l
-permission-kept a b m n (Channel number peer progress) k l = absurd l
-permission-kept a b m n (Connect peer) k l = absurd l
-permission-kept a b m n (Offer offer) k l = absurd l
-permission-kept a b m n (Connection c) k l = absurd l
+permission-kept a b m n i k l = absurd l
 
 channel-kept : (a b : ℕ) (p q : SocketAddr) (m n : ℕ) (i : Grant) → (a ≡ b) × (p ≡ q) × (m ≡ n) → IsSameGrant (Channel b q (Active n)) i → IsSameGrant (Channel a p (Active m)) i
 channel-kept a b p q m n (Channel number peer (Active expiry)) (e, f, d) (g, h, l) = (e ∙ g, f ∙ h, d ∙ l)
-channel-kept a b p q m n (Channel number peer Pending) k l = absurd l
-channel-kept a b p q m n (Channel number peer (Reserved until)) k l = absurd l
-channel-kept a b p q m n (Allocation c) k l = absurd l
-channel-kept a b p q m n (Permission ip progress) k l = absurd l
-channel-kept a b p q m n (Connect peer) k l = absurd l
-channel-kept a b p q m n (Offer offer) k l = absurd l
-channel-kept a b p q m n (Connection c) k l = absurd l
+channel-kept a b p q m n i k l = absurd l
 
 connection-kept : (c d : DataConnection) (i : Grant) → IsSameGrant (Connection c) (Connection d) → IsSameGrant (Connection d) i → IsSameGrant (Connection c) i
 connection-kept c d (Connection f) (e, none) (g, later) = (e ∙ g, none)
-connection-kept c d (Allocation a) k l = absurd l
-connection-kept c d (Permission ip progress) k l = absurd l
-connection-kept c d (Channel number peer progress) k l = absurd l
-connection-kept c d (Connect peer) k l = absurd l
-connection-kept c d (Offer offer) k l = absurd l
+connection-kept c d i k l = absurd l
 
 pub kept-trans : (g h i : Grant) → IsSameGrant g h → IsSameGrant h i → IsSameGrant g i
 kept-trans (Allocation a) (Allocation b) i k l = allocation-kept a b i k l
-kept-trans (Allocation a) (Permission ip progress) i k l = absurd k
-kept-trans (Allocation a) (Channel number peer progress) i k l = absurd k
-kept-trans (Allocation a) (Connect peer) i k l = absurd k
-kept-trans (Allocation a) (Offer offer) i k l = absurd k
-kept-trans (Allocation a) (Connection c) i k l = absurd k
 kept-trans (Permission a (Active m)) (Permission b (Active n)) i k l = permission-kept a b m n i k l
-kept-trans (Permission a (Active m)) (Permission b Pending) i k l = absurd k
-kept-trans (Permission a (Active m)) (Permission b (Reserved until)) i k l = absurd k
-kept-trans (Permission a (Active m)) (Allocation b) i k l = absurd k
-kept-trans (Permission a (Active m)) (Channel number peer progress) i k l = absurd k
-kept-trans (Permission a (Active m)) (Connect peer) i k l = absurd k
-kept-trans (Permission a (Active m)) (Offer offer) i k l = absurd k
-kept-trans (Permission a (Active m)) (Connection c) i k l = absurd k
-kept-trans (Permission a Pending) h i k l = absurd k
-kept-trans (Permission a (Reserved until)) h i k l = absurd k
 kept-trans (Channel a p (Active m)) (Channel b q (Active n)) i k l = channel-kept a b p q m n i k l
-kept-trans (Channel a p (Active m)) (Channel b q Pending) i k l = absurd k
-kept-trans (Channel a p (Active m)) (Channel b q (Reserved until)) i k l = absurd k
-kept-trans (Channel a p (Active m)) (Allocation b) i k l = absurd k
-kept-trans (Channel a p (Active m)) (Permission ip progress) i k l = absurd k
-kept-trans (Channel a p (Active m)) (Connect peer) i k l = absurd k
-kept-trans (Channel a p (Active m)) (Offer offer) i k l = absurd k
-kept-trans (Channel a p (Active m)) (Connection c) i k l = absurd k
-kept-trans (Channel a p Pending) h i k l = absurd k
-kept-trans (Channel a p (Reserved until)) h i k l = absurd k
-kept-trans (Connect peer) h i k l = absurd k
-kept-trans (Offer offer) h i k l = absurd k
 kept-trans (Connection c) (Connection d) i k l = connection-kept c d i k l
-kept-trans (Connection c) (Allocation a) i k l = absurd k
-kept-trans (Connection c) (Permission ip progress) i k l = absurd k
-kept-trans (Connection c) (Channel number peer progress) i k l = absurd k
-kept-trans (Connection c) (Connect peer) i k l = absurd k
-kept-trans (Connection c) (Offer offer) i k l = absurd k
+kept-trans g h i k l = absurd k
 
 -- ---- lists
 

@@ -38,13 +38,11 @@ IsOpened s t = Same s t ⊎ ((local : SocketAddr) × (t.streams ≡ (with_stream
 
 opened-one : (id : ℕ) (peer local : SocketAddr) (origin : Origin) (now : ℕ) (s : State) → (socket_opened id peer local origin now s).streams ≡ (with_stream local s).streams
 opened-one id peer local OwnConnect now s = refl
-opened-one id peer local ServerIndication now s = refl
-opened-one id peer local (ServerRequest request) now s = refl
+opened-one id peer local origin now s = refl
 
 refused-same : (id : ℕ) (peer : SocketAddr) (origin : Origin) (s : State) → Same s (socket_refused id peer origin s)
 refused-same id peer OwnConnect s = refl
-refused-same id peer ServerIndication s = refl
-refused-same id peer (ServerRequest request) s = refl
+refused-same id peer origin s = refl
 
 either-opened : {A : Type 0} (b : Bool) (s : State) (x y : A × State) → IsOpened s x.1 → IsOpened s y.1 → IsOpened s (cond b x y).1
 either-opened true s x y p q = p

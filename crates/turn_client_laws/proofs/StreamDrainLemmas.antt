@@ -32,9 +32,7 @@ framed bytes = cond (begins_no_frame bytes) (Some (length bytes)) (frame_len byt
 pub ready-waits : (mode : Mode) (stream : Stream) (bytes : List ℕ) → is_ready (record stream { mode = mode; bytes = bytes }) ≡ true → 0 < length bytes
 ready-waits mode stream (b ∷ bytes) e = omega arith
 ready-waits Control stream [] e = cc
-ready-waits Waiting stream [] e = cc
-ready-waits (Bound peer) stream [] e = cc
-ready-waits Broken stream [] e = cc
+ready-waits mode stream [] e = cc
 
 -- ---- a step decreases what the streams hold
 
@@ -161,14 +159,9 @@ framed-lighter stream now s found = by (begins_no_frame stream.bytes) (frame_len
 turned-lighter : (m : Mode) (stream : Stream) (now : ℕ) (s : State) → find is_ready s.streams ≡ Some (record stream { mode = m })
     → weight (next_frame_step (record stream { mode = m }) now s).1.streams < weight s.streams
 unfolding framed
-turned-lighter Control stream now s found =
-    let u = record stream { mode = Control } in
-    framed-lighter u now s found (found-ready s.streams u found)
-turned-lighter Waiting stream now s found =
-    let u = record stream { mode = Waiting } in
-    framed-lighter u now s found (found-ready s.streams u found)
 turned-lighter (Bound peer) stream now s found = emptied-lighter (record stream { mode = Bound peer }) s found
 turned-lighter Broken stream now s found = emptied-lighter (record stream { mode = Broken }) s found
+turned-lighter m stream now s found = let u = record stream { mode = m } in framed-lighter u now s found (found-ready s.streams u found)
 
 pub turn-lighter : (stream : Stream) (now : ℕ) (s : State) → find is_ready s.streams ≡ Some stream → weight (next_frame_step stream now s).1.streams < weight s.streams
 turn-lighter stream now s found = turned-lighter stream.mode stream now s found
@@ -178,9 +171,7 @@ turn-lighter stream now s found = turned-lighter stream.mode stream now s found
 -- two ways to go on that agree on all that is lighter
 go_on-same : (next other : State → Option Payload × State) (p : Outcome × State) → next p.1 ≡ other p.1 → go_on next p ≡ go_on other p
 go_on-same next other (PeerData payload, t) same = refl
-go_on-same next other (Handled, t) same = same
-go_on-same next other (Ignored, t) same = same
-go_on-same next other (PeerIcmp transport peer icmp, t) same = same
+go_on-same next other (_, t) same = same
 
 none-ready : (now : ℕ) (s : State) → weight s.streams ≤ 0 → (o : Option Stream) → find is_ready s.streams ≡ o → o ≡ None
 none-ready now s empty None e = refl
@@ -217,9 +208,7 @@ go_on-done next (PeerData payload, t) done = λ h. absurd (some-none h)
   where
     some-none : Some (record payload { place = None }) ≡ None → ⊥
     some-none h = cc
-go_on-done next (Handled, t) done = done
-go_on-done next (Ignored, t) done = done
-go_on-done next (PeerIcmp transport peer icmp, t) done = done
+go_on-done next (_, t) done = done
 
 pub turns-done : (n now : ℕ) (s : State) → weight s.streams ≤ n → IsDone (steps_until_payload n now s)
 unfolding steps_until_payload
@@ -253,14 +242,13 @@ framed-HasNoFrame bytes e = ((framed-none bytes e).0, by)
 
 drained-in : (mode : Mode) (stream : Stream) → ready_len (record stream { mode = mode }) ≡ None → NeedsMoreBytes (record stream { mode = mode })
 unfolding framed
-drained-in Control stream e = framed-HasNoFrame stream.bytes e
-drained-in Waiting stream e = framed-HasNoFrame stream.bytes e
 drained-in Broken stream e = tt
 drained-in (Bound peer) stream e = by stream.bytes e
   where
     by : (bytes : List ℕ) → ready_len (record stream { mode = Bound peer; bytes = bytes }) ≡ None → bytes ≡ []
     by [] f = refl
     by (b ∷ bytes) f = cc
+drained-in mode stream e = framed-HasNoFrame stream.bytes e
 
 all-drained : (xs : List Stream) → find is_ready xs ≡ None → All NeedsMoreBytes xs
 all-drained [] e = All-nil NeedsMoreBytes
@@ -277,8 +265,6 @@ poll_recv-drained now s none =
 -- ---- a piece of the control stream
 
 then_all-drained : (now : ℕ) (p : Outcome × State) → HasNoPeer (then_all now p).0 → All NeedsMoreBytes (then_all now p).1.streams
-then_all-drained now (PeerData payload, t) h = absurd h
-then_all-drained now (PeerIcmp transport peer icmp, t) h = absurd h
 then_all-drained now (Handled, t) h = by (poll_recv_step now t).0 refl h
   where
     by : (o : Option Payload) → (poll_recv_step now t).0 ≡ o → HasNoPeer (option_map_or PeerData o Handled) → All NeedsMoreBytes (poll_recv_step now t).1.streams
@@ -289,13 +275,12 @@ then_all-drained now (Ignored, t) h = by (poll_recv_step now t).0 refl h
     by : (o : Option Payload) → (poll_recv_step now t).0 ≡ o → HasNoPeer (option_map_or PeerData o Ignored) → All NeedsMoreBytes (poll_recv_step now t).1.streams
     by None e k = poll_recv-drained now t e
     by (Some payload) e k = absurd k
+then_all-drained now (_, t) h = absurd h
 
 piece_in : (mode : Mode) (stream : Stream) (piece : List ℕ) (now : ℕ) (s : State) → mode ≡ Control → HasNoPeer (piece_step (record stream { mode = mode }) piece now s).0
     → All NeedsMoreBytes (piece_step (record stream { mode = mode }) piece now s).1.streams
 piece_in Control stream piece now s e = then_all-drained now (first_frame_step (record stream { mode = Control }) piece now s)
-piece_in Waiting stream piece now s e = cc
-piece_in (Bound peer) stream piece now s e = cc
-piece_in Broken stream piece now s e = cc
+piece_in mode stream piece now s e = cc
 
 pub piece-drained : (stream : Stream) (piece : List ℕ) (now : ℕ) (s : State) → stream.mode ≡ Control → HasNoPeer (piece_step stream piece now s).0
     → All NeedsMoreBytes (piece_step stream piece now s).1.streams

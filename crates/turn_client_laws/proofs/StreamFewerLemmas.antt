@@ -36,9 +36,7 @@ IsLessThan n p = IsSome p.0 → weight p.1.streams < n
 
 go_on-less : (next : State → Option Payload × State) (n : ℕ) (p : Outcome × State) → weight p.1.streams < n → IsLessThan (weight p.1.streams) (next p.1) → IsLessThan n (go_on next p)
 go_on-less next n (PeerData payload, t) first more = λ h. first
-go_on-less next n (Handled, t) first more = λ h. let less = more h in omega (arith, first, less)
-go_on-less next n (Ignored, t) first more = λ h. let less = more h in omega (arith, first, less)
-go_on-less next n (PeerIcmp transport peer icmp, t) first more = λ h. let less = more h in omega (arith, first, less)
+go_on-less next n (_, t) first more = λ h. let less = more h in omega (arith, first, less)
 
 pub turns-less : (n now : ℕ) (s : State) → IsLessThan (weight s.streams) (steps_until_payload n now s)
 unfolding steps_until_payload

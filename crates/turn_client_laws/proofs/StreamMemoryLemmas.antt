@@ -42,9 +42,7 @@ turns_end-apart now s u (t, (n, led), broken) h = by (find is_ready t.streams) b
 
 control-whole : (mode : Mode) → mode ≡ Control → mode ≢ Broken
 control-whole Control e = λ f. cc
-control-whole Waiting e = λ f. cc
-control-whole (Bound peer) e = λ f. cc
-control-whole Broken e = λ f. cc
+control-whole mode e = λ f. cc
 
 before-apart : (to : SocketAddr) (piece : List ℕ) (now : ℕ) (s u : State) → IsBehind to piece now s u → StayApart s u
 before-apart to piece now s u (stream, f, inl (mode, e)) h =
@@ -61,12 +59,6 @@ recv_end-apart to piece now s t (inr (over, some, later)) h = by (before_others 
     by (Some u) e end = turns_end-apart now u t end (before-apart to piece now s u (before-IsBehind to piece now s u e) h)
 
 memory-apart : (call : Call) (s t : State) → EndsWithoutMemory call s t → StayApart s t
-memory-apart (Delete now) s t e = equal-apart s s t e (λ h. h)
-memory-apart (CreatePermission transport peer now) s t e = equal-apart s s t e (λ h. h)
-memory-apart (BindChannel transport peer now) s t e = equal-apart s s t e (λ h. h)
-memory-apart (TcpConnect peer now) s t e = equal-apart s s t e (λ h. h)
-memory-apart (AllocatedTcpSocket id tuple peer local now) s t e = equal-apart s s t e (λ h. h)
-memory-apart (TcpClosed local remote now) s t e = equal-apart s s t e (λ h. h)
 memory-apart (SendTo transport peer bytes now) s t none = absurd none
 memory-apart (Recv packet now) s t (asks, end) = recv_end-apart packet.to packet.payload now s t end
 memory-apart (PollRecv now) s t h = turns_end-apart now s t h
@@ -77,6 +69,7 @@ memory-apart RelayedAddresses s t none = absurd none
 memory-apart (Permissions transport relayed) s t none = absurd none
 memory-apart (HavePermission transport to) s t none = absurd none
 memory-apart ProtocolError s t e = equal-apart s _ t e (λ h. h)
+memory-apart call s t e = equal-apart s s t e (λ h. h)
 
 pub leaves-apart : (call : Call) (s t : State) → Leaves call s t → StayApart s t
 leaves-apart call s t (inl e) = equal-apart s (state_after call s) t e (call-apart call s)

@@ -62,19 +62,9 @@ answered-rebound c message now s = by (bind_judgement s c.local message) refl
     by : (j : Judgement) → bind_judgement s c.local message ≡ j → Rebound s (bind_answered c message now s)
     by (Challenged d) e = rw e (inl (again-same c (id_of message) d now s))
     by SignedSuccess e = rw e (inr (c.local, c.peer, refl))
-    by SignedError e = rw e (inl refl)
-    by Unrelated e = rw e (inl refl)
-    by Fatal e = rw e (inl refl)
-    by LateResponse e = rw e (inl refl)
-    by DataIndication e = rw e (inl refl)
-    by ConnectionAttempt e = rw e (inl refl)
-    by SignedRequest e = rw e (inl refl)
+    by j e = rw e (inl refl)
 
 bind_in_phase : (p : Phase) (local : SocketAddr) (message : List ℕ) (now : ℕ) (s : State) → Rebound (record s { phase = p }) (bind_step local message now (record s { phase = p }))
-bind_in_phase New local message now s = inl refl
-bind_in_phase Requesting local message now s = inl refl
-bind_in_phase Authenticating local message now s = inl refl
-bind_in_phase Closed local message now s = inl refl
 bind_in_phase Allocated local message now s = by (connection_at local s) refl
   where
     u : State
@@ -83,6 +73,7 @@ bind_in_phase Allocated local message now s = by (connection_at local s) refl
     by : (o : Option DataConnection) → connection_at local s ≡ o → Rebound u (bind_step local message now u)
     by None e = rw e (inl refl)
     by (Some c) e = rw e (rebound-cond (eqb (method_in message) connection_bind_method) u _ _ (answered-rebound c message now u) (inl refl))
+bind_in_phase p local message now s = inl refl
 
 bind-rebound : (local : SocketAddr) (message : List ℕ) (now : ℕ) (s : State) → Rebound s (bind_step local message now s)
 bind-rebound local message now s = bind_in_phase s.phase local message now s
@@ -100,8 +91,7 @@ frame_in_mode Control stream frame now s =
 frame_in_mode Waiting stream frame now s =
     either (not (begins_message frame)) s (Ignored, s) _ (inl refl)
     (either (is_message frame) s (Handled, bind_step stream.local frame now s) (Handled, s) (bind-rebound stream.local frame now s) (inl refl))
-frame_in_mode (Bound peer) stream frame now s = inl refl
-frame_in_mode Broken stream frame now s = inl refl
+frame_in_mode m stream frame now s = inl refl
 
 pub frame-rebound : (stream : Stream) (frame : List ℕ) (now : ℕ) (s : State) → Rebound s (frame_step stream frame now s).1
 frame-rebound stream frame now s = frame_in_mode stream.mode stream frame now s

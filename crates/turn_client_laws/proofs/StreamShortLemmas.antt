@@ -46,10 +46,9 @@ no_frame-short bytes h are = by (ltb 3 (length bytes)) refl
     by false e = omega (arith, ltb-false 3 (length bytes) e)
 
 short_in : (mode : Mode) (stream : Stream) → NeedsMoreBytes (record stream { mode = mode }) → mode ≢ Broken → All (λ b. b < 256) stream.bytes → length stream.bytes < 65555
-short_in Control stream h not_broken are = no_frame-short stream.bytes h are
-short_in Waiting stream h not_broken are = no_frame-short stream.bytes h are
 short_in (Bound peer) stream h not_broken are = rw h (omega arith)
 short_in Broken stream h not_broken are = absurd (not_broken refl)
+short_in mode stream h not_broken are = no_frame-short stream.bytes h are
 
 pub drained-short : (stream : Stream) → NeedsMoreBytes stream → stream.mode ≢ Broken → All (λ b. b < 256) stream.bytes → length stream.bytes < 65555
 drained-short stream = short_in stream.mode stream

@@ -57,10 +57,9 @@ framed_stream_step-apart stream now t whole h = by (begins_no_frame stream.bytes
         bytes-apart stream.local (drop len stream.bytes) u.streams (rebound-NotBroken stream.local t u rebound whole) (rebound-apart t u rebound h)
 
 turned_in_mode : (m : Mode) (stream : Stream) (now : ℕ) (t : State) → NotBroken stream.local t.streams → StayApart t (detached_frame_step (record stream { mode = m }) now t).1
-turned_in_mode Control stream now t whole h = framed_stream_step-apart (record stream { mode = Control }) now t whole h
-turned_in_mode Waiting stream now t whole h = framed_stream_step-apart (record stream { mode = Waiting }) now t whole h
 turned_in_mode (Bound peer) stream now t whole h = h
 turned_in_mode Broken stream now t whole h = h
+turned_in_mode m stream now t whole h = framed_stream_step-apart (record stream { mode = m }) now t whole h
 
 turn-apart : (stream : Stream) (now : ℕ) (s : State) → NotBroken stream.local s.streams → StayApart s (next_frame_step stream now s).1
 unfolding bytes_by
@@ -70,16 +69,12 @@ turn-apart stream now s whole h =
 
 go_on-apart : (next : State → Option Payload × State) (s : State) (p : Outcome × State) → AreApart p.1 → ((t : State) → StayApart t (next t).1) → AreApart (go_on next p).1
 go_on-apart next s (PeerData payload, t) first more = first
-go_on-apart next s (Handled, t) first more = more t first
-go_on-apart next s (Ignored, t) first more = more t first
-go_on-apart next s (PeerIcmp transport peer icmp, t) first more = more t first
+go_on-apart next s (_, t) first more = more t first
 
 -- what is broken is not ready
 ready-whole : (mode : Mode) (stream : Stream) → is_ready (record stream { mode = mode }) ≡ true → mode ≢ Broken
-ready-whole Control stream e = λ f. cc
-ready-whole Waiting stream e = λ f. cc
-ready-whole (Bound peer) stream e = λ f. cc
 ready-whole Broken stream e = cc
+ready-whole mode stream e = λ f. cc
 
 pub turns-apart : (n now : ℕ) (s : State) → StayApart s (steps_until_payload n now s).1
 unfolding steps_until_payload
@@ -98,10 +93,9 @@ poll_recv-apart now s = turns-apart (max_steps s) now s
 -- ---- input
 
 then_all-apart : (now : ℕ) (p : Outcome × State) → StayApart p.1 (then_all now p).1
-then_all-apart now (PeerData payload, t) h = h
-then_all-apart now (PeerIcmp transport peer icmp, t) h = h
 then_all-apart now (Handled, t) h = poll_recv-apart now t h
 then_all-apart now (Ignored, t) h = poll_recv-apart now t h
+then_all-apart now (_, t) h = h
 
 pub first_frame_step-apart : (stream : Stream) (piece : List ℕ) (now : ℕ) (s : State) → NotBroken stream.local s.streams → StayApart s (first_frame_step stream piece now s).1
 first_frame_step-apart stream piece now s whole h = turn-apart (record stream { bytes = stream.bytes ++ piece }) now s whole h

@@ -63,10 +63,7 @@ pub record IsSettled (now : ℕ) (was : State) (given : Bool) (t : State) : Type
 
 not_new-false : (p : Phase) → p ≢ New → is_new p ≡ false
 not_new-false New old = absurd (old refl)
-not_new-false Requesting old = refl
-not_new-false Authenticating old = refl
-not_new-false Allocated old = refl
-not_new-false Closed old = refl
+not_new-false p old = refl
 
 ready-timely : (now : ℕ) (was t : State) (m : ℕ) → now ≤ 2 ^ 62 → IsReady now t → (m ≡ least_due now t) ⊎ (m ≡ max now (least_due now t)) → Timely now was (Do.WaitUntil m, t)
 ready-timely now was t m range ready (inl e) =
@@ -124,11 +121,8 @@ answer-timely now was given t settled = by t.closes t.phase (allocations t) refl
     by : (closes : List SocketAddr) (p : Phase) (relays : List Relay) → t.closes ≡ closes → p ≢ New → Timely now was (answer_by closes p relays given now t)
     by (local ∷ others) p relays e old = tt
     by [] Allocated [] e old = tt
-    by [] Allocated (a ∷ relays) e old = wakeup-timely now was (is_some given) t settled e
-    by [] Requesting relays e old = wakeup-timely now was (is_some given) t settled e
-    by [] Authenticating relays e old = wakeup-timely now was (is_some given) t settled e
-    by [] Closed relays e old = wakeup-timely now was (is_some given) t settled e
     by [] New relays e old = absurd (old refl)
+    by [] p relays e old = wakeup-timely now was (is_some given) t settled e
 
 -- ---- what timed out
 
@@ -201,8 +195,6 @@ given-timely now s orderly range no_reply no_offer x given p e = by p e
 
     by : (p : Phase) → s.phase ≡ p → Timely now s (timed_step p (Some x.id) now u)
     by New e = now-timely now s u (inr (inl (new-busy now u e (orderly.nothing_sent e))))
-    by Requesting e = tt
-    by Closed e = tt
     by Authenticating e = over (is_listed_for_allocation x.id u) e
     by Allocated e =
         let t = lapsed (Some x.id) now u in
@@ -213,6 +205,7 @@ given-timely now s orderly range no_reply no_offer x given p e = by p e
       where
         allocated_new : Allocated ≡ New → ⊥
         allocated_new f = cc
+    by p e = tt
 
 none-timely : (now : ℕ) (s : State) → FitsPhaseForPoll s → AllHaveAllocation s → now ≤ 2 ^ 62 → has_reply s ≡ false → next_offer s ≡ None → timed_out_transaction (agent_of s) now ≡ None → (p : Phase)
     → s.phase ≡ p → Timely now s (timed_step p None now s)

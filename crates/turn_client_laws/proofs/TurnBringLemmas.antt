@@ -54,24 +54,21 @@ module _ (P : State → Type 0) (Did : Input → Type 0) (k : IsBrought P Did) w
     where
       by : (b c : Bool) → is_message one.bytes ≡ c → P (cond {A = Outcome × State} b (channel_sent one.before one.bytes, one.before)
           (cond {A = Outcome × State} c (message_step one.bytes one.time one.before) (Handled, one.before))).1 → Brings one
-      by true c e h = inl h
       by false true e h = k.message one (rw of mode) e h
-      by false false e h = inl h
+      by b c e h = inl h
 
   waiting-brings : (one : Input) (stream : Stream) → one.stream ≡ Some stream → stream.mode ≡ Waiting → P (processed (record one { stream = Some (record stream { mode = Waiting }) })).1 → Brings one
   waiting-brings one stream of mode = by (not (begins_message one.bytes)) (is_message one.bytes) refl
     where
       by : (b c : Bool) → is_message one.bytes ≡ c → P (cond {A = Outcome × State} b (Ignored, one.before)
           (cond {A = Outcome × State} c (Handled, bind_step stream.local one.bytes one.time one.before) (Handled, one.before))).1 → Brings one
-      by true c e h = inl h
       by false true e h = k.binds one stream of mode e h
-      by false false e h = inl h
+      by b c e h = inl h
 
   turn_in_mode : (m : Mode) (one : Input) (stream : Stream) → one.stream ≡ Some stream → stream.mode ≡ m → P (processed (record one { stream = Some (record stream { mode = m }) })).1 → Brings one
   turn_in_mode Control one stream of mode h = control-brings one stream of mode h
   turn_in_mode Waiting one stream of mode h = waiting-brings one stream of mode h
-  turn_in_mode (Bound peer) one stream of mode h = inl h
-  turn_in_mode Broken one stream of mode h = inl h
+  turn_in_mode m one stream of mode h = inl h
 
   pub turn-brings : (one : Input) → P (processed one).1 → Brings one
   turn-brings one = by one.stream refl
@@ -135,20 +132,7 @@ module _ (P : State → Type 0) (Did : Input → Type 0) (k : IsBrought P Did) w
     found-brings : (call : Call) (s : State) → P (state_after call s) → Brought call s
     found-brings (Recv packet now) s h = by-turn (Recv packet now) s (does-brings (Recv packet now) s (calls-do (Recv packet now) s tt) h)
     found-brings (PollRecv now) s h = by-turn (PollRecv now) s (does-brings (PollRecv now) s (calls-do (PollRecv now) s tt) h)
-    found-brings (Delete now) s h = by-other (Delete now) s (others (Delete now) s (λ is. is) h)
-    found-brings (CreatePermission transport peer now) s h = by-other (CreatePermission transport peer now) s (others (CreatePermission transport peer now) s (λ is. is) h)
-    found-brings (BindChannel transport peer now) s h = by-other (BindChannel transport peer now) s (others (BindChannel transport peer now) s (λ is. is) h)
-    found-brings (TcpConnect peer now) s h = by-other (TcpConnect peer now) s (others (TcpConnect peer now) s (λ is. is) h)
-    found-brings (AllocatedTcpSocket id tuple peer local now) s h = by-other (AllocatedTcpSocket id tuple peer local now) s (others (AllocatedTcpSocket id tuple peer local now) s (λ is. is) h)
-    found-brings (TcpClosed local remote now) s h = by-other (TcpClosed local remote now) s (others (TcpClosed local remote now) s (λ is. is) h)
-    found-brings (SendTo transport peer bytes now) s h = by-other (SendTo transport peer bytes now) s (others (SendTo transport peer bytes now) s (λ is. is) h)
-    found-brings (Poll now) s h = by-other (Poll now) s (others (Poll now) s (λ is. is) h)
-    found-brings (PollTransmit now) s h = by-other (PollTransmit now) s (others (PollTransmit now) s (λ is. is) h)
-    found-brings PollEvent s h = by-other PollEvent s (others PollEvent s (λ is. is) h)
-    found-brings RelayedAddresses s h = by-other RelayedAddresses s (others RelayedAddresses s (λ is. is) h)
-    found-brings (Permissions transport relayed) s h = by-other (Permissions transport relayed) s (others (Permissions transport relayed) s (λ is. is) h)
-    found-brings (HavePermission transport to) s h = by-other (HavePermission transport to) s (others (HavePermission transport to) s (λ is. is) h)
-    found-brings ProtocolError s h = by-other ProtocolError s (others ProtocolError s (λ is. is) h)
+    found-brings call s h = by-other call s (others call s (λ is. is) h)
 
     ended-brings : (s t : State) → t ≡ closed s → P t → P s
     ended-brings s t e h = k.ended s (subst P e h)
@@ -157,12 +141,6 @@ module _ (P : State → Type 0) (Did : Input → Type 0) (k : IsBrought P Did) w
     none-brings : (call : Call) (s t : State) → EndsWithoutMemory call s t → P t → Brought call s
     none-brings (Recv packet now) s t end h = by-turn (Recv packet now) s (end-brings (Recv packet now) s t (calls-end (Recv packet now) s t tt end) h)
     none-brings (PollRecv now) s t end h = by-turn (PollRecv now) s (end-brings (PollRecv now) s t (calls-end (PollRecv now) s t tt end) h)
-    none-brings (Delete now) s t e h = inl (subst P e h)
-    none-brings (CreatePermission transport peer now) s t e h = inl (subst P e h)
-    none-brings (BindChannel transport peer now) s t e h = inl (subst P e h)
-    none-brings (TcpConnect peer now) s t e h = inl (subst P e h)
-    none-brings (AllocatedTcpSocket id tuple peer local now) s t e h = inl (subst P e h)
-    none-brings (TcpClosed local remote now) s t e h = inl (subst P e h)
     none-brings (SendTo transport peer bytes now) s t none h = absurd none
     none-brings (Poll now) s t e h = inl (ended-brings s t e h)
     none-brings (PollTransmit now) s t e h = inl (ended-brings s t e h)
@@ -171,6 +149,7 @@ module _ (P : State → Type 0) (Did : Input → Type 0) (k : IsBrought P Did) w
     none-brings (Permissions transport relayed) s t none h = absurd none
     none-brings (HavePermission transport to) s t none h = absurd none
     none-brings ProtocolError s t e h = inl (ended-brings s t e h)
+    none-brings call s t e h = inl (subst P e h)
 
     pub leaves-bring : (call : Call) (s t : State) → Leaves call s t → P t → Brought call s
     leaves-bring call s t (inl e) h = found-brings call s (subst P e h)

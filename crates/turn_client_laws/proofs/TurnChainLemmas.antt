@@ -103,10 +103,9 @@ framed-leads l stream now t = by (begins_no_frame stream.bytes) (frame_len strea
         (differs-same t, bytes-differs stream.local (drop len stream.bytes) (processed one).1)
 
 turned_in_mode : (m : Mode) (l : Bool) (stream : Stream) (now : ℕ) (t : State) → InputsLead (taken_in l (record stream { mode = m }) now t) t (detached_frame_step (record stream { mode = m }) now t).1
-turned_in_mode Control l stream now t = framed-leads l (record stream { mode = Control }) now t
-turned_in_mode Waiting l stream now t = framed-leads l (record stream { mode = Waiting }) now t
 turned_in_mode (Bound peer) l stream now t = (differs-same t, differs-same t)
 turned_in_mode Broken l stream now t = differs-same t
+turned_in_mode m l stream now t = framed-leads l (record stream { mode = m }) now t
 
 turn-leads : (l : Bool) (stream : Stream) (now : ℕ) (s : State) → InputsLead (stream_inputs_taken l stream now s) s (next_frame_step stream now s).1
 turn-leads l stream now s =
@@ -118,9 +117,7 @@ turn-leads l stream now s =
 go_on-leads : (next : State → Option Payload × State) (later : State → List Input) (front : List Input) (s : State) (p : Outcome × State) → InputsLead front s p.1
     → ((t : State) → InputsLead (later t) t (next t).1) → InputsLead (front ++ unless_given (payload_in p.0) (later p.1)) s (go_on next p).1
 go_on-leads next later front s (PeerData payload, t) first more = leads-append front [] s t t first (differs-same t)
-go_on-leads next later front s (Handled, t) first more = leads-append front (later t) s t (next t).1 first (more t)
-go_on-leads next later front s (Ignored, t) first more = leads-append front (later t) s t (next t).1 first (more t)
-go_on-leads next later front s (PeerIcmp transport peer icmp, t) first more = leads-append front (later t) s t (next t).1 first (more t)
+go_on-leads next later front s (_, t) first more = leads-append front (later t) s t (next t).1 first (more t)
 
 pub turns-lead : (n now : ℕ) (s : State) → InputsLead (inputs_taken n now s) s (steps_until_payload n now s).1
 unfolding steps_until_payload inputs_taken
@@ -138,10 +135,9 @@ poll_recv-leads now s = turns-lead (max_steps s) now s
 -- ---- a piece of a stream
 
 then_all-leads : (now : ℕ) (front : List Input) (s : State) (p : Outcome × State) → InputsLead front s p.1 → InputsLead (front ++ then_taken now p) s (then_all now p).1
-then_all-leads now front s (PeerData payload, t) first = leads-append front [] s t t first (differs-same t)
-then_all-leads now front s (PeerIcmp transport peer icmp, t) first = leads-append front [] s t t first (differs-same t)
 then_all-leads now front s (Handled, t) first = leads-append front (poll_recv_inputs now t) s t (poll_recv_step now t).1 first (poll_recv-leads now t)
 then_all-leads now front s (Ignored, t) first = leads-append front (poll_recv_inputs now t) s t (poll_recv_step now t).1 first (poll_recv-leads now t)
+then_all-leads now front s (_, t) first = leads-append front [] s t t first (differs-same t)
 
 pub fed-leads : (stream : Stream) (piece : List ℕ) (now : ℕ) (s : State) → InputsLead (fed_taken stream piece now s) s (first_frame_step stream piece now s).1
 fed-leads stream piece now s = turn-leads (is_front stream.bytes) (stream_with_piece stream piece) now s
@@ -181,8 +177,7 @@ recv_over Udp transport from to bytes now s = by (is_from_server transport from 
 
     by : (b c : Bool) → Does (cond b (cond c (one ∷ []) []) []) u (cond {A = Outcome × State} b (cond {A = Outcome × State} c (datagram_step bytes now u) (Ignored, u)) (Ignored, u)).1
     by true true = inl (differs-same u, differs-same (processed one).1)
-    by true false = inl (differs-same u)
-    by false c = inl (differs-same u)
+    by b c = inl (differs-same u)
 recv_over Tcp transport from to bytes now s = by (is_from_server transport from u) (stream_at to s)
   where
     u : State
@@ -198,8 +193,7 @@ recv_over Tcp transport from to bytes now s = by (is_from_server transport from 
 
     by : (b : Bool) (o : Option Stream) → Does (cond b (turns_by o) []) u (cond {A = Outcome × State} b (by_stream o) (Ignored, u)).1
     by true (Some stream) = stream-does stream bytes now u
-    by true None = inl (differs-same u)
-    by false o = inl (differs-same u)
+    by b o = inl (differs-same u)
 
 recv-does : (packet : Transmit (List ℕ)) (now : ℕ) (s : State) → ProcessesInputs (Recv packet now) s
 recv-does packet now s = by (recv_over s.transport packet.transport packet.from packet.to packet.payload now s)
@@ -211,17 +205,4 @@ recv-does packet now s = by (recv_over s.transport packet.transport packet.from 
 pub calls-do : (call : Call) (s : State) → TakesInput call → ProcessesInputs call s
 calls-do (Recv packet now) s is = recv-does packet now s
 calls-do (PollRecv now) s is = inl (poll_recv-leads now s)
-calls-do (Delete now) s is = absurd is
-calls-do (CreatePermission transport peer now) s is = absurd is
-calls-do (BindChannel transport peer now) s is = absurd is
-calls-do (TcpConnect peer now) s is = absurd is
-calls-do (AllocatedTcpSocket id tuple peer local now) s is = absurd is
-calls-do (TcpClosed local remote now) s is = absurd is
-calls-do (SendTo transport peer bytes now) s is = absurd is
-calls-do (Poll now) s is = absurd is
-calls-do (PollTransmit now) s is = absurd is
-calls-do PollEvent s is = absurd is
-calls-do RelayedAddresses s is = absurd is
-calls-do (Permissions transport relayed) s is = absurd is
-calls-do (HavePermission transport to) s is = absurd is
-calls-do ProtocolError s is = absurd is
+calls-do call s is = absurd is

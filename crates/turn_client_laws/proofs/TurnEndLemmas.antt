@@ -88,10 +88,9 @@ EndsFrom now t o = IsSomeAnd o (λ u. EndsAfterSteps now u t)
 
 control-end : (now : ℕ) (first : List Input) (s t : State) (p : Outcome × State) → InputsLead first s p.1 → EndsFrom now t (behind p) → Ends (first ++ then_taken now p) s t
 unfolding behind
-control-end now first s t (PeerData payload, u) lead end = absurd end
-control-end now first s t (PeerIcmp transport peer icmp, u) lead end = absurd end
 control-end now first s t (Handled, u) lead end = ends-append first (poll_recv_inputs now u) s t u lead (turns-end now u t end)
 control-end now first s t (Ignored, u) lead end = ends-append first (poll_recv_inputs now u) s t u lead (turns-end now u t end)
+control-end now first s t (_, u) lead end = absurd end
 
 piece_in_mode : (to : SocketAddr) (m : Mode) (stream : Stream) (piece : List ℕ) (now : ℕ) (s t : State) → stream_at to s ≡ Some (record stream { mode = m })
     → EndsFrom now t (before_others to piece now s) → Ends (piece_inputs (record stream { mode = m }) piece now s) s t
@@ -99,13 +98,12 @@ unfolding behind
 piece_in_mode to Control stream piece now s t f end =
     let u = record stream { mode = Control } in
     control-end now (fed_taken u piece now s) s t (first_frame_step u piece now s) (fed-leads u piece now s) (rw f at end)
-piece_in_mode to Waiting stream piece now s t f end = absurd (rw f at end)
-piece_in_mode to (Bound peer) stream piece now s t f end = absurd (rw f at end)
 piece_in_mode to Broken stream piece now s t f end = by (same_address stream.local s.local) (rw f at end)
   where
     by : (b : Bool) → EndsFrom now t (cond b (Some s) None) → Ends (cond b (poll_recv_inputs now s) []) s t
     by true h = turns-end now s t h
     by false h = absurd h
+piece_in_mode to m stream piece now s t f end = absurd (rw f at end)
 
 stream-end : (to : SocketAddr) (stream : Stream) (piece : List ℕ) (now : ℕ) (s t : State) → piece ≢ [] → stream_at to s ≡ Some stream → EndsFrom now t (before_others to piece now s)
     → Ends (stream_inputs stream piece now s) s t
@@ -148,17 +146,4 @@ ends-in call s t (front, (later, e), (last, lead, ended)) = record {
 pub calls-end : (call : Call) (s t : State) → TakesInput call → EndsWithoutMemory call s t → EndsAmidInputs call s t
 calls-end (Recv packet now) s t is (asks, end) = ends-in (Recv packet now) s t (recv_over s.transport packet.transport packet.from packet.to packet.payload now s t asks end)
 calls-end (PollRecv now) s t is end = ends-in (PollRecv now) s t (turns-end now s t end)
-calls-end (Delete now) s t is end = absurd is
-calls-end (CreatePermission transport peer now) s t is end = absurd is
-calls-end (BindChannel transport peer now) s t is end = absurd is
-calls-end (TcpConnect peer now) s t is end = absurd is
-calls-end (AllocatedTcpSocket id tuple peer local now) s t is end = absurd is
-calls-end (TcpClosed local remote now) s t is end = absurd is
-calls-end (SendTo transport peer bytes now) s t is end = absurd is
-calls-end (Poll now) s t is end = absurd is
-calls-end (PollTransmit now) s t is end = absurd is
-calls-end PollEvent s t is end = absurd is
-calls-end RelayedAddresses s t is end = absurd is
-calls-end (Permissions transport relayed) s t is end = absurd is
-calls-end (HavePermission transport to) s t is end = absurd is
-calls-end ProtocolError s t is end = absurd is
+calls-end call s t is end = absurd is

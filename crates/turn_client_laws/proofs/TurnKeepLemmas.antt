@@ -41,20 +41,7 @@ module _ (R : State → State → Type 0) (k : IsKept R) where
   by-call : (call : Call) (s : State) (one : Input) → Has one (handled call s) → R s one.before
   by-call (Recv packet now) s one there = does-kept (Recv packet now) s (calls-do (Recv packet now) s tt) one there
   by-call (PollRecv now) s one there = does-kept (PollRecv now) s (calls-do (PollRecv now) s tt) one there
-  by-call (Delete now) s one none = absurd none
-  by-call (CreatePermission transport peer now) s one none = absurd none
-  by-call (BindChannel transport peer now) s one none = absurd none
-  by-call (TcpConnect peer now) s one none = absurd none
-  by-call (AllocatedTcpSocket id tuple peer local now) s one none = absurd none
-  by-call (TcpClosed local remote now) s one none = absurd none
-  by-call (SendTo transport peer bytes now) s one none = absurd none
-  by-call (Poll now) s one none = absurd none
-  by-call (PollTransmit now) s one none = absurd none
-  by-call PollEvent s one none = absurd none
-  by-call RelayedAddresses s one none = absurd none
-  by-call (Permissions transport relayed) s one none = absurd none
-  by-call (HavePermission transport to) s one none = absurd none
-  by-call ProtocolError s one none = absurd none
+  by-call call s one none = absurd none
 
   -- the state in which one of the inputs of the call is processed
   pub before-kept : (call : Call) (s : State) (one : Input) → Contains (handled call s) one → R s one.before

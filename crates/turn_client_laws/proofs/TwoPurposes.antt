@@ -119,16 +119,7 @@ with-partner : (q p : Purpose) → IsListedFor q p → (p ≡ q) ⊎ (p ≡ part
 unfolding partner
 with-partner q p (inl e) = inl e
 with-partner (ForChannel number peer) (ForPermission ip) (inr e) = inr (rw e refl)
-with-partner (ForChannel number peer) ForAllocation (inr none) = absurd none
-with-partner (ForChannel number peer) (ForRefresh family lifetime) (inr none) = absurd none
-with-partner (ForChannel number peer) (ForChannel other to) (inr none) = absurd none
-with-partner (ForChannel number peer) (ForConnect to) (inr none) = absurd none
-with-partner (ForChannel number peer) (ForBind local to id) (inr none) = absurd none
-with-partner ForAllocation p (inr none) = absurd none
-with-partner (ForRefresh family lifetime) p (inr none) = absurd none
-with-partner (ForPermission ip) p (inr none) = absurd none
-with-partner (ForConnect to) p (inr none) = absurd none
-with-partner (ForBind local to id) p (inr none) = absurd none
+with-partner q p (inr none) = absurd none
 
 -- for one purpose
 named-partner : (q purpose p : Purpose) → purpose ≡ q → IsListedFor purpose p → (p ≡ q) ⊎ (p ≡ partner q)
@@ -296,27 +287,15 @@ call-two (TcpConnect peer now) s h = here-two (TcpConnect peer now) s (connect-t
 call-two (AllocatedTcpSocket id tuple peer local now) s h = here-two (AllocatedTcpSocket id tuple peer local now) s (socket-two id tuple peer local now s)
     (λ l. listings-made (AllocatedTcpSocket id tuple peer local now) s (state_after (AllocatedTcpSocket id tuple peer local now) s) l (inl refl)) h
 call-two (PollTransmit now) s h = here-two (PollTransmit now) s (transmit-two now s) (λ l. listings-made (PollTransmit now) s (state_after (PollTransmit now) s) l (inl refl)) h
-call-two (TcpClosed local remote now) s h = idle-two (TcpClosed local remote now) s (λ p lists. lists.2)
-    (λ l. listings-made (TcpClosed local remote now) s (state_after (TcpClosed local remote now) s) l (inl refl)) h
-call-two (SendTo transport peer bytes now) s h = idle-two (SendTo transport peer bytes now) s (λ p lists. lists.2)
-    (λ l. listings-made (SendTo transport peer bytes now) s (state_after (SendTo transport peer bytes now) s) l (inl refl)) h
-call-two (Poll now) s h = idle-two (Poll now) s (λ p lists. lists.2) (λ l. listings-made (Poll now) s (state_after (Poll now) s) l (inl refl)) h
-call-two PollEvent s h = idle-two PollEvent s (λ p lists. lists.2) (λ l. listings-made PollEvent s (state_after PollEvent s) l (inl refl)) h
 call-two RelayedAddresses s h = h
 call-two (Permissions transport relayed) s h = h
 call-two (HavePermission transport to) s h = h
-call-two ProtocolError s h = idle-two ProtocolError s (λ p lists. lists.2) (λ l. listings-made ProtocolError s (state_after ProtocolError s) l (inl refl)) h
+call-two call s h = idle-two call s (λ p lists. lists.2) (λ l. listings-made call s (state_after call s) l (inl refl)) h
 
 -- memory allocation fails
 none-ends : (call : Call) (s t : State) → EndsWithoutMemory call s t → AllAmongTwo s → AllAmongTwo t
 none-ends (Recv packet now) s t end h = ends-two (Recv packet now) s t (calls-end (Recv packet now) s t tt end) h
 none-ends (PollRecv now) s t end h = ends-two (PollRecv now) s t (calls-end (PollRecv now) s t tt end) h
-none-ends (Delete now) s t e h = subst AllAmongTwo (sym e) h
-none-ends (CreatePermission transport ip now) s t e h = subst AllAmongTwo (sym e) h
-none-ends (BindChannel transport peer now) s t e h = subst AllAmongTwo (sym e) h
-none-ends (TcpConnect peer now) s t e h = subst AllAmongTwo (sym e) h
-none-ends (AllocatedTcpSocket id tuple peer local now) s t e h = subst AllAmongTwo (sym e) h
-none-ends (TcpClosed local remote now) s t e h = subst AllAmongTwo (sym e) h
 none-ends (SendTo transport peer bytes now) s t none h = absurd none
 none-ends (Poll now) s t e h = subst AllAmongTwo (sym e) (closed-two s h)
 none-ends (PollTransmit now) s t e h = subst AllAmongTwo (sym e) (closed-two s h)
@@ -325,6 +304,7 @@ none-ends RelayedAddresses s t none h = absurd none
 none-ends (Permissions transport relayed) s t none h = absurd none
 none-ends (HavePermission transport to) s t none h = absurd none
 none-ends ProtocolError s t e h = subst AllAmongTwo (sym e) (closed-two s h)
+none-ends call s t e h = subst AllAmongTwo (sym e) h
 
 pub initial-HasTwoPurposes : (transport : TransportType) (local remote : SocketAddr) (config : Config) (seed : List ℕ) → HasTwoPurposes (initial transport local remote config seed)
 initial-HasTwoPurposes transport local remote config seed = two-stated (initial transport local remote config seed) (λ id. (ForAllocation, ForAllocation, λ p none. absurd none))

@@ -77,9 +77,8 @@ second_of true b c d e = refl
 second_of false b c d e = rw e refl
 
 third_of : (a b c d : Bool) → c ≡ true → (a || b || c || d) ≡ true
-third_of true b c d e = refl
-third_of false true c d e = refl
 third_of false false c d e = rw e refl
+third_of a b c d e = refl
 
 fourth_of : (a b c : Bool) → (a || b || c || true) ≡ true
 fourth_of true b c = refl
@@ -111,17 +110,11 @@ waits_not (x ∷ xs) e = absurd (unlike e)
 
 phase-old : (p : Phase) → p ≢ New → is_new p ≡ false
 phase-old New old = absurd (old refl)
-phase-old Requesting old = refl
-phase-old Authenticating old = refl
-phase-old Allocated old = refl
-phase-old Closed old = refl
+phase-old p old = refl
 
 phase-other : (p : Phase) → p ≢ Allocated → is_allocated p ≡ false
 phase-other Allocated other = absurd (other refl)
-phase-other New other = refl
-phase-other Requesting other = refl
-phase-other Authenticating other = refl
-phase-other Closed other = refl
+phase-other p other = refl
 
 quiet : (now : ℕ) (s : State) → is_new s.phase ≡ false → s.events ≡ [] → has_reply s ≡ false → next_wakeup false now s ≡ cond (is_allocated s.phase) (max now (least_due now s)) (least_due now s)
 quiet now s old none no_reply =
