@@ -111,9 +111,7 @@ all-poll (suc n) now s h = by (find is_ready s.streams) refl (λ t p. all-poll n
     step : (m : ℕ) (p : Outcome × State) → weight p.1.streams ≤ n → weight p.1.streams ≤ m → Later
         → gives_then (all_turns n now) p ≡ and_then (all_turns (suc n) now) (go_on (steps_until_payload m now) p)
     step m (PeerData payload, t) few enough more = ap (λ (q : List Payload × State). (record payload { place = None } ∷ q.0, q.1)) (all-enough n (suc n) now t few (omega (arith, few)))
-    step m (Handled, t) few enough more = on m t few enough more
-    step m (Ignored, t) few enough more = on m t few enough more
-    step m (PeerIcmp transport peer icmp, t) few enough more = on m t few enough more
+    step m (_, t) few enough more = on m t few enough more
 
     by : (o : Option Stream) → find is_ready s.streams ≡ o → Later → Goal
     by None e more = all-rest (suc n) now s e ∙ ap (and_then (all_turns (suc n) now)) (sym (turns-rest (max_steps s) now s e))
@@ -151,9 +149,7 @@ IsOwned (Some q, t) = record q { place = None } ≡ q
 
 go_on-owned : (next : State → Option Payload × State) (p : Outcome × State) → IsOwned (next p.1) → IsOwned (go_on next p)
 go_on-owned next (PeerData payload, t) later = refl
-go_on-owned next (Handled, t) later = later
-go_on-owned next (Ignored, t) later = later
-go_on-owned next (PeerIcmp transport peer icmp, t) later = later
+go_on-owned next (_, t) later = later
 
 turns-owned : (n now : ℕ) (s : State) → IsOwned (steps_until_payload n now s)
 unfolding steps_until_payload
@@ -193,7 +189,6 @@ poll-all n now s o nothing h =
 
 -- what `then_all` takes is not polled again
 pub then_all-all : (n now : ℕ) (p : Outcome × State) → weight p.1.streams ≤ n → polled_out now (then_all now p) ≡ gives_then (all_turns n now) p
-then_all-all n now (PeerData payload, t) h = polled_out-all n now (PeerData payload, t) h
-then_all-all n now (PeerIcmp transport peer icmp, t) h = polled_out-all n now (PeerIcmp transport peer icmp, t) h
 then_all-all n now (Handled, t) h = poll-all n now t Handled refl h
 then_all-all n now (Ignored, t) h = poll-all n now t Ignored refl h
+then_all-all n now (x, t) h = polled_out-all n now (x, t) h

@@ -26,10 +26,7 @@ use Rattle.turn_client_laws.proofs.NewIdMessageLemmas.{AsksNothing, granted-asks
 
 signed-ends : (p : Phase) (message : List ℕ) (now : ℕ) (s : State) → AsksNothing (transaction_ended (id_of message) s) (signed_step true message now (record s { phase = p })).1
 signed-ends Authenticating message now s = granted-asks message now (transaction_ended (id_of message) (record s { phase = Authenticating }))
-signed-ends New message now s = reply-asks true message now (record s { phase = New })
-signed-ends Requesting message now s = reply-asks true message now (record s { phase = Requesting })
-signed-ends Allocated message now s = reply-asks true message now (record s { phase = Allocated })
-signed-ends Closed message now s = reply-asks true message now (record s { phase = Closed })
+signed-ends p message now s = reply-asks true message now (record s { phase = p })
 
 pub success-ends : (message : List ℕ) (now : ℕ) (s : State) → judgement_of s message ≡ SignedSuccess → is_outstanding (id_of message) (message_step message now s).1.transactions ≡ false
 success-ends message now s e = rw e (rw (signed-ends s.phase message now s) (is_outstanding-without (id_of message) s.transactions))
@@ -44,18 +41,15 @@ message-begins bytes e = by (ltb (length bytes) 20) (is_stun_header bytes) refl 
     other = cond (not (eqb (20 + length_of bytes) (length bytes))) (Some E.Length) (cond (is_none (attributes_from 0 20 (drop 20 bytes))) (Some E.Attribute) None)
 
     by : (b c : Bool) → is_stun_header bytes ≡ c → is_none (cond b (Some E.Short) (cond (not c) (Some E.NotStun) other)) ≡ true → begins_message bytes ≡ true
-    by true c f g = cc
-    by false false f g = cc
     by false true f g = (and_parts _ _ (and_parts _ _ f).0).0
+    by b c f g = cc
 
 -- ---- the effect of the input
 
 made_in_mode : (m : Mode) (stream : Stream) (bytes : List ℕ) (now : ℕ) (s : State) → m ≡ Control → is_message bytes ≡ true
     → (processed (record { stream = Some (record stream { mode = m }); bytes = bytes; is_lent = true; time = now; before = s })).1 ≡ (message_step bytes now s).1
 made_in_mode Control stream bytes now s e whole = rw (message-begins bytes whole, whole) refl
-made_in_mode Waiting stream bytes now s e whole = cc
-made_in_mode (Bound peer) stream bytes now s e whole = cc
-made_in_mode Broken stream bytes now s e whole = cc
+made_in_mode m stream bytes now s e whole = cc
 
 pub made-control : (one : Input) → IsOverControl one → is_message one.bytes ≡ true → (processed one).1 ≡ (message_step one.bytes one.time one.before).1
 made-control one over whole = by one.stream over
@@ -67,9 +61,7 @@ made-control one over whole = by one.stream over
 waiting_in_mode : (m : Mode) (stream : Stream) (bytes : List ℕ) (now : ℕ) (s : State) → m ≡ Waiting → is_message bytes ≡ true
     → (processed (record { stream = Some (record stream { mode = m }); bytes = bytes; is_lent = true; time = now; before = s })).1 ≡ bind_step stream.local bytes now s
 waiting_in_mode Waiting stream bytes now s e whole = rw (message-begins bytes whole, whole) refl
-waiting_in_mode Control stream bytes now s e whole = cc
-waiting_in_mode (Bound peer) stream bytes now s e whole = cc
-waiting_in_mode Broken stream bytes now s e whole = cc
+waiting_in_mode m stream bytes now s e whole = cc
 
 pub made-waiting : (one : Input) (stream : Stream) → one.stream ≡ Some stream → stream.mode ≡ Waiting → is_message one.bytes ≡ true
     → (processed one).1 ≡ bind_step stream.local one.bytes one.time one.before

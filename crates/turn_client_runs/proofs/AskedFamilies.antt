@@ -42,8 +42,7 @@ module _ (one : Input) (order : AllocatesInOrder one.before) (signs : Signs one.
       by New e = absurd (none (in_phase New e))
       by Requesting e = absurd (heard e)
       by Authenticating e = (in_phase Authenticating e).1
-      by Allocated e = absurd (order.0.1 (rw e (λ u. u)) (id_of one.bytes) asked)
-      by Closed e = absurd (order.0.1 (rw e (λ u. u)) (id_of one.bytes) asked)
+      by p e = absurd (order.0.1 (rw e (λ u. u)) (id_of one.bytes) asked)
 
 pub asks-family : (one : Input) → AllocatesInOrder one.before × Signs one.before → (one.before.phase ≡ Requesting → ⊥) → IsAwaited one.bytes one.before → (p : Purpose)
     → Contains (purposes_of (id_of one.bytes) one.before) p → AsksForItsFamily p one
@@ -54,8 +53,4 @@ asks-family one (order, signs) heard awaited ForAllocation answers =
       families = order.1 (id_of one.bytes) asked awaited;
       signed = λ x here named. answers-signed one order signs heard awaited asked x (contains-has x one.before.transactions here);
     }
-asks-family one kept heard awaited (ForRefresh family lifetime) answers = tt
-asks-family one kept heard awaited (ForPermission ip) answers = tt
-asks-family one kept heard awaited (ForChannel number peer) answers = tt
-asks-family one kept heard awaited (ForConnect peer) answers = tt
-asks-family one kept heard awaited (ForBind local peer id) answers = tt
+asks-family one kept heard awaited p answers = tt

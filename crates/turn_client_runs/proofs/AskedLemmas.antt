@@ -89,11 +89,7 @@ listed-for message s purpose p together wanted (inr (first, there)) =
     brought (ForChannel other to) (ForChannel number peer) f h (inr e) = absurd e
     brought (ForConnect to) (ForChannel number peer) f h (inr e) = absurd e
     brought (ForBind local to id) (ForChannel number peer) f h (inr e) = absurd e
-    brought q ForAllocation f h (inr e) = absurd e
-    brought q (ForRefresh family lifetime) f h (inr e) = absurd e
-    brought q (ForPermission ip) f h (inr e) = absurd e
-    brought q (ForConnect to) f h (inr e) = absurd e
-    brought q (ForBind local to id) f h (inr e) = absurd e
+    brought q r f h (inr e) = absurd e
 
     by : (q r : Purpose) → (GivesBack r → ⊥) → retried all ≡ Some q → Has r all → Together r q → IsListedFor q r
     by q r needs f h (inl for) = brought q r f h for

@@ -50,13 +50,10 @@ bind-does : (local : SocketAddr) (message : List ℕ) (now : ℕ) (s : State) �
 bind-does local message now s = by s.phase refl (connection_at local s) refl (eqb (method_in message) connection_bind_method) refl
   where
     by : (p : Phase) → s.phase ≡ p → (o : Option DataConnection) → connection_at local s ≡ o → (b : Bool) → eqb (method_in message) connection_bind_method ≡ b → DoesOrNot local message now s
-    by New e o f b g = inl (rw e refl)
-    by Requesting e o f b g = inl (rw e refl)
-    by Authenticating e o f b g = inl (rw e refl)
-    by Closed e o f b g = inl (rw e refl)
     by Allocated e None f b g = inl (rw (e, f) refl)
     by Allocated e (Some c) f true g = inr (c, f, rw (e, f, g) refl)
     by Allocated e (Some c) f false g = inl (rw (e, f, g) refl)
+    by p e o f b g = inl (rw e refl)
 
 -- if it binds, its request is ended
 binds-ended : (local : SocketAddr) (message : List ℕ) (now : ℕ) (s : State) → Binds local message s (bind_step local message now s) → (bind_step local message now s ≡ s)

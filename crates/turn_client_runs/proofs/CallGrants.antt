@@ -29,26 +29,7 @@ IsEndedBy call s g =
 
 ended-how : (call : Call) (s : State) (g : Grant) → IsEndedNow call s g → IsEndedBy call s g
 ended-how (Delete now) s (Allocation a) (e, was) = (a, now, refl, refl, e, was)
-ended-how (Delete now) s (Permission ip progress) e = absurd e
-ended-how (Delete now) s (Channel number peer progress) e = absurd e
-ended-how (Delete now) s (Connect peer) e = absurd e
-ended-how (Delete now) s (Offer offer) e = absurd e
-ended-how (Delete now) s (Connection c) e = absurd e
-ended-how (CreatePermission transport ip now) s g e = absurd e
-ended-how (BindChannel transport peer now) s g e = absurd e
-ended-how (TcpConnect peer now) s g e = absurd e
-ended-how (AllocatedTcpSocket id tuple peer local now) s g e = absurd e
-ended-how (TcpClosed local remote now) s g e = absurd e
-ended-how (SendTo transport peer bytes now) s g e = absurd e
-ended-how (Recv packet now) s g e = absurd e
-ended-how (PollRecv now) s g e = absurd e
-ended-how (Poll now) s g e = absurd e
-ended-how (PollTransmit now) s g e = absurd e
-ended-how PollEvent s g e = absurd e
-ended-how RelayedAddresses s g e = absurd e
-ended-how (Permissions transport relayed) s g e = absurd e
-ended-how (HavePermission transport to) s g e = absurd e
-ended-how ProtocolError s g e = absurd e
+ended-how call s g e = absurd e
 
 pub same-allocation : (a b : Relay) → Allocation a ≡ Allocation b → a ≡ b
 same-allocation a b e = cc
@@ -70,38 +51,12 @@ ended-kept call s is g kept (a, now, what, how, ends, was) = by (kept-alike is g
 pub taking : (call : Call) → TakesInput call ⊎ (TakesInput call → ⊥)
 taking (Recv packet now) = inl tt
 taking (PollRecv now) = inl tt
-taking (Delete now) = inr (λ takes. takes)
-taking (CreatePermission transport ip now) = inr (λ takes. takes)
-taking (BindChannel transport peer now) = inr (λ takes. takes)
-taking (TcpConnect peer now) = inr (λ takes. takes)
-taking (AllocatedTcpSocket id tuple peer local now) = inr (λ takes. takes)
-taking (TcpClosed local remote now) = inr (λ takes. takes)
-taking (SendTo transport peer bytes now) = inr (λ takes. takes)
-taking (Poll now) = inr (λ takes. takes)
-taking (PollTransmit now) = inr (λ takes. takes)
-taking PollEvent = inr (λ takes. takes)
-taking RelayedAddresses = inr (λ takes. takes)
-taking (Permissions transport relayed) = inr (λ takes. takes)
-taking (HavePermission transport to) = inr (λ takes. takes)
-taking ProtocolError = inr (λ takes. takes)
+taking call = inr (λ takes. takes)
 
 pub quiet : (call : Call) (s : State) → (TakesInput call → ⊥) → handled call s ≡ []
 quiet (Recv packet now) s other = absurd (other tt)
 quiet (PollRecv now) s other = absurd (other tt)
-quiet (Delete now) s other = refl
-quiet (CreatePermission transport ip now) s other = refl
-quiet (BindChannel transport peer now) s other = refl
-quiet (TcpConnect peer now) s other = refl
-quiet (AllocatedTcpSocket id tuple peer local now) s other = refl
-quiet (TcpClosed local remote now) s other = refl
-quiet (SendTo transport peer bytes now) s other = refl
-quiet (Poll now) s other = refl
-quiet (PollTransmit now) s other = refl
-quiet PollEvent s other = refl
-quiet RelayedAddresses s other = refl
-quiet (Permissions transport relayed) s other = refl
-quiet (HavePermission transport to) s other = refl
-quiet ProtocolError s other = refl
+quiet call s other = refl
 
 none-done : (Did : Input → Type 0) (call : Call) (s : State) → (TakesInput call → ⊥) → IsDoneBy Did call s → ⊥
 none-done Did call s other (one, among, did) = contains-has one [] (subst (λ (turns : List Input). Contains turns one) (quiet call s other) among)

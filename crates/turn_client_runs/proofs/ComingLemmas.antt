@@ -57,14 +57,13 @@ front-frames : (is_lent : Bool) (stream : Stream) (now : ℕ) (t : State) → Al
 front-frames is_lent stream now t = if-frames now (begins_no_frame stream.bytes) [] _ (no-frames now) (len-frames is_lent stream now t (frame_len stream.bytes))
 
 mode-frames : (m : Mode) (is_lent : Bool) (stream : Stream) (now : ℕ) (t : State) → AllFrames now (taken_in is_lent (record stream { mode = m }) now t)
-mode-frames Control is_lent stream now t = front-frames is_lent (record stream { mode = Control }) now t
-mode-frames Waiting is_lent stream now t = front-frames is_lent (record stream { mode = Waiting }) now t
 mode-frames (Bound peer) is_lent stream now t = all
   where
     all : AllFrames now (taken_in is_lent (record stream { mode = Bound peer }) now t)
     all one (inl e) = rw e (refl, (record stream { mode = Bound peer }, refl, ([], sym (append-nil stream.bytes))))
     all one (inr none) = absurd none
 mode-frames Broken is_lent stream now t = no-frames now
+mode-frames m is_lent stream now t = front-frames is_lent (record stream { mode = m }) now t
 
 taken-frames : (is_lent : Bool) (stream : Stream) (now : ℕ) (s : State) → AllFrames now (stream_inputs_taken is_lent stream now s)
 taken-frames is_lent stream now s = mode-frames stream.mode is_lent stream now (with_bytes stream.local [] s)
@@ -86,10 +85,9 @@ poll-frames : (now : ℕ) (s : State) → AllFrames now (poll_recv_inputs now s)
 poll-frames now s = turns-frames (max_steps s) now s
 
 then-frames : (now : ℕ) (p : Outcome × State) → AllFrames now (then_taken now p)
-then-frames now (PeerData payload, s) = no-frames now
-then-frames now (PeerIcmp transport peer icmp, s) = no-frames now
 then-frames now (Handled, s) = poll-frames now s
 then-frames now (Ignored, s) = poll-frames now s
+then-frames now (_, s) = no-frames now
 
 fed-frames : (stream : Stream) (piece : List ℕ) (now : ℕ) (s : State) → AllFrames now (fed_taken stream piece now s)
 fed-frames stream piece now s = taken-frames (is_front stream.bytes) (stream_with_piece stream piece) now s
@@ -119,8 +117,7 @@ recv-comes Udp packet now s e one = by (is_from_server packet.transport packet.f
     by : (b c : Bool) → Has one (cond b (cond c (record { stream = None; bytes = packet.payload; is_lent = true; time = now; before = u } ∷ []) []) []) → ComesIn (Recv packet now) one
     by true true (inl same) = rw same (refl, refl)
     by true true (inr none) = absurd none
-    by true false none = absurd none
-    by false c none = absurd none
+    by b c none = absurd none
 recv-comes Tcp packet now s e one = by (is_from_server packet.transport packet.from u) refl (stream_at packet.to s) refl
   where
     u : State
@@ -137,17 +134,4 @@ recv-comes Tcp packet now s e one = by (is_from_server packet.transport packet.f
 pub turns-come : (call : Call) (s : State) (one : Input) → Has one (handled call s) → ComesIn call one
 turns-come (Recv packet now) s one there = recv-comes s.transport packet now s refl one there
 turns-come (PollRecv now) s one there = let (at, (stream, is, front)) = poll-frames now s one there in (at, rw is front)
-turns-come (Delete now) s one none = absurd none
-turns-come (CreatePermission transport ip now) s one none = absurd none
-turns-come (BindChannel transport peer now) s one none = absurd none
-turns-come (TcpConnect peer now) s one none = absurd none
-turns-come (AllocatedTcpSocket id tuple peer local now) s one none = absurd none
-turns-come (TcpClosed local remote now) s one none = absurd none
-turns-come (SendTo transport peer bytes now) s one none = absurd none
-turns-come (Poll now) s one none = absurd none
-turns-come (PollTransmit now) s one none = absurd none
-turns-come PollEvent s one none = absurd none
-turns-come RelayedAddresses s one none = absurd none
-turns-come (Permissions transport relayed) s one none = absurd none
-turns-come (HavePermission transport to) s one none = absurd none
-turns-come ProtocolError s one none = absurd none
+turns-come call s one none = absurd none

@@ -213,13 +213,11 @@ module _ (a : SocketAddr) (now : ℕ) where
   in-mode : (c : Bool) (m : Mode) (stream : Stream) (t : State) → SuitsMode c m → (m ≡ Broken → ⊥) → IsAlone a t → stream_at a t ≡ Some (record stream { mode = m }) → (n : ℕ) (bytes : List ℕ)
       → length bytes < suc n → Later c n → Agrees a c (all_turns (suc n) now (with_bytes a bytes t)) (whole a now t bytes)
   in-mode true Control stream t suits unbroken alone e n bytes few later = framed-agrees true Control control-framed stream t alone e n bytes few later
-  in-mode true Waiting stream t suits unbroken alone e n bytes few later = absurd suits
-  in-mode true (Bound peer) stream t suits unbroken alone e n bytes few later = absurd suits
-  in-mode true Broken stream t suits unbroken alone e n bytes few later = absurd (unbroken refl)
-  in-mode false Control stream t suits unbroken alone e n bytes few later = absurd suits
   in-mode false Waiting stream t suits unbroken alone e n bytes few later = framed-agrees false Waiting waiting-framed stream t alone e n bytes few later
   in-mode false (Bound peer) stream t suits unbroken alone e n bytes few later = bound-agrees n t stream peer bytes alone e
+  in-mode true Broken stream t suits unbroken alone e n bytes few later = absurd (unbroken refl)
   in-mode false Broken stream t suits unbroken alone e n bytes few later = absurd (unbroken refl)
+  in-mode c m stream t suits unbroken alone e n bytes few later = absurd suits
 
   -- more steps than bytes give the whole
   pub turns-whole : (c : Bool) (n : ℕ) (t : State) (bytes : List ℕ) → length bytes < n → IsAlone a t → IsThere c a t → Agrees a c (all_turns n now (with_bytes a bytes t)) (whole a now t bytes)

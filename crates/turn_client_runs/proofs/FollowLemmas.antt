@@ -58,15 +58,12 @@ control-same : (frame : List ℕ) (now : ℕ) (t : State) → Same t (control_fr
 control-same frame now t = by (not (begins_message frame)) (is_message frame)
   where
     by : (b d : Bool) → Same t (cond {A = Outcome × State} b (channel_sent t frame, t) (cond {A = Outcome × State} d (message_step frame now t) (Handled, t))).1
-    by true d = refl
     by false true = message-same frame now t
-    by false false = refl
+    by b d = refl
 
 counted-whole : (o : Outcome) → flat_map (one_by_one true) (outcome_payloads o) ≡ outcome_payloads o
 counted-whole (PeerData payload) = refl
-counted-whole Handled = refl
-counted-whole Ignored = refl
-counted-whole (PeerIcmp transport peer icmp) = refl
+counted-whole o = refl
 
 pub control-framed : IsFramed true Control
 control-framed = record {

@@ -47,39 +47,10 @@ AreAllocations was g = (a b : Relay) × (was ≡ Allocation a) × (g ≡ Allocat
 
 pub kept-alike : (was g : Grant) → IsSameGrant was g → AreAllocations was g ⊎ (was ≡ g)
 kept-alike (Allocation a) (Allocation b) k = inl (a, b, refl, refl, k.0, k.1)
-kept-alike (Allocation a) (Permission other progress) k = absurd k
-kept-alike (Allocation a) (Channel other to progress) k = absurd k
-kept-alike (Allocation a) (Connection d) k = absurd k
-kept-alike (Allocation a) (Connect to) k = absurd k
-kept-alike (Allocation a) (Offer offer) k = absurd k
 kept-alike (Permission ip (Active m)) (Permission other (Active n)) (e, d) = inr (rw (e, d) refl)
-kept-alike (Permission ip (Active m)) (Permission other Pending) k = absurd k
-kept-alike (Permission ip (Active m)) (Permission other (Reserved n)) k = absurd k
-kept-alike (Permission ip (Active m)) (Allocation b) k = absurd k
-kept-alike (Permission ip (Active m)) (Channel other to progress) k = absurd k
-kept-alike (Permission ip (Active m)) (Connection d) k = absurd k
-kept-alike (Permission ip (Active m)) (Connect to) k = absurd k
-kept-alike (Permission ip (Active m)) (Offer offer) k = absurd k
-kept-alike (Permission ip Pending) g k = absurd k
-kept-alike (Permission ip (Reserved m)) g k = absurd k
 kept-alike (Channel number peer (Active m)) (Channel other to (Active n)) (e, f, d) = inr (rw (e, f, d) refl)
-kept-alike (Channel number peer (Active m)) (Channel other to Pending) k = absurd k
-kept-alike (Channel number peer (Active m)) (Channel other to (Reserved n)) k = absurd k
-kept-alike (Channel number peer (Active m)) (Allocation b) k = absurd k
-kept-alike (Channel number peer (Active m)) (Permission other progress) k = absurd k
-kept-alike (Channel number peer (Active m)) (Connection d) k = absurd k
-kept-alike (Channel number peer (Active m)) (Connect to) k = absurd k
-kept-alike (Channel number peer (Active m)) (Offer offer) k = absurd k
-kept-alike (Channel number peer Pending) g k = absurd k
-kept-alike (Channel number peer (Reserved m)) g k = absurd k
-kept-alike (Connect peer) g k = absurd k
-kept-alike (Offer offer) g k = absurd k
 kept-alike (Connection c) (Connection d) (e, h) = inr (rw e refl)
-kept-alike (Connection c) (Allocation b) k = absurd k
-kept-alike (Connection c) (Permission other progress) k = absurd k
-kept-alike (Connection c) (Channel other to progress) k = absurd k
-kept-alike (Connection c) (Connect to) k = absurd k
-kept-alike (Connection c) (Offer offer) k = absurd k
+kept-alike was g k = absurd k
 
 -- what is granted for a purpose is granted as what it is kept as
 given-kept : (p : Purpose) (was g : Grant) (message : List ℕ) (now : ℕ) (s : State) → IsSameGrant was g → IsGivenFor p message now s was → IsGivenFor p message now s g
@@ -88,10 +59,7 @@ given-kept p was g message now s kept given = by (kept-alike was g kept)
     same : (q : Purpose) (a b : Relay) → a.relayed ≡ b.relayed → a.expiry ≡ b.expiry → IsGivenFor q message now s (Allocation a) → IsGivenFor q message now s (Allocation b)
     same ForAllocation a b e f h = rw (sym e, sym f) h
     same (ForRefresh family lifetime) a b e f h = rw (sym e, sym f) h
-    same (ForPermission ip) a b e f h = h
-    same (ForChannel number peer) a b e f h = h
-    same (ForConnect peer) a b e f h = h
-    same (ForBind local peer id) a b e f h = h
+    same q a b e f h = h
 
     by : AreAllocations was g ⊎ (was ≡ g) → IsGivenFor p message now s g
     by (inl (a, b, is, to, e, f)) = subst (IsGivenFor p message now s) (sym to) (same p a b e f (subst (IsGivenFor p message now s) is given))
@@ -118,8 +86,7 @@ pub record IsAccepting (purpose : Purpose) (one : Input) : Type 0 where
 -- before the first challenge is answered no reply is signed
 requesting-unsigned : (b : Bool) (o : Option Challenge) → cond b (challenged_or Fatal o) Unrelated ≡ SignedSuccess → ⊥
 requesting-unsigned true (Some challenge) e = cc
-requesting-unsigned true None e = cc
-requesting-unsigned false o e = cc
+requesting-unsigned b o e = cc
 
 -- the input granted it
 pub record Granting (g : Grant) (one : Input) : Type 0 where
@@ -151,19 +118,11 @@ module _ (one : Input) (over : IsOverControl one) (whole : is_message one.bytes 
     where
       none : (p : Purpose) (c : DataConnection) → IsGivenFor p one.bytes one.time one.before (Connection c) → ⊥
       none ForAllocation c h = h
-      none (ForRefresh family lifetime) c h = h
-      none (ForPermission ip) c h = h
-      none (ForChannel number peer) c h = h
-      none (ForConnect peer) c h = h
-      none (ForBind local peer id) c h = h
+      none p c h = h
 
       by : (h : Grant) → IsAccepting is.purpose one → IsGivenFor is.purpose one.bytes one.time one.before h → Granting h one
-      by (Allocation a) accepts given = record { over = over; purpose = is.purpose; accepting = accepts; given = given }
-      by (Permission ip progress) accepts given = record { over = over; purpose = is.purpose; accepting = accepts; given = given }
-      by (Channel number peer progress) accepts given = record { over = over; purpose = is.purpose; accepting = accepts; given = given }
-      by (Connect peer) accepts given = record { over = over; purpose = is.purpose; accepting = accepts; given = given }
-      by (Offer offer) accepts given = record { over = over; purpose = is.purpose; accepting = accepts; given = given }
       by (Connection c) accepts given = absurd (none is.purpose c given)
+      by h accepts given = record { over = over; purpose = is.purpose; accepting = accepts; given = given }
 
   control-grants : (g : Grant) → Covers (message_step one.bytes one.time one.before).1.grants g → Covers one.before.grants g ⊎ Granting g one
   control-grants g covers = by (message-grants g one.bytes one.time one.before covers)
@@ -206,11 +165,7 @@ module _ (one : Input) (stream : Stream) (of : one.stream ≡ Some stream) (wait
         accepting = bind-accepting b phase turn;
         given = (sym (ap (λ (x : DataConnection). x.local) same) ∙ here, sym (ap (λ (x : DataConnection). x.deadline) same) ∙ none);
       }
-  bound-granting b phase (Allocation a) c at k = absurd k
-  bound-granting b phase (Permission ip progress) c at k = absurd k
-  bound-granting b phase (Channel number peer progress) c at k = absurd k
-  bound-granting b phase (Connect peer) c at k = absurd k
-  bound-granting b phase (Offer offer) c at k = absurd k
+  bound-granting b phase g c at k = absurd k
 
   bind-covers : (g : Grant) → one.before.phase ≡ Allocated → Binds stream.local one.bytes one.before (bind_step stream.local one.bytes one.time one.before)
       → Covers (bind_step stream.local one.bytes one.time one.before).grants g → Covers one.before.grants g ⊎ Granting g one
@@ -235,10 +190,7 @@ module _ (one : Input) (stream : Stream) (of : one.stream ≡ Some stream) (wait
       by : (p : Phase) → one.before.phase ≡ p → BindsOrLeaves stream.local one.bytes one.before t → Covers t.grants g → Covers one.before.grants g ⊎ Granting g one
       by Allocated e (inl b) covers = bind-covers g e b covers
       by Allocated e (inr (leaves, streams)) covers = inl (covers-left one.before.grants _ g leaves covers)
-      by New e leaves covers = same (rw e refl) covers
-      by Requesting e leaves covers = same (rw e refl) covers
-      by Authenticating e leaves covers = same (rw e refl) covers
-      by Closed e leaves covers = same (rw e refl) covers
+      by p e leaves covers = same (rw e refl) covers
 
 -- ---- all inputs
 

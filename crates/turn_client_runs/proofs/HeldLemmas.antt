@@ -60,8 +60,7 @@ IsAwaiting _ = ⊥
 requesting-is : (b : Bool) (o : Option Challenge) (j : Judgement) → cond b (challenged_or Fatal o) Unrelated ≡ j → IsAwaiting j
 unfolding IsAwaiting
 requesting-is true (Some d) j e = subst IsAwaiting e tt
-requesting-is true None j e = subst IsAwaiting e tt
-requesting-is false o j e = subst IsAwaiting e tt
+requesting-is b o j e = subst IsAwaiting e tt
 
 -- the message is the first challenge that is answered
 abbrev Answers : List ℕ → ℕ → State → Type 0
@@ -98,12 +97,7 @@ module _ (message : List ℕ) (now : ℕ) (s : State) where
       by Unrelated e is = nothing Ignored (rw e refl)
       by (Challenged d) e is = challenge-late d none e
       by Fatal e is = ends (transaction_ended (id_of message) s) none (rw (e, phase) refl)
-      by LateResponse e is = absurd (subst IsAwaiting e is)
-      by DataIndication e is = absurd (subst IsAwaiting e is)
-      by ConnectionAttempt e is = absurd (subst IsAwaiting e is)
-      by SignedRequest e is = absurd (subst IsAwaiting e is)
-      by SignedSuccess e is = absurd (subst IsAwaiting e is)
-      by SignedError e is = absurd (subst IsAwaiting e is)
+      by j e is = absurd (subst IsAwaiting e is)
 
   message-late : IsLate (message_step message now s).1 → Came
   message-late = by s.held refl s.phase refl
@@ -113,11 +107,10 @@ module _ (message : List ℕ) (now : ℕ) (s : State) where
 
       by : (o : Option Challenge) → s.held ≡ o → (p : Phase) → s.phase ≡ p → IsLate (message_step message now s).1 → Came
       by (Some d) held p phase h = inl (inl (rw held refl))
-      by None held New phase h = unheard (rw phase refl) h
       by None held Requesting phase h = requesting-late phase held h
       by None held Authenticating phase h = inl (inr (inl phase))
       by None held Allocated phase h = inl (inr (inr phase))
-      by None held Closed phase h = unheard (rw phase refl) h
+      by None held p phase h = unheard (rw phase refl) h
 
 -- ---- an input
 
@@ -128,11 +121,9 @@ bind-late local message now s = by s.phase refl
     same e h = subst IsLate e h
 
     by : (p : Phase) → s.phase ≡ p → IsLate (bind_step local message now s) → IsLate s
-    by New phase h = same (rw phase refl) h
-    by Requesting phase h = same (rw phase refl) h
     by Authenticating phase h = inr (inl phase)
     by Allocated phase h = inr (inr phase)
-    by Closed phase h = same (rw phase refl) h
+    by p phase h = same (rw phase refl) h
 
 gone-late : (local : SocketAddr) (s : State) → IsLate (connection_gone local s) → IsLate s
 gone-late local s = by (is_some (connection_at local s))

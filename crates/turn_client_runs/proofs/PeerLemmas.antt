@@ -73,15 +73,13 @@ framed-in : (l : Bool) (stream : Stream) (now : ℕ) (t : State) → Stands stre
 framed-in l stream now t stands = by (begins_no_frame stream.bytes) (frame_len stream.bytes)
   where
     by : (b : Bool) (o : Option ℕ) → AreIn (cond b [] (taken_of_len l stream now t o))
-    by true o = none-in
-    by false None = none-in
     by false (Some len) = one-in l stream (take len stream.bytes) now t stands
+    by b o = none-in
 
 in_mode : (m : Mode) (l : Bool) (stream : Stream) (now : ℕ) (t : State) → Stands (record stream { mode = m }) t → AreIn (taken_in l (record stream { mode = m }) now t)
-in_mode Control l stream now t stands = framed-in l (record stream { mode = Control }) now t stands
-in_mode Waiting l stream now t stands = framed-in l (record stream { mode = Waiting }) now t stands
 in_mode (Bound peer) l stream now t stands = one-in l (record stream { mode = Bound peer }) stream.bytes now t stands
 in_mode Broken l stream now t stands = none-in
+in_mode m l stream now t stands = framed-in l (record stream { mode = m }) now t stands
 
 taken-in : (l : Bool) (stream : Stream) (now : ℕ) (s : State) → Stands stream s → AreIn (stream_inputs_taken l stream now s)
 taken-in l stream now s stands = in_mode stream.mode l stream now (with_bytes stream.local [] s) (emptied-stands stream.local [] stream s stands)
@@ -110,10 +108,9 @@ poll_recv-in : (now : ℕ) (s : State) → AreIn (poll_recv_inputs now s)
 poll_recv-in now s = turns-in _ now s
 
 then-in : (now : ℕ) (p : Outcome × State) → AreIn (then_taken now p)
-then-in now (PeerData payload, t) = none-in
-then-in now (PeerIcmp transport peer icmp, t) = none-in
 then-in now (Handled, t) = poll_recv-in now t
 then-in now (Ignored, t) = poll_recv-in now t
+then-in now (_, t) = none-in
 
 piece_in_mode : (m : Mode) (stream : Stream) (piece : List ℕ) (now : ℕ) (s : State) → Stands (record stream { mode = m }) s → AreIn (piece_inputs (record stream { mode = m }) piece now s)
 piece_in_mode Control stream piece now s stands =
@@ -149,8 +146,7 @@ recv_over Udp transport from to bytes now s = by (is_from_server transport from 
 
     by : (b c : Bool) → AreIn (cond b (cond c (one ∷ []) []) [])
     by true true = datagram-in one refl
-    by true false = none-in
-    by false c = none-in
+    by b c = none-in
 recv_over Tcp transport from to bytes now s = by (is_from_server transport from u) (stream_at to s) refl
   where
     u : State
@@ -162,8 +158,7 @@ recv_over Tcp transport from to bytes now s = by (is_from_server transport from 
 
     by : (b : Bool) (o : Option Stream) → stream_at to s ≡ o → AreIn (cond b (turns_by o) [])
     by true (Some stream) e = stream-in stream bytes now u (found-stands (λ (x : Stream). same_address x.local to) stream u e)
-    by true None e = none-in
-    by false o e = none-in
+    by b o e = none-in
 
 call-in : (call : Call) (s : State) → AreIn (handled call s)
 call-in (Recv packet now) s = recv_over s.transport packet.transport packet.from packet.to packet.payload now s
@@ -205,17 +200,14 @@ module _ (payload : Payload) where
 
   -- what no peer sent is no payload
   nobody : (one : Input) (o : Outcome) → HasNoPeer o → Gives one.is_lent o → IsPeerPermitted payload.peer one
-  nobody one (PeerData p) none gives = absurd none
   nobody one Handled none gives = absurd (nothing one.is_lent (inl gives))
   nobody one Ignored none gives = absurd (nothing one.is_lent (inr gives))
-  nobody one (PeerIcmp transport peer icmp) none gives = absurd none
+  nobody one o none gives = absurd none
 
   stream_in_mode : (m : Mode) (stream : Stream) (t : Input) → input_payload (record t { stream = Some (record stream { mode = m }) }) ≡ Some payload
       → IsPermittedInput (record t { stream = Some (record stream { mode = m }) }) → IsIn (record t { stream = Some (record stream { mode = m }) })
       → IsPeerPermitted payload.peer (record t { stream = Some (record stream { mode = m }) })
   stream_in_mode Control stream t gives exact is = let one = record t { stream = Some (record stream { mode = Control }) } in through one (processed one).0 exact gives
-  stream_in_mode Waiting stream t gives exact is = let one = record t { stream = Some (record stream { mode = Waiting }) } in nobody one (processed one).0 exact gives
-  stream_in_mode Broken stream t gives exact is = let one = record t { stream = Some (record stream { mode = Broken }) } in nobody one (processed one).0 exact gives
   stream_in_mode (Bound peer) stream t gives exact is =
       let u = record stream { mode = Bound peer } in
       let one = record t { stream = Some u } in
@@ -224,6 +216,7 @@ module _ (payload : Payload) where
     where
       bound : Stands (record stream { mode = Bound peer }) t.before → IsBoundAt stream.local peer t.before
       bound (x, there, at, mode) = (x, there, at, mode)
+  stream_in_mode m stream t gives exact is = let one = record t { stream = Some (record stream { mode = m }) } in nobody one (processed one).0 exact gives
 
   let-in : (one : Input) → input_payload one ≡ Some payload → IsPermittedInput one → IsIn one → IsPeerPermitted payload.peer one
   let-in one = by one.stream one
@@ -270,22 +263,18 @@ all-answered s (call ∷ calls) = rw (call-answered call s, all-answered (state_
 
 tells-through : (one : Input) (o : Outcome) → (processed one).0 ≡ o → IsMessageFromPermitted one.bytes one.before o → TellsOfPermitted one
 tells-through one (PeerIcmp transport peer icmp) e (indicated, is) = rw e (indicated, is)
-tells-through one (PeerData payload) e exact = rw e tt
-tells-through one Handled e exact = rw e tt
-tells-through one Ignored e exact = rw e tt
+tells-through one o e exact = rw e tt
 
 tells-nothing : (one : Input) (o : Outcome) → (processed one).0 ≡ o → HasNoPeer o → TellsOfPermitted one
-tells-nothing one (PeerIcmp transport peer icmp) e none = absurd none
-tells-nothing one (PeerData payload) e none = absurd none
 tells-nothing one Handled e none = rw e tt
 tells-nothing one Ignored e none = rw e tt
+tells-nothing one o e none = absurd none
 
 tells_in_mode : (m : Mode) (stream : Stream) (t : Input) → IsPermittedInput (record t { stream = Some (record stream { mode = m }) })
     → TellsOfPermitted (record t { stream = Some (record stream { mode = m }) })
 tells_in_mode Control stream t exact = let one = record t { stream = Some (record stream { mode = Control }) } in tells-through one (processed one).0 refl exact
 tells_in_mode Waiting stream t exact = let one = record t { stream = Some (record stream { mode = Waiting }) } in tells-nothing one (processed one).0 refl exact
-tells_in_mode (Bound peer) stream t exact = tt
-tells_in_mode Broken stream t exact = tt
+tells_in_mode m stream t exact = tt
 
 pub tells-permitted : (one : Input) → TellsOfPermitted one
 tells-permitted one = by one.stream one (turn-IsFromPermitted one)

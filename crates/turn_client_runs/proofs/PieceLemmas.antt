@@ -51,9 +51,7 @@ recv-none a piece now s tcp e = subst (λ (v : State). recv_step Tcp s.remote a 
 placed : (waited : List ℕ) (o : Outcome) → outcome_payloads (place_kept waited o) ≡ outcome_payloads o
 placed [] o = refl
 placed (b ∷ bytes) (PeerData payload) = refl
-placed (b ∷ bytes) Handled = refl
-placed (b ∷ bytes) Ignored = refl
-placed (b ∷ bytes) (PeerIcmp transport peer icmp) = refl
+placed waited o = refl
 
 -- ---- a client that is quiet
 
@@ -199,13 +197,11 @@ module _ (a : SocketAddr) (now : ℕ) (s : State) (quiet : IsQuiet s) where
   agrees-in : (c : Bool) (m : Mode) (b : ℕ) (piece : List ℕ) (stream : Stream) → SuitsMode c m → stream_at a s ≡ Some (record stream { mode = m })
       → Agrees a c (fed_piece a (b ∷ piece) now s) (whole a now out (bytes_at a s ++ b ∷ piece))
   agrees-in true Control b piece stream suits e = framed-agrees true Control control-framed stream (b ∷ piece) e (control-turn b piece stream e)
-  agrees-in true Waiting b piece stream suits e = absurd suits
-  agrees-in true (Bound peer) b piece stream suits e = absurd suits
-  agrees-in true Broken b piece stream suits e = broken-agrees true b piece (bytes_at a s ++ b ∷ piece) stream e tt
-  agrees-in false Control b piece stream suits e = absurd suits
   agrees-in false Waiting b piece stream suits e = framed-agrees false Waiting waiting-framed stream (b ∷ piece) e (waiting-turn b piece stream e)
   agrees-in false (Bound peer) b piece stream suits e = bound-agrees b piece stream peer e
+  agrees-in true Broken b piece stream suits e = broken-agrees true b piece (bytes_at a s ++ b ∷ piece) stream e tt
   agrees-in false Broken b piece stream suits e = broken-agrees false b piece (bytes_at a s ++ b ∷ piece) stream e tt
+  agrees-in c m b piece stream suits e = absurd suits
 
   -- a piece returns the whole of the buffered bytes and its own
   pub piece-agrees : (c : Bool) (b : ℕ) (piece : List ℕ) → Suits c (stream_at a s) → Agrees a c (fed_piece a (b ∷ piece) now s) (whole a now out (bytes_at a s ++ b ∷ piece))
@@ -221,19 +217,17 @@ module _ (a : SocketAddr) (now : ℕ) (s : State) (quiet : IsQuiet s) where
   framed-size bytes h = by (begins_no_frame bytes) refl (frame_len bytes) refl h
     where
       by : (b : Bool) → begins_no_frame bytes ≡ b → (o : Option ℕ) → frame_len bytes ≡ o → is_some (cond b (Some (length bytes)) o) ≡ false → cond b (Some 1) o ≡ None
-      by true f o g k = cc
       by false f None g k = refl
-      by false f (Some n) g k = cc
+      by b f o g k = cc
 
   waits-size : (m : Mode) (stream : Stream) → is_ready (record stream { mode = m }) ≡ false → IsEmptyIfBroken (record stream { mode = m }) → T.size_in (meant m) stream.bytes ≡ None
-  waits-size Control stream h empty = framed-size stream.bytes h
-  waits-size Waiting stream h empty = framed-size stream.bytes h
   waits-size (Bound peer) stream h empty = by stream.bytes h
     where
       by : (bytes : List ℕ) → is_ready (record stream { mode = Bound peer; bytes = bytes }) ≡ false → T.one_byte bytes ≡ None
       by [] k = refl
       by (b ∷ bytes) k = cc
   waits-size Broken stream h empty = rw (empty refl) refl
+  waits-size m stream h empty = framed-size stream.bytes h
 
   -- nothing is returned of the buffered bytes
   pub waits-whole : whole a now out (bytes_at a s) ≡ left out (bytes_at a s)
@@ -260,10 +254,8 @@ module _ (a : SocketAddr) (now : ℕ) (s : State) (quiet : IsQuiet s) where
   -- ---- bytes that are dropped
 
   unmeant-is : (m : Mode) → meant m ≡ T.Broken → m ≡ Broken
-  unmeant-is Control e = cc
-  unmeant-is Waiting e = cc
-  unmeant-is (Bound peer) e = cc
   unmeant-is Broken e = refl
+  unmeant-is m e = cc
 
   unmeant-same : out ≡ s → ((bytes : List ℕ) → whole a now s bytes ≡ left s []) → (bytes : List ℕ) → whole_of a now s bytes ≡ ([], s)
   unmeant-same same unmeant bytes =

@@ -28,9 +28,7 @@ suits-first (Some stream) = by stream.mode
   where
     by : (m : Mode) → SuitsMode (is_control_stream (Some (record stream { mode = m }))) m
     by Control = tt
-    by Waiting = tt
-    by (Bound peer) = tt
-    by Broken = tt
+    by m = tt
 
 module _ (a : SocketAddr) (now : ℕ) where
   -- the pieces return what these bytes return, where payloads count so

@@ -40,18 +40,15 @@ turn_in_mode Control one stream = by (not (begins_message one.bytes)) (is_messag
   where
     by : (b c : Bool) → KeepsRealm one.before (cond {A = Outcome × State} b (channel_sent one.before one.bytes, one.before)
         (cond {A = Outcome × State} c (message_step one.bytes one.time one.before) (Handled, one.before))).1
-    by true c = same-realm one.before
     by false true = (message-keeps one.bytes one.time one.before).2
-    by false false = same-realm one.before
+    by b c = same-realm one.before
 turn_in_mode Waiting one stream = by (not (begins_message one.bytes)) (is_message one.bytes)
   where
     by : (b c : Bool) → KeepsRealm one.before (cond {A = Outcome × State} b (Ignored, one.before)
         (cond {A = Outcome × State} c (Handled, bind_step stream.local one.bytes one.time one.before) (Handled, one.before))).1
-    by true c = same-realm one.before
     by false true = (bind-keeps stream.local one.bytes one.time one.before).2
-    by false false = same-realm one.before
-turn_in_mode (Bound peer) one stream = same-realm one.before
-turn_in_mode Broken one stream = same-realm one.before
+    by b c = same-realm one.before
+turn_in_mode m one stream = same-realm one.before
 
 turn-realm : (one : Input) → KeepsRealm one.before (processed one).1
 turn-realm one = by one.stream

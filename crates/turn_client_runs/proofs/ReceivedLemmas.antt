@@ -94,10 +94,9 @@ module _ (Known : SocketAddr → List ℕ → Type 0) (none : (a : SocketAddr) �
       by false = framed-known stream now t is all (frame_len stream.bytes)
 
   turned-known : (m : Mode) (stream : Stream) (now : ℕ) (t : State) → Known stream.local stream.bytes → AllKnown t.streams → AllKnown (detached_frame_step (record stream { mode = m }) now t).1.streams
-  turned-known Control stream now t is all = front-known (record stream { mode = Control }) now t is all
-  turned-known Waiting stream now t is all = front-known (record stream { mode = Waiting }) now t is all
   turned-known (Bound peer) stream now t is all = all
   turned-known Broken stream now t is all = all
+  turned-known m stream now t is all = front-known (record stream { mode = m }) now t is all
 
   turn-known : (stream : Stream) (now : ℕ) (s : State) → Known stream.local stream.bytes → OthersKnown stream.local s.streams → AllKnown (next_frame_step stream now s).1.streams
   turn-known stream now s is others = turned-known stream.mode stream now (with_bytes stream.local [] s) is (bytes-known stream.local [] s (none stream.local) others)
@@ -140,10 +139,9 @@ module _ (Known : SocketAddr → List ℕ → Type 0) (none : (a : SocketAddr) �
       by false = len-turns is_lent stream now t is (frame_len stream.bytes)
 
   mode-turns : (m : Mode) (is_lent : Bool) (stream : Stream) (now : ℕ) (t : State) → Known stream.local stream.bytes → KnownTurns (taken_in is_lent (record stream { mode = m }) now t)
-  mode-turns Control is_lent stream now t is = frame-turns is_lent (record stream { mode = Control }) now t is
-  mode-turns Waiting is_lent stream now t is = frame-turns is_lent (record stream { mode = Waiting }) now t is
   mode-turns (Bound peer) is_lent stream now t is = one-turn _ (record stream { mode = Bound peer }) refl is
   mode-turns Broken is_lent stream now t is = no-turns
+  mode-turns m is_lent stream now t is = frame-turns is_lent (record stream { mode = m }) now t is
 
   taken-turns : (is_lent : Bool) (stream : Stream) (now : ℕ) (s : State) → Known stream.local stream.bytes → KnownTurns (stream_inputs_taken is_lent stream now s)
   taken-turns is_lent stream now s is = mode-turns stream.mode is_lent stream now (with_bytes stream.local [] s) is
@@ -156,9 +154,7 @@ module _ (Known : SocketAddr → List ℕ → Type 0) (none : (a : SocketAddr) �
       → ((t : State) → AllKnown t.streams → Goes (later t) (next t).1)
       → Goes (front ++ unless_given (payload_in p.0) (later p.1)) (go_on next p).1
   go_on-known next later front (PeerData payload, t) first more = (joined-turns front [] first.0 no-turns, first.1)
-  go_on-known next later front (Handled, t) first more = let rest = more t first.1 in (joined-turns front (later t) first.0 rest.0, rest.1)
-  go_on-known next later front (Ignored, t) first more = let rest = more t first.1 in (joined-turns front (later t) first.0 rest.0, rest.1)
-  go_on-known next later front (PeerIcmp transport peer icmp, t) first more = let rest = more t first.1 in (joined-turns front (later t) first.0 rest.0, rest.1)
+  go_on-known next later front (_, t) first more = let rest = more t first.1 in (joined-turns front (later t) first.0 rest.0, rest.1)
 
   turns-known : (n now : ℕ) (s : State) → AllKnown s.streams → Goes (inputs_taken n now s) (steps_until_payload n now s).1
   unfolding inputs_taken steps_until_payload
@@ -179,10 +175,9 @@ module _ (Known : SocketAddr → List ℕ → Type 0) (none : (a : SocketAddr) �
   -- ---- a piece
 
   then-known : (now : ℕ) (front : List Input) (p : Outcome × State) → Goes front p.1 → Goes (front ++ then_taken now p) (then_all now p).1
-  then-known now front (PeerData payload, t) first = (joined-turns front [] first.0 no-turns, first.1)
-  then-known now front (PeerIcmp transport peer icmp, t) first = (joined-turns front [] first.0 no-turns, first.1)
   then-known now front (Handled, t) first = let rest = poll-known now t first.1 in (joined-turns front (poll_recv_inputs now t) first.0 rest.0, rest.1)
   then-known now front (Ignored, t) first = let rest = poll-known now t first.1 in (joined-turns front (poll_recv_inputs now t) first.0 rest.0, rest.1)
+  then-known now front (_, t) first = (joined-turns front [] first.0 no-turns, first.1)
 
   fed-known : (stream : Stream) (piece : List ℕ) (now : ℕ) (s : State) → Known stream.local (stream.bytes ++ piece) → OthersKnown stream.local s.streams
       → Goes (fed_taken stream piece now s) (first_frame_step stream piece now s).1

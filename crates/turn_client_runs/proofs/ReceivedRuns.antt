@@ -51,21 +51,7 @@ Steps all turns t = Goes (Ends all) (nothing-ends all) (less-ends all) turns t
 
 quiet-piece : (a : SocketAddr) (call : Call) (s : State) → (TakesInput call → ⊥) → piece_in_call a call s ≡ []
 quiet-piece a (Recv packet now) s other = absurd (other tt)
-quiet-piece a (PollRecv now) s other = refl
-quiet-piece a (Delete now) s other = refl
-quiet-piece a (CreatePermission transport ip now) s other = refl
-quiet-piece a (BindChannel transport peer now) s other = refl
-quiet-piece a (TcpConnect peer now) s other = refl
-quiet-piece a (AllocatedTcpSocket id tuple peer local now) s other = refl
-quiet-piece a (TcpClosed local remote now) s other = refl
-quiet-piece a (SendTo transport peer bytes now) s other = refl
-quiet-piece a (Poll now) s other = refl
-quiet-piece a (PollTransmit now) s other = refl
-quiet-piece a PollEvent s other = refl
-quiet-piece a RelayedAddresses s other = refl
-quiet-piece a (Permissions transport relayed) s other = refl
-quiet-piece a (HavePermission transport to) s other = refl
-quiet-piece a ProtocolError s other = refl
+quiet-piece a call s other = refl
 
 -- more may have been received
 module _ (all more : SocketAddr → List ℕ) where
@@ -97,9 +83,7 @@ module _ (all more : SocketAddr → List ℕ) where
   module _ (packet : Transmit (List ℕ)) (now : ℕ) where
     unless-nothing : (m : Mode) → unless_broken m [] ≡ []
     unless-nothing Control = refl
-    unless-nothing Waiting = refl
-    unless-nothing (Bound peer) = refl
-    unless-nothing Broken = refl
+    unless-nothing m = refl
 
     -- for the stream at this local address
     fed-steps : (s : State) (stream : Stream) → stream_at packet.to s ≡ Some stream
@@ -166,8 +150,7 @@ module _ (all more : SocketAddr → List ℕ) where
         by true f = subst (Held more) (sym (message-same packet.payload now s)) held
         by false true = held
         by false false = held
-    datagram-steps true false s held = (λ one absent. absurd absent, held)
-    datagram-steps false c s held = (λ one absent. absurd absent, held)
+    datagram-steps b c s held = (λ one absent. absurd absent, held)
 
     recv-steps : (carrier : TransportType) (s : State) → ((a : SocketAddr) → more a ≡ all a ++ piece_in_call a (Recv packet now) (record s { transport = carrier })) → Held all s.streams
         → Steps more (recv_inputs packet.transport packet.from packet.to packet.payload now (record s { transport = carrier }))

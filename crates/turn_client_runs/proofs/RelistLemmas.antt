@@ -104,10 +104,7 @@ challenge-relists message d now s =
 
 wrong-relists : (p : Phase) (message : List ℕ) (now : ℕ) (s : State) → Relists message now (record s { phase = p }) (wrong_step message (record s { phase = p })).1
 wrong-relists New message now s = still message now (record s { phase = New }) _ (adds-filter Never _ s.listed)
-wrong-relists Requesting message now s = still message now (record s { phase = Requesting }) _ (adds-filter Never _ s.listed)
-wrong-relists Authenticating message now s = still message now (record s { phase = Authenticating }) _ (adds-filter Never _ s.listed)
-wrong-relists Allocated message now s = still message now (record s { phase = Allocated }) _ (adds-filter Never _ s.listed)
-wrong-relists Closed message now s = still message now (record s { phase = Closed }) _ (adds-filter Never _ s.listed)
+wrong-relists p message now s = still message now (record s { phase = p }) _ (adds-filter Never _ s.listed)
 
 granted-relists : (message : List ℕ) (now : ℕ) (s : State) → Relists message now s (allocate_granted message now (transaction_ended (id_of message) s))
 granted-relists message now s = by (lifetime_in message) refl
@@ -135,10 +132,7 @@ reply-relists is_granted message now s = still message now s _ (response-fits is
 signed-relists : (is_granted : Bool) (p : Phase) (message : List ℕ) (now : ℕ) (s : State) → Relists message now (record s { phase = p }) (signed_step is_granted message now (record s { phase = p })).1
 signed-relists true Authenticating message now s = granted-relists message now (record s { phase = Authenticating })
 signed-relists false Authenticating message now s = denied-relists message now (record s { phase = Authenticating })
-signed-relists b New message now s = reply-relists b message now (record s { phase = New })
-signed-relists b Requesting message now s = reply-relists b message now (record s { phase = Requesting })
-signed-relists b Allocated message now s = reply-relists b message now (record s { phase = Allocated })
-signed-relists b Closed message now s = reply-relists b message now (record s { phase = Closed })
+signed-relists b p message now s = reply-relists b message now (record s { phase = p })
 
 -- ---- what the server requests lists nothing
 
@@ -177,15 +171,13 @@ message-relists message now s = by (judgement_of s message) refl
     asked false = same message now s s refl
 
     by : (j : Judgement) → judgement_of s message ≡ j → Relists message now s (message_step message now s).1
-    by Unrelated e = rw e (same message now s s refl)
     by (Challenged d) e = rw e (challenge-relists message d now s)
     by Fatal e = rw e (wrong-relists s.phase message now s)
-    by LateResponse e = rw e (same message now s s refl)
-    by DataIndication e = rw e (same message now s s refl)
     by ConnectionAttempt e = rw e (indicated (attempt_indicated message s) (indicated-listed message s))
     by SignedRequest e = rw e (asked (eqb (method_in message) connection_attempt_method))
     by SignedSuccess e = rw e (signed-relists true s.phase message now s)
     by SignedError e = rw e (signed-relists false s.phase message now s)
+    by j e = rw e (same message now s s refl)
 
 -- ---- connections that wait to be bound
 
@@ -215,18 +207,9 @@ answered-relists c message now s = by (bind_judgement s c.local message) refl
     by (Challenged d) e = rw e (again-relists c message d now s)
     by SignedSuccess e = rw e (still message now s _ (adds-filter Never _ s.listed))
     by SignedError e = rw e (still message now s _ (adds-filter Never _ s.listed))
-    by Unrelated e = rw e unbound
-    by Fatal e = rw e unbound
-    by LateResponse e = rw e unbound
-    by DataIndication e = rw e unbound
-    by ConnectionAttempt e = rw e unbound
-    by SignedRequest e = rw e unbound
+    by j e = rw e unbound
 
 bind_in_phase : (p : Phase) (local : SocketAddr) (message : List ℕ) (now : ℕ) (s : State) → Relists message now (record s { phase = p }) (bind_step local message now (record s { phase = p }))
-bind_in_phase New local message now s = same message now (record s { phase = New }) _ refl
-bind_in_phase Requesting local message now s = same message now (record s { phase = Requesting }) _ refl
-bind_in_phase Authenticating local message now s = same message now (record s { phase = Authenticating }) _ refl
-bind_in_phase Closed local message now s = same message now (record s { phase = Closed }) _ refl
 bind_in_phase Allocated local message now s = by (connection_at local s) refl
   where
     u : State
@@ -236,6 +219,7 @@ bind_in_phase Allocated local message now s = by (connection_at local s) refl
     by None e = rw e (same message now u u refl)
     by (Some c) e = rw e (on_test (Relists message now u) (eqb (method_in message) connection_bind_method) (bind_answered c message now u) u (answered-relists c message now u)
         (same message now u u refl))
+bind_in_phase p local message now s = same message now (record s { phase = p }) _ refl
 
 -- ---- datagrams and frames
 
@@ -246,8 +230,7 @@ frame_in_mode Control stream bytes now s =
 frame_in_mode Waiting stream bytes now s =
     by_test (Relists bytes now s) (not (begins_message bytes)) (Ignored, s) _ (same bytes now s s refl)
     (by_test (Relists bytes now s) (is_message bytes) (Handled, bind_step stream.local bytes now s) (Handled, s) (bind_in_phase s.phase stream.local bytes now s) (same bytes now s s refl))
-frame_in_mode (Bound peer) stream bytes now s = same bytes now s s refl
-frame_in_mode Broken stream bytes now s = same bytes now s s refl
+frame_in_mode m stream bytes now s = same bytes now s s refl
 
 datagram-relists : (bytes : List ℕ) (now : ℕ) (s : State) → Relists bytes now s (datagram_step bytes now s).1
 datagram-relists bytes now s =

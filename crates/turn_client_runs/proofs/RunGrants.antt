@@ -54,22 +54,8 @@ module _ (one : Input) where
   given-in : (g : Grant) (p : Purpose) → IsActiveGrant g → Asked p → IsGivenAt one p g → IsGivenIn one p g
   given-in (Allocation a) ForAllocation stands peers h = h
   given-in (Allocation a) (ForRefresh family lifetime) stands peers h = h
-  given-in (Allocation a) (ForPermission ip) stands peers h = absurd h
-  given-in (Allocation a) (ForChannel number peer) stands peers h = absurd h
-  given-in (Allocation a) (ForConnect peer) stands peers h = absurd h
-  given-in (Allocation a) (ForBind local peer id) stands peers h = absurd h
-  given-in (Permission other (Active expiry)) ForAllocation stands peers h = absurd h
-  given-in (Permission other (Active expiry)) (ForRefresh family lifetime) stands peers h = absurd h
   given-in (Permission other (Active expiry)) (ForPermission ip) stands peers h = h
-  given-in (Permission other (Active expiry)) (ForChannel number peer) stands peers h = absurd h
-  given-in (Permission other (Active expiry)) (ForConnect peer) stands peers h = absurd h
-  given-in (Permission other (Active expiry)) (ForBind local peer id) stands peers h = absurd h
-  given-in (Channel other to (Active expiry)) ForAllocation stands peers h = absurd h
-  given-in (Channel other to (Active expiry)) (ForRefresh family lifetime) stands peers h = absurd h
-  given-in (Channel other to (Active expiry)) (ForPermission ip) stands peers h = absurd h
   given-in (Channel other to (Active expiry)) (ForChannel number peer) stands peers h = (h.0, peers number peer to refl (subst (λ (n : ℕ). HasChannelTo n to one.before) h.0 h.2), h.1)
-  given-in (Channel other to (Active expiry)) (ForConnect peer) stands peers h = absurd h
-  given-in (Channel other to (Active expiry)) (ForBind local peer id) stands peers h = absurd h
   given-in (Connection c) ForAllocation stands peers h = h
   given-in (Connection c) (ForRefresh family lifetime) stands peers h = h
   given-in (Connection c) (ForPermission ip) stands peers h = h
@@ -82,6 +68,7 @@ module _ (one : Input) where
   given-in (Channel other to (Reserved until)) p stands peers h = absurd stands
   given-in (Connect to) p stands peers h = absurd stands
   given-in (Offer offer) p stands peers h = absurd stands
+  given-in g p stands peers h = absurd h
 
   granting : (g : Grant) → IsActiveGrant g → HasAskedPeers one → AllocatesInOrder one.before × Signs one.before → (is : Granting g one) → IsGranting g is.purpose one
   granting g stands asked order is = record {
@@ -155,14 +142,8 @@ call-allocates relayed call s keeps (a, there, e) = by (call-grants (Allocation 
         stood : (was : Grant) → Contains s.grants was → IsSameGrant was (Allocation a) → IsRelayed relayed s
         stood (Allocation b) before (same, ends) = (b, before, same ∙ e)
         stood (Permission ip Pending) before k = absurd k
-        stood (Permission ip (Active expiry)) before k = absurd k
-        stood (Permission ip (Reserved until)) before k = absurd k
         stood (Channel number peer Pending) before k = absurd k
-        stood (Channel number peer (Active expiry)) before k = absurd k
-        stood (Channel number peer (Reserved until)) before k = absurd k
-        stood (Connect peer) before k = absurd k
-        stood (Offer offer) before k = absurd k
-        stood (Connection c) before k = absurd k
+        stood was before k = absurd k
     by (inr (inl ((b, now, what, how, ends, (was, before, same)), accepted))) =
         inl (was, before, same ∙ (ap (λ (x : Relay). x.relayed) (same-allocation b a (sym what)) ∙ e))
     by (inr (inr (one, among, (p, is)))) = inr (one, among, (p, (a, is, e)))
@@ -185,16 +166,12 @@ AnswersFor Did = (p : Purpose) (one : Input) → Did p one → Contains (purpose
 -- what is granted is granted for a request that deletes nothing
 no-return : (one : Input) (g : Grant) (p : Purpose) → IsGivenIn one p g → GivesBack p → ⊥
 no-return one (Allocation a) (ForRefresh family lifetime) (least, same, told) back = absurd (omega (arith, least, back))
-no-return one (Permission ip progress) (ForRefresh family lifetime) given back = given
-no-return one (Channel number peer progress) (ForRefresh family lifetime) given back = given
-no-return one (Connect peer) (ForRefresh family lifetime) given back = given
-no-return one (Offer offer) (ForRefresh family lifetime) given back = given
-no-return one (Connection c) (ForRefresh family lifetime) given back = given
 no-return one g ForAllocation given back = back
 no-return one g (ForPermission ip) given back = back
 no-return one g (ForChannel number peer) given back = back
 no-return one g (ForConnect peer) given back = back
 no-return one g (ForBind local peer id) given back = back
+no-return one g (ForRefresh family lifetime) given back = given
 
 granting-answers : (g : Grant) → AnswersFor (IsGranting g)
 granting-answers g p one is = (is.listed, no-return one g p is.given)
@@ -288,11 +265,7 @@ module _ (first : State) (empty : first.grants ≡ []) (unlisted : first.listed 
           at : Causes (Allocation a) is.call (state_after_all first is.earlier) → HasReply (Allocation a) calls first
           at (inl end) = inr (run-gave a calls is end)
           at (inr done) = inl (run-turned (Allocation a) calls is done)
-      by (Permission ip progress) is = turned (Permission ip progress) is (λ a e. cc)
-      by (Channel number peer progress) is = turned (Channel number peer progress) is (λ a e. cc)
-      by (Connect peer) is = turned (Connect peer) is (λ a e. cc)
-      by (Offer offer) is = turned (Offer offer) is (λ a e. cc)
-      by (Connection c) is = turned (Connection c) is (λ a e. cc)
+      by h is = turned h is (λ a e. cc)
 
 pub first-hold : (transport : TransportType) (local remote : SocketAddr) (config : Config) (seed : List ℕ) → HoldNothing (initial transport local remote config seed)
 first-hold Udp local remote config seed x absent = absurd absent

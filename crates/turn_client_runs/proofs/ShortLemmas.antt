@@ -55,6 +55,5 @@ streams-short transport local remote config seed calls earlier now later e none 
 
     by : (m : Mode) → stream.mode ≡ m → length stream.bytes < 65555
     by Broken m = let nothing : stream.bytes ≡ [] = All-contains IsEmptyIfBroken t.streams stream apart.1 there m in rw nothing (omega arith)
-    by Control m = drained-short stream drained (λ is. let no : Control ≡ Broken = sym m ∙ is in cc) held
-    by Waiting m = drained-short stream drained (λ is. let no : Waiting ≡ Broken = sym m ∙ is in cc) held
     by (Bound peer) m = drained-short stream drained (λ is. let no : Bound peer ≡ Broken = sym m ∙ is in cc) held
+    by x m = drained-short stream drained (λ is. let no : x ≡ Broken = sym m ∙ is in cc) held

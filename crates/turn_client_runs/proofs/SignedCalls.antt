@@ -42,11 +42,9 @@ use Rattle.turn_client_runs.proofs.SignedLemmas.{AreSigned, Signs, SignsIn, Stay
 -- ---- what a caller requests needs an allocation
 
 unallocated : (p : Phase) → IsUngranted p → is_allocated p ≡ false
-unallocated New u = refl
-unallocated Requesting u = refl
-unallocated Authenticating u = refl
 unallocated Allocated u = absurd u
 unallocated Closed u = absurd u
+unallocated p u = refl
 
 no-allocation : (transport : TransportType) (ip : IpAddr) (s : State) → s.grants ≡ [] → find_allocation_to transport ip s ≡ None
 no-allocation transport ip s e = rw e (none (same_transport transport s.config.allocation_transport))
@@ -90,11 +88,9 @@ idle-signs call s idle steady h = by s.phase refl
     far p e three = further-signs s t (subst (λ (q : Phase). 3 ≤ rank q) (sym e) three) (call-keeps call s)
 
     by : (p : Phase) → s.phase ≡ p → Signs t
-    by New e = same (rw e tt)
-    by Requesting e = same (rw e tt)
-    by Authenticating e = same (rw e tt)
     by Allocated e = far Allocated e (omega arith)
     by Closed e = far Closed e (omega arith)
+    by p e = same (rw e tt)
 
 -- ---- all other calls answer no challenge
 
@@ -185,8 +181,7 @@ module _ (call : Call) (s : State) (quiet : IsQuiet call) (asks : AsksSo call s)
   from-new e New f = ((leaves-steadies call s t (inl refl) steady).0 f).2
   from-new e Requesting f = λ x y here there. begun e x (source x here) ∙ sym (begun e y (source y there))
   from-new e Authenticating f = let no : New ≡ Authenticating = sym e ∙ awaits f in cc
-  from-new e Allocated f = tt
-  from-new e Closed f = tt
+  from-new e q f = tt
 
   from-requesting : s.phase ≡ Requesting → (q : Phase) → t.phase ≡ q → SignsIn q t.config t.held t.transactions
   from-requesting e New f = let no : 1 ≤ 0 = on Requesting New e f in absurd (omega (arith, no))
@@ -195,8 +190,7 @@ module _ (call : Call) (s : State) (quiet : IsQuiet call) (asks : AsksSo call s)
       let (b, besides, called, other) = sent Requesting e (λ g. cc) (λ g. cc) y (source y there) in
       named ∙ (in_phase Requesting e a b among besides ∙ sym called)
   from-requesting e Authenticating f = let no : Requesting ≡ Authenticating = sym e ∙ awaits f in cc
-  from-requesting e Allocated f = tt
-  from-requesting e Closed f = tt
+  from-requesting e q f = tt
 
   far : (p : Phase) → s.phase ≡ p → 3 ≤ rank p → Signs t
   far p e three = further-signs s t (subst (λ (q : Phase). 3 ≤ rank q) (sym e) three) (call-keeps call s)
@@ -210,8 +204,7 @@ module _ (call : Call) (s : State) (quiet : IsQuiet call) (asks : AsksSo call s)
       by Authenticating e =
           later-signs s t e h (call-keeps call s) (call-configured call s)
           (λ x there phase held are. signed x are (sent Authenticating e (λ g. cc) (λ g. cc) x (source x there)))
-      by Allocated e = far Allocated e (omega arith)
-      by Closed e = far Closed e (omega arith)
+      by p e = far p e (omega arith)
 
 -- ---- all calls
 
@@ -229,12 +222,7 @@ call-signs (BindChannel transport peer now) s order steady h = idle-signs (BindC
 call-signs (TcpConnect peer now) s order steady h = idle-signs (TcpConnect peer now) s (idle-connect peer now s) steady h
 call-signs (AllocatedTcpSocket id tuple peer local now) s order steady h = idle-signs (AllocatedTcpSocket id tuple peer local now) s (idle-socket id tuple peer local now s) steady h
 call-signs (PollTransmit now) s order steady h = quiet-signs (PollTransmit now) s tt (transmit-asks now s) steady h
-call-signs (TcpClosed local remote now) s order steady h = quiet-signs (TcpClosed local remote now) s tt (λ x. asks-nothing (TcpClosed local remote now) s x (λ no. no) (λ p at no. no)) steady h
-call-signs (SendTo transport peer bytes now) s order steady h = quiet-signs (SendTo transport peer bytes now) s tt
-    (λ x. asks-nothing (SendTo transport peer bytes now) s x (λ no. no) (λ p at no. no)) steady h
-call-signs (Poll now) s order steady h = quiet-signs (Poll now) s tt (λ x. asks-nothing (Poll now) s x (λ no. no) (λ p at no. no)) steady h
-call-signs PollEvent s order steady h = quiet-signs PollEvent s tt (λ x. asks-nothing PollEvent s x (λ no. no) (λ p at no. no)) steady h
-call-signs ProtocolError s order steady h = quiet-signs ProtocolError s tt (λ x. asks-nothing ProtocolError s x (λ no. no) (λ p at no. no)) steady h
 call-signs RelayedAddresses s order steady h = h
 call-signs (Permissions transport relayed) s order steady h = h
 call-signs (HavePermission transport to) s order steady h = h
+call-signs call s order steady h = quiet-signs call s tt (λ x. asks-nothing call s x (λ no. no) (λ p at no. no)) steady h

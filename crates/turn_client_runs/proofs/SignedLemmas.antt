@@ -63,11 +63,9 @@ pub far-signs : (t : State) → 3 ≤ rank t.phase → Signs t
 far-signs t far = by t.phase far
   where
     by : (p : Phase) → 3 ≤ rank p → SignsIn p t.config t.held t.transactions
-    by New far = absurd (omega (arith, far))
-    by Requesting far = absurd (omega (arith, far))
-    by Authenticating far = absurd (omega (arith, far))
     by Allocated far = tt
     by Closed far = tt
+    by p far = absurd (omega (arith, far))
 
 pub further-signs : (s t : State) → 3 ≤ rank s.phase → Keeps s t → Signs t
 further-signs s t far keeps = let on : rank s.phase ≤ rank t.phase = keeps.3.0 in far-signs t (omega (arith, far, on))
@@ -123,8 +121,7 @@ later-signs s t e h keeps same each = by t.phase refl
     by New f = let no : 2 ≤ 0 = on New f in absurd (omega (arith, no))
     by Requesting f = let no : 2 ≤ 1 = on Requesting f in absurd (omega (arith, no))
     by Authenticating f = (held, λ x there. each x there f held signed)
-    by Allocated f = tt
-    by Closed f = tt
+    by p f = tt
 
 -- ---- what is made
 
@@ -244,8 +241,7 @@ module _ (message : List ℕ) (now : ℕ) (s : State) (order : AllocatesInOrder 
           same-signs s (after message now s) is h
       by Requesting e = requesting-signs e
       by Authenticating e = authenticating-signs e
-      by Allocated e = far Allocated e (omega arith)
-      by Closed e = far Closed e (omega arith)
+      by p e = far p e (omega arith)
 
 bind-signs : (local : SocketAddr) (message : List ℕ) (now : ℕ) (s : State) → Signs s → Signs (bind_step local message now s)
 bind-signs local message now s h = by s.phase refl
@@ -254,14 +250,11 @@ bind-signs local message now s h = by s.phase refl
     t = bind_step local message now s
 
     by : (p : Phase) → s.phase ≡ p → Signs t
-    by New e = same-signs s t (rw e refl) h
-    by Requesting e = same-signs s t (rw e refl) h
-    by Authenticating e = same-signs s t (rw e refl) h
-    by Closed e = same-signs s t (rw e refl) h
     by Allocated e = further-signs s t (subst (λ (q : Phase). 3 ≤ rank q) (sym e) three) (bind-keeps local message now s)
       where
         three : 3 ≤ rank Allocated
         three = omega arith
+    by p e = same-signs s t (rw e refl) h
 
 -- ---- with what ALLOCATEs request
 

@@ -46,31 +46,14 @@ listed-with : (p a b : Purpose) → IsListedFor p a → IsListedFor p b → Toge
 listed-with p a b (inl e) h = inl (subst (λ (x : Purpose). IsListedFor x b) (sym e) h)
 listed-with p a b (inr brings) (inl e) = inr (inl (subst (λ (x : Purpose). IsListedFor x a) (sym e) (inr brings)))
 listed-with (ForChannel number peer) (ForPermission ip) (ForPermission other) (inr e) (inr f) = inl (inl (rw (e, f) refl))
-listed-with (ForChannel number peer) (ForPermission ip) ForAllocation (inr e) (inr none) = absurd none
-listed-with (ForChannel number peer) (ForPermission ip) (ForRefresh family lifetime) (inr e) (inr none) = absurd none
-listed-with (ForChannel number peer) (ForPermission ip) (ForChannel other to) (inr e) (inr none) = absurd none
-listed-with (ForChannel number peer) (ForPermission ip) (ForConnect to) (inr e) (inr none) = absurd none
-listed-with (ForChannel number peer) (ForPermission ip) (ForBind local to id) (inr e) (inr none) = absurd none
-listed-with (ForChannel number peer) ForAllocation b (inr none) (inr f) = absurd none
-listed-with (ForChannel number peer) (ForRefresh family lifetime) b (inr none) (inr f) = absurd none
-listed-with (ForChannel number peer) (ForChannel other to) b (inr none) (inr f) = absurd none
-listed-with (ForChannel number peer) (ForConnect to) b (inr none) (inr f) = absurd none
-listed-with (ForChannel number peer) (ForBind local to id) b (inr none) (inr f) = absurd none
-listed-with ForAllocation a b (inr none) (inr f) = absurd none
-listed-with (ForRefresh family lifetime) a b (inr none) (inr f) = absurd none
-listed-with (ForPermission ip) a b (inr none) (inr f) = absurd none
-listed-with (ForConnect to) a b (inr none) (inr f) = absurd none
-listed-with (ForBind local to id) a b (inr none) (inr f) = absurd none
+listed-with (ForChannel number peer) (ForPermission ip) b (inr e) (inr none) = absurd none
+listed-with p a b (inr none) (inr f) = absurd none
 
 -- a request that deletes allocations is listed for nothing else
 back-listed : (p a : Purpose) → GivesBack p → IsListedFor p a → GivesBack a
 back-listed p a back (inl e) = subst GivesBack (sym e) back
 back-listed (ForRefresh family lifetime) a back (inr none) = absurd none
-back-listed ForAllocation a back (inr brings) = absurd back
-back-listed (ForPermission ip) a back (inr brings) = absurd back
-back-listed (ForChannel number peer) a back (inr brings) = absurd back
-back-listed (ForConnect to) a back (inr brings) = absurd back
-back-listed (ForBind local to id) a back (inr brings) = absurd back
+back-listed p a back (inr brings) = absurd back
 
 -- ---- what a call requests
 
@@ -122,20 +105,7 @@ IsListingHere call s l =
 pub listing-here : (call : Call) (s : State) → TakesInput call ⊎ ((l : Listing) → IsListingOf call s l → IsListingHere call s l)
 listing-here (Recv packet now) s = inl tt
 listing-here (PollRecv now) s = inl tt
-listing-here (Delete now) s = inr (λ l is. is)
-listing-here (CreatePermission transport ip now) s = inr (λ l is. is)
-listing-here (BindChannel transport peer now) s = inr (λ l is. is)
-listing-here (TcpConnect peer now) s = inr (λ l is. is)
-listing-here (AllocatedTcpSocket id tuple peer local now) s = inr (λ l is. is)
-listing-here (TcpClosed local remote now) s = inr (λ l is. is)
-listing-here (SendTo transport peer bytes now) s = inr (λ l is. is)
-listing-here (Poll now) s = inr (λ l is. is)
-listing-here (PollTransmit now) s = inr (λ l is. is)
-listing-here PollEvent s = inr (λ l is. is)
-listing-here RelayedAddresses s = inr (λ l is. is)
-listing-here (Permissions transport relayed) s = inr (λ l is. is)
-listing-here (HavePermission transport to) s = inr (λ l is. is)
-listing-here ProtocolError s = inr (λ l is. is)
+listing-here call s = inr (λ l is. is)
 
 -- ---- one more request
 

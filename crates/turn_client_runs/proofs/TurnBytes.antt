@@ -90,10 +90,9 @@ module _ (p : Stream → Bool) (stream : Stream) (s : State) (found : find p s.s
 
   turned-takes : (l : Bool) (mode : Mode) (bytes : List ℕ) (now : ℕ) → 0 < length bytes
       → (let u = record stream { mode = mode; bytes = bytes } in TakesOut bytes (taken_in l u now out) (detached_frame_step u now out))
-  turned-takes l Control bytes now some = framed-takes l Control bytes now
-  turned-takes l Waiting bytes now some = framed-takes l Waiting bytes now
   turned-takes l (Bound peer) bytes now some = let less = emptied in omega (arith, less, some)
   turned-takes l Broken bytes now some = let less = emptied in omega (arith, less)
+  turned-takes l mode bytes now some = framed-takes l mode bytes now
 
   pub turn-takes : (l : Bool) (bytes : List ℕ) (now : ℕ) → 0 < length bytes → (let u = record stream { bytes = bytes } in TakesOut bytes (stream_inputs_taken l u now s) (next_frame_step u now s))
   turn-takes l bytes now some = turned-takes l stream.mode bytes now some
@@ -107,9 +106,7 @@ Takes turns s t = length turns + weight t.streams ≤ weight s.streams
 go_on-takes : (next : State → Option Payload × State) (later : State → List Input) (front : List Input) (s : State) (q : Outcome × State) → Takes front s q.1 → Takes (later q.1) q.1 (next q.1).1
     → Takes (front ++ unless_given (payload_in q.0) (later q.1)) s (go_on next q).1
 go_on-takes next later front s (PeerData payload, t) first more = let sum = length-append front [] in omega (arith, sum, first)
-go_on-takes next later front s (Handled, t) first more = let sum = length-append front (later t) in omega (arith, sum, first, more)
-go_on-takes next later front s (Ignored, t) first more = let sum = length-append front (later t) in omega (arith, sum, first, more)
-go_on-takes next later front s (PeerIcmp transport peer icmp, t) first more = let sum = length-append front (later t) in omega (arith, sum, first, more)
+go_on-takes next later front s (_, t) first more = let sum = length-append front (later t) in omega (arith, sum, first, more)
 
 turns-take : (n now : ℕ) (s : State) → Takes (inputs_taken n now s) s (steps_until_payload n now s).1
 unfolding steps_until_payload inputs_taken
@@ -135,10 +132,9 @@ abbrev TakesOf : List ℕ → List Input → State → State → Type 0
 TakesOf piece turns s t = length turns + weight t.streams ≤ weight s.streams + length piece
 
 then_all-takes : (now : ℕ) (piece : List ℕ) (front : List Input) (s : State) (q : Outcome × State) → TakesOf piece front s q.1 → TakesOf piece (front ++ then_taken now q) s (then_all now q).1
-then_all-takes now piece front s (PeerData payload, t) first = let sum = length-append front [] in omega (arith, sum, first)
-then_all-takes now piece front s (PeerIcmp transport peer icmp, t) first = let sum = length-append front [] in omega (arith, sum, first)
 then_all-takes now piece front s (Handled, t) first = let sum = length-append front (poll_recv_inputs now t) in let more = poll-takes now t in omega (arith, sum, first, more)
 then_all-takes now piece front s (Ignored, t) first = let sum = length-append front (poll_recv_inputs now t) in let more = poll-takes now t in omega (arith, sum, first, more)
+then_all-takes now piece front s (_, t) first = let sum = length-append front [] in omega (arith, sum, first)
 
 module _ (to : SocketAddr) (s : State) where
   fed-takes : (stream : Stream) (piece : List ℕ) (now : ℕ) → stream_at to s ≡ Some stream → 0 < length piece → TakesOf piece (fed_taken stream piece now s) s (first_frame_step stream piece now s).1

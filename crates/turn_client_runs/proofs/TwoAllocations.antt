@@ -23,15 +23,10 @@ none-double family a e (Allocation b ∷ gs) all = by family e (family_of b.rela
     None f list = length (filter (λ x. same_family (family_of x.relayed) f) (filter_map as_allocation list)) ≡ 0
 
     by : (f : AddressFamily) → family_of a.relayed ≡ f → (g : AddressFamily) → family_of b.relayed ≡ g → None f gs → None f (Allocation b ∷ gs)
-    by IPV4 h IPV4 g later = let no : true ≡ false = rw (h, g) at all.0 in cc
-    by IPV6 h IPV6 g later = let no : true ≡ false = rw (h, g) at all.0 in cc
     by IPV4 h IPV6 g later = rw g later
     by IPV6 h IPV4 g later = rw g later
-none-double family a e (Permission ip progress ∷ gs) all = none-double family a e gs all.1
-none-double family a e (Channel number peer progress ∷ gs) all = none-double family a e gs all.1
-none-double family a e (Connect peer ∷ gs) all = none-double family a e gs all.1
-none-double family a e (Offer offer ∷ gs) all = none-double family a e gs all.1
-none-double family a e (Connection c ∷ gs) all = none-double family a e gs all.1
+    by f h _ g later = let no : true ≡ false = rw (h, g) at all.0 in cc
+none-double family a e (_ ∷ gs) all = none-double family a e gs all.1
 
 one-of_family : (family : AddressFamily) (gs : List Grant) → AreSingle gs → of_family family (filter_map as_allocation gs) ≤ 1
 unfolding of_family IsDistinct
@@ -42,15 +37,10 @@ one-of_family family (Allocation a ∷ gs) h = by family (family_of a.relayed) r
     Few f list = length (filter (λ x. same_family (family_of x.relayed) f) (filter_map as_allocation list)) ≤ 1
 
     by : (f g : AddressFamily) → family_of a.relayed ≡ g → Few f gs → Few f (Allocation a ∷ gs)
-    by IPV4 IPV4 e later = let none = none-double IPV4 a e gs h.0 in rw e (omega (arith, none))
-    by IPV6 IPV6 e later = let none = none-double IPV6 a e gs h.0 in rw e (omega (arith, none))
     by IPV4 IPV6 e later = rw e later
     by IPV6 IPV4 e later = rw e later
-one-of_family family (Permission ip progress ∷ gs) h = one-of_family family gs h.1
-one-of_family family (Channel number peer progress ∷ gs) h = one-of_family family gs h.1
-one-of_family family (Connect peer ∷ gs) h = one-of_family family gs h.1
-one-of_family family (Offer offer ∷ gs) h = one-of_family family gs h.1
-one-of_family family (Connection c ∷ gs) h = one-of_family family gs h.1
+    by f g e later = let none = none-double f a e gs h.0 in rw e (omega (arith, none))
+one-of_family family (_ ∷ gs) h = one-of_family family gs h.1
 
 both-families : (relays : List Relay) → length relays ≡ of_family IPV4 relays + of_family IPV6 relays
 unfolding of_family
