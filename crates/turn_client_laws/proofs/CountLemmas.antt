@@ -12,6 +12,7 @@ use Rattle.turn_client_laws.specs.LawsReplies.{IsReplyAccepted}
 use Rattle.turn_client_laws.specs.LawsInputs.{IsBroughtBy}
 use Rattle.turn_client_laws.proofs.TurnLemmas.{IsBringing, message-brings}
 use Rattle.turn_client_laws.proofs.Edits.{IgnoresAll, KeepsEdits, KeepsHeeded}
+use Rattle.turn_client_laws.proofs.PhaseEdits.{KeepsPhaseEdits, all-phase-edits, phase-edits}
 use Rattle.turn_client_laws.proofs.EditsOfReplies.{gone-walk}
 use Rattle.turn_client_laws.proofs.EditsOfMessages.{bind-walk, message-walk}
 use Rattle.turn_client_laws.proofs.EditsOfCalls.{delete-walk, expires-walk, quiet-walk, tcp_socket-walk}
@@ -25,46 +26,26 @@ grows-trans Heeded s t u (inl first) (inl second) = inl (omega (arith, first, se
 grows-trans Heeded s t u (inl first) (inr heeded) = inr heeded
 grows-trans Heeded s t u (inr heeded) second = inr heeded
 
-Grows-KeepsEdits : (Heeded : Type 0) → KeepsEdits (Grows Heeded)
-Grows-KeepsEdits Heeded = record {
-  same = λ s. inl (omega arith);
+Grows-KeepsPhaseEdits : (Heeded : Type 0) → KeepsPhaseEdits (Grows Heeded)
+Grows-KeepsPhaseEdits Heeded = record {
+  rest = λ s t. inl (omega arith);
   trans = grows-trans Heeded;
-  aside = λ s t. inl (omega arith);
-  queues = λ queue s begun. inl (omega arith);
-  dequeues = λ queue s fewer. inl (omega arith);
-  families = λ families s may. inl (omega arith);
-  sends = λ now s waits. inl (omega arith);
+  sends = λ now s. inl (omega arith);
   begins = λ now s new. inl (omega arith);
-  ends = λ s none. inl (omega arith);
-  asks = λ id text purposes now s begun askable spelled. inl (omega arith);
-  finishes = λ id s. inl (omega arith);
-  resends = λ id now s. inl (omega arith);
-  unlists = λ which s. inl (omega arith);
-  removes = λ which s spares. inl (omega arith);
-  removes_family = λ family s. inl (omega arith);
-  takes_offer = λ id peer s. inl (omega arith);
-  ages = λ grants s e. inl (omega arith);
-  permission = λ ip s phase room none. inl (omega arith);
-  channel = λ number peer s phase room none within. inl (omega arith);
-  connect = λ peer s phase room none. inl (omega arith);
-  connection = λ id c origin s phase offer none waits. inl (omega arith);
-  reserves = λ number peer was until s there. inl (omega arith);
+  ends = λ s. inl (omega arith);
 }
 
+Grows-KeepsEdits : (Heeded : Type 0) → KeepsEdits (Grows Heeded)
+Grows-KeepsEdits Heeded = phase-edits (Grows Heeded) (Grows-KeepsPhaseEdits Heeded)
+
 Grows-KeepsHeeded : (Heeded : Type 0) → KeepsHeeded Heeded (Grows Heeded)
-Grows-KeepsHeeded Heeded = record {
-  edits = Grows-KeepsEdits Heeded;
-  reshapes = λ grants s e. inl (omega arith);
-  rebinds = λ number peer was progress s there. inl (omega arith);
+Grows-KeepsHeeded Heeded = all-phase-edits Heeded (Grows Heeded) (record {
+  edits = Grows-KeepsPhaseEdits Heeded;
   holds = λ message d s e. inl (omega arith);
   counts = λ s held few. inl (omega arith);
   resets = λ heeded s. inr heeded;
-  empties = λ s. inl (omega arith);
-  allocates = λ message lifetime now s e none. inl (omega arith);
-  permits = λ ip expiry s is. inl (omega arith);
-  connects = λ id connection_id peer s t since stay granted listed. since;
-  offers = λ id peer origin s room few. inl (omega arith);
-}
+  allocates = λ addresses s e. inl (omega arith);
+})
 
 any-streams : (Heeded : Type 0) → IgnoresAll (Grows Heeded)
 any-streams Heeded s streams = inl (omega arith)

@@ -52,6 +52,7 @@ pub mod NumberLemmas
 pub mod OtherStreamLemmas
 pub mod OverLemmas
 pub mod PeerLemmas
+pub mod PhaseEdits
 pub mod PhasesGoOn
 pub mod ReadyLemmas
 pub mod RestingStreamLemmas

@@ -1,6 +1,7 @@
 -- What calls keep: that the client has ended, its phase, how many challenges were answered, realm and
 -- algorithm.
 use Rattle.std.proofs.Common.{◌≡◌, ℕ, Bool, true, false, ltb, List, [], ◌∷◌, Option, Some, None, refl, ap, ◌∙◌, inl, inr, arith, ◌≤◌}
+use Rattle.std.specs.Prelude.{⊤}
 use Rattle.std.specs.Option.{option_map_or}
 use Rattle.std.proofs.lemmas.Bool.{ltb-true, ltb-false}
 use Rattle.std.proofs.lemmas.Option.{none-some, same_Some}
@@ -19,7 +20,7 @@ use Rattle.turn_client_api.specs.Grants.{purposes_of}
 use Rattle.turn_client_api.specs.Judgement.{Challenged, challenge_in, judgement_of}
 use Rattle.turn_client_api.specs.Connections.{bind_step}
 use Rattle.turn_client_api.specs.Due.{has_reply}
-use Rattle.turn_client_api.specs.Effect.{transaction_ended, phase_with, relayed_in, taken_addresses}
+use Rattle.turn_client_api.specs.Effect.{transaction_ended, phase_with}
 use Rattle.turn_client_api.specs.Payloads.{challenge_step, message_step}
 use Rattle.turn_client_api.specs.Poll.{poll_step, timed_step}
 use Rattle.turn_client_api.specs.Retry.{phase_after, retried}
@@ -29,6 +30,7 @@ use Rattle.turn_client_laws.specs.LawsSteps.{GoesOn, IsChallengeCounted, KeepsRe
 use Rattle.turn_client_api.specs.declared.event.TurnEvent.{TurnEvent}
 use Rattle.turn_client_api.specs.declared.poll.TurnPollRet.TheVariants as Do
 use Rattle.turn_client_laws.proofs.Edits.{KeepsAllEdits, KeepsEdits}
+use Rattle.turn_client_laws.proofs.PhaseEdits.{KeepsPhaseEdits, all-phase-edits, phase-edits}
 use Rattle.turn_client_laws.proofs.EditsOfMessages.{edits-IsKept}
 use Rattle.turn_client_laws.proofs.EditsOfCalls.{calls-walk, leaves-walk}
 
@@ -96,46 +98,26 @@ allocates-keeps : (addresses : List SocketAddr) (p : Phase) (s : State) → p �
 allocates-keeps addresses Authenticating s e = (λ h. cc, λ h. h, (keeps-same s).2, (omega (arith, rank-with addresses), λ h. h))
 allocates-keeps addresses p s e = cc
 
-pub Keeps-KeepsEdits : KeepsEdits Keeps
-Keeps-KeepsEdits = record {
-  same = keeps-same;
+Keeps-KeepsPhaseEdits : KeepsPhaseEdits Keeps
+Keeps-KeepsPhaseEdits = record {
+  rest = λ s t. keeps-same s;
   trans = keeps-trans;
-  aside = λ s t. keeps-same s;
-  queues = λ queue s begun. keeps-same s;
-  dequeues = λ queue s fewer. keeps-same s;
-  families = λ families s may. keeps-same s;
-  sends = λ now s waits. (λ h. h, λ h. h, (keeps-same s).2, (omega arith, λ h. refl));
+  sends = λ now s. (λ h. h, λ h. h, (keeps-same s).2, (omega arith, λ h. refl));
   begins = λ now s new. begins-keeps s.phase now s new;
-  ends = λ s none. (λ h. refl, λ h. h, (keeps-same s).2, (rank-le s.phase, λ h. h));
-  asks = λ id text purposes now s begun askable spelled. keeps-same s;
-  finishes = λ id s. keeps-same s;
-  resends = λ id now s. keeps-same s;
-  unlists = λ which s. keeps-same s;
-  removes = λ which s spares. keeps-same s;
-  removes_family = λ family s. keeps-same s;
-  takes_offer = λ id peer s. keeps-same s;
-  ages = λ grants s e. keeps-same s;
-  permission = λ ip s phase room none. keeps-same s;
-  channel = λ number peer s phase room none within. keeps-same s;
-  connect = λ peer s phase room none. keeps-same s;
-  connection = λ id c origin s phase offer none waits. keeps-same s;
-  reserves = λ number peer was until s there. keeps-same s;
+  ends = λ s. (λ h. refl, λ h. h, (keeps-same s).2, (rank-le s.phase, λ h. h));
 }
 
+pub Keeps-KeepsEdits : KeepsEdits Keeps
+Keeps-KeepsEdits = phase-edits Keeps Keeps-KeepsPhaseEdits
+
 pub Keeps-KeepsAllEdits : KeepsAllEdits Keeps
-Keeps-KeepsAllEdits = record {
-  edits = Keeps-KeepsEdits;
-  reshapes = λ grants s e. keeps-same s;
-  rebinds = λ number peer was progress s there. keeps-same s;
+Keeps-KeepsAllEdits = all-phase-edits ⊤ Keeps (record {
+  edits = Keeps-KeepsPhaseEdits;
   holds = λ message d s e. (λ h. h, λ h. h, takes-realm s message d e, (keeps-same s).3);
   counts = λ s held few. (λ h. ap phase_after h, λ h. omega (arith, few), (keeps-same s).2, (rank-after s.phase, λ h. h));
   resets = λ heeded s. (λ h. h, λ h. omega arith, (keeps-same s).2, (keeps-same s).3);
-  empties = λ s. keeps-same s;
-  allocates = λ message lifetime now s e none. allocates-keeps (taken_addresses s.families (relayed_in message)) s.phase s e;
-  permits = λ ip expiry s is. keeps-same s;
-  connects = λ id connection_id peer s t since stay granted listed. since;
-  offers = λ id peer origin s room few. keeps-same s;
-}
+  allocates = λ addresses s e. allocates-keeps addresses s.phase s e;
+})
 
 -- ---- all of them
 
