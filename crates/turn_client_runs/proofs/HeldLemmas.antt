@@ -29,6 +29,7 @@ use Rattle.turn_client_api.specs.declared.state.Phase.{Phase}
 use Rattle.turn_client_api.specs.declared.state.Phase.TheVariants.{New, Requesting, Authenticating, Allocated, Closed}
 use Rattle.turn_client_api.specs.declared.state.Stream.{Stream}
 use Rattle.turn_client_laws.proofs.Edits.{IgnoresAll, KeepsEdits}
+use Rattle.turn_client_laws.proofs.PhaseEdits.{phase-edits}
 use Rattle.turn_client_laws.proofs.EditsOfCalls.{delete-walk, quiet-walk, tcp_socket-walk}
 use Rattle.turn_client_laws.proofs.TurnBringLemmas.{IsBrought, leaves-bring}
 use Rattle.turn_client_runs.specs.Held.{HeldFromChallenge, IsFirstAnswer, IsOfChallenge}
@@ -182,30 +183,13 @@ ends-late s (inr (inr e)) = cc
 
 Back-KeepsEdits : KeepsEdits Back
 unfolding Back
-Back-KeepsEdits = record {
-  same = λ s h. h;
+Back-KeepsEdits = phase-edits Back (record {
+  rest = λ s t h. h;
   trans = λ s t u first second h. first (second h);
-  aside = λ s t h. h;
-  queues = λ queue s begun h. h;
-  dequeues = λ queue s fewer h. h;
-  families = λ families s may h. h;
-  sends = λ now s waits h. h;
+  sends = λ now s h. h;
   begins = λ now s new h. begins-late (sent now (record s { phase = Requesting })) s refl refl h;
-  ends = λ s none h. ends-late s h;
-  asks = λ id text purposes now s begun askable spelled h. h;
-  finishes = λ id s h. h;
-  resends = λ id now s h. h;
-  unlists = λ which s h. h;
-  removes = λ which s spares h. h;
-  removes_family = λ family s h. h;
-  takes_offer = λ id peer s h. h;
-  ages = λ grants s e h. h;
-  permission = λ ip s phase room none h. h;
-  channel = λ number peer s phase room none within h. h;
-  connect = λ peer s phase room none h. h;
-  connection = λ id c origin s phase offer none waits h. h;
-  reserves = λ number peer was until s there h. h;
-}
+  ends = λ s h. ends-late s h;
+})
 
 others : (call : Call) (s : State) → (TakesInput call → ⊥) → IsLate (state_after call s) → IsLate s ⊎ ⊥
 unfolding Back

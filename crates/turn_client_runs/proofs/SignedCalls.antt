@@ -27,6 +27,7 @@ use Rattle.turn_client_laws.specs.LawsSteps.{rank}
 use Rattle.turn_client_api.specs.Requests.{fresh_id, request_for}
 use Rattle.turn_client_api.specs.Steps.{state_after}
 use Rattle.turn_client_laws.proofs.Edits.{KeepsEdits}
+use Rattle.turn_client_laws.proofs.PhaseEdits.{phase-edits}
 use Rattle.turn_client_laws.proofs.EditsOfCalls.{IsQuiet, quiet-walk}
 use Rattle.turn_client_laws.proofs.EditsOfReplies.{and-false}
 use Rattle.turn_client_laws.proofs.HasLemmas.{Has}
@@ -98,30 +99,8 @@ abbrev Awaits : State → State → Type 0
 Awaits s t = t.phase ≡ Authenticating → s.phase ≡ Authenticating
 
 Awaits-KeepsEdits : KeepsEdits Awaits
-Awaits-KeepsEdits = record {
-  same = λ s h. h;
-  trans = λ s t u first second h. first (second h);
-  aside = λ s t h. h;
-  queues = λ queue s begun h. h;
-  dequeues = λ queue s fewer h. h;
-  families = λ families s may h. h;
-  sends = λ now s waits h. h;
-  begins = λ now s new h. cc;
-  ends = λ s none h. cc;
-  asks = λ id text purposes now s begun askable spelled h. h;
-  finishes = λ id s h. h;
-  resends = λ id now s h. h;
-  unlists = λ which s h. h;
-  removes = λ which s spares h. h;
-  removes_family = λ family s h. h;
-  takes_offer = λ id peer s h. h;
-  ages = λ grants s e h. h;
-  permission = λ ip s phase room none h. h;
-  channel = λ number peer s phase room none within h. h;
-  connect = λ peer s phase room none h. h;
-  connection = λ id c origin s phase offer none waits h. h;
-  reserves = λ number peer was until s there h. h;
-}
+Awaits-KeepsEdits =
+    phase-edits Awaits (record { rest = λ s t h. h; trans = λ s t u first second h. first (second h); sends = λ now s h. h; begins = λ now s new h. cc; ends = λ s h. cc })
 
 -- what is outstanding was so before, under this ID and with these bytes
 abbrev WasSent : State → Transaction → Type 0
