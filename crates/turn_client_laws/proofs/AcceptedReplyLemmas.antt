@@ -1,5 +1,5 @@
 -- A reply that is accepted is to an outstanding request, and ends it.
-use Rattle.std.proofs.Common.{◌≡◌, ◌∙◌, ◌<◌, ◌^◌, sym, ℕ, Bool, true, false, not, cond, ◌&&◌, eqb, List, Option, Some, None, inl, inr, refl}
+use Rattle.std.proofs.Common.{◌≡◌, ◌∙◌, sym, ℕ, Bool, true, false, not, cond, ◌&&◌, eqb, List, Option, Some, None, inl, inr, refl}
 use Rattle.std.specs.List.{list_any}
 use Rattle.std.specs.declared.net.socket_addr.SocketAddr.{SocketAddr}
 use Rattle.turn_stun.specs.Message.{id_of}
@@ -15,10 +15,10 @@ use Rattle.turn_agent.proofs.TransactionLemmas.{is_outstanding-without}
 use Rattle.turn_client_api.specs.State.{State, auth_of}
 use Rattle.turn_client_api.specs.declared.grant.DataConnection.{DataConnection}
 use Rattle.turn_client_api.specs.declared.state.Phase.{Phase}
-use Rattle.turn_client_api.specs.declared.state.Phase.TheVariants.{New, Requesting, Authenticating, Allocated, Closed}
+use Rattle.turn_client_api.specs.declared.state.Phase.TheVariants.{Requesting, Authenticating, Allocated}
 use Rattle.turn_client_api.specs.Grants.{purposes_of}
 use Rattle.turn_client_api.specs.Requests.{connection_attempt_method, data_method, fresh_id, is_taken}
-use Rattle.turn_client_api.specs.Judgement.{Judgement, Unrelated, Challenged, Fatal, LateResponse, DataIndication, ConnectionAttempt, SignedRequest, SignedSuccess, SignedError, allocated_judgement}
+use Rattle.turn_client_api.specs.Judgement.{Judgement, Unrelated, Fatal, LateResponse, DataIndication, ConnectionAttempt, SignedSuccess, SignedError, allocated_judgement}
 use Rattle.turn_client_api.specs.Judgement.{answers_allocate, answers_one, authenticating_judgement, bind_judgement, by_class, challenge_in, challenged_or, class_in, indication_judgement, is_bind_of}
 use Rattle.turn_client_api.specs.Judgement.{judgement_of, method_in}
 use Rattle.turn_client_api.specs.Connections.{bind_answered}

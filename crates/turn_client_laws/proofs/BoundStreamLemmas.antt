@@ -17,8 +17,7 @@ use Rattle.turn_client_api.specs.Receive.{connection_gone}
 use Rattle.turn_client_laws.specs.Handled.{Input}
 use Rattle.turn_client_api.specs.Steps.{Leaves, state_after}
 use Rattle.turn_client_api.specs.declared.call.Call.{Call}
-use Rattle.turn_client_api.specs.declared.call.Call.TheVariants.{Delete, CreatePermission, BindChannel, TcpConnect, AllocatedTcpSocket, TcpClosed, SendTo, Recv, PollRecv, Poll, PollTransmit}
-use Rattle.turn_client_api.specs.declared.call.Call.TheVariants.{PollEvent, RelayedAddresses, Permissions, HavePermission, ProtocolError}
+use Rattle.turn_client_api.specs.declared.call.Call.TheVariants.{Delete}
 use Rattle.turn_client_laws.specs.LawsBound.{IsBindInput, IsBoundBy, IsBoundConnection, IsConnectedBy}
 use Rattle.turn_client_laws.specs.LawsGranted.{IsEndedNow, IsGrantedIn, WasActive}
 use Rattle.turn_client_laws.specs.LawsHandled.{IsBoundAt, IsDoneBy}

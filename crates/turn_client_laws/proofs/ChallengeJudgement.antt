@@ -3,7 +3,7 @@ use Rattle.std.proofs.Common.{◌≡◌, ℕ, Bool, true, false, not, cond, ◌&
 use Rattle.std.specs.declared.net.socket_addr.SocketAddr.{SocketAddr}
 use Rattle.turn_stun.specs.Message.{id_of}
 use Rattle.turn_stun.specs.declared.message.header.MessageClass.{MessageClass}
-use Rattle.turn_stun.specs.declared.message.header.MessageClass.TheVariants.{Request, Indication, Success, Error}
+use Rattle.turn_stun.specs.declared.message.header.MessageClass.TheVariants.{Request, Indication, Error}
 use Rattle.turn_auth.specs.LongTerm.{Challenge}
 use Rattle.turn_auth.specs.Validation.{validation_of}
 use Rattle.turn_auth.specs.declared.validation.Validation.{Validation}
@@ -11,7 +11,7 @@ use Rattle.turn_auth.specs.declared.validation.Validation.TheVariants.{Validated
 use Rattle.turn_agent.specs.Agent.{is_outstanding, is_response}
 use Rattle.turn_client_api.specs.State.{State, auth_of}
 use Rattle.turn_client_api.specs.declared.state.Phase.{Phase}
-use Rattle.turn_client_api.specs.declared.state.Phase.TheVariants.{New, Requesting, Authenticating, Allocated, Closed}
+use Rattle.turn_client_api.specs.declared.state.Phase.TheVariants.{Requesting, Authenticating, Allocated}
 use Rattle.turn_client_api.specs.Requests.{connection_attempt_method, data_method}
 use Rattle.turn_client_api.specs.Judgement.{Judgement, Unrelated, Challenged, Fatal, LateResponse, DataIndication, ConnectionAttempt, judgement_of, bind_judgement, by_class, challenged_or}
 use Rattle.turn_client_api.specs.Judgement.{challenge_in, answers_one, answers_allocate, authenticating_judgement, allocated_judgement, indication_judgement, class_in, method_in}

@@ -21,13 +21,13 @@ use Rattle.turn_client_api.specs.declared.grant.DataConnection.{DataConnection}
 use Rattle.turn_client_api.specs.State.{later_by}
 use Rattle.turn_client_api.specs.declared.grant.Origin.TheVariants.{ServerIndication, ServerRequest}
 use Rattle.turn_client_api.specs.declared.grant.Purpose.{Purpose}
-use Rattle.turn_client_api.specs.declared.grant.Purpose.TheVariants.{ForAllocation, ForRefresh, ForPermission, ForChannel, ForConnect, ForBind}
+use Rattle.turn_client_api.specs.declared.grant.Purpose.TheVariants.{ForAllocation, ForBind}
 use Rattle.turn_client_api.specs.declared.grant.Listing.{Listing}
 use Rattle.turn_client_api.specs.declared.state.Mode.TheVariants.{Bound}
 use Rattle.turn_client_api.specs.Grants.{find_allocation_to, as_connection, is_connection_from, has_active_permission, purposes_of, unlisted, wait}
 use Rattle.turn_client_api.specs.Requests.{request_started, bad_request, connection_already_exists, connection_attempt_method, connection_bind_method, fresh_id, refused_reply, replied, request_for}
 use Rattle.turn_client_api.specs.Requests.{requested}
-use Rattle.turn_client_api.specs.Judgement.{Judgement, Unrelated, Challenged, Fatal, LateResponse, DataIndication, ConnectionAttempt, SignedRequest, SignedSuccess, SignedError, answers_one}
+use Rattle.turn_client_api.specs.Judgement.{Judgement, Unrelated, Challenged, Fatal, ConnectionAttempt, SignedRequest, SignedSuccess, SignedError, answers_one}
 use Rattle.turn_client_api.specs.Judgement.{challenge_in, challenged_or, judgement_of, bind_judgement, is_bind_of, connection_id_in, lifetime_in, method_in, peer_in}
 use Rattle.turn_client_api.specs.Effect.{allocate_denied, allocate_granted, allocated, closed, transaction_ended, fail_all, family_not_supported, has_code, in_phase, phase_with, relayed_in}
 use Rattle.turn_client_api.specs.Effect.{taken_addresses, with_offer}

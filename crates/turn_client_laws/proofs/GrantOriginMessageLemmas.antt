@@ -8,7 +8,7 @@ use Rattle.std.specs.declared.net.socket_addr.SocketAddr.{SocketAddr}
 use Rattle.turn_types.specs.declared.family.AddressFamily.{AddressFamily}
 use Rattle.turn_stun.specs.Message.{id_of}
 use Rattle.turn_stun.specs.declared.message.header.MessageClass.{MessageClass}
-use Rattle.turn_stun.specs.declared.message.header.MessageClass.TheVariants.{Request, Indication, Success, Error}
+use Rattle.turn_stun.specs.declared.message.header.MessageClass.TheVariants.{Indication, Success, Error}
 use Rattle.turn_stun.specs.declared.transport.TransportType.TheVariants.{Tcp}
 use Rattle.turn_auth.specs.LongTerm.{Challenge}
 use Rattle.turn_auth.specs.Validation.{IsValidated, validation_of}
@@ -17,15 +17,14 @@ use Rattle.turn_auth.specs.declared.validation.Validation.TheVariants.{Validated
 use Rattle.turn_agent.specs.Agent.{is_outstanding, is_response}
 use Rattle.turn_client_api.specs.State.{State}
 use Rattle.turn_client_api.specs.declared.state.Phase.{Phase}
-use Rattle.turn_client_api.specs.declared.state.Phase.TheVariants.{New, Requesting, Authenticating, Allocated, Closed}
+use Rattle.turn_client_api.specs.declared.state.Phase.TheVariants.{New, Requesting, Authenticating, Allocated}
 use Rattle.turn_client_api.specs.declared.grant.Grant.{Grant}
 use Rattle.turn_client_api.specs.declared.grant.Grant.TheVariants.{Offer}
 use Rattle.turn_client_api.specs.declared.grant.Origin.{Origin}
 use Rattle.turn_client_api.specs.declared.grant.Origin.TheVariants.{ServerRequest, ServerIndication}
 use Rattle.turn_client_api.specs.declared.grant.Purpose.{Purpose}
-use Rattle.turn_client_api.specs.declared.grant.Purpose.TheVariants.{ForAllocation, ForRefresh}
+use Rattle.turn_client_api.specs.declared.grant.Purpose.TheVariants.{ForAllocation}
 use Rattle.turn_client_api.specs.State.{auth_of}
-use Rattle.turn_client_api.specs.declared.grant.Purpose.TheVariants.{ForPermission, ForChannel, ForConnect, ForBind}
 use Rattle.turn_client_api.specs.Grants.{find_allocation_to, is_for_allocation, is_of_family, purposes_of}
 use Rattle.turn_client_api.specs.Requests.{connection_attempt_method, data_method}
 use Rattle.turn_client_api.specs.Judgement.{Judgement, Unrelated, Challenged, Fatal, LateResponse, DataIndication, ConnectionAttempt, SignedRequest, SignedSuccess, SignedError, judgement_of, by_class}

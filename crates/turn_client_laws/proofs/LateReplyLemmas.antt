@@ -6,7 +6,7 @@ use Rattle.std.proofs.lemmas.Option.{none-some}
 use Rattle.std.specs.declared.net.socket_addr.SocketAddr.{SocketAddr}
 use Rattle.turn_stun.specs.Message.{id_of}
 use Rattle.turn_stun.specs.declared.message.header.MessageClass.{MessageClass}
-use Rattle.turn_stun.specs.declared.message.header.MessageClass.TheVariants.{Request, Indication, Success, Error}
+use Rattle.turn_stun.specs.declared.message.header.MessageClass.TheVariants.{Success, Error}
 use Rattle.turn_auth.specs.LongTerm.{Challenge}
 use Rattle.turn_auth.specs.Validation.{validation_of}
 use Rattle.turn_auth.specs.declared.validation.Validation.{Validation}
@@ -15,14 +15,14 @@ use Rattle.turn_agent.specs.Agent.{is_outstanding, is_response, same_address}
 use Rattle.turn_client_api.specs.State.{State}
 use Rattle.turn_client_api.specs.declared.grant.DataConnection.{DataConnection}
 use Rattle.turn_client_api.specs.declared.grant.Grant.{Grant}
-use Rattle.turn_client_api.specs.declared.grant.Grant.TheVariants.{Allocation, Permission, Channel, Connect, Offer, Connection}
+use Rattle.turn_client_api.specs.declared.grant.Grant.TheVariants.{Connection}
 use Rattle.turn_client_api.specs.declared.grant.Purpose.{Purpose}
 use Rattle.turn_client_api.specs.declared.state.Phase.{Phase}
-use Rattle.turn_client_api.specs.declared.state.Phase.TheVariants.{New, Requesting, Authenticating, Allocated, Closed}
+use Rattle.turn_client_api.specs.declared.state.Phase.TheVariants.{New, Requesting, Authenticating, Allocated}
 use Rattle.turn_client_api.specs.State.{auth_of, later_by}
 use Rattle.turn_client_api.specs.Grants.{purposes_of}
 use Rattle.turn_client_api.specs.Requests.{connection_bind_method}
-use Rattle.turn_client_api.specs.Judgement.{Judgement, Unrelated, Challenged, Fatal, LateResponse, DataIndication, ConnectionAttempt, SignedRequest, SignedSuccess, SignedError, allocated_judgement}
+use Rattle.turn_client_api.specs.Judgement.{Judgement, Unrelated, Challenged, Fatal, LateResponse, allocated_judgement}
 use Rattle.turn_client_api.specs.Judgement.{answers_allocate, answers_one, authenticating_judgement, bind_judgement, challenged_or, class_in, is_bind_of, judgement_of, method_in}
 use Rattle.turn_client_api.specs.Retry.{bind_time, retried}
 use Rattle.turn_client_api.specs.Connections.{bind_again, bind_answered, bind_step, connection_at, with_deadline}

@@ -20,7 +20,7 @@ use Rattle.turn_client_api.specs.declared.grant.Progress.TheVariants.{Pending, A
 use Rattle.turn_client_api.specs.declared.grant.Purpose.{Purpose}
 use Rattle.turn_client_api.specs.State.{agent_of, later_by}
 use Rattle.turn_client_api.specs.declared.state.Phase.{Phase}
-use Rattle.turn_client_api.specs.declared.state.Phase.TheVariants.{New, Requesting, Authenticating, Allocated, Closed}
+use Rattle.turn_client_api.specs.declared.state.Phase.TheVariants.{Requesting, Authenticating, Allocated}
 use Rattle.turn_client_api.specs.Grants.{as_allocation, allocations, family_of, family_of_grant, is_channel_of, is_connect, is_for_any, is_of, is_of_request, is_pending_channel, is_pending_permission}
 use Rattle.turn_client_api.specs.Effect.{closed, transaction_ended, reserved_time}
 use Rattle.turn_client_api.specs.Due.{has_event, has_reply}

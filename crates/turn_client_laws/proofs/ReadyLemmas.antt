@@ -18,13 +18,13 @@ use Rattle.turn_client_api.specs.State.{State}
 use Rattle.turn_client_api.specs.declared.grant.Purpose.{Purpose}
 use Rattle.turn_client_api.specs.declared.grant.Purpose.TheVariants.{ForRefresh, ForPermission, ForChannel}
 use Rattle.turn_client_api.specs.declared.state.Phase.{Phase}
-use Rattle.turn_client_api.specs.declared.state.Phase.TheVariants.{New, Requesting, Authenticating, Allocated, Closed}
+use Rattle.turn_client_api.specs.declared.state.Phase.TheVariants.{New, Allocated}
 use Rattle.turn_client_api.specs.declared.grant.Grant.{Grant}
 use Rattle.turn_client_api.specs.declared.grant.Grant.TheVariants.{Allocation, Permission, Channel}
 use Rattle.turn_client_api.specs.State.{agent_of, max_time}
-use Rattle.turn_client_api.specs.declared.grant.Grant.TheVariants.{Connect, Offer, Connection}
+use Rattle.turn_client_api.specs.declared.grant.Grant.TheVariants.{Connection}
 use Rattle.turn_client_api.specs.declared.grant.Relay.{Relay}
-use Rattle.turn_client_api.specs.declared.grant.Progress.TheVariants.{Pending, Active, Reserved}
+use Rattle.turn_client_api.specs.declared.grant.Progress.TheVariants.{Active}
 use Rattle.turn_client_api.specs.declared.state.Queued.{Queued}
 use Rattle.turn_client_api.specs.Grants.{allocations, as_allocation, find_allocation, family_of, family_of_grant, family_of_ip, has_request, is_of}
 use Rattle.turn_client_api.specs.Requests.{asked_lifetime}

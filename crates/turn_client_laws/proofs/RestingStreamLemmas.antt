@@ -7,7 +7,7 @@ use Rattle.turn_types.proofs.FrameLemmas.{frame_len-IsWhole}
 use Rattle.turn_types.proofs.SplitLemmas.{IsWhole-IsFrame}
 use Rattle.turn_client_api.specs.State.{State}
 use Rattle.turn_client_api.specs.declared.state.Mode.{Mode}
-use Rattle.turn_client_api.specs.declared.state.Mode.TheVariants.{Control, Waiting, Bound, Broken}
+use Rattle.turn_client_api.specs.declared.state.Mode.TheVariants.{Bound, Broken}
 use Rattle.turn_client_api.specs.declared.state.Stream.{Stream}
 use Rattle.turn_client_api.specs.Streams.{is_ready, max_steps, poll_recv_step, ready_len, steps_until_payload}
 use Rattle.turn_client_laws.specs.Handled.{poll_recv_inputs, inputs_taken}

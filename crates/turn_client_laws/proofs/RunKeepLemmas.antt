@@ -12,7 +12,7 @@ use Rattle.turn_client_api.specs.declared.state.Mode.TheVariants.{Control, Waiti
 use Rattle.turn_client_api.specs.declared.state.Stream.{Stream}
 use Rattle.turn_client_api.specs.Grants.{same_transport}
 use Rattle.turn_client_api.specs.Connections.{bind_step}
-use Rattle.turn_client_api.specs.Payloads.{Payload, Outcome, Handled, Ignored, PeerData, PeerIcmp, channel_sent, datagram_step, is_channel_frame, is_message, message_step}
+use Rattle.turn_client_api.specs.Payloads.{Payload, Outcome, Handled, Ignored, PeerData, channel_sent, datagram_step, is_channel_frame, is_message, message_step}
 use Rattle.turn_client_api.specs.Streams.{broken_at, control_frame_step, frame_step, framed_by, framed_stream_step, go_on, is_ready, max_steps, poll_recv_step, stream_at, next_frame_step}
 use Rattle.turn_client_api.specs.Streams.{detached_frame_step, steps_until_payload, first_ready_step, waiting_frame_step, with_bytes, without_stream}
 use Rattle.turn_client_api.specs.Receive.{connection_gone, first_frame_step, is_from_server, piece_step, recv_step, stream_step, tcp_closed_step, then_all}

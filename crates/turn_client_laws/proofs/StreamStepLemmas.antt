@@ -11,7 +11,7 @@ use Rattle.turn_client_api.specs.declared.state.Mode.{Mode}
 use Rattle.turn_client_api.specs.declared.state.Mode.TheVariants.{Control, Waiting, Bound, Broken}
 use Rattle.turn_client_api.specs.declared.state.Stream.{Stream}
 use Rattle.turn_client_api.specs.Connections.{connection_at}
-use Rattle.turn_client_api.specs.Payloads.{Payload, Outcome, Handled, Ignored, PeerData, PeerIcmp, channel_sent, datagram_step, is_channel_frame, is_message, message_step}
+use Rattle.turn_client_api.specs.Payloads.{Payload, Outcome, Handled, Ignored, PeerData, channel_sent, datagram_step, is_channel_frame, is_message, message_step}
 use Rattle.turn_client_api.specs.Streams.{broken_at, frame_step, framed_by, framed_stream_step, go_on, is_ready, max_steps, poll_recv_step, stream_at, next_frame_step, detached_frame_step}
 use Rattle.turn_client_api.specs.Streams.{first_ready_step, steps_until_payload, with_bytes}
 use Rattle.turn_client_api.specs.Receive.{connection_gone, first_frame_step, is_from_server, piece_step, recv_step, stream_step, then_all}

@@ -4,7 +4,7 @@ use Rattle.std.specs.declared.net.socket_addr.SocketAddr.{SocketAddr}
 use Rattle.turn_types.specs.Frames.{begins_message}
 use Rattle.turn_client_api.specs.State.{State}
 use Rattle.turn_client_api.specs.declared.state.Mode.{Mode}
-use Rattle.turn_client_api.specs.declared.state.Mode.TheVariants.{Control, Waiting, Bound, Broken}
+use Rattle.turn_client_api.specs.declared.state.Mode.TheVariants.{Control, Waiting}
 use Rattle.turn_client_api.specs.declared.state.Stream.{Stream}
 use Rattle.turn_client_api.specs.Effect.{closed}
 use Rattle.turn_client_api.specs.Connections.{bind_step}
@@ -14,7 +14,7 @@ use Rattle.turn_client_api.specs.Streams.{without_stream}
 use Rattle.turn_client_laws.specs.Handled.{Input, handled, processed}
 use Rattle.turn_client_api.specs.Steps.{EndsWithoutMemory, Leaves, state_after}
 use Rattle.turn_client_api.specs.declared.call.Call.{Call}
-use Rattle.turn_client_api.specs.declared.call.Call.TheVariants.{Delete, CreatePermission, BindChannel, TcpConnect, AllocatedTcpSocket, TcpClosed, SendTo, Recv, PollRecv, Poll}
+use Rattle.turn_client_api.specs.declared.call.Call.TheVariants.{SendTo, Recv, PollRecv, Poll}
 use Rattle.turn_client_api.specs.declared.call.Call.TheVariants.{PollTransmit, PollEvent, RelayedAddresses, Permissions, HavePermission, ProtocolError}
 use Rattle.turn_client_laws.specs.LawsHandled.{DiffersInStreams, ProcessesInputs, EndsAmidInputs, IsDoneBy, IsOverControl, TakesInput, InputsLead}
 use Rattle.turn_client_laws.proofs.HasLemmas.{Has, has-left}

@@ -11,7 +11,7 @@ use Rattle.turn_client_api.specs.State.{State}
 use Rattle.turn_client_api.specs.declared.state.Mode.{Mode}
 use Rattle.turn_client_api.specs.declared.state.Mode.TheVariants.{Control, Waiting, Bound, Broken}
 use Rattle.turn_client_api.specs.declared.state.Stream.{Stream}
-use Rattle.turn_client_api.specs.Payloads.{Payload, Outcome, Handled, Ignored, PeerData, PeerIcmp, datagram_step}
+use Rattle.turn_client_api.specs.Payloads.{Payload, Outcome, Handled, Ignored, PeerData, datagram_step}
 use Rattle.turn_client_api.specs.Streams.{broken_at, framed_by, framed_stream_step, go_on, is_ready, max_steps, payload_in, poll_recv_step, stream_at, next_frame_step, first_ready_step}
 use Rattle.turn_client_api.specs.Streams.{detached_frame_step, steps_until_payload, with_bytes, without_stream}
 use Rattle.turn_client_api.specs.Receive.{connection_gone, first_frame_step, is_from_server, piece_step, recv_step, stream_step, then_all}
@@ -19,9 +19,7 @@ use Rattle.turn_client_laws.specs.Handled.{Input, stream_with_piece, fed_taken, 
 use Rattle.turn_client_laws.specs.Handled.{stream_inputs_taken, taken_first, taken_in, taken_of_len, then_taken, stream_input, inputs_taken, unless_given}
 use Rattle.turn_client_api.specs.Steps.{packet_step}
 use Rattle.turn_client_api.specs.declared.call.Call.{Call}
-use Rattle.turn_client_api.specs.declared.call.Call.TheVariants.{Delete, CreatePermission, BindChannel, TcpConnect, AllocatedTcpSocket, TcpClosed, SendTo, Recv, PollRecv, Poll, PollTransmit}
-use Rattle.turn_client_api.specs.declared.call.Call.TheVariants.{PollEvent}
-use Rattle.turn_client_api.specs.declared.call.Call.TheVariants.{RelayedAddresses, Permissions, HavePermission, ProtocolError}
+use Rattle.turn_client_api.specs.declared.call.Call.TheVariants.{Recv, PollRecv}
 use Rattle.turn_client_laws.specs.LawsHandled.{DiffersInStreams, ProcessesInputs, IsBoundAt, TakesInput, InputsLead}
 use Rattle.turn_client_laws.proofs.HasLemmas.{Has, has-filter}
 use Rattle.turn_client_laws.proofs.GrantOriginLemmas.{has-mapped}

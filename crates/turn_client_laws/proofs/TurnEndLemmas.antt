@@ -8,19 +8,18 @@ use Rattle.turn_stun.specs.declared.transport.TransportType.TheVariants.{Udp, Tc
 use Rattle.turn_agent.specs.Agent.{same_address}
 use Rattle.turn_client_api.specs.State.{State}
 use Rattle.turn_client_api.specs.declared.state.Mode.{Mode}
-use Rattle.turn_client_api.specs.declared.state.Mode.TheVariants.{Control, Waiting, Bound, Broken}
+use Rattle.turn_client_api.specs.declared.state.Mode.TheVariants.{Control, Broken}
 use Rattle.turn_client_api.specs.declared.state.Stream.{Stream}
 use Rattle.turn_client_api.specs.Answers.{EndsAfterSteps, RecvEnds, before_others, takes_no_memory}
 use Rattle.turn_client_api.specs.Effect.{closed}
-use Rattle.turn_client_api.specs.Payloads.{Payload, Outcome, Handled, Ignored, PeerData, PeerIcmp}
+use Rattle.turn_client_api.specs.Payloads.{Payload, Outcome, Handled, Ignored}
 use Rattle.turn_client_api.specs.Streams.{broken_at, is_ready, max_steps, payload_in, stream_at, next_frame_step}
 use Rattle.turn_client_api.specs.Receive.{first_frame_step, is_from_server}
 use Rattle.turn_client_laws.specs.Handled.{Input, fed_taken, handled, piece_inputs, poll_recv_inputs, recv_inputs, stream_inputs, stream_inputs_taken, taken_first, then_taken, inputs_taken}
 use Rattle.turn_client_laws.specs.Handled.{unless_given}
 use Rattle.turn_client_api.specs.Steps.{EndsWithoutMemory}
 use Rattle.turn_client_api.specs.declared.call.Call.{Call}
-use Rattle.turn_client_api.specs.declared.call.Call.TheVariants.{Delete, CreatePermission, BindChannel, TcpConnect, AllocatedTcpSocket, TcpClosed, SendTo, Recv, PollRecv, Poll, PollTransmit}
-use Rattle.turn_client_api.specs.declared.call.Call.TheVariants.{PollEvent, RelayedAddresses, Permissions, HavePermission, ProtocolError}
+use Rattle.turn_client_api.specs.declared.call.Call.TheVariants.{Recv, PollRecv}
 use Rattle.turn_client_laws.specs.LawsHandled.{EndsAmidInputs, TakesInput, InputsLead}
 use Rattle.turn_client_laws.proofs.StreamDrainLemmas.{turn-lighter}
 use Rattle.turn_client_laws.proofs.MemoryLemmas.{behind}

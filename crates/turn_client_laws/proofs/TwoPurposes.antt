@@ -1,5 +1,5 @@
 -- A request is listed for two purposes at most.
-use Rattle.std.proofs.Common.{◌≡◌, ◌⊎◌, ◌<◌, ◌^◌, ℕ, Bool, true, false, not, eqb, List, [], ◌∷◌, filter, Option, Some, None, inl, inr, refl, sym, subst, ◌∙◌}
+use Rattle.std.proofs.Common.{◌≡◌, ◌⊎◌, ℕ, Bool, true, false, not, eqb, List, [], ◌∷◌, filter, Option, Some, None, inl, inr, refl, sym, subst, ◌∙◌}
 use Rattle.std.specs.Prelude.{flat_map, slice_get, unwrap_or}
 use Rattle.std.specs.List.{Contains, list_any}
 use Rattle.std.specs.Net.Socket.{socket_ip}
@@ -29,13 +29,13 @@ use Rattle.turn_client_laws.specs.Handled.{Input, handled, processed}
 use Rattle.turn_client_api.specs.declared.poll.Socket5Tuple.{Socket5Tuple}
 use Rattle.turn_client_api.specs.Steps.{EndsWithoutMemory, Leaves, state_after}
 use Rattle.turn_client_api.specs.declared.call.Call.{Call}
-use Rattle.turn_client_api.specs.declared.call.Call.TheVariants.{Delete, CreatePermission, BindChannel, TcpConnect, AllocatedTcpSocket, TcpClosed, SendTo, Recv, PollRecv, Poll}
+use Rattle.turn_client_api.specs.declared.call.Call.TheVariants.{Delete, CreatePermission, BindChannel, TcpConnect, AllocatedTcpSocket, SendTo, Recv, PollRecv, Poll}
 use Rattle.turn_client_api.specs.declared.call.Call.TheVariants.{PollTransmit, PollEvent, RelayedAddresses, Permissions, HavePermission, ProtocolError}
 use Rattle.turn_client_laws.specs.LawsHandled.{DiffersInStreams, ProcessesInputs, EndsAmidInputs, InputsLead}
 use Rattle.turn_client_laws.specs.LawsPurposes.{HasTwoPurposes}
 use Rattle.turn_client_laws.specs.LawsRequests.{AsksFor, IsListedAgain, IsListedAs, IsListedFor}
 use Rattle.turn_client_laws.proofs.Edits.{listing}
-use Rattle.turn_client_laws.proofs.HasLemmas.{Has, filter-has, has-filter, has-left, map-has}
+use Rattle.turn_client_laws.proofs.HasLemmas.{Has, filter-has, has-filter, map-has}
 use Rattle.turn_client_laws.proofs.InAllocationLemmas.{has-any}
 use Rattle.turn_client_laws.proofs.GrantOriginLemmas.{has-mapped}
 use Rattle.turn_client_laws.proofs.MoveMessageLemmas.{turn-turns}

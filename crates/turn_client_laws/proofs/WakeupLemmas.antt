@@ -7,7 +7,7 @@ use Rattle.std.proofs.lemmas.Bool.{cases_lt, lt-ltb}
 use Rattle.std.proofs.lemmas.List.Elements.{All-nil, All-cons}
 use Rattle.turn_client_api.specs.State.{State, max_time, later_by}
 use Rattle.turn_client_api.specs.declared.state.Phase.{Phase}
-use Rattle.turn_client_api.specs.declared.state.Phase.TheVariants.{New, Requesting, Authenticating, Allocated, Closed}
+use Rattle.turn_client_api.specs.declared.state.Phase.TheVariants.{New, Allocated}
 use Rattle.turn_client_api.specs.Due.{due_times, has_event, has_reply, is_new, least_due, max_wait, next_wakeup}
 use Rattle.turn_client_api.specs.Calls.{is_allocated}
 use Rattle.turn_client_laws.specs.LawsWakeup.{IsLeast}
