@@ -193,9 +193,6 @@ module _ (id : ℕ) (text : List ℕ) (purposes : List Purpose) (now : ℕ) (s :
 finishes-in_order : (id : ℕ) (s : State) → StayInOrder s (transaction_ended id s)
 finishes-in_order id s h = (h.0, h.1, all, h.3)
   where
-    left : Transaction → Bool
-    left x = not (eqb x.id id)
-
     all : (y : Transaction) → Has y (filter (λ (x : Transaction). not (eqb x.id id)) s.transactions) → Has (listing y.id ForAllocation) s.listed → HasAsked y.id (transaction_ended id s)
     all y here there =
         let (before, passes) = has-filter (λ (x : Transaction). not (eqb x.id id)) y s.transactions here in

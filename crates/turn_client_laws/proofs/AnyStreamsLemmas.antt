@@ -156,10 +156,6 @@ module _ (x : List Stream) where
       (Ignored, with_streams x s) ≡ both_with x (option_map_or {T = State} {U = Outcome × State} (λ t. (Handled, t)) (attempt_indicated message s) (Ignored, s))
   indicated-alike message s = by (connection_id_in message) refl (peer_in message) refl
     where
-      Goal : Type 0
-      Goal = option_map_or {T = State} {U = Outcome × State} (λ t. (Handled, t)) (attempt_indicated message (with_streams x s)) (Ignored, with_streams x s) ≡ both_with x
-          (option_map_or {T = State} {U = Outcome × State} (λ t. (Handled, t)) (attempt_indicated message s) (Ignored, s))
-
       heeded_if : (b : Bool) (t : State) → option_map_or {T = State} {U = Outcome × State} (λ t. (Handled, t)) (cond b (Some (with_streams x t)) None) (Ignored, with_streams x s) ≡ both_with x
           (option_map_or {T = State} {U = Outcome × State} (λ t. (Handled, t)) (cond b (Some t) None) (Ignored, s))
       heeded_if true t = refl
@@ -171,9 +167,6 @@ module _ (x : List Stream) where
       by (Some id) e (Some peer) f = rw (e, f) (heeded_if (accepts_attempt peer s) _)
       by (Some id) e None f = rw (e, f) refl
       by None e p f = rw e refl
-
-  judged-alike : (message : List ℕ) (s : State) → judgement_of (with_streams x s) message ≡ judgement_of s message
-  judged-alike message s = refl
 
   pub message-alike : (message : List ℕ) (now : ℕ) (s : State) → message_step message now (with_streams x s) ≡ both_with x (message_step message now s)
   message-alike message now s = by (judgement_of s message) refl

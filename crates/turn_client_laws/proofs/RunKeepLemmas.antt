@@ -1,5 +1,5 @@
 -- What each message keeps, the streams keep, however many steps they take.
-use Rattle.std.proofs.Common.{◌≡◌, ℕ, zero, suc, ◌++◌, Bool, true, false, not, cond, ◌&&◌, List, [], ◌∷◌, take, drop, Option, Some, None, refl}
+use Rattle.std.proofs.Common.{◌≡◌, ℕ, zero, suc, ◌++◌, Bool, true, false, not, cond, List, [], ◌∷◌, take, drop, Option, Some, None, refl}
 use Rattle.std.specs.Prelude.{find}
 use Rattle.std.specs.declared.net.socket_addr.SocketAddr.{SocketAddr}
 use Rattle.turn_stun.specs.declared.transport.TransportType.{TransportType}
@@ -10,12 +10,11 @@ use Rattle.turn_client_api.specs.State.{State}
 use Rattle.turn_client_api.specs.declared.state.Mode.{Mode}
 use Rattle.turn_client_api.specs.declared.state.Mode.TheVariants.{Control, Waiting, Bound, Broken}
 use Rattle.turn_client_api.specs.declared.state.Stream.{Stream}
-use Rattle.turn_client_api.specs.Grants.{same_transport}
 use Rattle.turn_client_api.specs.Connections.{bind_step}
 use Rattle.turn_client_api.specs.Payloads.{Payload, Outcome, Handled, Ignored, PeerData, channel_sent, datagram_step, is_channel_frame, is_message, message_step}
 use Rattle.turn_client_api.specs.Streams.{broken_at, control_frame_step, frame_step, framed_by, framed_stream_step, go_on, is_ready, max_steps, poll_recv_step, stream_at, next_frame_step}
 use Rattle.turn_client_api.specs.Streams.{detached_frame_step, steps_until_payload, first_ready_step, waiting_frame_step, with_bytes, without_stream}
-use Rattle.turn_client_api.specs.Receive.{connection_gone, first_frame_step, is_from_server, piece_step, recv_step, stream_step, tcp_closed_step, then_all}
+use Rattle.turn_client_api.specs.Receive.{connection_gone, first_frame_step, is_from_server, piece_step, recv_step, stream_step, then_all}
 
 -- Of a relation between a state and a later one: each state is as itself, later is later again, streams
 -- do not count, and messages and the ends of connections keep it.
@@ -133,10 +132,3 @@ module _ (R : State → State → Type 0) (k : IsKept R) where
 
   pub recv-kept : (transport : TransportType) (from to : SocketAddr) (bytes : List ℕ) (now : ℕ) (s : State) → R s (recv_step transport from to bytes now s).1
   recv-kept transport from to bytes now s = recv_over s.transport transport from to bytes now s
-
-  pub tcp_closed-kept : (local remote : SocketAddr) (s : State) → R s (tcp_closed_step local remote s)
-  tcp_closed-kept local remote s = by (same_transport s.transport Tcp && same_address remote s.remote)
-    where
-      by : (b : Bool) → R s (cond b (connection_gone local s) s)
-      by true = k.gone local s
-      by false = k.same s

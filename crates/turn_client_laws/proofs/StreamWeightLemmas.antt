@@ -44,16 +44,6 @@ pub record KeepsHeld (f : Stream → Stream) : Type 0 where
   pub local : (x : Stream) → (f x).local ≡ x.local
   pub bytes : (x : Stream) → (f x).bytes ≡ x.bytes
 
-top-kept : (f : Stream → Stream) → KeepsHeld f → (local : SocketAddr) (xs : List Stream) → top local (map f xs) ≡ top local xs
-unfolding top
-top-kept f k local [] = refl
-top-kept f k local (x ∷ xs) = rw (k.local x, k.bytes x, top-kept f k local xs) refl
-
-pub weight-kept : (f : Stream → Stream) → KeepsHeld f → (xs : List Stream) → weight (map f xs) ≡ weight xs
-unfolding weight
-weight-kept f k [] = refl
-weight-kept f k (x ∷ xs) = rw (k.local x, k.bytes x, top-kept f k x.local xs, weight-kept f k xs) refl
-
 -- the streams at a local address, and no others, have these bytes now
 pub record Sets (local : SocketAddr) (bytes : List ℕ) (f : Stream → Stream) : Type 0 where
   pub keeps : (x : Stream) → (f x).local ≡ x.local
