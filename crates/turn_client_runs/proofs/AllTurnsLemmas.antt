@@ -3,7 +3,7 @@ use Rattle.std.proofs.Common.{◌≡◌, ℕ, zero, suc, ◌+◌, ◌<◌, ◌�
 use Rattle.std.specs.Option.{option_map_or}
 use Rattle.turn_client_api.specs.State.{State}
 use Rattle.turn_client_api.specs.declared.state.Stream.{Stream}
-use Rattle.turn_client_api.specs.Payloads.{Payload, Outcome, Handled, Ignored, PeerData, PeerIcmp}
+use Rattle.turn_client_api.specs.Payloads.{Payload, Outcome, Handled, Ignored, PeerData}
 use Rattle.turn_client_api.specs.Streams.{go_on, is_ready, max_steps, poll_recv_step, next_frame_step, first_ready_step, steps_until_payload}
 use Rattle.turn_client_api.specs.Receive.{then_all}
 use Rattle.turn_client_laws.proofs.RestingStreamLemmas.{turns-rest}

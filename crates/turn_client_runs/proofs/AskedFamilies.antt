@@ -8,9 +8,9 @@ use Rattle.turn_agent.specs.declared.transaction.Transaction.{Transaction}
 use Rattle.turn_client_api.specs.State.{State}
 use Rattle.turn_client_api.specs.declared.call.Call.{Call}
 use Rattle.turn_client_api.specs.declared.grant.Purpose.{Purpose}
-use Rattle.turn_client_api.specs.declared.grant.Purpose.TheVariants.{ForAllocation, ForRefresh, ForPermission, ForChannel, ForConnect, ForBind}
+use Rattle.turn_client_api.specs.declared.grant.Purpose.TheVariants.{ForAllocation}
 use Rattle.turn_client_api.specs.declared.state.Phase.{Phase}
-use Rattle.turn_client_api.specs.declared.state.Phase.TheVariants.{New, Requesting, Authenticating, Allocated, Closed}
+use Rattle.turn_client_api.specs.declared.state.Phase.TheVariants.{New, Requesting, Authenticating}
 use Rattle.turn_client_api.specs.Grants.{purposes_of}
 use Rattle.turn_client_laws.specs.Handled.{Input, handled}
 use Rattle.turn_client_laws.specs.LawsAllocates.{AllocatesInOrder, IsAllocate}

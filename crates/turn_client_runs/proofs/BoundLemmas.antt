@@ -23,7 +23,7 @@ use Rattle.turn_client_api.specs.declared.grant.Grant.TheVariants.{Allocation, P
 use Rattle.turn_client_api.specs.declared.grant.Progress.TheVariants.{Pending, Active, Reserved}
 use Rattle.turn_client_api.specs.declared.state.Mode.TheVariants.{Control, Waiting, Bound}
 use Rattle.turn_client_api.specs.declared.state.Phase.{Phase}
-use Rattle.turn_client_api.specs.declared.state.Phase.TheVariants.{New, Requesting, Authenticating, Allocated, Closed}
+use Rattle.turn_client_api.specs.declared.state.Phase.TheVariants.{Allocated}
 use Rattle.turn_client_api.specs.declared.state.Stream.{Stream}
 use Rattle.turn_client_laws.proofs.AcceptedReplyLemmas.{bind-ended}
 use Rattle.turn_client_laws.proofs.BoundStreamLemmas as Streams
@@ -150,10 +150,6 @@ module _ (P : State → Type 0) (Did : Input → Type 0) (k : IsBrought P Did) (
         by (inr (inr did)) = inr did
 
 -- ---- streams
-
-second : {A B : Type 0} → (A → ⊥) → A ⊎ B → B
-second none (inl a) = absurd (none a)
-second none (inr b) = b
 
 module _ (local peer : SocketAddr) where
   abbrev IsBoundTo : State → Type 0

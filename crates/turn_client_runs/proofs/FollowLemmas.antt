@@ -10,7 +10,7 @@ use Rattle.turn_client_api.specs.declared.state.Mode.{Mode}
 use Rattle.turn_client_api.specs.declared.state.Mode.TheVariants.{Control, Waiting, Bound, Broken}
 use Rattle.turn_client_api.specs.declared.state.Stream.{Stream}
 use Rattle.turn_client_api.specs.Connections.{bind_step}
-use Rattle.turn_client_api.specs.Payloads.{Outcome, Handled, Ignored, PeerData, PeerIcmp, channel_sent, is_message, message_step}
+use Rattle.turn_client_api.specs.Payloads.{Outcome, Handled, Ignored, PeerData, channel_sent, is_message, message_step}
 use Rattle.turn_client_api.specs.Streams.{control_frame_step, frame_step, framed_stream_step, ready_len, stream_at, detached_frame_step}
 use Rattle.turn_client_laws.proofs.StreamMessageLemmas.{Rebound, Same, frame-rebound, message-same}
 use Rattle.turn_client_runs.specs.Cut.{framed_step, outcome_payloads, meant, one_by_one, part_step}

@@ -1,7 +1,6 @@
 -- What is held after a run was set by the first challenge that was answered.
 use Rattle.std.proofs.Common.{◌≡◌, ◌⊎◌, ◌∙◌, ltb, ℕ, Bool, true, false, cond, List, ◌∷◌, Option, Some, None, refl, sym, subst, ap, inl, inr}
 use Rattle.std.specs.Prelude.{IsSome, is_some, ⊤}
-use Rattle.std.specs.List.{Contains}
 use Rattle.std.specs.declared.net.socket_addr.SocketAddr.{SocketAddr}
 use Rattle.std.proofs.lemmas.Option.{same_Some}
 use Rattle.turn_stun.specs.Message.{id_of}
@@ -10,25 +9,23 @@ use Rattle.turn_auth.specs.LongTerm.{Challenge}
 use Rattle.turn_client_api.specs.Config.{Config}
 use Rattle.turn_client_api.specs.State.{State, initial}
 use Rattle.turn_client_api.specs.Grants.{is_connection_from, purposes_of, without_grants}
-use Rattle.turn_client_api.specs.Judgement.{Judgement, Unrelated, Challenged, Fatal, LateResponse, DataIndication, ConnectionAttempt, SignedRequest, SignedSuccess, SignedError, answers_one}
+use Rattle.turn_client_api.specs.Judgement.{Judgement, Unrelated, Challenged, Fatal, answers_one}
 use Rattle.turn_client_api.specs.Judgement.{challenge_in, challenged_or, judgement_of}
 use Rattle.turn_client_api.specs.Effect.{closed, transaction_ended, fail_all}
 use Rattle.turn_client_api.specs.Retry.{retried, state_after_retry}
 use Rattle.turn_client_api.specs.Connections.{bind_step, connection_at}
 use Rattle.turn_client_api.specs.Payloads.{Outcome, Handled, Ignored, is_message, message_step}
 use Rattle.turn_client_api.specs.Receive.{connection_gone}
-use Rattle.turn_client_laws.specs.Handled.{Input, handled, processed}
+use Rattle.turn_client_laws.specs.Handled.{Input, processed}
 use Rattle.turn_client_api.specs.Steps.{state_after, state_after_all}
 use Rattle.turn_client_api.specs.Transmit.{sent}
-use Rattle.turn_client_laws.specs.LawsHandled.{DiffersInStreams, IsDoneBy, IsOverControl, TakesInput}
+use Rattle.turn_client_laws.specs.LawsHandled.{IsDoneBy, IsOverControl, TakesInput}
 use Rattle.turn_client_api.specs.declared.call.Call.{Call}
-use Rattle.turn_client_api.specs.declared.call.Call.TheVariants.{Delete, CreatePermission, BindChannel, TcpConnect, AllocatedTcpSocket, TcpClosed, SendTo, Recv, PollRecv, Poll, PollTransmit}
-use Rattle.turn_client_api.specs.declared.call.Call.TheVariants.{PollEvent, ProtocolError, RelayedAddresses, Permissions, HavePermission}
+use Rattle.turn_client_api.specs.declared.call.Call.TheVariants.{Delete, AllocatedTcpSocket, Recv, PollRecv}
 use Rattle.turn_client_api.specs.declared.grant.Purpose.{Purpose}
 use Rattle.turn_client_api.specs.declared.state.Phase.{Phase}
-use Rattle.turn_client_api.specs.declared.state.Phase.TheVariants.{New, Requesting, Authenticating, Allocated, Closed}
-use Rattle.turn_client_api.specs.declared.state.Stream.{Stream}
-use Rattle.turn_client_laws.proofs.Edits.{IgnoresAll, KeepsEdits}
+use Rattle.turn_client_api.specs.declared.state.Phase.TheVariants.{Requesting, Authenticating, Allocated, Closed}
+use Rattle.turn_client_laws.proofs.Edits.{KeepsEdits}
 use Rattle.turn_client_laws.proofs.PhaseEdits.{phase-edits}
 use Rattle.turn_client_laws.proofs.EditsOfCalls.{delete-walk, quiet-walk, tcp_socket-walk}
 use Rattle.turn_client_laws.proofs.TurnBringLemmas.{IsBrought, leaves-bring}

@@ -32,7 +32,5 @@ pub mod SignedLemmas
 pub mod SleepLemmas
 pub mod StreamAtLemmas
 pub mod TogetherLemmas
-pub mod TurnBytes
 pub mod TurnsOfRuns
-pub mod TwoAllocations
 pub mod WholeLemmas

@@ -11,7 +11,7 @@ use Rattle.turn_client_api.specs.State.{State}
 use Rattle.turn_client_api.specs.declared.state.Mode.{Mode}
 use Rattle.turn_client_api.specs.declared.state.Mode.TheVariants.{Control, Waiting, Bound, Broken}
 use Rattle.turn_client_api.specs.declared.state.Stream.{Stream}
-use Rattle.turn_client_api.specs.Payloads.{Payload, Outcome, Handled, Ignored, PeerData, PeerIcmp}
+use Rattle.turn_client_api.specs.Payloads.{Payload, Outcome, Handled, Ignored, PeerData}
 use Rattle.turn_client_api.specs.Streams.{is_ready, sent_by, stream_at, next_frame_step, detached_frame_step, with_bytes}
 use Rattle.turn_client_api.specs.Receive.{first_frame_step, place_kept, recv_step, stream_step, then_all}
 use Rattle.turn_client_laws.specs.LawsStreams.{IsEmptyIfBroken}

@@ -11,7 +11,7 @@ use Rattle.turn_types.proofs.CutLemmas.{drained-append}
 use Rattle.turn_types.proofs.FrameLemmas.{size_in-IsPrefixCut}
 use Rattle.turn_client_api.specs.State.{State}
 use Rattle.turn_client_api.specs.declared.state.Mode.{Mode}
-use Rattle.turn_client_api.specs.declared.state.Mode.TheVariants.{Control, Waiting, Bound, Broken}
+use Rattle.turn_client_api.specs.declared.state.Mode.TheVariants.{Control}
 use Rattle.turn_client_api.specs.declared.state.Stream.{Stream}
 use Rattle.turn_client_api.specs.Payloads.{Payload}
 use Rattle.turn_client_api.specs.Streams.{stream_at, with_bytes}
@@ -35,9 +35,6 @@ module _ (a : SocketAddr) (now : ℕ) where
   pub record IsSame (c : Bool) (p q : List Payload × State) : Type 0 where
     pub given : flat_map (one_by_one c) p.0 ≡ q.0
     pub after : p.1 ≡ q.1
-
-  whole_from : State → List ℕ → List Payload × State
-  whole_from s bytes = let d = whole a now s bytes in (d.given, with_bytes a d.rest d.state)
 
   whole-append : (s : State) (first more : List ℕ) → whole a now s (first ++ more) ≡ fed (λ t. T.size_in (mode_at a t)) (part_at_step a now) (whole a now s first) more
   whole-append s first more = drained-append (λ t. T.size_in (mode_at a t)) (part_at_step a now) (size_in-IsPrefixCut (mode_at a)) s first more

@@ -1,5 +1,5 @@
 -- Each promise, of any run of a new client.
-use Rattle.std.proofs.Common.{◌≡◌, ℕ, List, ◌++◌, None, Option, ap, subst}
+use Rattle.std.proofs.Common.{◌≡◌, ℕ, List, None, Option, ap, subst}
 use Rattle.std.specs.declared.net.socket_addr.SocketAddr.{SocketAddr}
 use Rattle.turn_stun.specs.declared.transport.TransportType.{TransportType}
 use Rattle.turn_client_api.specs.Config.{Config}

@@ -20,10 +20,6 @@ module _ (P : State → Type 0) (Did : Call → State → Type 0) (Inv : State �
   holds-first [] s h = h
   holds-first (call ∷ calls) s h = h.0
 
-  pub inv-behind : (calls : List Call) (s : State) → Inv s → Inv (state_after_all s calls)
-  inv-behind [] s h = h
-  inv-behind (call ∷ calls) s h = inv-behind calls (state_after call s) (kept call s h)
-
   pub run-does : (calls : List Call) (first : State) → Inv first → P (state_after_all first calls) → HoldsThrough P calls first ⊎ IsDoneLast Did P calls first
   run-does [] first inv h = inl h
   run-does (call ∷ calls) first inv h = by (run-does calls (state_after call first) (kept call first inv) h)

@@ -1,6 +1,6 @@
 -- What the listings of one ID are for: one request, a channel and the permission requested with it, or
 -- allocations that are deleted.
-use Rattle.std.proofs.Common.{◌≡◌, ◌⊎◌, ◌<◌, ◌^◌, ◌∙◌, ℕ, true, false, eqb, List, [], ◌∷◌, Some, None, inl, inr, refl, sym, subst}
+use Rattle.std.proofs.Common.{◌≡◌, ◌⊎◌, ◌∙◌, ℕ, true, false, eqb, List, [], ◌∷◌, Some, None, inl, inr, refl, sym, subst}
 use Rattle.std.specs.List.{Contains, list_any}
 use Rattle.std.proofs.lemmas.Bool.{eq-eqb, or_parts}
 use Rattle.turn_stun.specs.Message.{id_of}
@@ -11,7 +11,7 @@ use Rattle.turn_client_api.specs.declared.call.Call.TheVariants.{Delete, CreateP
 use Rattle.turn_client_api.specs.declared.call.Call.TheVariants.{PollEvent, ProtocolError, RelayedAddresses, Permissions, HavePermission}
 use Rattle.turn_client_api.specs.declared.grant.Listing.{Listing}
 use Rattle.turn_client_api.specs.declared.grant.Purpose.{Purpose}
-use Rattle.turn_client_api.specs.declared.grant.Purpose.TheVariants.{ForAllocation, ForRefresh, ForPermission, ForChannel, ForConnect, ForBind}
+use Rattle.turn_client_api.specs.declared.grant.Purpose.TheVariants.{ForRefresh, ForPermission, ForChannel}
 use Rattle.turn_client_api.specs.declared.state.Phase.TheVariants.{New, Allocated}
 use Rattle.turn_client_api.specs.Grants.{is_of_request, purposes_of}
 use Rattle.turn_client_laws.specs.Handled.{Input, handled, processed}

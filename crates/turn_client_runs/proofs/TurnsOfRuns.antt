@@ -87,27 +87,7 @@ module _ (P : State → Type 0) (Did : Input → Type 0) (each : (call : Call) (
 
 -- ---- one input of a run
 
--- where a list in two parts is cut
-abbrev IsCut : {X : Type 0} → List X → List X → List X → List X → X → Type 0
-IsCut {X = X} xs ys front later x =
-    ((rest : List X) × (xs ≡ front ++ x ∷ rest)) ⊎ ((rest : List X) × (front ≡ xs ++ rest) × (ys ≡ rest ++ x ∷ later))
-
-cut-in : {X : Type 0} (xs ys front later : List X) (x : X) → xs ++ ys ≡ front ++ x ∷ later → IsCut xs ys front later x
-cut-in [] ys front later x e = inr (front, refl, e)
-cut-in (y ∷ xs) ys [] later x e = let same : y ≡ x = cc in inl (xs, cc)
-cut-in {X = X} (y ∷ xs) ys (z ∷ front) later x e = by (cut-in xs ys front later x tails)
-  where
-    same : y ≡ z
-    same = cc
-
-    tails : xs ++ ys ≡ front ++ x ∷ later
-    tails = cc
-
-    by : IsCut xs ys front later x → IsCut (y ∷ xs) ys (z ∷ front) later x
-    by (inl (rest, f)) = inl (rest, cc)
-    by (inr (rest, f, g)) = inr (rest, cc, g)
-
--- what holds when an input is processed did so before the run, or an earlier input caused it
+-- what holds when an input is processed did so before its call, or an earlier input caused it
 module _ (P : State → Type 0) (Did : Input → Type 0) (k : IsBrought P Did) (each : (call : Call) (s : State) → P (state_after call s) → P s ⊎ IsDoneBy Did call s) where
   pub in_call : (call : Call) (s : State) (earlier later : List Input) (one : Input) → handled call s ≡ earlier ++ one ∷ later → P one.before → P s ⊎ IsAmong Did earlier
   in_call call s earlier later one e h = by (lead-brings P Did k earlier s one.before (leads-to earlier later one s (state_after call s) (handled-leads call s earlier later one e)) h)
@@ -115,23 +95,3 @@ module _ (P : State → Type 0) (Did : Input → Type 0) (k : IsBrought P Did) (
       by : P s ⊎ ((other : Input) × Has other earlier × Did other) → P s ⊎ IsAmong Did earlier
       by (inl there) = inl there
       by (inr did) = inr (has-among Did earlier did)
-
-  pub turn-brought : (s : State) (calls : List Call) (earlier later : List Input) (one : Input) → handled_in s calls ≡ earlier ++ one ∷ later → P one.before → P s ⊎ IsAmong Did earlier
-  turn-brought s [] earlier later one e h = absurd (none-front earlier later one e)
-  turn-brought s (call ∷ calls) earlier later one e h =
-      by (λ front f. turn-brought (state_after call s) calls front later one f h) (cut-in (handled call s) (handled_in (state_after call s) calls) earlier later one e)
-    where
-      more : List Input
-      more = handled_in (state_after call s) calls
-
-      first : (front : List Input) → P s ⊎ IsDoneBy Did call s → P s ⊎ IsAmong Did (handled call s ++ front)
-      first front (inl there) = inl there
-      first front (inr did) = inr (among-left Did (handled call s) front did)
-
-      then : (front : List Input) → P (state_after call s) ⊎ IsAmong Did front → P s ⊎ IsAmong Did (handled call s ++ front)
-      then front (inl there) = first front (each call s there)
-      then front (inr among) = inr (among-right Did (handled call s) front among)
-
-      by : ((front : List Input) → more ≡ front ++ one ∷ later → P (state_after call s) ⊎ IsAmong Did front) → IsCut (handled call s) more earlier later one → P s ⊎ IsAmong Did earlier
-      by rest (inl (behind, f)) = in_call call s earlier behind one f h
-      by rest (inr (front, f, g)) = subst (λ (turns : List Input). P s ⊎ IsAmong Did turns) (sym f) (then front (rest front g))
