@@ -6,27 +6,26 @@ use Rattle.std.specs.Option.{option_map_or}
 use Rattle.std.proofs.lemmas.List.Elements.{filter_map-append}
 use Rattle.std.specs.declared.net.socket_addr.SocketAddr.{SocketAddr}
 use Rattle.turn_stun.specs.declared.transport.Transmit.{Transmit}
-use Rattle.turn_stun.specs.declared.transport.TransportType.{TransportType}
-use Rattle.turn_stun.specs.declared.transport.TransportType.TheVariants.{Udp, Tcp}
 use Rattle.turn_types.specs.Frames.{begins_no_frame, frame_len}
 use Rattle.turn_agent.specs.Agent.{same_address}
 use Rattle.turn_client_api.specs.State.{State}
 use Rattle.turn_client_api.specs.declared.state.Mode.{Mode}
 use Rattle.turn_client_api.specs.declared.state.Mode.TheVariants.{Control, Waiting, Bound, Broken}
 use Rattle.turn_client_api.specs.declared.state.Stream.{Stream}
-use Rattle.turn_client_api.specs.Payloads.{Payload, Outcome, Handled, Ignored, PeerData, PeerIcmp, datagram_step}
-use Rattle.turn_client_api.specs.Streams.{broken_at, framed_by, framed_stream_step, go_on, is_ready, max_steps, owned, payload_in, poll_recv_step, stream_at, next_frame_step, first_ready_step}
+use Rattle.turn_client_api.specs.Payloads.{Payload, Outcome, Handled, Ignored, PeerData, PeerIcmp}
+use Rattle.turn_client_api.specs.Streams.{broken_at, framed_by, framed_stream_step, go_on, is_ready, max_steps, owned, payload_in, poll_recv_step, next_frame_step, first_ready_step}
 use Rattle.turn_client_api.specs.Streams.{detached_frame_step, steps_until_payload, with_bytes}
-use Rattle.turn_client_api.specs.Receive.{first_frame_step, is_from_server, piece_step, place_kept, recv_step, stream_step, then_all}
+use Rattle.turn_client_api.specs.Receive.{first_frame_step, piece_step, place_kept, stream_step, then_all}
 use Rattle.turn_client_api.specs.Steps.{packet_step}
 use Rattle.turn_client_api.specs.declared.call.Call.{Call}
 use Rattle.turn_client_api.specs.declared.call.Call.TheVariants.{PollRecv, Recv}
-use Rattle.turn_client_laws.specs.Handled.{Input, stream_with_piece, fed_taken, frame_taken, handled, is_front, processed, payloads, piece_inputs, poll_recv_inputs, recv_inputs, stream_inputs}
+use Rattle.turn_client_laws.specs.Handled.{Input, datagram_input, stream_with_piece, fed_taken, frame_taken, handled, is_front, processed, payloads, piece_inputs, poll_recv_inputs, stream_inputs}
 use Rattle.turn_client_laws.specs.Handled.{stream_inputs_taken, taken_first, taken_in, taken_of_len, then_taken, stream_input, input_payload, inputs_taken, unless_given}
 use Rattle.turn_client_laws.specs.LawsPeers.{IsDeliveredByInput, IsPermittedInput, IsToldBy}
 use Rattle.turn_client_laws.proofs.HasLemmas.{Has, has-filter_map, has-left}
 use Rattle.turn_client_laws.proofs.StandLemmas.{has-contains}
 use Rattle.turn_client_laws.proofs.PeerLemmas.{datagram-IsMessageFromPermitted, frame-IsFromPermitted}
+use Rattle.turn_client_laws.proofs.PacketLemmas.{packet-by}
 
 -- these inputs return what the outcome has, and no more
 abbrev AreOf : List Input → Outcome → Type 0
@@ -146,38 +145,10 @@ stream-AreOf stream (b ∷ bs) now s = piece_in_mode stream.mode stream (b ∷ b
 
 -- ---- input
 
-recv_over : (carrier : TransportType) (transport : TransportType) (from to : SocketAddr) (bytes : List ℕ) (now : ℕ) (s : State)
-    → AreOf (recv_inputs transport from to bytes now (record s { transport = carrier })) (recv_step transport from to bytes now (record s { transport = carrier })).0
-recv_over Udp transport from to bytes now s = by (is_from_server transport from u) (same_address to s.local)
-  where
-    u : State
-    u = record s { transport = Udp }
-
-    one : Input
-    one = record { stream = None; bytes = bytes; is_lent = true; time = now; before = u }
-
-    by : (b c : Bool) → AreOf (cond b (cond c (one ∷ []) []) []) (cond {A = Outcome × State} b (cond {A = Outcome × State} c (datagram_step bytes now u) (Ignored, u)) (Ignored, u)).0
-    by true true = one-AreOf one
-    by b c = refl
-recv_over Tcp transport from to bytes now s = by (is_from_server transport from u) (stream_at to s)
-  where
-    u : State
-    u = record s { transport = Tcp }
-
-    by_stream : Option Stream → Outcome × State
-    by_stream None = (Ignored, u)
-    by_stream (Some stream) = stream_step stream bytes now u
-
-    turns_by : Option Stream → List Input
-    turns_by None = []
-    turns_by (Some stream) = stream_inputs stream bytes now u
-
-    by : (b : Bool) (o : Option Stream) → AreOf (cond b (turns_by o) []) (cond {A = Outcome × State} b (by_stream o) (Ignored, u)).0
-    by true (Some stream) = stream-AreOf stream bytes now u
-    by b o = refl
-
 pub recv-AreOf : (packet : Transmit (List ℕ)) (now : ℕ) (s : State) → payloads (handled (Recv packet now) s) ≡ option_to_list (payload_in (packet_step packet now s).0)
-recv-AreOf packet now s = recv_over s.transport packet.transport packet.from packet.to packet.payload now s
+recv-AreOf packet now =
+    packet-by (λ s inputs r. AreOf inputs r.0) packet.transport packet.from packet.to packet.payload now (λ s. one-AreOf (datagram_input packet.payload now s))
+    (λ stream s e. stream-AreOf stream packet.payload now s) (λ s. refl)
 
 -- ---- its sender
 
@@ -262,39 +233,11 @@ stream-tells : (stream : Stream) (piece : List ℕ) (now : ℕ) (s : State) → 
 stream-tells stream [] now s h = absurd h
 stream-tells stream (b ∷ bs) now s h = piece-tells stream.mode stream (b ∷ bs) now s h
 
-tells_over : (carrier : TransportType) (transport : TransportType) (from to : SocketAddr) (bytes : List ℕ) (now : ℕ) (s : State)
-    → Tells (recv_inputs transport from to bytes now (record s { transport = carrier })) (recv_step transport from to bytes now (record s { transport = carrier })).0
-tells_over Udp transport from to bytes now s = by (is_from_server transport from u) (same_address to s.local)
-  where
-    u : State
-    u = record s { transport = Udp }
-
-    one : Input
-    one = record { stream = None; bytes = bytes; is_lent = true; time = now; before = u }
-
-    by : (b c : Bool) → Tells (cond b (cond c (one ∷ []) []) []) (cond {A = Outcome × State} b (cond {A = Outcome × State} c (datagram_step bytes now u) (Ignored, u)) (Ignored, u)).0
-    by true true h = (one, inl refl, refl)
-    by b c h = absurd h
-tells_over Tcp transport from to bytes now s = by (is_from_server transport from u) (stream_at to s)
-  where
-    u : State
-    u = record s { transport = Tcp }
-
-    by_stream : Option Stream → Outcome × State
-    by_stream None = (Ignored, u)
-    by_stream (Some stream) = stream_step stream bytes now u
-
-    turns_by : Option Stream → List Input
-    turns_by None = []
-    turns_by (Some stream) = stream_inputs stream bytes now u
-
-    by : (b : Bool) (o : Option Stream) → Tells (cond b (turns_by o) []) (cond {A = Outcome × State} b (by_stream o) (Ignored, u)).0
-    by true (Some stream) h = stream-tells stream bytes now u h
-    by b o h = absurd h
-
 told : (call : Call) (s : State) (o : Outcome) → Tells (handled call s) o → IsToldBy o call s
 told call s (PeerIcmp transport peer icmp) tells = let (one, there, is) = tells tt in (one, has-contains one (handled call s) there, (is, turn-IsFromPermitted one))
 told call s o tells = tt
 
 pub recv-IsToldBy : (packet : Transmit (List ℕ)) (now : ℕ) (s : State) → IsToldBy (packet_step packet now s).0 (Recv packet now) s
-recv-IsToldBy packet now s = told (Recv packet now) s (packet_step packet now s).0 (tells_over s.transport packet.transport packet.from packet.to packet.payload now s)
+recv-IsToldBy packet now s = told (Recv packet now) s (packet_step packet now s).0 (
+    packet-by (λ s inputs r. Tells inputs r.0) packet.transport packet.from packet.to packet.payload now
+    (λ s h. (datagram_input packet.payload now s, inl refl, refl)) (λ stream s e. stream-tells stream packet.payload now s) (λ s h. absurd h) s)

@@ -51,6 +51,7 @@ pub mod NewIdMessageLemmas
 pub mod NumberLemmas
 pub mod OtherStreamLemmas
 pub mod OverLemmas
+pub mod PacketLemmas
 pub mod PeerLemmas
 pub mod PhaseEdits
 pub mod PhasesGoOn

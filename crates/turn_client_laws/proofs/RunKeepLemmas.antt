@@ -1,9 +1,8 @@
 -- What each message keeps, the streams keep, however many steps they take.
-use Rattle.std.proofs.Common.{◌≡◌, ℕ, zero, suc, ◌++◌, Bool, true, false, not, cond, List, [], ◌∷◌, take, drop, Option, Some, None, refl}
+use Rattle.std.proofs.Common.{ℕ, zero, suc, ◌++◌, Bool, true, false, not, cond, List, [], ◌∷◌, take, drop, Option, Some, None}
 use Rattle.std.specs.Prelude.{find}
 use Rattle.std.specs.declared.net.socket_addr.SocketAddr.{SocketAddr}
 use Rattle.turn_stun.specs.declared.transport.TransportType.{TransportType}
-use Rattle.turn_stun.specs.declared.transport.TransportType.TheVariants.{Udp, Tcp}
 use Rattle.turn_types.specs.Frames.{begins_message, begins_no_frame, frame_len}
 use Rattle.turn_agent.specs.Agent.{same_address}
 use Rattle.turn_client_api.specs.State.{State}
@@ -12,9 +11,10 @@ use Rattle.turn_client_api.specs.declared.state.Mode.TheVariants.{Control, Waiti
 use Rattle.turn_client_api.specs.declared.state.Stream.{Stream}
 use Rattle.turn_client_api.specs.Connections.{bind_step}
 use Rattle.turn_client_api.specs.Payloads.{Payload, Outcome, Handled, Ignored, PeerData, channel_sent, datagram_step, is_channel_frame, is_message, message_step}
-use Rattle.turn_client_api.specs.Streams.{broken_at, control_frame_step, frame_step, framed_by, framed_stream_step, go_on, is_ready, max_steps, poll_recv_step, stream_at, next_frame_step}
+use Rattle.turn_client_api.specs.Streams.{broken_at, control_frame_step, frame_step, framed_by, framed_stream_step, go_on, is_ready, max_steps, poll_recv_step, next_frame_step}
 use Rattle.turn_client_api.specs.Streams.{detached_frame_step, steps_until_payload, first_ready_step, waiting_frame_step, with_bytes, without_stream}
-use Rattle.turn_client_api.specs.Receive.{connection_gone, first_frame_step, is_from_server, piece_step, recv_step, stream_step, then_all}
+use Rattle.turn_client_api.specs.Receive.{connection_gone, first_frame_step, piece_step, recv_step, stream_step, then_all}
+use Rattle.turn_client_laws.proofs.PacketLemmas.{packet-by}
 
 -- Of a relation between a state and a later one: each state is as itself, later is later again, streams
 -- do not count, and messages and the ends of connections keep it.
@@ -114,21 +114,6 @@ module _ (R : State → State → Type 0) (k : IsKept R) where
       kept-cond (is_message bytes) s (message_step bytes now s) _ (k.message bytes now s)
       (kept-cond (is_channel_frame bytes) s (channel_sent s bytes, s) (Ignored, s) (k.same s) (k.same s))
 
-  recv_over : (carrier : TransportType) (transport : TransportType) (from to : SocketAddr) (bytes : List ℕ) (now : ℕ) (s : State)
-      → R (record s { transport = carrier }) (recv_step transport from to bytes now (record s { transport = carrier })).1
-  recv_over Udp transport from to bytes now s =
-      let u = record s { transport = Udp } in
-      kept-cond (is_from_server transport from u) u _ (Ignored, u)
-      (kept-cond (same_address to s.local) u (datagram_step bytes now u) (Ignored, u) (datagram-kept bytes now u) (k.same u)) (k.same u)
-  recv_over Tcp transport from to bytes now s = by (is_from_server transport from u) refl (stream_at to s) refl
-    where
-      u : State
-      u = record s { transport = Tcp }
-
-      by : (b : Bool) → is_from_server transport from u ≡ b → (o : Option Stream) → stream_at to s ≡ o → R u (recv_step transport from to bytes now u).1
-      by false e o f = rw e (k.same u)
-      by true e None f = rw (e, f) (k.same u)
-      by true e (Some stream) f = rw (e, f) (stream-kept stream bytes now u)
-
   pub recv-kept : (transport : TransportType) (from to : SocketAddr) (bytes : List ℕ) (now : ℕ) (s : State) → R s (recv_step transport from to bytes now s).1
-  recv-kept transport from to bytes now s = recv_over s.transport transport from to bytes now s
+  recv-kept transport from to bytes now =
+      packet-by (λ s inputs r. R s r.1) transport from to bytes now (datagram-kept bytes now) (λ stream s e. stream-kept stream bytes now s) k.same

@@ -3,7 +3,6 @@ use Rattle.std.proofs.Common.{◌≡◌, ◌≢◌, ℕ, zero, suc, ◌++◌, Bo
 use Rattle.std.specs.Prelude.{find, is_some}
 use Rattle.std.specs.declared.net.socket_addr.SocketAddr.{SocketAddr}
 use Rattle.turn_stun.specs.declared.transport.TransportType.{TransportType}
-use Rattle.turn_stun.specs.declared.transport.TransportType.TheVariants.{Udp, Tcp}
 use Rattle.turn_types.specs.Frames.{begins_no_frame, frame_len}
 use Rattle.turn_agent.specs.Agent.{same_address}
 use Rattle.turn_client_api.specs.State.{State}
@@ -14,11 +13,12 @@ use Rattle.turn_client_api.specs.Connections.{connection_at}
 use Rattle.turn_client_api.specs.Payloads.{Payload, Outcome, Handled, Ignored, PeerData, channel_sent, datagram_step, is_channel_frame, is_message, message_step}
 use Rattle.turn_client_api.specs.Streams.{broken_at, frame_step, framed_by, framed_stream_step, go_on, is_ready, max_steps, poll_recv_step, stream_at, next_frame_step, detached_frame_step}
 use Rattle.turn_client_api.specs.Streams.{first_ready_step, steps_until_payload, with_bytes}
-use Rattle.turn_client_api.specs.Receive.{connection_gone, first_frame_step, is_from_server, piece_step, recv_step, stream_step, then_all}
+use Rattle.turn_client_api.specs.Receive.{connection_gone, first_frame_step, piece_step, recv_step, stream_step, then_all}
 use Rattle.turn_client_laws.specs.LawsStreams.{AreApart}
 use Rattle.turn_client_laws.proofs.StreamApartLemmas.{Apart, NotBroken, bound-NotBroken, bound-apart, broken-apart, bytes-apart, bytes-NotBroken, emptied-apart, filter-apart, found-NotBroken}
 use Rattle.turn_client_laws.proofs.StreamDrainLemmas.{broken_by, bytes_by, found-ready, mode_by}
 use Rattle.turn_client_laws.proofs.StreamMessageLemmas.{Same, Rebound, frame-rebound, message-same, same-cond}
+use Rattle.turn_client_laws.proofs.PacketLemmas.{packet-by}
 
 -- if the streams were distinct, they are
 abbrev pub StayApart : State → State → Type 0
@@ -132,21 +132,7 @@ datagram-same bytes now s = by (is_message bytes) (is_channel_frame bytes)
     by false true = refl
     by false false = refl
 
-recv_over : (carrier : TransportType) (transport : TransportType) (from to : SocketAddr) (bytes : List ℕ) (now : ℕ) (s : State)
-    → StayApart (record s { transport = carrier }) (recv_step transport from to bytes now (record s { transport = carrier })).1
-recv_over Udp transport from to bytes now s =
-    let u = record s { transport = Udp } in
-    apart-cond (is_from_server transport from u) u _ (Ignored, u)
-    (apart-cond (same_address to s.local) u (datagram_step bytes now u) (Ignored, u) (same-apart u (datagram_step bytes now u).1 (datagram-same bytes now u)) (λ h. h)) (λ h. h)
-recv_over Tcp transport from to bytes now s = by (is_from_server transport from u) refl (stream_at to s) refl
-  where
-    u : State
-    u = record s { transport = Tcp }
-
-    by : (b : Bool) → is_from_server transport from u ≡ b → (o : Option Stream) → stream_at to s ≡ o → StayApart u (recv_step transport from to bytes now u).1
-    by false e o f = rw e (λ h. h)
-    by true e None f = rw (e, f) (λ h. h)
-    by true e (Some stream) f = rw (e, f) (stream-apart to stream bytes now u f)
-
 pub recv-apart : (transport : TransportType) (from to : SocketAddr) (bytes : List ℕ) (now : ℕ) (s : State) → StayApart s (recv_step transport from to bytes now s).1
-recv-apart transport from to bytes now s = recv_over s.transport transport from to bytes now s
+recv-apart transport from to bytes now =
+    packet-by (λ s inputs r. StayApart s r.1) transport from to bytes now (λ s. same-apart s (datagram_step bytes now s).1 (datagram-same bytes now s))
+    (λ stream s e. stream-apart to stream bytes now s e) (λ s h. h)

@@ -2,8 +2,6 @@
 use Rattle.std.proofs.Common.{◌≡◌, ◌⊎◌, ℕ, zero, suc, Bool, true, false, not, cond, List, [], ◌∷◌, ◌++◌, map, drop, take, Option, Some, None, refl, ap, sym, ◌∙◌, inl, inr}
 use Rattle.std.specs.Prelude.{find}
 use Rattle.std.specs.declared.net.socket_addr.SocketAddr.{SocketAddr}
-use Rattle.turn_stun.specs.declared.transport.TransportType.{TransportType}
-use Rattle.turn_stun.specs.declared.transport.TransportType.TheVariants.{Udp, Tcp}
 use Rattle.turn_stun.specs.declared.transport.Transmit.{Transmit}
 use Rattle.turn_types.specs.Frames.{begins_no_frame, frame_len}
 use Rattle.turn_agent.specs.Agent.{same_address}
@@ -11,11 +9,11 @@ use Rattle.turn_client_api.specs.State.{State}
 use Rattle.turn_client_api.specs.declared.state.Mode.{Mode}
 use Rattle.turn_client_api.specs.declared.state.Mode.TheVariants.{Control, Waiting, Bound, Broken}
 use Rattle.turn_client_api.specs.declared.state.Stream.{Stream}
-use Rattle.turn_client_api.specs.Payloads.{Payload, Outcome, Handled, Ignored, PeerData, datagram_step}
-use Rattle.turn_client_api.specs.Streams.{broken_at, framed_by, framed_stream_step, go_on, is_ready, max_steps, payload_in, poll_recv_step, stream_at, next_frame_step, first_ready_step}
+use Rattle.turn_client_api.specs.Payloads.{Payload, Outcome, Handled, Ignored, PeerData}
+use Rattle.turn_client_api.specs.Streams.{broken_at, framed_by, framed_stream_step, go_on, is_ready, max_steps, payload_in, poll_recv_step, next_frame_step, first_ready_step}
 use Rattle.turn_client_api.specs.Streams.{detached_frame_step, steps_until_payload, with_bytes, without_stream}
-use Rattle.turn_client_api.specs.Receive.{connection_gone, first_frame_step, is_from_server, piece_step, recv_step, stream_step, then_all}
-use Rattle.turn_client_laws.specs.Handled.{Input, stream_with_piece, fed_taken, frame_taken, handled, is_front, processed, piece_inputs, poll_recv_inputs, recv_inputs, stream_inputs}
+use Rattle.turn_client_api.specs.Receive.{connection_gone, first_frame_step, piece_step, stream_step, then_all}
+use Rattle.turn_client_laws.specs.Handled.{Input, datagram_input, stream_with_piece, fed_taken, frame_taken, handled, is_front, processed, piece_inputs, poll_recv_inputs, stream_inputs}
 use Rattle.turn_client_laws.specs.Handled.{stream_inputs_taken, taken_first, taken_in, taken_of_len, then_taken, stream_input, inputs_taken, unless_given}
 use Rattle.turn_client_api.specs.Steps.{packet_step}
 use Rattle.turn_client_api.specs.declared.call.Call.{Call}
@@ -24,6 +22,7 @@ use Rattle.turn_client_laws.specs.LawsHandled.{DiffersInStreams, ProcessesInputs
 use Rattle.turn_client_laws.proofs.HasLemmas.{Has, has-filter}
 use Rattle.turn_client_laws.proofs.GrantOriginLemmas.{has-mapped}
 use Rattle.turn_client_laws.proofs.StandLemmas.{contains-has, has-contains}
+use Rattle.turn_client_laws.proofs.PacketLemmas.{packet-by}
 
 -- ---- streams
 
@@ -163,38 +162,11 @@ stream-does : (stream : Stream) (piece : List ℕ) (now : ℕ) (s : State) → D
 stream-does stream [] now s = inr (stream.local, refl, refl)
 stream-does stream (b ∷ bs) now s = inl (piece_in_mode stream.mode stream (b ∷ bs) now s)
 
-recv_over : (carrier : TransportType) (transport : TransportType) (from to : SocketAddr) (bytes : List ℕ) (now : ℕ) (s : State)
-    → Does (recv_inputs transport from to bytes now (record s { transport = carrier })) (record s { transport = carrier }) (recv_step transport from to bytes now (record s { transport = carrier })).1
-recv_over Udp transport from to bytes now s = by (is_from_server transport from u) (same_address to s.local)
-  where
-    u : State
-    u = record s { transport = Udp }
-
-    one : Input
-    one = record { stream = None; bytes = bytes; is_lent = true; time = now; before = u }
-
-    by : (b c : Bool) → Does (cond b (cond c (one ∷ []) []) []) u (cond {A = Outcome × State} b (cond {A = Outcome × State} c (datagram_step bytes now u) (Ignored, u)) (Ignored, u)).1
-    by true true = inl (differs-same u, differs-same (processed one).1)
-    by b c = inl (differs-same u)
-recv_over Tcp transport from to bytes now s = by (is_from_server transport from u) (stream_at to s)
-  where
-    u : State
-    u = record s { transport = Tcp }
-
-    by_stream : Option Stream → Outcome × State
-    by_stream None = (Ignored, u)
-    by_stream (Some stream) = stream_step stream bytes now u
-
-    turns_by : Option Stream → List Input
-    turns_by None = []
-    turns_by (Some stream) = stream_inputs stream bytes now u
-
-    by : (b : Bool) (o : Option Stream) → Does (cond b (turns_by o) []) u (cond {A = Outcome × State} b (by_stream o) (Ignored, u)).1
-    by true (Some stream) = stream-does stream bytes now u
-    by b o = inl (differs-same u)
-
 recv-does : (packet : Transmit (List ℕ)) (now : ℕ) (s : State) → ProcessesInputs (Recv packet now) s
-recv-does packet now s = by (recv_over s.transport packet.transport packet.from packet.to packet.payload now s)
+recv-does packet now s = by (
+    packet-by (λ s inputs r. Does inputs s r.1) packet.transport packet.from packet.to packet.payload now
+    (λ s. inl (differs-same s, differs-same (processed (datagram_input packet.payload now s)).1))
+    (λ stream s e. stream-does stream packet.payload now s) (λ s. inl (differs-same s)) s)
   where
     by : Does (handled (Recv packet now) s) s (packet_step packet now s).1 → ProcessesInputs (Recv packet now) s
     by (inl lead) = inl lead
