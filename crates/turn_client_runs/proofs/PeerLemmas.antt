@@ -5,15 +5,14 @@ use Rattle.std.specs.Prelude.{find}
 use Rattle.std.specs.List.{Contains}
 use Rattle.std.specs.declared.net.socket_addr.SocketAddr.{SocketAddr}
 use Rattle.turn_stun.specs.declared.transport.TransportType.{TransportType}
-use Rattle.turn_stun.specs.declared.transport.TransportType.TheVariants.{Udp, Tcp}
 use Rattle.turn_types.specs.Frames.{begins_no_frame, frame_len}
 use Rattle.turn_types.specs.declared.attribute.icmp_report.Icmp.{Icmp}
 use Rattle.turn_agent.specs.Agent.{same_address}
 use Rattle.turn_client_api.specs.State.{State}
 use Rattle.turn_client_api.specs.Payloads.{Payload, Outcome, Handled, Ignored, PeerData, PeerIcmp}
-use Rattle.turn_client_api.specs.Streams.{is_ready, owned, payload_in, stream_at, next_frame_step, with_bytes}
-use Rattle.turn_client_api.specs.Receive.{first_frame_step, is_from_server}
-use Rattle.turn_client_laws.specs.Handled.{Input, stream_with_piece, fed_taken, frame_taken, handled, is_front, processed, payloads_by, piece_inputs, poll_recv_inputs, recv_inputs, stream_inputs}
+use Rattle.turn_client_api.specs.Streams.{is_ready, owned, payload_in, next_frame_step, with_bytes}
+use Rattle.turn_client_api.specs.Receive.{first_frame_step}
+use Rattle.turn_client_laws.specs.Handled.{Input, datagram_input, stream_with_piece, fed_taken, frame_taken, handled, is_front, processed, payloads_by, piece_inputs, poll_recv_inputs, stream_inputs}
 use Rattle.turn_client_laws.specs.Handled.{stream_inputs_taken, taken_first, taken_in, taken_of_len, then_taken, stream_input, input_payload, inputs_taken, unless_given}
 use Rattle.turn_client_laws.specs.LawsHandled.{IsBoundAt}
 use Rattle.turn_client_laws.specs.LawsPeers.{IsPermittedInput, IsMessageFromPermitted, HasNoPeer}
@@ -29,6 +28,7 @@ use Rattle.turn_client_laws.proofs.StandLemmas.{contains-has, has-contains}
 use Rattle.turn_client_runs.specs.Peers.{InputDelivers, IsPeerPermitted, IsDeliveredIn, TellsOfPermitted}
 use Rattle.turn_client_runs.specs.Inputs.{IsAmong, delivered_by, answered_in, handled_in, payloads_in}
 use Rattle.turn_client_runs.proofs.TurnsOfRuns.{among-left, among-right, has-among}
+use Rattle.turn_client_laws.proofs.PacketLemmas.{packet-by}
 
 -- ---- the stream of an input is in the state just before it
 
@@ -134,34 +134,10 @@ datagram-in : (one : Input) → one.stream ≡ None → AreIn (one ∷ [])
 datagram-in one none other (inl e) = rw e (λ stream is. let no_stream : None ≡ Some stream = sym none ∙ is in cc)
 datagram-in one none other (inr h) = absurd h
 
-recv_over : (carrier : TransportType) (transport : TransportType) (from to : SocketAddr) (bytes : List ℕ) (now : ℕ) (s : State)
-    → AreIn (recv_inputs transport from to bytes now (record s { transport = carrier }))
-recv_over Udp transport from to bytes now s = by (is_from_server transport from u) (same_address to s.local)
-  where
-    u : State
-    u = record s { transport = Udp }
-
-    one : Input
-    one = record { stream = None; bytes = bytes; is_lent = true; time = now; before = u }
-
-    by : (b c : Bool) → AreIn (cond b (cond c (one ∷ []) []) [])
-    by true true = datagram-in one refl
-    by b c = none-in
-recv_over Tcp transport from to bytes now s = by (is_from_server transport from u) (stream_at to s) refl
-  where
-    u : State
-    u = record s { transport = Tcp }
-
-    turns_by : Option Stream → List Input
-    turns_by None = []
-    turns_by (Some stream) = stream_inputs stream bytes now u
-
-    by : (b : Bool) (o : Option Stream) → stream_at to s ≡ o → AreIn (cond b (turns_by o) [])
-    by true (Some stream) e = stream-in stream bytes now u (found-stands (λ (x : Stream). same_address x.local to) stream u e)
-    by b o e = none-in
-
 call-in : (call : Call) (s : State) → AreIn (handled call s)
-call-in (Recv packet now) s = recv_over s.transport packet.transport packet.from packet.to packet.payload now s
+call-in (Recv packet now) s =
+    packet-by (λ s inputs r. AreIn inputs) packet.transport packet.from packet.to packet.payload now (λ s. datagram-in (datagram_input packet.payload now s) refl)
+    (λ stream s e. stream-in stream packet.payload now s (found-stands (λ (x : Stream). same_address x.local packet.to) stream s e)) (λ s. none-in) s
 call-in (PollRecv now) s = poll_recv-in now s
 call-in _ s = none-in
 
