@@ -1,7 +1,7 @@
 -- Before the earliest expiry, time changes nothing.
 use Rattle.std.proofs.Common.{◌≡◌, ℕ, ◌<◌, ◌+◌, Bool, true, false, ◌&&◌, ◌||◌, not, cond, leb, ltb, List, [], ◌∷◌, ◌++◌, map, filter, filter_map, fold, reverse, Option, Some, None, refl, ap, ◌∙◌, inl}
 use Rattle.std.proofs.Common.{inr, arith}
-use Rattle.std.specs.Prelude.{All, ⊤}
+use Rattle.std.specs.Prelude.{All}
 use Rattle.std.specs.List.{list_any}
 use Rattle.std.specs.Option.{option_map_or}
 use Rattle.std.proofs.lemmas.List.{append-nil}
@@ -15,14 +15,15 @@ use Rattle.turn_client_api.specs.declared.grant.DataConnection.{DataConnection}
 use Rattle.turn_client_api.specs.declared.grant.Relay.{Relay}
 use Rattle.turn_client_api.specs.declared.grant.Progress.TheVariants.{Active, Reserved}
 use Rattle.turn_client_api.specs.declared.grant.Purpose.{Purpose}
-use Rattle.turn_client_api.specs.Grants.{as_allocation, allocations, as_connection, failures_among, family_of, has_request, in_sequence, is_connect, is_for, is_of, is_past, is_pending_channel}
+use Rattle.turn_client_api.specs.Grants.{as_allocation, allocations, as_connection, failures_among, family_of, has_request, is_connect, is_for, is_of, is_past, is_pending_channel}
 use Rattle.turn_client_api.specs.Grants.{is_pending_permission, failure_of, unlisted, without_grants}
-use Rattle.turn_client_api.specs.Poll.{connections_unbound, failed, allocation_expires, failed_by_timeout, is_lapsed_channel, is_lapsed_permission, is_over, is_unbound, lapsed, lapsed_allocation}
-use Rattle.turn_client_api.specs.Poll.{lapsed_in, last_channel_lapsed, offers_timed_out, permissions_lapsed, refreshes_timed_out, set_free, unbound}
+use Rattle.turn_client_api.specs.Poll.{failed, allocation_expires, failed_by_timeout, is_lapsed_channel, is_lapsed_permission, is_over, is_unbound, lapsed, lapsed_allocation}
+use Rattle.turn_client_api.specs.Poll.{lapsed_in, last_channel_lapsed, unbound}
 use Rattle.turn_client_laws.specs.LawsBodies.{lapse_of, expiry_times}
 use Rattle.turn_client_api.specs.declared.event.TurnEvent.{TurnEvent}
 use Rattle.turn_client_laws.proofs.HasLemmas.{Has, filter-none, filter_map-has, find-none, has-all, has-filter_map}
 use Rattle.turn_client_laws.proofs.LapseLemmas.{has-unreversed}
+use Rattle.turn_client_laws.proofs.LapseSteps.{lapsed_in-does}
 
 -- none of these passes the test
 abbrev PassesNone : (Grant → Bool) → List Grant → Type 0
@@ -62,15 +63,6 @@ unbound-none which s none =
     ∙ failed-none which s none)
 
 -- ---- in sequence
-
--- each of these leaves the state unchanged
-abbrev Rest : List (State → State) → State → Type 0
-Rest [] s = ⊤
-Rest (step ∷ steps) s = (step s ≡ s) × Rest steps s
-
-in_sequence-rest : (steps : List (State → State)) (s : State) → Rest steps s → in_sequence steps s ≡ s
-in_sequence-rest [] s h = refl
-in_sequence-rest (step ∷ steps) s h = ap (in_sequence steps) h.0 ∙ in_sequence-rest steps s h.1
 
 fold-rest : {X : Type 0} (f : State → X → State) (xs : List X) (s : State) → ((x : X) → Has x xs → f s x ≡ s) → fold f s xs ≡ s
 fold-rest f [] s each = refl
@@ -141,45 +133,19 @@ module _ (now : ℕ) (s : State) (early : (g : Grant) → Has g s.grants → IsE
       rw (find-none (λ g. is_of family g && is_lapsed_channel now g) (reverse s.grants) (λ g h. and_then-false (is_of family g) _ (early-channel now s g (early g (has-unreversed g s.grants h)))))
       refl
 
-  abbrev steps : List (State → State)
-  steps =
-      failed_by_timeout family [] is_pending_channel
-      ∷ failed_by_timeout family [] is_pending_permission
-      ∷ last_channel_lapsed family now
-      ∷ permissions_lapsed family now
-      ∷ failed_by_timeout family [] is_connect
-      ∷ connections_unbound family [] now
-      ∷ offers_timed_out family None
-      ∷ refreshes_timed_out family []
-      ∷ set_free family now
-      ∷ []
-
   lapsed_in-none : lapsed_in family None [] now s ≡ s
-  lapsed_in-none = in_sequence-rest steps s (
-    vain-none family is_pending_channel s,
-    (
-      vain-none family is_pending_permission s,
-      (
-        channel-none,
-        (
-          failed-none _ s (λ g h. and_then-false (is_of family g) _ (early-permission now s g (early g h))),
-          (
-            vain-none family is_connect s,
-            (
-              unbound-none _ s (λ g h. and_then-false (is_of family g) _ (early-unbound now s g (early g h))),
-              (
-                failed-none _ s (λ g h. and_then-false (is_of family g) false refl),
-                (
-                  unlisted-none _ s (λ g h. and_then-false (is_of family g) false refl),
-                  (without-none _ s (λ g h. and_then-false (is_of family g) _ (early-over now s g (early g h))), tt),
-                ),
-              ),
-            ),
-          ),
-        ),
-      ),
-    ),
-  )
+  lapsed_in-none = lapsed_in-does (λ t u. t ≡ s → u ≡ s) family None [] now (record {
+    trans = λ t u v first later e. later (first e);
+    channels = λ t e. rw e (vain-none family is_pending_channel s);
+    permissions = λ t e. rw e (vain-none family is_pending_permission s);
+    last_channel = λ t e. rw e channel-none;
+    lapsed_permissions = λ t e. rw e (failed-none _ s (λ g h. and_then-false (is_of family g) _ (early-permission now s g (early g h))));
+    connects = λ t e. rw e (vain-none family is_connect s);
+    connections = λ t e. rw e (unbound-none _ s (λ g h. and_then-false (is_of family g) _ (early-unbound now s g (early g h))));
+    offers = λ t e. rw e (failed-none _ s (λ g h. and_then-false (is_of family g) false refl));
+    refreshes = λ t e. rw e (unlisted-none _ s (λ g h. and_then-false (is_of family g) false refl));
+    frees = λ t e. rw e (without-none _ s (λ g h. and_then-false (is_of family g) _ (early-over now s g (early g h))));
+  }) s refl
 
 pub lapsed-none : (now : ℕ) (s : State) → All (λ time. now < time) (expiry_times s) → lapsed None now s ≡ s
 lapsed-none now s all = fold-rest (lapsed_allocation None [] now) (allocations s) s by

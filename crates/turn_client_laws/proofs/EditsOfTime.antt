@@ -25,8 +25,8 @@ use Rattle.turn_client_api.specs.Requests.{request_started, asked_lifetime, firs
 use Rattle.turn_client_api.specs.Effect.{closed, transaction_ended, reserved}
 use Rattle.turn_client_api.specs.Due.{has_event, has_reply, is_paused}
 use Rattle.turn_client_api.specs.Poll.{answer_step, channel_lapsed, connections_unbound, timed_out_purposes, timed_out_step, allocation_expires, failed_by_timeout, is_timed_out_offer}
-use Rattle.turn_client_api.specs.Poll.{is_lapsed_channel, is_lapsed_permission, is_listed_for_allocation, is_over, is_unbound, lapsed, lapsed_allocation, lapsed_in, last_channel_lapsed, next_offer}
-use Rattle.turn_client_api.specs.Poll.{offer_step, offers_timed_out, permissions_lapsed, poll_step, refreshes_timed_out, silent_step, timed_step}
+use Rattle.turn_client_api.specs.Poll.{is_lapsed_channel, is_lapsed_permission, is_listed_for_allocation, is_over, is_unbound, lapsed, lapsed_allocation, lapsed_in, next_offer}
+use Rattle.turn_client_api.specs.Poll.{offer_step, offers_timed_out, permissions_lapsed, poll_step, silent_step, timed_step}
 use Rattle.turn_client_api.specs.Transmit.{idle_step, is_due_in, queue_step, refresh_purpose, refreshes_in, refreshes_of_rank, sent, transmit_step}
 use Rattle.turn_client_api.specs.Transmit as T
 use Rattle.turn_client_laws.specs.LawsStates.{is_asked_by}
@@ -37,6 +37,7 @@ use Rattle.turn_client_laws.proofs.GrantOriginEffectLemmas.{same_ip-same}
 use Rattle.turn_client_laws.proofs.LapseLemmas.{has-unreversed}
 use Rattle.turn_client_laws.proofs.Edits.{IsAskable, KeepsEdits, SparesAllocations}
 use Rattle.turn_client_laws.proofs.EditsOfReplies.{closed-walk, each, either, first-has, found, one-of, removed, asked-walk, reserved-walk, spares-kind, spelled-else, unlisted-walk, told-alike}
+use Rattle.turn_client_laws.proofs.LapseSteps.{lapsed_in-does}
 
 -- ---- what is refreshed exists
 
@@ -136,27 +137,22 @@ module _ (R : State → State → Type 0) (k : KeepsEdits R) where
       then s t end (reserved-walk R k number peer (Active expiry) expiry s (there (Channel number peer (Active expiry)) refl)) (k.aside t end)
   channel_lapsed-walk o s there = k.same s
 
-  -- in sequence, in the order of `lapsed_in`
   lapsed_in-walk : (family : AddressFamily) (given : Option ℕ) (purposes : List Purpose) (now : ℕ) (s : State) → R s (lapsed_in family given purposes now s)
-  lapsed_in-walk family given purposes now s =
-      let a = failed_by_timeout family purposes is_pending_channel s in
-      let b = failed_by_timeout family purposes is_pending_permission a in
-      let c = last_channel_lapsed family now b in
-      let d = permissions_lapsed family now c in
-      let e = failed_by_timeout family purposes is_connect d in
-      let f = connections_unbound family purposes now e in
-      let g = offers_timed_out family given f in
-      let h = refreshes_timed_out family purposes g in
-      let end = lapsed_in family given purposes now s in
+  lapsed_in-walk family given purposes now =
       let lapses = λ (x : Grant). is_of family x && is_lapsed_channel now x in
-      then s a end (vain-walk family purposes is_pending_channel s (λ r. refl))
-      (then a b end (vain-walk family purposes is_pending_permission a (λ r. refl))
-      (then b c end (channel_lapsed-walk (find lapses (reverse b.grants)) b (λ x found. has-unreversed x b.grants (has-found lapses x (reverse b.grants) found).0))
-      (then c d end (removed R k (λ x. is_of family x && is_lapsed_permission now x) (spares-kind family (is_lapsed_permission now) (λ r. refl)) c d)
-      (then d e end (vain-walk family purposes is_connect d (λ r. refl))
-      (then e f end (removed R k (λ x. is_of family x && is_unbound purposes now x) (spares-kind family (is_unbound purposes now) (λ r. refl)) e f)
-      (then f g end (removed R k (λ x. is_of family x && is_timed_out_offer given x) (spares-kind family (is_timed_out_offer given) (no-given given)) f g)
-      (then g h end (unlisted-walk R k _ g) (k.removes _ h (spares-kind family (is_over now) (λ r. refl))))))))))
+      lapsed_in-does R family given purposes now (record {
+        trans = k.trans;
+        channels = λ t. vain-walk family purposes is_pending_channel t (λ r. refl);
+        permissions = λ t. vain-walk family purposes is_pending_permission t (λ r. refl);
+        last_channel = λ t.
+            channel_lapsed-walk (find lapses (reverse t.grants)) t (λ x found. has-unreversed x t.grants (has-found lapses x (reverse t.grants) found).0);
+        lapsed_permissions = λ t. removed R k _ (spares-kind family (is_lapsed_permission now) (λ r. refl)) t (permissions_lapsed family now t);
+        connects = λ t. vain-walk family purposes is_connect t (λ r. refl);
+        connections = λ t. removed R k _ (spares-kind family (is_unbound purposes now) (λ r. refl)) t (connections_unbound family purposes now t);
+        offers = λ t. removed R k _ (spares-kind family (is_timed_out_offer given) (no-given given)) t (offers_timed_out family given t);
+        refreshes = unlisted-walk R k _;
+        frees = λ t. k.removes _ t (spares-kind family (is_over now) (λ r. refl));
+      })
 
   lapsed-walk : (given : Option ℕ) (now : ℕ) (s : State) → R s (lapsed given now s)
   lapsed-walk given now s = each R k (lapsed_allocation given purposes now) by (allocations s) s

@@ -1,7 +1,7 @@
 -- Each event that a poll queues reports a grant that can fail no more.
 use Rattle.std.proofs.Common.{◌≡◌, ◌≢◌, ℕ, ◌≤◌, ◌+◌, Bool, true, false, ◌&&◌, ◌||◌, not, cond, List, [], ◌∷◌, ◌++◌, map, length, filter, filter_map, find, fold, reverse, Option, Some, None, refl, sym}
 use Rattle.std.proofs.Common.{◌∙◌, inl, inr, arith}
-use Rattle.std.specs.Prelude.{is_some, ⊤}
+use Rattle.std.specs.Prelude.{is_some}
 use Rattle.std.specs.List.{cons_option}
 use Rattle.std.specs.Option.{option_map_or}
 use Rattle.std.proofs.lemmas.List.{length-append, length-map, length-reverse}
@@ -20,33 +20,25 @@ use Rattle.turn_client_api.specs.declared.grant.Relay.{Relay}
 use Rattle.turn_client_api.specs.State.{agent_of}
 use Rattle.turn_client_api.specs.declared.grant.Progress.TheVariants.{Active, Reserved}
 use Rattle.turn_client_api.specs.declared.grant.Purpose.{Purpose}
-use Rattle.turn_client_api.specs.Grants.{allocations, failure_of, failures_among, family_of, in_sequence, is_channel_of, is_connect, is_for_any, is_of, is_pending_channel, is_pending_permission}
+use Rattle.turn_client_api.specs.Grants.{allocations, failure_of, failures_among, family_of, is_channel_of, is_connect, is_for_any, is_of, is_pending_channel, is_pending_permission}
 use Rattle.turn_client_api.specs.Grants.{without_grants}
 use Rattle.turn_client_api.specs.Effect.{closed, transaction_ended, reserved}
 use Rattle.turn_client_api.specs.Due.{has_event, has_reply}
 use Rattle.turn_client_api.specs.Poll.{answer_by, answer_step, channel_lapsed, connections_unbound, failed, timed_out_step, allocation_expires, failed_by_timeout, is_timed_out_offer}
 use Rattle.turn_client_api.specs.Poll.{is_lapsed_channel, is_listed_for_allocation, is_over, lapsed, lapsed_allocation, lapsed_in, last_channel_lapsed, next_offer, offer_step, offers_timed_out}
-use Rattle.turn_client_api.specs.Poll.{permissions_lapsed, poll_step, refreshes_timed_out, set_free, timed_step, as_reported, first_reported, unbound, unreported_in, timed_out_purposes}
+use Rattle.turn_client_api.specs.Poll.{permissions_lapsed, poll_step, timed_step, as_reported, first_reported, unbound, unreported_in, timed_out_purposes}
 use Rattle.turn_client_laws.specs.LawsBodies.{TellsOfFailed, can_fail, max_failures}
 use Rattle.turn_client_api.specs.declared.event.TurnEvent.{TurnEvent}
 use Rattle.turn_client_api.specs.declared.event.TurnEvent.TheVariants.{AllocationCreateFailed}
 use Rattle.turn_client_laws.proofs.HasLemmas.{Has, has-found}
 use Rattle.turn_client_laws.proofs.LapseLemmas.{IsReserved, has-unreversed}
+use Rattle.turn_client_laws.proofs.LapseSteps.{lapsed_in-does}
 
 tells-self : (s : State) → TellsOfFailed s s
 tells-self s = omega arith
 
 tells-then : (s t u : State) → TellsOfFailed s t → TellsOfFailed t u → TellsOfFailed s u
 tells-then s t u first later = omega (arith, first, later)
-
--- each of these reports only what can fail no more
-abbrev AllTell : List (State → State) → Type 0
-AllTell [] = ⊤
-AllTell (step ∷ steps) = ((s : State) → TellsOfFailed s (step s)) × AllTell steps
-
-in_sequence-tells : (steps : List (State → State)) (s : State) → AllTell steps → TellsOfFailed s (in_sequence steps s)
-in_sequence-tells [] s all = tells-self s
-in_sequence-tells (step ∷ steps) s all = tells-then s (step s) (in_sequence steps (step s)) (all.0 s) (in_sequence-tells steps (step s) all.1)
 
 -- ---- grants that can fail
 
@@ -205,44 +197,18 @@ module _ (family : AddressFamily) (purposes : List Purpose) where
   vain-all which none s = vain-tells which s none
 
   lapsed_in-tells : (given : Option ℕ) (now : ℕ) (s : State) → TellsOfFailed s (lapsed_in family given purposes now s)
-  lapsed_in-tells given now s = in_sequence-tells steps s (
-    vain-all is_pending_channel (λ number peer until. refl),
-    (
-      vain-all is_pending_permission (λ number peer until. refl),
-      (
-        last-tells family now,
-        (
-          permissions-tell now,
-          (
-            vain-all is_connect (λ number peer until. refl),
-            (
-              connections-tell now,
-              (
-                offers-tell given,
-                (
-                  tells-self,
-                  (without-tells (λ g. is_of family g && is_over now g), tt),
-                ),
-              ),
-            ),
-          ),
-        ),
-      ),
-    ),
-  )
-    where
-      steps : List (State → State)
-      steps =
-          failed_by_timeout family purposes is_pending_channel
-          ∷ failed_by_timeout family purposes is_pending_permission
-          ∷ last_channel_lapsed family now
-          ∷ permissions_lapsed family now
-          ∷ failed_by_timeout family purposes is_connect
-          ∷ connections_unbound family purposes now
-          ∷ offers_timed_out family given
-          ∷ refreshes_timed_out family purposes
-          ∷ set_free family now
-          ∷ []
+  lapsed_in-tells given now = lapsed_in-does TellsOfFailed family given purposes now (record {
+    trans = tells-then;
+    channels = vain-all is_pending_channel (λ number peer until. refl);
+    permissions = vain-all is_pending_permission (λ number peer until. refl);
+    last_channel = last-tells family now;
+    lapsed_permissions = permissions-tell now;
+    connects = vain-all is_connect (λ number peer until. refl);
+    connections = connections-tell now;
+    offers = offers-tell given;
+    refreshes = tells-self;
+    frees = without-tells (λ g. is_of family g && is_over now g);
+  })
 
 allocation-tells : (given : Option ℕ) (purposes : List Purpose) (now : ℕ) (s : State) (a : Relay) → TellsOfFailed s (lapsed_allocation given purposes now s a)
 allocation-tells given purposes now s a = by (allocation_expires purposes now s a)

@@ -28,6 +28,7 @@ use Rattle.turn_client_api.specs.declared.event.TurnEvent.{TurnEvent}
 use Rattle.turn_client_api.specs.declared.event.TurnEvent.TheVariants.{ChannelCreateFailed}
 use Rattle.turn_client_laws.proofs.HasLemmas.{Has, has-all, has-left, has-right, has-append, has-filter, filter_map-has, has-filter_map, has-found}
 use Rattle.turn_client_laws.proofs.ReadyLemmas.{Alive}
+use Rattle.turn_client_laws.proofs.LapseSteps.{lapsed_in-does}
 
 -- a channel that is reserved
 abbrev pub IsReserved : Grant → Type 0
@@ -150,17 +151,18 @@ tail4-shrinks family given purposes now s4 =
     (shrinks-then s5 s6 (tail6 family given purposes now s6) (unbound-shrinks _ s5) (tail6-shrinks family given purposes now s6))
 
 lapsed_in-shrinks : (family : AddressFamily) (given : Option ℕ) (purposes : List Purpose) (now : ℕ) (s : State) → Shrinks s (lapsed_in family given purposes now s)
-unfolding tail6 tail4
-lapsed_in-shrinks family given purposes now s =
-    let s1 = failed_by_timeout family purposes is_pending_channel s in
-    let s2 = failed_by_timeout family purposes is_pending_permission s1 in
-    let s3 = last_channel_lapsed family now s2 in
-    let s4 = permissions_lapsed family now s3 in
-    let t = tail4 family given purposes now s4 in
-    shrinks-then s s1 t (failed-shrinks _ s)
-    (shrinks-then s1 s2 t (failed-shrinks _ s1)
-    (shrinks-then s2 s3 t (channel-shrinks _ s2)
-    (shrinks-then s3 s4 t (failed-shrinks _ s3) (tail4-shrinks family given purposes now s4))))
+lapsed_in-shrinks family given purposes now = lapsed_in-does Shrinks family given purposes now (record {
+  trans = shrinks-then;
+  channels = failed-shrinks _;
+  permissions = failed-shrinks _;
+  last_channel = λ t. channel-shrinks _ t;
+  lapsed_permissions = failed-shrinks _;
+  connects = failed-shrinks _;
+  connections = unbound-shrinks _;
+  offers = failed-shrinks _;
+  refreshes = unlisted-shrinks _;
+  frees = without-shrinks _;
+})
 
 -- what did not stay was not tested true
 not-passed : (p : Grant → Bool) (g : Grant) (gs : List Grant) → Has g (filter (λ x. not (p x)) gs) → p g ≡ false

@@ -35,6 +35,7 @@ pub mod InAllocation
 pub mod InAllocationLemmas
 pub mod IndicatedOffers
 pub mod LapseLemmas
+pub mod LapseSteps
 pub mod LateReplyLemmas
 pub mod ListedGrants
 pub mod MemoryLemmas

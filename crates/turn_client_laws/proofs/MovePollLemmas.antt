@@ -1,6 +1,6 @@
 -- What time removes, and what is requested as it passes.
 use Rattle.std.proofs.Common.{◌≡◌, ◌⊎◌, ℕ, ◌<◌, ◌≤◌, eqb, leb, Bool, true, false, cond, ◌&&◌, ◌||◌, List, [], ◌∷◌, ◌++◌, fold, Option, Some, None, refl, sym, subst, inl, inr}
-use Rattle.std.specs.Prelude.{All, IsSome, drop, find, flat_map, is_some, reverse, slice_get, ⊤}
+use Rattle.std.specs.Prelude.{All, IsSome, drop, find, flat_map, is_some, reverse, slice_get}
 use Rattle.std.specs.List.{Contains}
 use Rattle.std.proofs.lemmas.Bool.{leb-false, leb-true}
 use Rattle.std.specs.declared.net.socket_addr.SocketAddr.{SocketAddr}
@@ -19,13 +19,13 @@ use Rattle.turn_client_api.specs.declared.state.Phase.{Phase}
 use Rattle.turn_client_api.specs.declared.state.Phase.TheVariants.{New}
 use Rattle.turn_client_api.specs.State.{agent_of}
 use Rattle.turn_client_api.specs.declared.state.Phase.TheVariants.{Requesting, Authenticating, Allocated}
-use Rattle.turn_client_api.specs.Grants.{allocations, family_of, in_sequence, is_connect, is_of, is_pending_channel, is_pending_permission, without_grants}
+use Rattle.turn_client_api.specs.Grants.{allocations, family_of, is_of, without_grants}
 use Rattle.turn_client_api.specs.Requests.{first_allocate, fresh_id, request_for, to_server}
 use Rattle.turn_client_api.specs.Effect.{closed, transaction_ended}
 use Rattle.turn_client_api.specs.Due.{has_event, has_reply, is_paused}
-use Rattle.turn_client_api.specs.Poll.{answer_by, answer_step, channel_lapsed, connections_unbound, timed_out_purposes, timed_out_step, allocation_expires, failed_by_timeout, is_lapsed_channel}
-use Rattle.turn_client_api.specs.Poll.{is_listed_for_allocation, lapsed, lapsed_allocation, lapsed_in, last_channel_lapsed, next_offer, offer_step, offers_timed_out, permissions_lapsed, poll_step}
-use Rattle.turn_client_api.specs.Poll.{refreshes_timed_out, set_free, timed_step, as_reported, first_reported, unreported_in}
+use Rattle.turn_client_api.specs.Poll.{answer_by, answer_step, channel_lapsed, timed_out_purposes, timed_out_step, allocation_expires, is_lapsed_channel}
+use Rattle.turn_client_api.specs.Poll.{is_listed_for_allocation, lapsed, lapsed_allocation, lapsed_in, next_offer, offer_step, poll_step}
+use Rattle.turn_client_api.specs.Poll.{timed_step, as_reported, first_reported, unreported_in}
 use Rattle.turn_client_api.specs.Transmit.{idle_step, queue_step, refreshes_in, reply_step, sent, sent_at_once, transmit_step}
 use Rattle.turn_client_api.specs.declared.call.Call.{Call}
 use Rattle.turn_client_api.specs.declared.call.Call.TheVariants.{Poll, PollTransmit}
@@ -40,6 +40,7 @@ use Rattle.turn_client_laws.proofs.MoveLemmas.{Adds, Loses, Never, Remains, Sett
 use Rattle.turn_client_laws.proofs.GrantOriginLemmas.{has-mapped}
 use Rattle.turn_client_laws.proofs.MoveSocketLemmas.{by_found}
 use Rattle.turn_client_laws.proofs.StandLemmas.{has-contains}
+use Rattle.turn_client_laws.proofs.LapseSteps.{lapsed_in-does}
 
 -- ---- what is listed as time passes
 
@@ -53,57 +54,23 @@ fewer-same s = adds-same Never s.listed
 fewer-then : (s t u : State) → Fewer s t → Fewer t u → Fewer s u
 fewer-then s t u first later = adds-then Never s.listed t.listed u.listed first later
 
-abbrev AllFewer : List (State → State) → Type 0
-AllFewer [] = ⊤
-AllFewer (step ∷ steps) = ((s : State) → Fewer s (step s)) × AllFewer steps
-
-in_sequence-fewer : (steps : List (State → State)) (s : State) → AllFewer steps → Fewer s (in_sequence steps s)
-in_sequence-fewer [] s all = fewer-same s
-in_sequence-fewer (step ∷ steps) s all = fewer-then s (step s) (in_sequence steps (step s)) (all.0 s) (in_sequence-fewer steps (step s) all.1)
-
 channel-fewer : (o : Option Grant) (s : State) → Fewer s (channel_lapsed o s)
 channel-fewer (Some (Channel number peer (Active expiry))) s = adds-filter Never _ s.listed
 channel-fewer o s = fewer-same s
 
 lapsed_in-fewer : (family : AddressFamily) (given : Option ℕ) (purposes : List Purpose) (now : ℕ) (s : State) → Fewer s (lapsed_in family given purposes now s)
-lapsed_in-fewer family given purposes now s = in_sequence-fewer steps s (
-  (λ t. adds-filter Never _ t.listed),
-  (
-    (λ t. adds-filter Never _ t.listed),
-    (
-      (λ t. channel-fewer (find (λ g. is_of family g && is_lapsed_channel now g) (reverse t.grants)) t),
-      (
-        (λ t. adds-filter Never _ t.listed),
-        (
-          (λ t. adds-filter Never _ t.listed),
-          (
-            (λ t. adds-filter Never _ t.listed),
-            (
-              (λ t. adds-filter Never _ t.listed),
-              (
-                (λ t. adds-filter Never _ t.listed),
-                ((λ t. adds-filter Never _ t.listed), tt),
-              ),
-            ),
-          ),
-        ),
-      ),
-    ),
-  ),
-)
-  where
-    steps : List (State → State)
-    steps =
-        failed_by_timeout family purposes is_pending_channel
-        ∷ failed_by_timeout family purposes is_pending_permission
-        ∷ last_channel_lapsed family now
-        ∷ permissions_lapsed family now
-        ∷ failed_by_timeout family purposes is_connect
-        ∷ connections_unbound family purposes now
-        ∷ offers_timed_out family given
-        ∷ refreshes_timed_out family purposes
-        ∷ set_free family now
-        ∷ []
+lapsed_in-fewer family given purposes now = lapsed_in-does Fewer family given purposes now (record {
+  trans = fewer-then;
+  channels = λ t. adds-filter Never _ t.listed;
+  permissions = λ t. adds-filter Never _ t.listed;
+  last_channel = λ t. channel-fewer (find (λ g. is_of family g && is_lapsed_channel now g) (reverse t.grants)) t;
+  lapsed_permissions = λ t. adds-filter Never _ t.listed;
+  connects = λ t. adds-filter Never _ t.listed;
+  connections = λ t. adds-filter Never _ t.listed;
+  offers = λ t. adds-filter Never _ t.listed;
+  refreshes = λ t. adds-filter Never _ t.listed;
+  frees = λ t. adds-filter Never _ t.listed;
+})
 
 lapsed-fewer : (given : Option ℕ) (purposes : List Purpose) (now : ℕ) (relays : List Relay) (s : State) → Fewer s (fold (lapsed_allocation given purposes now) s relays)
 lapsed-fewer given purposes now [] s = fewer-same s
