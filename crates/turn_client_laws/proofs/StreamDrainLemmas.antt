@@ -173,7 +173,7 @@ go_on-same : (next other : State → Option Payload × State) (p : Outcome × St
 go_on-same next other (PeerData payload, t) same = refl
 go_on-same next other (_, t) same = same
 
-none-ready : (now : ℕ) (s : State) → weight s.streams ≤ 0 → (o : Option Stream) → find is_ready s.streams ≡ o → o ≡ None
+pub none-ready : (now : ℕ) (s : State) → weight s.streams ≤ 0 → (o : Option Stream) → find is_ready s.streams ≡ o → o ≡ None
 none-ready now s empty None e = refl
 none-ready now s empty (Some stream) e = let less = turn-lighter stream now s e in absurd (omega (arith, empty, less))
 

@@ -7,7 +7,7 @@ use Rattle.turn_client_api.specs.Payloads.{Payload, Outcome, Handled, Ignored, P
 use Rattle.turn_client_api.specs.Streams.{go_on, is_ready, max_steps, poll_recv_step, next_frame_step, first_ready_step, steps_until_payload}
 use Rattle.turn_client_api.specs.Receive.{then_all}
 use Rattle.turn_client_laws.proofs.RestingStreamLemmas.{turns-rest}
-use Rattle.turn_client_laws.proofs.StreamDrainLemmas.{IsDone, turn-lighter, turns-done, turns-enough}
+use Rattle.turn_client_laws.proofs.StreamDrainLemmas.{none-ready, IsDone, turn-lighter, turns-done, turns-enough}
 use Rattle.turn_client_laws.proofs.StreamFewerLemmas.{IsLessThan, turns-less}
 use Rattle.turn_client_laws.proofs.StreamWeightLemmas.{weight, weight-le}
 use Rattle.turn_client_runs.specs.Cut.{and_then, outcome_payloads, polled_until_none}
@@ -36,16 +36,12 @@ pub all-first : (n now : ℕ) (s : State) (stream : Stream) → find is_ready s.
 unfolding all_turns
 all-first n now s stream e = rw e refl
 
-nothing-ready : (now : ℕ) (s : State) → weight s.streams ≤ 0 → (o : Option Stream) → find is_ready s.streams ≡ o → o ≡ None
-nothing-ready now s empty None e = refl
-nothing-ready now s empty (Some stream) e = let less = turn-lighter stream now s e in absurd (omega (arith, empty, less))
-
 -- more steps than the streams' weight give the same
 pub all-enough : (n m now : ℕ) (s : State) → weight s.streams ≤ n → weight s.streams ≤ m → all_turns n now s ≡ all_turns m now s
 unfolding all_turns
 all-enough zero zero now s hn hm = refl
-all-enough zero (suc m) now s hn hm = rw (nothing-ready now s hn _ refl) refl
-all-enough (suc n) zero now s hn hm = rw (nothing-ready now s hm _ refl) refl
+all-enough zero (suc m) now s hn hm = rw (none-ready now s hn _ refl) refl
+all-enough (suc n) zero now s hn hm = rw (none-ready now s hm _ refl) refl
 all-enough (suc n) (suc m) now s hn hm = by (find is_ready s.streams) refl (λ t p q. all-enough n m now t p q)
   where
     Later : Type 0
@@ -61,7 +57,7 @@ all-enough (suc n) (suc m) now s hn hm = by (find is_ready s.streams) refl (λ t
 -- after as many no stream is ready
 pub all-done : (n now : ℕ) (s : State) → weight s.streams ≤ n → find is_ready (all_turns n now s).1.streams ≡ None
 unfolding all_turns
-all-done zero now s h = nothing-ready now s h _ refl
+all-done zero now s h = none-ready now s h _ refl
 all-done (suc n) now s h = by (find is_ready s.streams) refl (λ t p. all-done n now t p)
   where
     by : (o : Option Stream) → find is_ready s.streams ≡ o → ((t : State) → weight t.streams ≤ n → find is_ready (all_turns n now t).1.streams ≡ None)
@@ -92,7 +88,7 @@ poll-first now s stream e (suc m) same = (m, same, ap (λ k. steps_until_payload
 
 pub all-poll : (n now : ℕ) (s : State) → weight s.streams ≤ n → all_turns n now s ≡ and_then (all_turns n now) (poll_recv_step now s)
 all-poll zero now s h =
-    let none = nothing-ready now s h _ refl in
+    let none = none-ready now s h _ refl in
     all-rest zero now s none ∙ ap (and_then (all_turns zero now)) (sym (turns-rest (max_steps s) now s none))
 all-poll (suc n) now s h = by (find is_ready s.streams) refl (λ t p. all-poll n now t p)
   where
