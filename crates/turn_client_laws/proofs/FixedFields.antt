@@ -20,7 +20,13 @@ abbrev pub SameIn : {A : Type 0} → (Fixed → A) → State → State → Type 
 SameIn part s t = part (fixed t) ≡ part (fixed s)
 
 fixed-phase-edits : {A : Type 0} (part : Fixed → A) → KeepsPhaseEdits (SameIn part)
-fixed-phase-edits part = record { rest = λ s t. refl; trans = λ s t u first second. second ∙ first; sends = λ now s. refl; begins = λ now s new. refl; ends = λ s. refl }
+fixed-phase-edits part = record {
+  rest = λ s t. refl;
+  trans = λ s t u first second. second ∙ first;
+  sends = λ now s. refl;
+  begins = λ now s new. refl;
+  ends = λ s. refl;
+}
 
 pub fixed-edits : {A : Type 0} (part : Fixed → A) → KeepsEdits (SameIn part)
 fixed-edits part = phase-edits (SameIn part) (fixed-phase-edits part)

@@ -42,7 +42,8 @@ pub record KeepsPhaseEdits (R : State → State → Type 0) : Type 0 where
 pub record KeepsAllPhaseEdits (Heeded : Type 0) (R : State → State → Type 0) : Type 0 where
   pub edits : KeepsPhaseEdits R
   pub holds : (message : List ℕ) (d : Challenge) (s : State) → challenge_in s message ≡ Some d → R s (with_held d s)
-  pub counts : (s : State) → IsSome s.held → s.challenges < s.config.max_stale_nonces → R s (record s { phase = phase_after s.phase; challenges = s.challenges + 1 })
+  pub counts : (s : State) → IsSome s.held → s.challenges < s.config.max_stale_nonces
+      → R s (record s { phase = phase_after s.phase; challenges = s.challenges + 1 })
   pub resets : Heeded → (s : State) → R s (challenges_reset s)
   pub allocates : (addresses : List SocketAddr) (s : State) → s.phase ≡ Authenticating → R s (record s { phase = phase_with addresses })
 

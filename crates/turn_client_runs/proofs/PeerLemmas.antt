@@ -136,7 +136,8 @@ datagram-in one none other (inr h) = absurd h
 
 call-in : (call : Call) (s : State) → AreIn (handled call s)
 call-in (Recv packet now) s =
-    packet-by (λ s inputs r. AreIn inputs) packet.transport packet.from packet.to packet.payload now (λ s. datagram-in (datagram_input packet.payload now s) refl)
+    packet-by (λ s inputs r. AreIn inputs) packet.transport packet.from packet.to packet.payload now
+    (λ s. datagram-in (datagram_input packet.payload now s) refl)
     (λ stream s e. stream-in stream packet.payload now s (found-stands (λ (x : Stream). same_address x.local packet.to) stream s e)) (λ s. none-in) s
 call-in (PollRecv now) s = poll_recv-in now s
 call-in _ s = none-in

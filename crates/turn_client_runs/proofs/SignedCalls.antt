@@ -99,8 +99,13 @@ abbrev Awaits : State → State → Type 0
 Awaits s t = t.phase ≡ Authenticating → s.phase ≡ Authenticating
 
 Awaits-KeepsEdits : KeepsEdits Awaits
-Awaits-KeepsEdits =
-    phase-edits Awaits (record { rest = λ s t h. h; trans = λ s t u first second h. first (second h); sends = λ now s h. h; begins = λ now s new h. cc; ends = λ s h. cc })
+Awaits-KeepsEdits = phase-edits Awaits (record {
+  rest = λ s t h. h;
+  trans = λ s t u first second h. first (second h);
+  sends = λ now s h. h;
+  begins = λ now s new h. cc;
+  ends = λ s h. cc;
+})
 
 -- what is outstanding was so before, under this ID and with these bytes
 abbrev WasSent : State → Transaction → Type 0
