@@ -4,7 +4,7 @@ ghost use Rattle.std.specs.Prelude.{◌≤◌, ◌^◌};
 ghost use Rattle.turn_client_proto.specs.Run.{IsCallable};
 ghost use Rattle.turn_stun.specs.declared.transport.TransportType.TheVariants.{Udp};
 
-use crate::session::{call_of, new_client};
+use crate::session::{call_of, head_of};
 use std::alloc::Global;
 use std::net::SocketAddr;
 use turn_client_api::{Call, TurnClientApi, TurnRecvRet};
@@ -12,6 +12,7 @@ use turn_client_proto::runs::reply_to;
 use turn_hostile_net::draws::Draws;
 use turn_hostile_net::fault::{Fault, expect};
 use turn_hostile_net::world::{Kind, number_of};
+use turn_lines::client::{drop_client, new_client};
 use turn_stun::data::Data;
 use turn_stun::instant::Instant;
 use turn_stun::transport::Transmit;
@@ -69,8 +70,11 @@ fn payloads_of(
         is_stream: kind.relays == TransportType::Tcp,
         payloads: Vec::new(alloc),
     };
-    let mut client = new_client(alloc, kind, seed)?;
-    payloads_through(alloc, &mut client, trace, pieces)
+    let head = head_of(alloc, kind, seed)?;
+    let mut client = new_client(alloc, head)?;
+    let payloads = payloads_through(alloc, &mut client, trace, pieces);
+    drop_client(client);
+    payloads
 }
 
 fn payloads_through<C: TurnClientApi>(

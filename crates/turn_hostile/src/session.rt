@@ -8,13 +8,15 @@ use crate::outcome::{Outcome, outcome_of};
 use std::alloc::Global;
 use std::slice;
 use turn_auth::credentials::TurnCredentials;
-use turn_client_api::{Call, TurnClientApi, TurnConfig};
-use turn_client_proto::client::TurnClient;
+use turn_auth::feature::Feature;
+use turn_auth::integrity::IntegrityAlgorithm;
+use turn_client_api::{Call, TurnClientApi};
 use turn_client_proto::runs::{Reply, reply_to};
 use turn_hostile_net::fault::Fault;
 use turn_hostile_net::world::{Kind, local, server};
 use turn_lines::call::parse_call;
 use turn_lines::fault::ReadError;
+use turn_lines::head::{Ends, Head, Request};
 use turn_lines::print::{answers_text, replayed_text};
 use turn_types::TransportType;
 
@@ -117,30 +119,34 @@ fn seed_bytes(seed: u64) -> [u8; 32] {
     ]
 }
 
-/// The configuration of a client of this kind.
-fn config_of(alloc: Global, kind: Kind) -> Result<TurnConfig, Fault>
-    ensures { IfOk result (λ config. kind.transport ≡ TransportType.Udp → config.allocation_transport ≡ TransportType.Udp) }
-{
-    let mut config = TurnConfig::new(alloc, TurnCredentials::new(alloc, b"user", b"pass")?);
-    config.set_address_family(kind.first);
-    if let Some(family) = kind.second {
-        config.add_address_family(family);
-    }
-    if kind.transport == TransportType::Tcp {
-        config.set_allocation_transport(kind.relays);
-    }
-    Ok(config)
-}
-
-/// A new client.
+/// A client of this kind, and its server.
 ///
 /// # Errors
 ///
-/// If memory allocation fails.
-pub fn new_client(alloc: Global, kind: Kind, seed: u64) -> Result<TurnClient, Fault> {
-    let config = config_of(alloc, kind)?;
-    let seed = seed_bytes(seed);
-    Ok(TurnClient::allocate(alloc, kind.transport, local(), server(), config, seed)?)
+/// If memory allocation for its credentials fails.
+pub fn head_of(alloc: Global, kind: Kind, seed: u64) -> Result<Head, Fault>
+    ensures { IfOk result (λ head. head.ends.transport ≡ TransportType.Udp → head.request.allocation ≡ TransportType.Udp) }
+{
+    let allocation = match kind.transport {
+        TransportType::Udp => TransportType::Udp,
+        TransportType::Tcp => kind.relays,
+    };
+    Ok(Head {
+        ends: Ends {
+            transport: kind.transport,
+            local: local(),
+            remote: server(),
+        },
+        request: Request {
+            allocation,
+            families: (kind.first, kind.second),
+            algorithms: (IntegrityAlgorithm::Sha1, None),
+            anonymous: Feature::Auto,
+        },
+        credentials: TurnCredentials::new(alloc, b"user", b"pass")?,
+        seed: seed_bytes(seed),
+        waits: None,
+    })
 }
 
 /// The text of the answers to the calls of a trace, on a new client. It is what `turn_replay` does with a trace: parses
@@ -151,14 +157,6 @@ pub fn new_client(alloc: Global, kind: Kind, seed: u64) -> Result<TurnClient, Fa
 /// `Wrong` if a line is no call, and `OutOfMemory` if memory allocation fails.
 pub fn replayed(alloc: Global, kind: Kind, seed: u64, trace: &str) -> Result<String, Fault> {
     let calls = calls_of(alloc, trace)?;
-    let config = config_of(alloc, kind)?;
-    Ok(replayed_text(
-        alloc,
-        kind.transport,
-        local(),
-        server(),
-        config,
-        seed_bytes(seed),
-        calls.as_slice(),
-    )?)
+    let head = head_of(alloc, kind, seed)?;
+    Ok(replayed_text(alloc, head, calls.as_slice())?)
 }

@@ -2,11 +2,12 @@
 
 use crate::cuts::same_payloads;
 use crate::drive::Drive;
-use crate::session::{new_client, replayed};
+use crate::session::{head_of, replayed};
 use std::alloc::Global;
 use turn_client_api::TurnClientApi;
 use turn_hostile_net::fault::{Fault, expect};
 use turn_hostile_net::world::Kind;
+use turn_lines::client::{drop_client, new_client};
 use turn_types::TransportType;
 
 /// The least number of calls of a run.
@@ -64,8 +65,11 @@ pub fn whole_run(alloc: Global, kind: Kind, seed: u64) -> Result<Counts, Fault> 
 
 /// The drawn calls of this seed on a new client.
 fn driven(alloc: Global, kind: Kind, seed: u64) -> Result<Drive, Fault> {
-    let mut client = new_client(alloc, kind, seed)?;
-    drive_through(alloc, kind, seed, &mut client)
+    let head = head_of(alloc, kind, seed)?;
+    let mut client = new_client(alloc, head)?;
+    let drive = drive_through(alloc, kind, seed, &mut client);
+    drop_client(client);
+    drive
 }
 
 fn drive_through<C: TurnClientApi>(

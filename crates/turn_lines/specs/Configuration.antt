@@ -1,11 +1,13 @@
--- The configuration of a client.
+-- The configuration of a client, and a new client.
 use Rattle.std.specs.Prelude.{List, [], ◌∷◌, Option, Some, None}
 use Rattle.turn_types.specs.declared.family.AddressFamily.{AddressFamily}
 use Rattle.turn_auth.specs.Credentials.{Credentials}
 use Rattle.turn_auth.specs.LongTerm.{with_algorithm}
 use Rattle.turn_auth.specs.declared.integrity.IntegrityAlgorithm.{IntegrityAlgorithm}
 use Rattle.turn_client_api.specs.Config.{Config, default_max_stale_nonces, with_family}
+use Rattle.turn_client_api.specs.State.{State, initial}
 use Rattle.turn_agent.specs.Schedule.{Timers}
+use Rattle.turn_lines.specs.declared.head.Head.{Head}
 use Rattle.turn_lines.specs.declared.head.Request.{Request}
 use Rattle.turn_lines.specs.declared.head.waits.Waits.{Waits}
 
@@ -39,3 +41,8 @@ config_with request credentials waits = record {
   request_timers = timers_with waits;
   max_stale_nonces = default_max_stale_nonces;
 }
+
+-- the new client of a head
+abbrev pub client_of : Head → State
+client_of head =
+    initial head.ends.transport head.ends.local head.ends.remote (config_with head.request head.credentials head.waits) head.seed

@@ -23,6 +23,7 @@
 
 pub mod address;
 pub mod call;
+pub mod client;
 pub mod configuration;
 pub mod fault;
 pub mod field;

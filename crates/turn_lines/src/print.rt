@@ -1,7 +1,8 @@
 //! The text of a run: a line for each answer.
 
 ghost use Rattle.std.specs.Prelude.{◌≡◌, ◌++◌, All, IfOk, OnOk, string_bytes};
-ghost use Rattle.turn_client_proto.specs.Run.{IsCallable, run};
+ghost use Rattle.turn_client_proto.specs.Run.{IsCallable};
+ghost use Rattle.turn_lines.specs.Answered.{answered_text};
 ghost use Rattle.turn_lines.specs.Text.{answers_text, bad_text, kind_text};
 
 mod event;
@@ -10,11 +11,11 @@ mod list;
 mod poll;
 mod reply;
 
+use crate::configuration::configuration;
 use crate::fault::{BadKind, BadLine};
+use crate::head::Head;
 use crate::print::reply::reply_text;
 use std::alloc::{AllocError, Global};
-use std::net::SocketAddr;
-use turn_client_api::TurnConfig;
 use turn_client_proto::runs::{Call, Reply, replay};
 use turn_types::TransportType;
 
@@ -23,20 +24,28 @@ use turn_types::TransportType;
 /// # Errors
 ///
 /// If memory allocation for the client, for a call or for the text fails.
-pub fn replayed_text(
-    alloc: Global,
-    transport: TransportType,
-    local: SocketAddr,
-    remote: SocketAddr,
-    config: TurnConfig,
-    seed: [u8; 32],
-    calls: &[Call],
-) -> Result<String, AllocError>
-    requires allocation { transport ≡ TransportType.Udp → config.allocation_transport ≡ TransportType.Udp }
-    requires callable { All (IsCallable config.allocation_transport) calls.now }
-    ensures { IfOk result (λ text. string_bytes text ≡ answers_text (run transport local remote config seed calls.now).0) }
+pub fn replayed_text(alloc: Global, head: Head, calls: &[Call]) -> Result<String, AllocError>
+    requires allocation { head.ends.transport ≡ TransportType.Udp → head.request.allocation ≡ TransportType.Udp }
+    requires callable { All (IsCallable head.request.allocation) calls.now }
+    ensures { IfOk result (λ text. string_bytes text ≡ answered_text head calls.now) }
 {
-    let replayed = replay(alloc, transport, local, remote, config, seed, calls)?;
+    let Head {
+        ends,
+        request,
+        credentials,
+        seed,
+        waits,
+    } = head;
+    let config = configuration(alloc, request, credentials, waits);
+    let replayed = replay(
+        alloc,
+        ends.transport,
+        ends.local,
+        ends.remote,
+        config,
+        seed,
+        calls,
+    )?;
     answers_text(alloc, replayed.replies.as_slice())
 }
 

@@ -7,7 +7,8 @@ use Rattle.turn_client_api.specs.State.{State}
 use Rattle.turn_lines.specs.declared.fault.BadLine.{BadLine}
 use Rattle.turn_lines.specs.declared.head.Head.{Head}
 use Rattle.turn_live.specs.Line.{IsLost, IsTaken, feed_at}
-use Rattle.turn_live.specs.Lines.{after_line, after_lines, calls_said, client_of, line_call, line_head, line_said, session_of, session_with}
+use Rattle.turn_lines.specs.Configuration.{client_of}
+use Rattle.turn_live.specs.Lines.{after_line, after_lines, calls_said, line_call, line_head, line_said, session_of, session_with}
 use Rattle.turn_live.specs.Session.{AreRead, Goes, Steps, Talks}
 use Rattle.turn_live.specs.declared.line.LineEnd.{LineEnd}
 use Rattle.turn_live.specs.declared.line.LineEnd.TheVariants.{Feed, Input}

@@ -3,12 +3,12 @@ use Rattle.std.specs.Prelude.{ℕ, nat_lt, if◌then◌else◌, List, [], ◌∷
 use Rattle.std.specs.List.{flat_map}
 use Rattle.turn_stun.specs.declared.transport.TransportType.{TransportType}
 use Rattle.turn_client_api.specs.declared.call.Call.{Call}
-use Rattle.turn_client_api.specs.State.{State, initial}
+use Rattle.turn_client_api.specs.State.{State}
 use Rattle.turn_client_api.specs.Steps.{state_after}
 use Rattle.turn_client_proto.specs.Run.{reply_of}
 use Rattle.turn_client_proto.specs.declared.runs.reply.Reply.{Reply}
 use Rattle.turn_lines.specs.Call.{call_of}
-use Rattle.turn_lines.specs.Configuration.{config_with}
+use Rattle.turn_lines.specs.Configuration.{client_of}
 use Rattle.turn_lines.specs.Fault.{bad_line, needed}
 use Rattle.turn_lines.specs.Head.{head_of}
 use Rattle.turn_lines.specs.Text.{kind_text, line_text, reply_fields}
@@ -66,11 +66,6 @@ after_lines relays s (line ∷ lines) = after_lines relays (after_line s (line_c
 -- for lines from the second of a session on: what is written for them, and that none of them ends the session
 abbrev pub calls_said : TransportType → State → List (List ℕ) → List ℕ × Option BadLine
 calls_said relays s lines = (flat_map answer_text (answers_to relays s lines), None)
-
--- the new client of a head
-abbrev pub client_of : Head → State
-client_of head =
-    initial head.ends.transport head.ends.local head.ends.remote (config_with head.request head.credentials head.waits) head.seed
 
 -- ---- whole sessions
 

@@ -16,7 +16,6 @@
 //! with [`run`].
 #![tactic(auto)]
 
-mod client;
 mod line;
 mod program;
 mod session;

@@ -5,7 +5,6 @@ ghost use Rattle.turn_lines.specs.Fault.{Reads, bad_line};
 ghost use Rattle.turn_live.specs.Lines.{bad_answer, calls_said, line_call};
 ghost use Rattle.turn_live.specs.Session.{AnswersLine, IsSession, ReadsHead, Steps, Talks};
 
-use crate::client::new_client;
 use crate::line::{LineEnd, MAX_LINE, take_line};
 use crate::stop::Stop;
 use std::alloc::Global;
@@ -13,6 +12,7 @@ use std::io::{BufRead, Write};
 use turn_client_api::TurnClientApi;
 use turn_client_proto::runs::{Call, reply_to};
 use turn_lines::call::parse_call;
+use turn_lines::client::new_client;
 use turn_lines::fault::{BadKind, BadLine, ReadError};
 use turn_lines::field::FieldError;
 use turn_lines::head::{Head, parse_head};

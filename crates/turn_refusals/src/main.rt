@@ -26,8 +26,8 @@
 #![tactic(auto)]
 
 mod carry;
-mod client;
 mod follow;
+mod head;
 mod list;
 mod make;
 mod parse;

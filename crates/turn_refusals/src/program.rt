@@ -1,11 +1,12 @@
 //! The program: a row in, one line out.
 
-use crate::client::new_client;
 use crate::follow::follow;
+use crate::head::head_of;
 use crate::seen::{Seen, Stop, report};
 use std::alloc::Global;
 use std::io::{ErrorKind, Read, Write};
 use std::process::ExitCode;
+use turn_lines::client::{drop_client, new_client};
 use turn_lines::parts::Parts;
 
 /// Reads a row, makes its calls, and writes one line that says what was seen.
@@ -21,9 +22,11 @@ pub fn run<R: Read, W: Write>(alloc: Global, reader: &mut R, writer: &mut W) -> 
 fn look<R: Read, W: Write>(alloc: Global, reader: &mut R, writer: &mut W) -> Result<Seen, Stop> {
     let row = read_row(alloc, reader)?;
     let mut lines = Parts::new(row.as_slice(), b'\n');
-    let head = lines.next().ok_or(Stop::Malformed)?;
+    let head = head_of(alloc, lines.next().ok_or(Stop::Malformed)?)?;
     let mut client = new_client(alloc, head)?;
-    follow(alloc, &mut client, &mut lines, writer)
+    let seen = follow(alloc, &mut client, &mut lines, writer);
+    drop_client(client);
+    seen
 }
 
 /// All bytes of the reader.

@@ -7,9 +7,7 @@ ghost use Rattle.turn_replay.specs.Answer.{answer_to};
 
 use crate::trace::{Trace, parse_trace};
 use std::alloc::{AllocError, Global};
-use turn_lines::configuration::configuration;
 use turn_lines::fault::ReadError;
-use turn_lines::head::Head;
 use turn_lines::print::{bad_text, replayed_text};
 use turn_lines::status::Status;
 use turn_types::TransportType;
@@ -43,21 +41,5 @@ fn answered_text(alloc: Global, trace: Trace) -> Result<String, AllocError>
     ensures { IfOk result (λ text. string_bytes text ≡ answered_text trace.head trace.calls.items) }
 {
     let Trace { head, calls } = trace;
-    let Head {
-        ends,
-        request,
-        credentials,
-        seed,
-        waits,
-    } = head;
-    let config = configuration(alloc, request, credentials, waits);
-    replayed_text(
-        alloc,
-        ends.transport,
-        ends.local,
-        ends.remote,
-        config,
-        seed,
-        calls.as_slice(),
-    )
+    replayed_text(alloc, head, calls.as_slice())
 }
