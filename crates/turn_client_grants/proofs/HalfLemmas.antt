@@ -1,5 +1,5 @@
 -- How many grants fit if each takes two keys.
-use Rattle.std.proofs.Common.{◌≡◌, ◌≤◌, ◌+◌, ℕ, zero, suc, refl, arith}
+use Rattle.std.proofs.Common.{◌≤◌, ◌+◌, ℕ, zero, suc, arith}
 use Rattle.turn_client_grants.specs.Kept.{half}
 
 pub half-le : (a b c : ℕ) → a ≤ b + (c + c) → half a ≤ half b + c

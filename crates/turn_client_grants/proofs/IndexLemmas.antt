@@ -1,9 +1,9 @@
 -- A map that leads to the rows of a list, as rows are added and removed.
-use Rattle.std.specs.Prelude.{◌≡◌, Bool, true, false, cond, not, ◌||◌, is_some, List, [], ◌∷◌, ◌++◌, map, filter, filter_map, slice_get, Option, Some, None, option_map, option_to_list}
+use Rattle.std.specs.Prelude.{◌≡◌, Bool, true, false, cond, not, is_some, List, [], ◌∷◌, ◌++◌, map, filter, filter_map, slice_get, Option, Some, None, option_map, option_to_list}
 use Rattle.std.specs.Prelude.{option_and_then, refl}
 use Rattle.std.specs.List.{list_any}
 use Rattle.std.proofs.lemmas.Map.Entries.{option_filter}
-use Rattle.std.proofs.Common.{sym, ◌∙◌, ap, append-nil, subst}
+use Rattle.std.proofs.Common.{arith, sym, ◌∙◌, append-nil, subst}
 use Rattle.std.proofs.lemmas.List.Elements.{filter-append}
 use Rattle.turn_client_grants.specs.Index.{IsIndex}
 
@@ -13,50 +13,24 @@ module _ {G : Type 0} where
   -- a test that fails if `f` gives nothing may be made before `f`
   filter_map-through : {X : Type 0} (f : G → Option X) (test : G → Bool) → ((g : G) → test g ≡ false → f g ≡ None) → (gs : List G) → filter_map f gs ≡ filter_map f (filter test gs)
   filter_map-through f test h [] = refl
-  filter_map-through f test h (g ∷ gs) = by (filter_map-through f test h gs) (test g) refl
-    where
-      by : filter_map f gs ≡ filter_map f (filter test gs) → (b : Bool) → test g ≡ b → filter_map f (g ∷ gs) ≡ filter_map f (cond b (g ∷ filter test gs) (filter test gs))
-      by rest true e = rw rest refl
-      by rest false e = rw (h g e) rest
+  filter_map-through f test h (g ∷ gs) = grind (arith, h g, filter_map-through f test h gs)
 
   list_any-filter : (test : G → Bool) (gs : List G) → list_any test gs ≡ is_some (slice_get (filter test gs) 0)
   list_any-filter test [] = refl
-  list_any-filter test (g ∷ gs) = by (list_any-filter test gs) (test g)
-    where
-      by : list_any test gs ≡ is_some (slice_get (filter test gs) 0) → (b : Bool) → (b || list_any test gs) ≡ is_some (slice_get (cond b (g ∷ filter test gs) (filter test gs)) 0)
-      by rest true = refl
-      by rest false = rest
+  list_any-filter test (g ∷ gs) = grind (arith, list_any-filter test gs)
 
   filter-filter_out : (test which : G → Bool) (b : Bool) → ((g : G) → test g ≡ true → which g ≡ b) → (gs : List G) → filter test (filter (λ g. not (which g)) gs) ≡ cond b [] (filter test gs)
   filter-filter_out test which true h [] = refl
   filter-filter_out test which false h [] = refl
-  filter-filter_out test which b h (g ∷ gs) = by (filter-filter_out test which b h gs) (test g) (which g) refl refl
-    where
-      by : filter test (filter (λ g. not (which g)) gs) ≡ cond b [] (filter test gs) → (t w : Bool) → test g ≡ t → which g ≡ w
-          → filter test (cond (not w) (g ∷ filter (λ g. not (which g)) gs) (filter (λ g. not (which g)) gs)) ≡ cond b [] (cond t (g ∷ filter test gs) (filter test gs))
-      by rest true true e d = let b-is : b ≡ true = sym (h g e) ∙ d in rw b-is (rw b-is at rest)
-      by rest true false e d = let b-is : b ≡ false = sym (h g e) ∙ d in rw (e, b-is) (ap (λ (gs : List G). g ∷ gs) (rw b-is at rest))
-      by rest false true e d = rest
-      by rest false false e d = rw e rest
+  filter-filter_out test which b h (g ∷ gs) = grind (arith, h g, filter-filter_out test which b h gs)
 
   filter-map_same : (test : G → Bool) (h : G → G) → ((g : G) → test (h g) ≡ test g) → (gs : List G) → filter test (map h gs) ≡ map h (filter test gs)
   filter-map_same test h same [] = refl
-  filter-map_same test h same (g ∷ gs) = rw (same g) (by (filter-map_same test h same gs) (test g))
-    where
-      by : filter test (map h gs) ≡ map h (filter test gs) → (b : Bool) → cond b (h g ∷ filter test (map h gs)) (filter test (map h gs)) ≡ map h (cond b (g ∷ filter test gs) (filter test gs))
-      by rest true = ap (λ (gs : List G). h g ∷ gs) rest
-      by rest false = rest
+  filter-map_same test h same (g ∷ gs) = grind (arith, same g, filter-map_same test h same gs)
 
   filter-filter : (test passes : G → Bool) (gs : List G) → filter test (filter passes gs) ≡ filter passes (filter test gs)
   filter-filter test passes [] = refl
-  filter-filter test passes (g ∷ gs) = by (filter-filter test passes gs) (test g) (passes g) refl refl
-    where
-      by : filter test (filter passes gs) ≡ filter passes (filter test gs) → (t p : Bool) → test g ≡ t → passes g ≡ p
-          → filter test (cond p (g ∷ filter passes gs) (filter passes gs)) ≡ filter passes (cond t (g ∷ filter test gs) (filter test gs))
-      by rest true true e d = rw (e, d) (ap (λ (gs : List G). g ∷ gs) rest)
-      by rest true false e d = rw d rest
-      by rest false true e d = rw e rest
-      by rest false false e d = rest
+  filter-filter test passes (g ∷ gs) = grind (arith, filter-filter test passes gs)
 
   -- ---- reading
 

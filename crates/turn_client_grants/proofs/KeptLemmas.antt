@@ -1,19 +1,18 @@
 -- What a change leaves of the table and of its summary: grants are added at the end, pending ones are
 -- removed, and requests are listed and unlisted that are for no grant that is refreshed.
-use Rattle.std.proofs.Common.{◌≡◌, ◌∙◌, ◌∷◌, ◌++◌, ℕ, Bool, true, false, List, [], append-nil, ap, append_assoc, filter, not, refl, sym}
+use Rattle.std.proofs.Common.{arith, ◌≡◌, ◌∙◌, ◌∷◌, ◌++◌, ℕ, Bool, true, false, List, [], append-nil, ap, append_assoc, filter, not, refl, sym}
 use Rattle.std.specs.Prelude.{◌&&◌, ◌||◌, Option, Some, None, filter_map, fold, is_some, min, option_to_list, slice_get}
 use Rattle.std.specs.List.{list_any}
 use Rattle.std.proofs.lemmas.Grind.{fold-append}
 use Rattle.std.proofs.lemmas.List.Elements.{filter_map-append}
 use Rattle.std.proofs.lemmas.List.Folds.{list_any-append}
 use Rattle.turn_client_api.specs.Due.{refresh_time}
-use Rattle.turn_client_api.specs.Grants.{as_allocation, is_connect_to, is_connection_from, is_for, is_for_any, is_of_family}
+use Rattle.turn_client_api.specs.Grants.{as_allocation, is_connect_to, is_connection_from, is_for, is_for_any}
 use Rattle.turn_client_api.specs.Requests.{listings}
 use Rattle.turn_client_api.specs.State.{State, max_time}
 use Rattle.turn_client_api.specs.declared.grant.Grant.{Grant}
-use Rattle.turn_client_api.specs.declared.grant.Grant.TheVariants.{Allocation, Permission, Channel, Connect, Offer, Connection}
+use Rattle.turn_client_api.specs.declared.grant.Grant.TheVariants.{Allocation}
 use Rattle.turn_client_api.specs.declared.grant.Listing.{Listing}
-use Rattle.turn_client_api.specs.declared.grant.Progress.TheVariants.{Pending, Active, Reserved}
 use Rattle.turn_client_api.specs.declared.grant.Purpose.{Purpose}
 use Rattle.turn_client_api.specs.declared.grant.Purpose.TheVariants.{ForAllocation, ForRefresh, ForPermission, ForChannel, ForConnect, ForBind}
 use Rattle.std.specs.declared.net.socket_addr.SocketAddr.{SocketAddr}
@@ -44,16 +43,7 @@ requests_for g listed = list_any (λ l. is_for l.purpose g) listed
 refresh-same : (rows others : List Grant) (listed later : List Listing) (s : State) (g : Grant) → filter_map as_allocation rows ≡ filter_map as_allocation others
     → requests_for g listed ≡ requests_for g later → refresh_time (with_lists rows listed s) g ≡ refresh_time (with_lists others later s) g
 unfolding refresh_time
-refresh-same rows others listed later s (Allocation a) relays same = rw same refl
-refresh-same rows others listed later s (Permission ip Pending) relays same = refl
-refresh-same rows others listed later s (Permission ip (Active expiry)) relays same = rw (relays, same) refl
-refresh-same rows others listed later s (Permission ip (Reserved until)) relays same = refl
-refresh-same rows others listed later s (Channel number peer Pending) relays same = refl
-refresh-same rows others listed later s (Channel number peer (Active expiry)) relays same = rw (relays, same) refl
-refresh-same rows others listed later s (Channel number peer (Reserved until)) relays same = refl
-refresh-same rows others listed later s (Connect peer) relays same = refl
-refresh-same rows others listed later s (Offer offer) relays same = refl
-refresh-same rows others listed later s (Connection c) relays same = refl
+refresh-same rows others listed later s g relays same = grind arith
 
 refreshes-same : (rows others gs : List Grant) (listed : List Listing) (s : State) → filter_map as_allocation rows ≡ filter_map as_allocation others
     → filter_map (refresh_time (with_lists rows listed s)) gs ≡ filter_map (refresh_time (with_lists others listed s)) gs
@@ -64,16 +54,10 @@ refreshes-same rows others gs listed s relays =
 
 no-relays : (last : List Grant) → list_any (λ g. is_some (as_allocation g)) last ≡ false → filter_map as_allocation last ≡ []
 no-relays [] none = refl
-no-relays (Allocation a ∷ gs) none = let no : true ≡ false = none in cc
-no-relays (Permission ip progress ∷ gs) none = no-relays gs none
-no-relays (Channel number peer progress ∷ gs) none = no-relays gs none
-no-relays (Connect peer ∷ gs) none = no-relays gs none
-no-relays (Offer offer ∷ gs) none = no-relays gs none
-no-relays (Connection c ∷ gs) none = no-relays gs none
+no-relays (g ∷ gs) none = grind (arith, no-relays gs)
 
 relays-joined : (others last : List Grant) → list_any (λ g. is_some (as_allocation g)) last ≡ false → filter_map as_allocation (others ++ last) ≡ filter_map as_allocation others
-relays-joined others last none =
-    filter_map-append as_allocation others last ∙ (ap (λ xs. filter_map as_allocation others ++ xs) (no-relays last none) ∙ append-nil (filter_map as_allocation others))
+relays-joined others last none = rw (filter_map-append as_allocation others last, no-relays last none) (append-nil (filter_map as_allocation others))
 
 least-joined : (f : Grant → Option ℕ) (n was : ℕ) (others last : List Grant) → was ≡ fold min n (filter_map f others) → fold min was (filter_map f last) ≡ fold min n (filter_map f (others ++ last))
 least-joined f n was others last is = rw (is, filter_map-append f others last) (sym (fold-append min n (filter_map f others) (filter_map f last)))
@@ -117,110 +101,38 @@ ArePending gone rows = list_any (λ g. not (is_pending g) && gone g) rows ≡ fa
 given-without : {X : Type 0} (f : Grant → Option X) → ((g : Grant) → is_pending g ≡ true → f g ≡ None) → (gone : Grant → Bool) (rows : List Grant) → ArePending gone rows
     → filter_map f (filter (λ g. not (gone g)) rows) ≡ filter_map f rows
 given-without f none gone [] are = refl
-given-without {X} f none gone (g ∷ rows) are = by (gone g) (is_pending g) refl refl are (given-without f none gone rows)
-  where
-    by : (b p : Bool) → gone g ≡ b → is_pending g ≡ p → ArePending gone (g ∷ rows) → (ArePending gone rows → filter_map f (filter (λ g. not (gone g)) rows) ≡ filter_map f rows)
-        → filter_map f (filter (λ g. not (gone g)) (g ∷ rows)) ≡ filter_map f (g ∷ rows)
-    by true true e d are rest = rw (e, none g d) (rest (rw (e, d) at are))
-    by true false e d are rest = let no : true ≡ false = rw (e, d) at are in cc
-    by false true e d are rest = rw (e, rest (rw (e, d) at are)) refl
-    by false false e d are rest = rw (e, rest (rw (e, d) at are)) refl
+given-without f none gone (g ∷ rows) are = grind (arith, none g, given-without f none gone rows)
 
 any-without : (test : Grant → Bool) → ((g : Grant) → is_pending g ≡ true → test g ≡ false) → (gone : Grant → Bool) (rows : List Grant) → ArePending gone rows
     → list_any test (filter (λ g. not (gone g)) rows) ≡ list_any test rows
 any-without test none gone [] are = refl
-any-without test none gone (g ∷ rows) are = by (gone g) (is_pending g) refl refl are (any-without test none gone rows)
-  where
-    by : (b p : Bool) → gone g ≡ b → is_pending g ≡ p → ArePending gone (g ∷ rows) → (ArePending gone rows → list_any test (filter (λ g. not (gone g)) rows) ≡ list_any test rows)
-        → list_any test (filter (λ g. not (gone g)) (g ∷ rows)) ≡ list_any test (g ∷ rows)
-    by true true e d are rest = rw (e, none g d) (rest (rw (e, d) at are))
-    by true false e d are rest = let no : true ≡ false = rw (e, d) at are in cc
-    by false true e d are rest = rw (e, rest (rw (e, d) at are)) refl
-    by false false e d are rest = rw (e, rest (rw (e, d) at are)) refl
+any-without test none gone (g ∷ rows) are = grind (arith, none g, any-without test none gone rows)
 
 -- what a pending grant gives: nothing
 no-relay : (g : Grant) → is_pending g ≡ true → as_allocation g ≡ None
-no-relay (Allocation a) h = cc
-no-relay (Permission ip progress) h = refl
-no-relay (Channel number peer progress) h = refl
-no-relay (Connect peer) h = refl
-no-relay (Offer offer) h = refl
-no-relay (Connection c) h = refl
+no-relay g h = grind arith
 
 no-end : (g : Grant) → is_pending g ≡ true → end_in g ≡ None
-no-end (Allocation a) h = refl
-no-end (Permission ip Pending) h = refl
-no-end (Permission ip (Active expiry)) h = cc
-no-end (Permission ip (Reserved until)) h = refl
-no-end (Channel number peer Pending) h = refl
-no-end (Channel number peer (Active expiry)) h = cc
-no-end (Channel number peer (Reserved until)) h = refl
-no-end (Connect peer) h = refl
-no-end (Offer offer) h = refl
-no-end (Connection c) h = cc
+no-end g h = grind arith
 
 no-lapse : (listed : List Listing) (g : Grant) → is_pending g ≡ true → lapse_in listed g ≡ None
-no-lapse listed (Allocation a) h = cc
-no-lapse listed (Permission ip Pending) h = refl
-no-lapse listed (Permission ip (Active expiry)) h = cc
-no-lapse listed (Permission ip (Reserved until)) h = refl
-no-lapse listed (Channel number peer Pending) h = refl
-no-lapse listed (Channel number peer (Active expiry)) h = cc
-no-lapse listed (Channel number peer (Reserved until)) h = cc
-no-lapse listed (Connect peer) h = refl
-no-lapse listed (Offer offer) h = refl
-no-lapse listed (Connection c) h = cc
+no-lapse listed g h = grind arith
 
 pub not-refreshed : (g : Grant) → is_pending g ≡ true → is_refreshed g ≡ false
-not-refreshed (Allocation a) h = cc
-not-refreshed (Permission ip Pending) h = refl
-not-refreshed (Permission ip (Active expiry)) h = cc
-not-refreshed (Permission ip (Reserved until)) h = refl
-not-refreshed (Channel number peer Pending) h = refl
-not-refreshed (Channel number peer (Active expiry)) h = cc
-not-refreshed (Channel number peer (Reserved until)) h = refl
-not-refreshed (Connect peer) h = refl
-not-refreshed (Offer offer) h = refl
-not-refreshed (Connection c) h = refl
+not-refreshed g h = grind arith
 
 no-refresh : (s : State) (g : Grant) → is_refreshed g ≡ false → refresh_time s g ≡ None
 unfolding refresh_time
-no-refresh s (Allocation a) h = cc
-no-refresh s (Permission ip Pending) h = refl
-no-refresh s (Permission ip (Active expiry)) h = cc
-no-refresh s (Permission ip (Reserved until)) h = refl
-no-refresh s (Channel number peer Pending) h = refl
-no-refresh s (Channel number peer (Active expiry)) h = cc
-no-refresh s (Channel number peer (Reserved until)) h = refl
-no-refresh s (Connect peer) h = refl
-no-refresh s (Offer offer) h = refl
-no-refresh s (Connection c) h = refl
+no-refresh s g h = grind arith
 
 not-untold : (g : Grant) → is_pending g ≡ true → is_untold g ≡ false
-not-untold (Allocation a) h = refl
-not-untold (Permission ip progress) h = refl
-not-untold (Channel number peer progress) h = refl
-not-untold (Connect peer) h = refl
-not-untold (Offer offer) h = cc
-not-untold (Connection c) h = refl
+not-untold g h = grind arith
 
 not-requested : (g : Grant) → is_pending g ≡ true → is_requested g ≡ false
-not-requested (Allocation a) h = refl
-not-requested (Permission ip progress) h = refl
-not-requested (Channel number peer progress) h = refl
-not-requested (Connect peer) h = refl
-not-requested (Offer offer) h = cc
-not-requested (Connection c) h = refl
+not-requested g h = grind arith
 
 not-reserved : (g : Grant) → is_pending g ≡ true → is_reserved g ≡ false
-not-reserved (Allocation a) h = refl
-not-reserved (Permission ip progress) h = refl
-not-reserved (Channel number peer Pending) h = refl
-not-reserved (Channel number peer (Active expiry)) h = refl
-not-reserved (Channel number peer (Reserved until)) h = cc
-not-reserved (Connect peer) h = refl
-not-reserved (Offer offer) h = refl
-not-reserved (Connection c) h = refl
+not-reserved g h = grind arith
 
 -- the summary is the same without pending grants
 pub summary-without : (summary : Summary) (gone : Grant → Bool) (rows : List Grant) (listed : List Listing) → ArePending gone rows → IsSummary summary rows listed
@@ -253,15 +165,7 @@ AreAlike (g ∷ rows) listed later = (is_refreshed g ≡ true → requests_for g
 lapses-alike : (rows : List Grant) (listed later : List Listing) → AreAlike rows listed later → filter_map (lapse_in later) rows ≡ filter_map (lapse_in listed) rows
 lapses-alike [] listed later alike = refl
 lapses-alike (Allocation a ∷ rows) listed later alike = rw (alike.0 refl, lapses-alike rows listed later alike.1) refl
-lapses-alike (Permission ip Pending ∷ rows) listed later alike = lapses-alike rows listed later alike.1
-lapses-alike (Permission ip (Active expiry) ∷ rows) listed later alike = ap (λ (xs : List ℕ). expiry ∷ xs) (lapses-alike rows listed later alike.1)
-lapses-alike (Permission ip (Reserved until) ∷ rows) listed later alike = lapses-alike rows listed later alike.1
-lapses-alike (Channel number peer Pending ∷ rows) listed later alike = lapses-alike rows listed later alike.1
-lapses-alike (Channel number peer (Active expiry) ∷ rows) listed later alike = ap (λ (xs : List ℕ). expiry ∷ xs) (lapses-alike rows listed later alike.1)
-lapses-alike (Channel number peer (Reserved until) ∷ rows) listed later alike = rw (lapses-alike rows listed later alike.1) refl
-lapses-alike (Connect peer ∷ rows) listed later alike = lapses-alike rows listed later alike.1
-lapses-alike (Offer offer ∷ rows) listed later alike = lapses-alike rows listed later alike.1
-lapses-alike (Connection c ∷ rows) listed later alike = rw (lapses-alike rows listed later alike.1) refl
+lapses-alike (g ∷ rows) listed later alike = grind (arith, lapses-alike rows listed later alike.1)
 
 refreshes-alike : (all rows : List Grant) (listed later : List Listing) (s : State) → AreAlike rows listed later
     → filter_map (refresh_time (with_lists all later s)) rows ≡ filter_map (refresh_time (with_lists all listed s)) rows
@@ -285,16 +189,13 @@ summary-alike summary rows listed later alike summed = record {
 }
 
 neither : (a b : Bool) → (a || b) ≡ false → (a ≡ false) × (b ≡ false)
-neither true b h = cc
-neither false b h = (refl, h)
+neither a b h = grind arith
 
 or-none : (b : Bool) → (b || false) ≡ b
-or-none true = refl
-or-none false = refl
+or-none b = grind arith
 
 pub still-true : (b : Bool) → not b ≡ false → b ≡ true
-still-true true h = refl
-still-true false h = cc
+still-true b h = grind arith
 
 -- ---- requests that are listed
 
@@ -336,79 +237,25 @@ none-passes : (p : Grant → Bool) → ((g : Grant) → p g ≡ false) → (rows
 none-passes p none [] = refl
 none-passes p none (g ∷ rows) = rw (none g, none-passes p none rows) refl
 
-connect-alone : (peer : SocketAddr) (g : Grant) → (is_refreshed g && is_connect_to peer g) ≡ false
-connect-alone peer (Allocation a) = refl
-connect-alone peer (Permission ip Pending) = refl
-connect-alone peer (Permission ip (Active expiry)) = refl
-connect-alone peer (Permission ip (Reserved until)) = refl
-connect-alone peer (Channel number other Pending) = refl
-connect-alone peer (Channel number other (Active expiry)) = refl
-connect-alone peer (Channel number other (Reserved until)) = refl
-connect-alone peer (Connect other) = refl
-connect-alone peer (Offer offer) = refl
-connect-alone peer (Connection c) = refl
-
-connection-alone : (local : SocketAddr) (g : Grant) → (is_refreshed g && is_connection_from local g) ≡ false
-connection-alone local (Allocation a) = refl
-connection-alone local (Permission ip Pending) = refl
-connection-alone local (Permission ip (Active expiry)) = refl
-connection-alone local (Permission ip (Reserved until)) = refl
-connection-alone local (Channel number other Pending) = refl
-connection-alone local (Channel number other (Active expiry)) = refl
-connection-alone local (Channel number other (Reserved until)) = refl
-connection-alone local (Connect other) = refl
-connection-alone local (Offer offer) = refl
-connection-alone local (Connection c) = refl
-
-nothing-refreshed : (g : Grant) → (is_refreshed g && is_for ForAllocation g) ≡ false
-nothing-refreshed (Allocation a) = refl
-nothing-refreshed (Permission ip Pending) = refl
-nothing-refreshed (Permission ip (Active expiry)) = refl
-nothing-refreshed (Permission ip (Reserved until)) = refl
-nothing-refreshed (Channel number other Pending) = refl
-nothing-refreshed (Channel number other (Active expiry)) = refl
-nothing-refreshed (Channel number other (Reserved until)) = refl
-nothing-refreshed (Connect other) = refl
-nothing-refreshed (Offer offer) = refl
-nothing-refreshed (Connection c) = refl
-
 pub no-connect : (peer : SocketAddr) (rows : List Grant) → list_any (λ g. is_refreshed g && is_for (ForConnect peer) g) rows ≡ false
-no-connect peer rows = none-passes (λ g. is_refreshed g && is_connect_to peer g) (connect-alone peer) rows
+no-connect peer rows = none-passes (λ g. is_refreshed g && is_connect_to peer g) (λ g. grind arith) rows
 
 pub no-bind : (local peer : SocketAddr) (id : ℕ) (rows : List Grant) → list_any (λ g. is_refreshed g && is_for (ForBind local peer id) g) rows ≡ false
-no-bind local peer id rows = none-passes (λ g. is_refreshed g && is_connection_from local g) (connection-alone local) rows
+no-bind local peer id rows = none-passes (λ g. is_refreshed g && is_connection_from local g) (λ g. grind arith) rows
 
 pub no-allocation : (rows : List Grant) → list_any (λ g. is_refreshed g && is_for ForAllocation g) rows ≡ false
-no-allocation rows = none-passes (λ g. is_refreshed g && is_for ForAllocation g) nothing-refreshed rows
+no-allocation rows = none-passes (λ g. is_refreshed g && is_for ForAllocation g) (λ g. grind arith) rows
 
 pub one-purpose : (p : Purpose) (rows : List Grant) → list_any (λ g. is_refreshed g && is_for p g) rows ≡ list_any (λ g. is_refreshed g && is_for_any (p ∷ []) g) rows
 one-purpose p [] = refl
 one-purpose p (g ∷ rows) = rw (or-none (is_for p g), one-purpose p rows) refl
 
 pub no-purpose : (rows : List Grant) → false ≡ list_any (λ g. is_refreshed g && is_for_any [] g) rows
-no-purpose rows = sym (none-passes (λ g. is_refreshed g && false) (λ g. none (is_refreshed g)) rows)
-  where
-    none : (b : Bool) → (b && false) ≡ false
-    none true = refl
-    none false = refl
+no-purpose rows = sym (none-passes (λ g. is_refreshed g && false) (λ g. grind arith) rows)
 
 pub refresh-any : (family : AddressFamily) (lifetime : ℕ) (rows : List Grant) → is_some (find_allocation_in family rows) ≡ list_any (λ g. is_refreshed g && is_for (ForRefresh family lifetime) g) rows
 refresh-any family lifetime [] = refl
-refresh-any family lifetime (Allocation a ∷ rows) = by (is_of_family family a.relayed) refl (refresh-any family lifetime rows)
-  where
-    by : (b : Bool) → is_of_family family a.relayed ≡ b → is_some (find_allocation_in family rows) ≡ list_any (λ g. is_refreshed g && is_for (ForRefresh family lifetime) g) rows
-        → is_some (find_allocation_in family (Allocation a ∷ rows)) ≡ list_any (λ g. is_refreshed g && is_for (ForRefresh family lifetime) g) (Allocation a ∷ rows)
-    by true e rest = rw e refl
-    by false e rest = rw e rest
-refresh-any family lifetime (Permission ip Pending ∷ rows) = refresh-any family lifetime rows
-refresh-any family lifetime (Permission ip (Active expiry) ∷ rows) = refresh-any family lifetime rows
-refresh-any family lifetime (Permission ip (Reserved until) ∷ rows) = refresh-any family lifetime rows
-refresh-any family lifetime (Channel number peer Pending ∷ rows) = refresh-any family lifetime rows
-refresh-any family lifetime (Channel number peer (Active expiry) ∷ rows) = refresh-any family lifetime rows
-refresh-any family lifetime (Channel number peer (Reserved until) ∷ rows) = refresh-any family lifetime rows
-refresh-any family lifetime (Connect peer ∷ rows) = refresh-any family lifetime rows
-refresh-any family lifetime (Offer offer ∷ rows) = refresh-any family lifetime rows
-refresh-any family lifetime (Connection c ∷ rows) = refresh-any family lifetime rows
+refresh-any family lifetime (g ∷ rows) = grind (arith, refresh-any family lifetime rows)
 
 pub refreshed-some : (rows : List Grant) (find : Key → Option Grant) (key : Key) (old : Grant) → IsIndex is_found_by find rows → find key ≡ Some old
     → is_refreshed old ≡ list_any (λ g. is_refreshed g && is_found_by key g) rows
@@ -424,12 +271,7 @@ refreshed-none rows find key is found = sym (any-both is_refreshed (is_found_by 
 requests-left : (old g : Grant) → ((p : Purpose) → is_for p old ≡ true → is_for p g ≡ false) → (listed : List Listing)
     → requests_for g (filter (λ l. not (is_for l.purpose old)) listed) ≡ requests_for g listed
 requests-left old g apart [] = refl
-requests-left old g apart (l ∷ listed) = by (is_for l.purpose old) refl (requests-left old g apart listed)
-  where
-    by : (b : Bool) → is_for l.purpose old ≡ b → requests_for g (filter (λ l. not (is_for l.purpose old)) listed) ≡ requests_for g listed
-        → requests_for g (filter (λ l. not (is_for l.purpose old)) (l ∷ listed)) ≡ requests_for g (l ∷ listed)
-    by true e rest = rw (e, apart l.purpose e) rest
-    by false e rest = rw (e, rest) refl
+requests-left old g apart (l ∷ listed) = grind (arith, apart l.purpose, requests-left old g apart listed)
 
 alike-unlisted : (rows : List Grant) (listed : List Listing) (old : Grant) → ((p : Purpose) → is_for p old ≡ true → list_any (λ g. is_refreshed g && is_for p g) rows ≡ false)
     → AreAlike rows listed (filter (λ l. not (is_for l.purpose old)) listed)
@@ -443,12 +285,7 @@ alike-unlisted (g ∷ rows) listed old own = (λ refreshed. requests-left old g 
     by p refreshed none = rw refreshed at none
 
 no-refresh_of : (family : AddressFamily) (lifetime : ℕ) (old : Grant) → is_pending old ≡ true → is_for (ForRefresh family lifetime) old ≡ true → false ≡ true
-no-refresh_of family lifetime (Allocation a) h at = h
-no-refresh_of family lifetime (Permission ip progress) h at = at
-no-refresh_of family lifetime (Channel number peer progress) h at = at
-no-refresh_of family lifetime (Connect peer) h at = at
-no-refresh_of family lifetime (Offer offer) h at = at
-no-refresh_of family lifetime (Connection c) h at = at
+no-refresh_of family lifetime old h at = grind arith
 
 own-request : (rows : List Grant) (find : Key → Option Grant) (key : Key) (old : Grant) → IsIndex is_found_by find rows → find key ≡ Some old → is_pending old ≡ true
     → (p : Purpose) → is_for p old ≡ true → list_any (λ g. is_refreshed g && is_for p g) rows ≡ false
@@ -481,21 +318,11 @@ summary-released summary rows listed find key old is found pending summed =
 
 pub left-absent : (which : Grant → Bool) (rows : List Grant) → not (list_any which rows) ≡ true → filter (λ g. not (which g)) rows ≡ rows
 left-absent which [] none = refl
-left-absent which (g ∷ rows) none = by (which g) refl none (left-absent which rows)
-  where
-    by : (b : Bool) → which g ≡ b → not (list_any which (g ∷ rows)) ≡ true → (not (list_any which rows) ≡ true → filter (λ g. not (which g)) rows ≡ rows)
-        → filter (λ g. not (which g)) (g ∷ rows) ≡ g ∷ rows
-    by true e none rest = let no : false ≡ true = rw e at none in cc
-    by false e none rest = rw (e, rest (rw e at none)) refl
+left-absent which (g ∷ rows) none = grind (arith, left-absent which rows)
 
 no-purpose_of : (which : Grant → Bool) (rows : List Grant) (p : Purpose) → not (list_any which rows) ≡ true → list_any (λ g. which g && is_for p g) rows ≡ false
 no-purpose_of which [] p none = refl
-no-purpose_of which (g ∷ rows) p none = by (which g) refl none (no-purpose_of which rows p)
-  where
-    by : (b : Bool) → which g ≡ b → not (list_any which (g ∷ rows)) ≡ true → (not (list_any which rows) ≡ true → list_any (λ g. which g && is_for p g) rows ≡ false)
-        → list_any (λ g. which g && is_for p g) (g ∷ rows) ≡ false
-    by true e none rest = let no : false ≡ true = rw e at none in cc
-    by false e none rest = rw e (rest (rw e at none))
+no-purpose_of which (g ∷ rows) p none = grind (arith, no-purpose_of which rows p)
 
 pub unlisted-absent : (which : Grant → Bool) (rows : List Grant) (listed : List Listing) → not (list_any which rows) ≡ true → unlisted_in which rows listed ≡ listed
 unlisted-absent which rows [] none = refl

@@ -4,7 +4,7 @@ use Rattle.std.specs.Prelude.{option_map, option_to_list, refl}
 use Rattle.std.specs.List.{list_all, list_any}
 use Rattle.std.specs.declared.net.ip_addr.IpAddr.{IpAddr}
 use Rattle.std.specs.declared.net.socket_addr.SocketAddr.{SocketAddr}
-use Rattle.std.proofs.Common.{sym, ◌∙◌, ap, append-nil, append_assoc, subst}
+use Rattle.std.proofs.Common.{arith, sym, ◌∙◌, ap, append-nil, append_assoc, subst}
 use Rattle.std.proofs.lemmas.Bool.{and_parts, eqb-true}
 use Rattle.std.proofs.lemmas.List.Elements.{filter_agree}
 use Rattle.std.proofs.lemmas.List.Folds.{list_any-append}
@@ -14,15 +14,14 @@ use Rattle.turn_agent.specs.Agent.{same_address}
 use Rattle.turn_client_laws.proofs.AddressLemmas.{same_address-true, same_ip-true}
 use Rattle.turn_client_api.specs.Calls.{active_channel, is_in_progress, is_offer_of, progress_to, without_first}
 use Rattle.turn_client_api.specs.Effect.{new_allocation}
-use Rattle.turn_client_api.specs.Grants.{channel_at, channel_peer, is_channel_of, is_for, is_permission_of, permission_progress, same_ip}
-use Rattle.turn_client_api.specs.Poll.{as_reported, first_reported, unreported_in}
+use Rattle.turn_client_api.specs.Grants.{channel_at, channel_peer, is_channel_of, is_for, is_permission_of, permission_progress}
+use Rattle.turn_client_api.specs.Poll.{first_reported}
 use Rattle.turn_client_api.specs.declared.grant.Grant.{Grant}
-use Rattle.turn_client_api.specs.declared.grant.Grant.TheVariants.{Allocation, Permission, Channel, Connect, Offer, Connection}
+use Rattle.turn_client_api.specs.declared.grant.Grant.TheVariants.{Allocation, Permission, Channel, Offer}
 use Rattle.turn_client_api.specs.declared.grant.DataOffer.{DataOffer}
 use Rattle.turn_client_api.specs.declared.grant.Listing.{Listing}
 use Rattle.turn_client_api.specs.declared.grant.Purpose.{Purpose}
-use Rattle.turn_client_api.specs.declared.grant.Progress.{Progress}
-use Rattle.turn_client_api.specs.declared.grant.Progress.TheVariants.{Pending, Active, Reserved}
+use Rattle.turn_client_api.specs.declared.grant.Progress.TheVariants.{Reserved}
 use Rattle.turn_client_api.specs.declared.grant.Relay.{Relay}
 use Rattle.turn_types.specs.declared.family.AddressFamily.{AddressFamily}
 use Rattle.turn_client_grants.specs.Index.{IsIndex}
@@ -42,44 +41,15 @@ abbrev pub IsFree : List Grant → Grant → Type 0
 IsFree rows g = (k : Key) → is_found_by k g ≡ true → list_any (is_found_by k) rows ≡ false
 
 is-not : (b : Bool) → not b ≡ true → b ≡ false
-is-not true h = cc
-is-not false h = refl
+is-not b h = grind arith
 
 pub open-any : (peer : SocketAddr) (rows : List Grant) → list_any is_in_progress (filter_map (progress_to peer) rows) ≡ list_any (is_open_to peer) rows
 open-any peer [] = refl
-open-any peer (Channel number other progress ∷ rows) = by (same_address other peer) refl (is_in_progress progress) (open-any peer rows)
-  where
-    by : (b : Bool) → same_address other peer ≡ b → (c : Bool) → list_any is_in_progress (filter_map (progress_to peer) rows) ≡ list_any (is_open_to peer) rows
-        → list_any is_in_progress (filter_map (progress_to peer) (Channel number other progress ∷ rows)) ≡ list_any (is_open_to peer) (Channel number other progress ∷ rows)
-    by true e c rest = rw (e, rest) (one (is_in_progress progress) (list_any (is_open_to peer) rows))
-      where
-        one : (c d : Bool) → (c || d) ≡ (c && true || d)
-        one true d = refl
-        one false d = refl
-    by false e c rest = rw (e, rest) (none (is_in_progress progress) (list_any (is_open_to peer) rows))
-      where
-        none : (c d : Bool) → d ≡ (c && false || d)
-        none true d = refl
-        none false d = refl
-open-any peer (Allocation a ∷ rows) = open-any peer rows
-open-any peer (Permission ip progress ∷ rows) = open-any peer rows
-open-any peer (Connect other ∷ rows) = open-any peer rows
-open-any peer (Offer offer ∷ rows) = open-any peer rows
-open-any peer (Connection c ∷ rows) = open-any peer rows
+open-any peer (g ∷ rows) = grind (arith, open-any peer rows)
 
 no-permission : (ip : IpAddr) (rows : List Grant) → is_none (first_among (permission_progress ip) rows) ≡ true → list_any (is_permission_of ip) rows ≡ false
 no-permission ip [] none = refl
-no-permission ip (Permission other progress ∷ rows) none = by (same_ip other ip) refl none (no-permission ip rows)
-  where
-    by : (b : Bool) → same_ip other ip ≡ b → is_none (first_among (permission_progress ip) (Permission other progress ∷ rows)) ≡ true
-        → (is_none (first_among (permission_progress ip) rows) ≡ true → list_any (is_permission_of ip) rows ≡ false) → list_any (is_permission_of ip) (Permission other progress ∷ rows) ≡ false
-    by true e none rest = let no : false ≡ true = rw e at none in cc
-    by false e none rest = rw e (rest (rw e at none))
-no-permission ip (Allocation a ∷ rows) none = no-permission ip rows none
-no-permission ip (Channel number peer progress ∷ rows) none = no-permission ip rows none
-no-permission ip (Connect other ∷ rows) none = no-permission ip rows none
-no-permission ip (Offer offer ∷ rows) none = no-permission ip rows none
-no-permission ip (Connection c ∷ rows) none = no-permission ip rows none
+no-permission ip (g ∷ rows) none = grind (arith, no-permission ip rows)
 
 free-number : (rows : List Grant) (number other : ℕ) → list_any (is_channel_of number) rows ≡ false → (number == other) ≡ true → list_any (is_channel_of other) rows ≡ false
 free-number rows number other none same = subst (λ (n : ℕ). list_any (is_channel_of n) rows ≡ false) (eqb-true number other same) none
@@ -89,40 +59,22 @@ free-peer : (rows : List Grant) (peer other : SocketAddr) → list_any is_in_pro
 free-peer rows peer other none same = subst (λ (a : SocketAddr). list_any (is_open_to a) rows ≡ false) (same_address-true peer other same) (sym (open-any peer rows) ∙ none)
 
 pub free-keys : (rows : List Grant) (g : Grant) → has_no_double rows g ≡ true → IsFree rows g
-free-keys rows (Permission ip progress) new (By.Ip other) at = subst (λ (a : IpAddr). list_any (is_permission_of a) rows ≡ false) (same_ip-true ip other at) (no-permission ip rows new)
-free-keys rows (Permission ip progress) new (By.Number k) at = cc
-free-keys rows (Permission ip progress) new (By.Peer k) at = cc
-free-keys rows (Channel number peer Pending) new (By.Number k) at =
-    free-number rows number k (is-not _ (and_parts (not (list_any (is_channel_of number) rows)) (not (list_any is_in_progress (filter_map (progress_to peer) rows))) new).0) at
-free-keys rows (Channel number peer Pending) new (By.Peer k) at =
-    free-peer rows peer k (is-not _ (and_parts (not (list_any (is_channel_of number) rows)) (not (list_any is_in_progress (filter_map (progress_to peer) rows))) new).1) at
-free-keys rows (Channel number peer Pending) new (By.Ip k) at = cc
-free-keys rows (Channel number peer (Active expiry)) new (By.Number k) at =
-    free-number rows number k (is-not _ (and_parts (not (list_any (is_channel_of number) rows)) (not (list_any is_in_progress (filter_map (progress_to peer) rows))) new).0) at
-free-keys rows (Channel number peer (Active expiry)) new (By.Peer k) at =
-    free-peer rows peer k (is-not _ (and_parts (not (list_any (is_channel_of number) rows)) (not (list_any is_in_progress (filter_map (progress_to peer) rows))) new).1) at
-free-keys rows (Channel number peer (Active expiry)) new (By.Ip k) at = cc
-free-keys rows (Channel number peer (Reserved until)) new (By.Number k) at = free-number rows number k (is-not _ new) at
-free-keys rows (Channel number peer (Reserved until)) new (By.Peer k) at = cc
-free-keys rows (Channel number peer (Reserved until)) new (By.Ip k) at = cc
-free-keys rows (Allocation a) new (By.Number k) at = cc
-free-keys rows (Allocation a) new (By.Peer k) at = cc
-free-keys rows (Allocation a) new (By.Ip k) at = cc
-free-keys rows (Connect peer) new (By.Number k) at = cc
-free-keys rows (Connect peer) new (By.Peer k) at = cc
-free-keys rows (Connect peer) new (By.Ip k) at = cc
-free-keys rows (Offer offer) new (By.Number k) at = cc
-free-keys rows (Offer offer) new (By.Peer k) at = cc
-free-keys rows (Offer offer) new (By.Ip k) at = cc
-free-keys rows (Connection c) new (By.Number k) at = cc
-free-keys rows (Connection c) new (By.Peer k) at = cc
-free-keys rows (Connection c) new (By.Ip k) at = cc
+free-keys rows g new k at = by k g new at
+  where
+    by : (k : Key) (g : Grant) → has_no_double rows g ≡ true → is_found_by k g ≡ true → list_any (is_found_by k) rows ≡ false
+    by (By.Ip other) (Permission ip progress) new at = subst (λ (a : IpAddr). list_any (is_permission_of a) rows ≡ false) (same_ip-true ip other at) (no-permission ip rows new)
+    by (By.Number k) (Channel number peer (Reserved until)) new at = free-number rows number k (is-not _ new) at
+    by (By.Number k) (Channel number peer progress) new at =
+        free-number rows number k (is-not _ (and_parts (not (list_any (is_channel_of number) rows)) (not (list_any is_in_progress (filter_map (progress_to peer) rows))) new).0) at
+    by (By.Peer k) (Channel number peer (Reserved until)) new at = cc
+    by (By.Peer k) (Channel number peer progress) new at =
+        free-peer rows peer k (is-not _ (and_parts (not (list_any (is_channel_of number) rows)) (not (list_any is_in_progress (filter_map (progress_to peer) rows))) new).1) at
+    by k g new at = cc
 
 -- ---- grants are added
 
 none-found : (found : Option Grant) → is_some found ≡ false → found ≡ None
-none-found None h = refl
-none-found (Some g) h = cc
+none-found found h = grind arith
 
 index-free : (rows : List Grant) (find : Key → Option Grant) (g : Grant) → IsIndex is_found_by find rows → IsFree rows g → (k : Key) → is_found_by k g ≡ true → find k ≡ None
 index-free rows find g is free k at = none-found (find k) (sym (any-by_index is_found_by find rows k is) ∙ free k at)
@@ -160,14 +112,10 @@ index-added_all rows more find then is new apart now = index-more more rows find
 -- ---- grants that no key finds
 
 relay-keys : (k : Key) (a : Relay) → is_found_by k (Allocation a) ≡ false
-relay-keys (By.Number n) a = refl
-relay-keys (By.Peer p) a = refl
-relay-keys (By.Ip p) a = refl
+relay-keys k a = grind arith
 
 offer-keys : (k : Key) (offer : DataOffer) → is_found_by k (Offer offer) ≡ false
-offer-keys (By.Number n) offer = refl
-offer-keys (By.Peer p) offer = refl
-offer-keys (By.Ip p) offer = refl
+offer-keys k offer = grind arith
 
 pub index-relays : (addresses : List SocketAddr) (lifetime now : ℕ) (rows : List Grant) (find : Key → Option Grant) → IsIndex is_found_by find rows
     → IsIndex is_found_by find (rows ++ map (new_allocation lifetime now) addresses)
@@ -178,18 +126,7 @@ index-relays (a ∷ others) lifetime now rows find is =
 
 found-told : (k : Key) (family : AddressFamily) (rows : List Grant) → filter (is_found_by k) (first_reported family rows) ≡ filter (is_found_by k) rows
 found-told k family [] = refl
-found-told k family (Offer offer ∷ rows) = by (is_some (unreported_in family (Offer offer))) refl (found-told k family rows)
-  where
-    by : (b : Bool) → is_some (unreported_in family (Offer offer)) ≡ b → filter (is_found_by k) (first_reported family rows) ≡ filter (is_found_by k) rows
-        → filter (is_found_by k) (first_reported family (Offer offer ∷ rows)) ≡ filter (is_found_by k) (Offer offer ∷ rows)
-    by true e rest = rw (e, offer-keys k offer, offer-keys k (record offer { is_reported = true })) refl
-    by false e rest = rw (e, offer-keys k offer) rest
-found-told k family (Allocation a ∷ rows) = ap (λ (gs : List Grant). cond (is_found_by k (Allocation a)) (Allocation a ∷ gs) gs) (found-told k family rows)
-found-told k family (Permission ip progress ∷ rows) = ap (λ (gs : List Grant). cond (is_found_by k (Permission ip progress)) (Permission ip progress ∷ gs) gs) (found-told k family rows)
-found-told k family (Channel number peer progress ∷ rows) = ap (λ (gs : List Grant). cond (is_found_by k (Channel number peer progress)) (Channel number peer progress ∷ gs) gs)
-    (found-told k family rows)
-found-told k family (Connect peer ∷ rows) = ap (λ (gs : List Grant). cond (is_found_by k (Connect peer)) (Connect peer ∷ gs) gs) (found-told k family rows)
-found-told k family (Connection c ∷ rows) = ap (λ (gs : List Grant). cond (is_found_by k (Connection c)) (Connection c ∷ gs) gs) (found-told k family rows)
+found-told k family (g ∷ rows) = grind (arith, offer-keys k, found-told k family rows)
 
 pub index-told : (family : AddressFamily) (rows : List Grant) (find : Key → Option Grant) → IsIndex is_found_by find rows → IsIndex is_found_by find (first_reported family rows)
 unfolding IsIndex
@@ -197,18 +134,7 @@ index-told family rows find is k = found-told k family rows ∙ is k
 
 found-taken : (k : Key) (id : ℕ) (peer : SocketAddr) (rows : List Grant) → filter (is_found_by k) (without_first (is_offer_of id peer) rows) ≡ filter (is_found_by k) rows
 found-taken k id peer [] = refl
-found-taken k id peer (Offer offer ∷ rows) = by (is_offer_of id peer (Offer offer)) refl (found-taken k id peer rows)
-  where
-    by : (b : Bool) → is_offer_of id peer (Offer offer) ≡ b → filter (is_found_by k) (without_first (is_offer_of id peer) rows) ≡ filter (is_found_by k) rows
-        → filter (is_found_by k) (without_first (is_offer_of id peer) (Offer offer ∷ rows)) ≡ filter (is_found_by k) (Offer offer ∷ rows)
-    by true e rest = rw (e, offer-keys k offer) refl
-    by false e rest = rw (e, offer-keys k offer) rest
-found-taken k id peer (Allocation a ∷ rows) = ap (λ (gs : List Grant). cond (is_found_by k (Allocation a)) (Allocation a ∷ gs) gs) (found-taken k id peer rows)
-found-taken k id peer (Permission ip progress ∷ rows) = ap (λ (gs : List Grant). cond (is_found_by k (Permission ip progress)) (Permission ip progress ∷ gs) gs) (found-taken k id peer rows)
-found-taken k id peer (Channel number other progress ∷ rows) = ap (λ (gs : List Grant). cond (is_found_by k (Channel number other progress)) (Channel number other progress ∷ gs) gs)
-    (found-taken k id peer rows)
-found-taken k id peer (Connect other ∷ rows) = ap (λ (gs : List Grant). cond (is_found_by k (Connect other)) (Connect other ∷ gs) gs) (found-taken k id peer rows)
-found-taken k id peer (Connection c ∷ rows) = ap (λ (gs : List Grant). cond (is_found_by k (Connection c)) (Connection c ∷ gs) gs) (found-taken k id peer rows)
+found-taken k id peer (g ∷ rows) = grind (arith, offer-keys k, found-taken k id peer rows)
 
 pub index-taken : (id : ℕ) (peer : SocketAddr) (rows : List Grant) (find : Key → Option Grant) → IsIndex is_found_by find rows → IsIndex is_found_by find (without_first (is_offer_of id peer) rows)
 unfolding IsIndex
@@ -233,13 +159,7 @@ index-without which rows find then is now = index-filtered is_found_by find then
 
 pub any-both : (p q : Grant → Bool) (rows : List Grant) → list_any (λ g. p g && q g) rows ≡ list_any p (filter q rows)
 any-both p q [] = refl
-any-both p q (g ∷ rows) = by (p g) (q g) refl refl (any-both p q rows)
-  where
-    by : (a b : Bool) → p g ≡ a → q g ≡ b → list_any (λ g. p g && q g) rows ≡ list_any p (filter q rows) → list_any (λ g. p g && q g) (g ∷ rows) ≡ list_any p (filter q (g ∷ rows))
-    by true true e f rest = rw (e, f, e) refl
-    by true false e f rest = rw (e, f) rest
-    by false true e f rest = rw (e, f, e) rest
-    by false false e f rest = rw (e, f) rest
+any-both p q (g ∷ rows) = grind (arith, any-both p q rows)
 
 -- the keys of the new grant are keys of those that are removed
 abbrev pub IsKeyed : (Grant → Bool) → Grant → List Grant → Type 0
@@ -278,19 +198,11 @@ index-replaced which rows find then grant is keyed now =
 
 any-filtered : (p q : Grant → Bool) (rows : List Grant) → list_any (λ g. p g && q g) rows ≡ list_any q (filter p rows)
 any-filtered p q [] = refl
-any-filtered p q (g ∷ rows) = by (p g) refl (any-filtered p q rows)
-  where
-    by : (b : Bool) → p g ≡ b → list_any (λ g. p g && q g) rows ≡ list_any q (filter p rows) → list_any (λ g. p g && q g) (g ∷ rows) ≡ list_any q (filter p (g ∷ rows))
-    by true e rest = rw (e, rest) refl
-    by false e rest = rw e rest
+any-filtered p q (g ∷ rows) = grind (arith, any-filtered p q rows)
 
 first-passes : (p : Grant → Bool) (rows : List Grant) (g : Grant) → filter p rows ≡ g ∷ [] → p g ≡ true
 first-passes p [] g alone = cc
-first-passes p (h ∷ rows) g alone = by (p h) refl alone (first-passes p rows g)
-  where
-    by : (b : Bool) → p h ≡ b → filter p (h ∷ rows) ≡ g ∷ [] → (filter p rows ≡ g ∷ [] → p g ≡ true) → p g ≡ true
-    by true e alone rest = let both : h ∷ filter p rows ≡ g ∷ [] = rw e at alone in let same : h ≡ g = cc in rw (← same) e
-    by false e alone rest = rest (rw e at alone)
+first-passes p (h ∷ rows) g alone = grind (arith, first-passes p rows g)
 
 -- it is the only one for whose requests the key stands
 pub unlisted-one : (rows : List Grant) (listed : List Listing) (find : Key → Option Grant) (key : Key) (old : Grant) → IsIndex is_found_by find rows → find key ≡ Some old
@@ -338,37 +250,13 @@ pub first-found : {X : Type 0} (f : Grant → Option X) (find : Key → Option G
 first-found f find rows k is other = first-by_index is_found_by f find rows k is other
 
 pub other-owner : (n : ℕ) (g : Grant) → is_channel_of n g ≡ false → channel_at n g ≡ None
-other-owner n (Channel number peer progress) h = rw h refl
-other-owner n (Allocation a) h = refl
-other-owner n (Permission ip progress) h = refl
-other-owner n (Connect peer) h = refl
-other-owner n (Offer offer) h = refl
-other-owner n (Connection c) h = refl
+other-owner n g h = grind arith
 
 pub other-peer : (n : ℕ) (g : Grant) → is_channel_of n g ≡ false → channel_peer n g ≡ None
-other-peer n (Channel number peer Pending) h = refl
-other-peer n (Channel number peer (Active expiry)) h = rw h refl
-other-peer n (Channel number peer (Reserved until)) h = refl
-other-peer n (Allocation a) h = refl
-other-peer n (Permission ip progress) h = refl
-other-peer n (Connect peer) h = refl
-other-peer n (Offer offer) h = refl
-other-peer n (Connection c) h = refl
+other-peer n g h = grind arith
 
 pub other-active : (a : SocketAddr) (g : Grant) → is_open_to a g ≡ false → active_channel a g ≡ None
-other-active a (Channel number peer Pending) h = refl
-other-active a (Channel number peer (Active expiry)) h = rw h refl
-other-active a (Channel number peer (Reserved until)) h = refl
-other-active a (Allocation r) h = refl
-other-active a (Permission ip progress) h = refl
-other-active a (Connect peer) h = refl
-other-active a (Offer offer) h = refl
-other-active a (Connection c) h = refl
+other-active a g h = grind arith
 
 pub other-permission : (a : IpAddr) (g : Grant) → is_permission_of a g ≡ false → permission_progress a g ≡ None
-other-permission a (Permission ip progress) h = rw h refl
-other-permission a (Channel number peer progress) h = refl
-other-permission a (Allocation r) h = refl
-other-permission a (Connect peer) h = refl
-other-permission a (Offer offer) h = refl
-other-permission a (Connection c) h = refl
+other-permission a g h = grind arith

@@ -1,6 +1,6 @@
 -- What expires as time passes, and the room that it leaves.
-use Rattle.std.proofs.Common.{◌≡◌, ◌≤◌, ◌<◌, ◌+◌, ℕ, Bool, true, false, List, [], ◌∷◌, ◌++◌, filter, find, length, map, not, refl, reverse, sym, ap, ◌∙◌, ◌⊎◌, inl, inr, arith}
-use Rattle.std.specs.Prelude.{◌&&◌, Option, Some, None, filter_map, option_to_list, slice_get}
+use Rattle.std.proofs.Common.{◌≡◌, ◌≤◌, ◌<◌, ◌+◌, ℕ, Bool, true, false, List, [], ◌∷◌, ◌++◌, filter, find, length, map, not, refl, reverse, sym, ◌∙◌, ◌⊎◌, inl, inr, arith}
+use Rattle.std.specs.Prelude.{◌&&◌, Option, Some, filter_map, option_to_list, slice_get}
 use Rattle.std.specs.List.{list_all, list_any}
 use Rattle.std.specs.declared.net.socket_addr.SocketAddr.{SocketAddr}
 use Rattle.turn_types.specs.declared.family.AddressFamily.{AddressFamily}
@@ -8,10 +8,10 @@ use Rattle.turn_types.specs.declared.family.AddressFamily.TheVariants.{IPV4, IPV
 use Rattle.turn_client_api.specs.Grants.{as_allocation, as_connection, family_of, is_channel_of, is_of}
 use Rattle.turn_client_api.specs.declared.grant.DataConnection.{DataConnection}
 use Rattle.turn_client_api.specs.declared.grant.Grant.{Grant}
-use Rattle.turn_client_api.specs.declared.grant.Grant.TheVariants.{Allocation, Permission, Channel, Connect, Offer, Connection}
+use Rattle.turn_client_api.specs.declared.grant.Grant.TheVariants.{Channel}
 use Rattle.turn_client_api.specs.declared.grant.Progress.TheVariants.{Active}
 use Rattle.turn_client_api.specs.declared.grant.Relay.{Relay}
-use Rattle.turn_client_grants.specs.Failures.{close_in, close_room_for, events_of, event_room_for}
+use Rattle.turn_client_grants.specs.Failures.{close_in, close_room_for, event_room_for}
 use Rattle.turn_client_grants.proofs.PushLemmas.{few-of}
 use Rattle.turn_client_grants.proofs.RoomLemmas.{event_room_for-filtered}
 use Rattle.turn_client_laws.proofs.HasLemmas.{Has}
@@ -30,44 +30,18 @@ use Rattle.turn_client_grants.specs.declared.grant_filter.GrantFilter.{GrantFilt
 pub closes-are : (which : GrantFilter) (grants : List Grant) → filter_map (close_in which) grants ≡ map (λ (c : DataConnection). c.local) (filter_map as_connection (filter (holds which) grants))
 unfolding close_in
 closes-are which [] = refl
-closes-are which (g ∷ others) = by (holds which g) (as_connection g) refl refl (closes-are which others)
-  where
-    by : (b : Bool) (found : Option DataConnection) → holds which g ≡ b → as_connection g ≡ found
-        → filter_map (close_in which) others ≡ map (λ (c : DataConnection). c.local) (filter_map as_connection (filter (holds which) others))
-        → filter_map (close_in which) (g ∷ others) ≡ map (λ (c : DataConnection). c.local) (filter_map as_connection (filter (holds which) (g ∷ others)))
-    by true None e f rest = rw (e, f) rest
-    by true (Some c) e f rest = rw (e, f, rest) refl
-    by false found e f rest = rw e rest
+closes-are which (g ∷ others) = grind (arith, closes-are which others)
 
 pub closes-left : (which : GrantFilter) (grants : List Grant) → length (filter_map (close_in which) grants) + close_room_for (filter (λ g. not (holds which g)) grants) ≤ close_room_for grants
 unfolding close_in
 closes-left which [] = omega arith
-closes-left which (g ∷ others) = by (holds which g) (as_connection g) refl refl (closes-left which others)
-  where
-    by : (b : Bool) (found : Option DataConnection) → holds which g ≡ b → as_connection g ≡ found
-        → length (filter_map (close_in which) others) + close_room_for (filter (λ g. not (holds which g)) others) ≤ close_room_for others
-        → length (filter_map (close_in which) (g ∷ others)) + close_room_for (filter (λ g. not (holds which g)) (g ∷ others)) ≤ close_room_for (g ∷ others)
-    by true None e f rest = rw (e, f) rest
-    by true (Some c) e f rest = rw (e, f) (omega (arith, rest))
-    by false None e f rest = rw (e, f) rest
-    by false (Some c) e f rest = rw (e, f) (omega (arith, rest))
+closes-left which (g ∷ others) = grind (arith, closes-left which others)
 
 -- ---- the allocations
 
 count-of : (grants : List Grant) → length (filter_map as_allocation grants) ≡ length (filter (is_allocation_of IPV4) grants) + length (filter (is_allocation_of IPV6) grants)
 count-of [] = refl
-count-of (Allocation a ∷ others) = by (family_of a.relayed) refl (count-of others)
-  where
-    by : (family : AddressFamily) → family_of a.relayed ≡ family → length (filter_map as_allocation others) ≡ length (filter (is_allocation_of IPV4) others) + length
-        (filter (is_allocation_of IPV6) others)
-        → length (filter_map as_allocation (Allocation a ∷ others)) ≡ length (filter (is_allocation_of IPV4) (Allocation a ∷ others)) + length (filter (is_allocation_of IPV6) (Allocation a ∷ others))
-    by IPV4 e rest = rw e (omega (arith, rest))
-    by IPV6 e rest = rw e (omega (arith, rest))
-count-of (Permission ip progress ∷ others) = count-of others
-count-of (Channel number peer progress ∷ others) = count-of others
-count-of (Connect peer ∷ others) = count-of others
-count-of (Offer offer ∷ others) = count-of others
-count-of (Connection c ∷ others) = count-of others
+count-of (g ∷ others) = grind (arith, count-of others)
 
 two-of : (xs : List Relay) → length xs ≤ 2 → xs ≡ option_to_list (slice_get xs 0) ++ option_to_list (slice_get xs 1)
 two-of [] few = refl
@@ -109,12 +83,8 @@ has-fewer p g (x ∷ xs) has passes = by (p x) refl has (few-of (λ y. not (p y)
 
 has-any : {X : Type 0} (p : X → Bool) (g : X) (xs : List X) → Has g xs → p g ≡ true → list_any p xs ≡ true
 has-any p g [] has passes = absurd has
-has-any p g (x ∷ xs) has passes = by (p x) refl has (λ later. has-any p g xs later passes)
-  where
-    by : (b : Bool) → p x ≡ b → (g ≡ x) ⊎ Has g xs → (Has g xs → list_any p xs ≡ true) → list_any p (x ∷ xs) ≡ true
-    by true e has rest = rw e refl
-    by false e (inl same) rest = let no : false ≡ true = sym e ∙ (rw same at passes) in cc
-    by false e (inr later) rest = rw e (rest later)
+has-any p g (x ∷ xs) (inl same) passes = rw (← same, passes) refl
+has-any p g (x ∷ xs) (inr later) passes = grind (arith, has-any p g xs later passes)
 
 pub ended-there : (number : ℕ) (peer : SocketAddr) (expiry : ℕ) (grants : List Grant) → Has (Channel number peer (Active expiry)) grants → list_any (is_channel_of number) grants ≡ true
 ended-there number peer expiry grants has = has-any (is_channel_of number) (Channel number peer (Active expiry)) grants has (eq-eqb number number refl)
@@ -126,23 +96,11 @@ ended-fewer number peer expiry grants has = has-fewer (is_channel_of number) (Ch
 pub ended-aside : (number : ℕ) (peer : SocketAddr) (expiry : ℕ) (grants : List Grant) → Has (Channel number peer (Active expiry)) grants
     → event_room_for (filter (λ g. not (is_channel_of number g)) grants) + 2 ≤ event_room_for grants
 ended-aside number peer expiry [] has = absurd has
-ended-aside number peer expiry (g ∷ others) has = by (is_channel_of number g) refl has (event_room_for-filtered (λ h. not (is_channel_of number h)) others) (ended-aside number peer expiry others)
-  where
-    by : (b : Bool) → is_channel_of number g ≡ b → (Channel number peer (Active expiry) ≡ g) ⊎ Has (Channel number peer (Active expiry)) others
-        → event_room_for (filter (λ h. not (is_channel_of number h)) others) ≤ event_room_for others
-        → (Has (Channel number peer (Active expiry)) others → event_room_for (filter (λ h. not (is_channel_of number h)) others) + 2 ≤ event_room_for others)
-        → event_room_for (filter (λ h. not (is_channel_of number h)) (g ∷ others)) + 2 ≤ event_room_for (g ∷ others)
-    by true e (inl same) less rest = let two : events_of g ≡ 2 = ap events_of (sym same) in rw e (omega (arith, two, less))
-    by true e (inr later) less rest = rw e (omega (arith, rest later))
-    by false e (inl same) less rest = let no : false ≡ true = sym e ∙ (ap (is_channel_of number) (sym same) ∙ eq-eqb number number refl) in cc
-    by false e (inr later) less rest = rw e (omega (arith, rest later))
+ended-aside number peer expiry (g ∷ others) (inl same) =
+    rw (← same, eq-eqb number number refl) (omega (arith, event_room_for-filtered (λ h. not (is_channel_of number h)) others))
+ended-aside number peer expiry (g ∷ others) (inr later) = grind (arith, ended-aside number peer expiry others later)
 
 pub ended-numbered : (g : Grant) (grants : List Grant) → Has g grants → list_all is_numbered grants ≡ true → is_numbered g ≡ true
 ended-numbered g [] has all = absurd has
-ended-numbered g (h ∷ others) has all =
-    let parts = and_parts (is_numbered h) (list_all is_numbered others) all in
-    by has parts.0 (ended-numbered g others) parts.1
-  where
-    by : (g ≡ h) ⊎ Has g others → is_numbered h ≡ true → (Has g others → list_all is_numbered others ≡ true → is_numbered g ≡ true) → list_all is_numbered others ≡ true → is_numbered g ≡ true
-    by (inl same) here rest all = rw same here
-    by (inr later) here rest all = rest later all
+ended-numbered g (h ∷ others) (inl same) all = rw same (and_parts (is_numbered h) (list_all is_numbered others) all).0
+ended-numbered g (h ∷ others) (inr later) all = ended-numbered g others later (and_parts (is_numbered h) (list_all is_numbered others) all).1

@@ -1,9 +1,9 @@
 -- The purposes of requests, by their IDs.
-use Rattle.std.proofs.Common.{◌≡◌, ◌∙◌, ℕ, Bool, true, false, cond, ltb, List, [], ◌∷◌, ◌++◌, ◌||◌, filter, length, map, refl, sym, ap, arith}
-use Rattle.std.specs.Prelude.{◌==◌, Option, Some, None, is_some, option_map, option_to_list}
+use Rattle.std.proofs.Common.{◌≡◌, ◌∙◌, ℕ, Bool, true, false, cond, ltb, List, [], ◌∷◌, ◌++◌, filter, length, map, refl, sym, ap, arith}
+use Rattle.std.specs.Prelude.{◌==◌, Option, Some, None, option_map}
 use Rattle.std.specs.List.{list_any}
 use Rattle.std.specs.Option.{option_map_or}
-use Rattle.std.proofs.lemmas.Bool.{eqb-true, lt-ltb}
+use Rattle.std.proofs.lemmas.Bool.{eqb-true}
 use Rattle.std.proofs.lemmas.List.{append-nil}
 use Rattle.std.proofs.lemmas.List.Elements.{filter-append}
 use Rattle.std.proofs.lemmas.Map.Entries.{option_filter}
@@ -42,35 +42,14 @@ ArePurposesOf-list listed id purposes find found were new put = λ k.
 -- ---- listings are removed by their purposes
 
 in-only : (keep : Purpose → Bool) (purposes : Purposes) → purposes_in (with_only keep purposes) ≡ filter keep (purposes_in purposes)
-in-only keep purposes = by purposes.first purposes.second
-  where
-    one : (b : Option Purpose) → option_to_list (option_filter keep b) ≡ filter keep (option_to_list b)
-    one None = refl
-    one (Some q) = at (keep q) refl
-      where
-        at : (b : Bool) → keep q ≡ b → option_to_list (option_filter keep (Some q)) ≡ filter keep (option_to_list (Some q))
-        at true e = rw e refl
-        at false e = rw e refl
-
-    by : (a b : Option Purpose) → option_to_list (option_filter keep a) ++ option_to_list (option_filter keep b) ≡ filter keep (option_to_list a ++ option_to_list b)
-    by a b = rw (filter-append keep (option_to_list a) (option_to_list b), one a, one b) refl
+in-only keep purposes = grind (arith, filter-append)
 
 none-in : (purposes : Purposes) → has_some purposes ≡ false → purposes_in purposes ≡ []
-none-in purposes none = by purposes.first purposes.second none
-  where
-    by : (a b : Option Purpose) → (is_some a || is_some b) ≡ false → option_to_list a ++ option_to_list b ≡ []
-    by None None none = refl
-    by None (Some q) none = cc
-    by (Some p) b none = cc
+none-in purposes none = grind arith
 
 -- a request with no purpose counts as none
 filled : (found : Option Purposes) → option_map_or purposes_in (option_filter has_some found) [] ≡ option_map_or purposes_in found []
-filled None = refl
-filled (Some purposes) = by (has_some purposes) refl
-  where
-    by : (b : Bool) → has_some purposes ≡ b → option_map_or purposes_in (option_filter has_some (Some purposes)) [] ≡ option_map_or purposes_in (Some purposes) []
-    by true e = rw e refl
-    by false e = rw e (sym (none-in purposes e))
+filled found = grind (arith, none-in)
 
 only-found : (keep : Purpose → Bool) (found : Option Purposes) → option_map_or purposes_in (option_map (with_only keep) found) [] ≡ filter keep (option_map_or purposes_in found [])
 only-found keep None = refl
@@ -78,14 +57,7 @@ only-found keep (Some purposes) = in-only keep purposes
 
 purposes_listed-only : (keep : Purpose → Bool) (id : ℕ) (listed : List Listing) → filter keep (purposes_listed id listed) ≡ purposes_listed id (filter (λ l. keep l.purpose) listed)
 purposes_listed-only keep id [] = refl
-purposes_listed-only keep id (l ∷ listed) = by (purposes_listed-only keep id listed) (l.id == id) refl (keep l.purpose) refl
-  where
-    by : filter keep (purposes_listed id listed) ≡ purposes_listed id (filter (λ l. keep l.purpose) listed) → (a : Bool) → (l.id == id) ≡ a → (b : Bool) → keep l.purpose ≡ b
-        → filter keep (purposes_listed id (l ∷ listed)) ≡ purposes_listed id (filter (λ l. keep l.purpose) (l ∷ listed))
-    by later true a true b = rw (a, b, a, later) refl
-    by later true a false b = rw (a, b) later
-    by later false a true b = rw (a, b, a) later
-    by later false a false b = rw (a, b) later
+purposes_listed-only keep id (l ∷ listed) = grind (arith, purposes_listed-only keep id listed)
 
 pub ArePurposesOf-only : (keep : Purpose → Bool) (listed : List Listing) (find left found : ℕ → Option Purposes) → ArePurposesOf listed find
     → ((k : ℕ) → left k ≡ option_map (with_only keep) (find k)) → ((k : ℕ) → found k ≡ option_filter has_some (left k)) → ArePurposesOf (filter (λ l. keep l.purpose) listed) found
@@ -96,21 +68,10 @@ ArePurposesOf-only keep listed find left found were kept filled_only = λ k.
 
 any-listed : (p : Listing → Bool) (listed : List Listing) → list_any p listed ≡ ltb 0 (length (map (λ (l : Listing). l.purpose) (filter p listed)))
 any-listed p [] = refl
-any-listed p (l ∷ listed) = by (any-listed p listed) (p l) refl
-  where
-    by : list_any p listed ≡ ltb 0 (length (map (λ (l : Listing). l.purpose) (filter p listed))) → (b : Bool) → p l ≡ b
-        → list_any p (l ∷ listed) ≡ ltb 0 (length (map (λ (l : Listing). l.purpose) (filter p (l ∷ listed))))
-    by later true e = rw e (sym (lt-ltb 0 (length (l.purpose ∷ map (λ (l : Listing). l.purpose) (filter p listed))) (omega arith)))
-    by later false e = rw e later
+any-listed p (l ∷ listed) = grind (arith, any-listed p listed)
 
 some-in : (purposes : Purposes) → has_some purposes ≡ ltb 0 (length (purposes_in purposes))
-some-in purposes = by purposes.first purposes.second
-  where
-    by : (a b : Option Purpose) → (is_some a || is_some b) ≡ ltb 0 (length (option_to_list a ++ option_to_list b))
-    by None None = refl
-    by None (Some q) = refl
-    by (Some p) None = refl
-    by (Some p) (Some q) = refl
+some-in purposes = grind arith
 
 -- a request is listed exactly if it has a purpose
 pub is_listed-some : (id : ℕ) (listed : List Listing) (purposes : Purposes) → purposes_in purposes ≡ purposes_listed id listed → has_some purposes ≡ list_any (λ l. l.id == id) listed

@@ -10,7 +10,7 @@ use Rattle.std.specs.declared.net.socket_addr.SocketAddr.{SocketAddr}
 use Rattle.std.specs.declared.net.socket_addr.SocketAddr.TheVariants as Socket
 use Rattle.std.specs.contracts.net.socket_addr.SocketAddrPartialEq.TheImpl as SocketImpl
 use Rattle.std.specs.contracts.net.ip_addr.IpAddrPartialEq.TheImpl as IpImpl
-use Rattle.std.proofs.Common.{sym, ◌∙◌, ap}
+use Rattle.std.proofs.Common.{arith, sym, ◌∙◌, ap}
 use Rattle.std.proofs.lemmas.Bool.{eqb-true, eq-eqb}
 use Rattle.std.proofs.lemmas.Slice.Eq.{bytes_eq-Decides}
 use Rattle.turn_agent.specs.Agent.{same_address}
@@ -24,23 +24,18 @@ abbrev pub key_eq : Key → Key → Bool
 key_eq = KeyImpl.eq-value.it
 
 regroup : (p q r s : Bool) → (p && (q && (r && s))) ≡ (p && q && r && s)
-regroup true true true s = refl
-regroup true true false s = refl
-regroup true false r s = refl
-regroup false q r s = refl
+regroup p q r s = grind arith
 
 same_addresses : (a b : SocketAddr) → SocketImpl.eq-value.it a b ≡ same_address a b
-same_addresses (Socket.V4 a) (Socket.V4 b) = refl
 same_addresses (Socket.V6 a) (Socket.V6 b) =
     regroup (pointwise ◌==◌ (ipv6_segments (v6_ip a)) (ipv6_segments (v6_ip b))) (v6_port a == v6_port b) (v6_flowinfo a == v6_flowinfo b) (v6_scope_id a == v6_scope_id b)
-same_addresses (Socket.V4 a) (Socket.V6 b) = refl
-same_addresses (Socket.V6 a) (Socket.V4 b) = refl
+same_addresses (Socket.V4 a) (Socket.V4 b) = refl
+same_addresses a b = refl
 
 same_ips : (a b : IpAddr) → IpImpl.eq-value.it a b ≡ same_ip a b
 same_ips (Ip.V4 a) (Ip.V4 b) = refl
 same_ips (Ip.V6 a) (Ip.V6 b) = refl
-same_ips (Ip.V4 a) (Ip.V6 b) = refl
-same_ips (Ip.V6 a) (Ip.V4 b) = refl
+same_ips a b = refl
 
 same_ip-self : (a : IpAddr) → same_ip a a ≡ true
 same_ip-self (Ip.V4 a) = (bytes_eq-Decides (ipv4_octets a) (ipv4_octets a)).1 refl
@@ -50,12 +45,7 @@ pub key-true : (a b : Key) → key_eq a b ≡ true → a ≡ b
 key-true (By.Number a) (By.Number b) h = ap By.Number (eqb-true a b h)
 key-true (By.Peer a) (By.Peer b) h = ap By.Peer (same_address-true a b (sym (same_addresses a b) ∙ h))
 key-true (By.Ip a) (By.Ip b) h = ap By.Ip (same_ip-true a b (sym (same_ips a b) ∙ h))
-key-true (By.Number a) (By.Peer b) h = cc
-key-true (By.Number a) (By.Ip b) h = cc
-key-true (By.Peer a) (By.Number b) h = cc
-key-true (By.Peer a) (By.Ip b) h = cc
-key-true (By.Ip a) (By.Number b) h = cc
-key-true (By.Ip a) (By.Peer b) h = cc
+key-true a b h = cc
 
 key-self : (a : Key) → key_eq a a ≡ true
 key-self (By.Number a) = eq-eqb a a refl

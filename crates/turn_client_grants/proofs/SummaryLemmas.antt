@@ -1,34 +1,29 @@
 -- What the summary implies: what is due next, and until when nothing is.
-use Rattle.std.proofs.Common.{◌≡◌, ◌∙◌, ◌<◌, ◌≤◌, ◌+◌, ◌^◌, ℕ, Bool, true, false, cond, List, [], ◌∷◌, ◌++◌, append-nil, ap, sym, refl, arith}
+use Rattle.std.proofs.Common.{◌≡◌, ◌∙◌, ◌<◌, ◌≤◌, ℕ, Bool, true, false, cond, List, [], ◌∷◌, ◌++◌, append-nil, ap, sym, refl, arith}
 use Rattle.std.specs.Prelude.{◌&&◌, All, Option, Some, None, filter_map, find, flat_map, fold, if◌then◌else◌, map, max, min, nat_le, nat_lt, option_to_list, slice_get}
-use Rattle.std.specs.List.{cons_option, list_any}
+use Rattle.std.specs.List.{list_any}
 use Rattle.std.specs.Option.{option_or}
 use Rattle.std.proofs.lemmas.Bool.{lt-leb}
-use Rattle.std.proofs.lemmas.Grind.{fold-append}
 use Rattle.std.proofs.lemmas.List.Elements.{All-cons, All-nil}
 use Rattle.std.specs.declared.net.socket_addr.SocketAddr.{SocketAddr}
 use Rattle.turn_types.specs.declared.family.AddressFamily.{AddressFamily}
-use Rattle.turn_agent.specs.Agent.{same_address}
 use Rattle.turn_client_api.specs.Calls.{channels_to, progress_to, reserved_from}
 use Rattle.turn_client_api.specs.Due.{end_of, refresh_time}
-use Rattle.turn_client_api.specs.Grants.{as_allocation, family_of, is_of, is_of_family, is_of_request, is_request}
+use Rattle.turn_client_api.specs.Grants.{as_allocation, family_of, is_of, is_of_family, is_of_request}
 use Rattle.turn_client_laws.specs.LawsBodies.{lapse_of, expiry_times}
 use Rattle.turn_client_api.specs.Poll.{first_unreported, unreported_in}
 use Rattle.turn_client_api.specs.State.{State, max_time}
 use Rattle.turn_client_api.specs.Transmit.{is_ranked, is_refresh_due, refresh_purpose}
 use Rattle.turn_client_api.specs.declared.grant.DataOffer.{DataOffer}
 use Rattle.turn_client_api.specs.declared.grant.Grant.{Grant}
-use Rattle.turn_client_api.specs.declared.grant.Grant.TheVariants.{Allocation, Permission, Channel, Connect, Offer, Connection}
+use Rattle.turn_client_api.specs.declared.grant.Grant.TheVariants.{Allocation}
 use Rattle.turn_client_api.specs.declared.grant.Listing.{Listing}
-use Rattle.turn_client_api.specs.declared.grant.Origin.{Origin}
-use Rattle.turn_client_api.specs.declared.grant.Origin.TheVariants.{OwnConnect, ServerRequest, ServerIndication}
-use Rattle.turn_client_api.specs.declared.grant.Progress.TheVariants.{Pending, Active, Reserved}
 use Rattle.turn_client_api.specs.declared.grant.Purpose.{Purpose}
 use Rattle.turn_client_api.specs.declared.grant.Relay.{Relay}
-use Rattle.turn_client_grants.specs.Due.{all_times, times_of, relay_ends}
-use Rattle.turn_client_grants.specs.Lists.{both_of, first_among, with_lists}
-use Rattle.turn_client_grants.specs.Refresh.{due_purpose, first_of_family, first_refresh}
-use Rattle.turn_client_grants.specs.Summary.{end_in, is_by_request, is_requested, is_reserved, is_untold, lapse_in, never}
+use Rattle.turn_client_grants.specs.Due.{all_times, relay_ends}
+use Rattle.turn_client_grants.specs.Lists.{with_lists}
+use Rattle.turn_client_grants.specs.Refresh.{due_purpose, first_refresh}
+use Rattle.turn_client_grants.specs.Summary.{end_in, is_requested, is_reserved, is_untold, lapse_in, never}
 use Rattle.turn_client_grants.proofs.RefreshLemmas.{refreshes_first, refreshes_none}
 
 -- ---- the least of several times
@@ -37,80 +32,38 @@ pub fold-min-le : (n : ℕ) (xs : List ℕ) → fold min n xs ≤ n
 fold-min-le n [] = omega arith
 fold-min-le n (x ∷ xs) = let rest : fold min (min n x) xs ≤ min n x = fold-min-le (min n x) xs in omega (arith, rest)
 
-fold-min-acc : (m n : ℕ) (xs : List ℕ) → fold min (min m n) xs ≡ min m (fold min n xs)
-fold-min-acc m n [] = refl
-fold-min-acc m n (x ∷ xs) = ap (λ (k : ℕ). fold min k xs) assoc ∙ fold-min-acc m (min n x) xs
-  where
-    assoc : min (min m n) x ≡ min m (min n x)
-    assoc = omega arith
+fold-min-acc : (n x : ℕ) (xs : List ℕ) → fold min (min n x) xs ≡ min x (fold min n xs)
+fold-min-acc n x [] = omega arith
+fold-min-acc n x (y ∷ ys) = let turned : min (min n x) y ≡ min (min n y) x = omega arith in rw turned (fold-min-acc (min n y) x ys)
 
 fold-min-append : (n : ℕ) (xs ys : List ℕ) → fold min n (xs ++ ys) ≡ min (fold min n xs) (fold min n ys)
-fold-min-append n xs ys =
-    let le : fold min n xs ≤ n = fold-min-le n xs in
-    let same : fold min n xs ≡ min (fold min n xs) n = omega (arith, le) in
-    fold-append min n xs ys ∙ ap (λ (k : ℕ). fold min k ys) same ∙ fold-min-acc (fold min n xs) n ys
+fold-min-append n [] ys = omega (arith, fold-min-le n ys)
+fold-min-append n (x ∷ xs) ys = omega (arith, fold-min-append (min n x) xs ys, fold-min-acc n x ys, fold-min-le (min n x) xs)
 
 fold-min-both : {G : Type 0} (n : ℕ) (f h : G → List ℕ) (gs : List G) → fold min n (flat_map (λ g. f g ++ h g) gs) ≡ min (fold min n (flat_map f gs)) (fold min n (flat_map h gs))
 fold-min-both n f h [] = omega arith
-fold-min-both n f h (g ∷ gs) =
-    rw (
-      fold-min-append n (f g ++ h g) (flat_map (λ g. f g ++ h g) gs),
-      fold-min-append n (f g) (h g),
-      fold-min-both n f h gs,
-      fold-min-append n (f g) (flat_map f gs),
-      fold-min-append n (h g)
-          (flat_map h gs),
-    )
-    (turned (fold min n (f g)) (fold min n (h g)) (fold min n (flat_map f gs)) (fold min n (flat_map h gs)))
-  where
-    turned : (a b c d : ℕ) → min (min a b) (min c d) ≡ min (min a c) (min b d)
-    turned a b c d = omega arith
+fold-min-both n f h (g ∷ gs) = grind (arith, fold-min-append, fold-min-both n f h gs)
 
 fold-min-max : (p n : ℕ) (xs : List ℕ) → p ≤ n → fold min n (map (max p) xs) ≡ max p (fold min n xs)
 fold-min-max p n [] le = omega arith
-fold-min-max p n (x ∷ xs) le =
-    let rest : fold min n (map (max p) xs) ≡ max p (fold min n xs) = fold-min-max p n xs le in
-    let one : fold min (min (max p x) n) (map (max p) xs) ≡ min (max p x) (fold min n (map (max p) xs)) = fold-min-acc (max p x) n (map (max p) xs) in
-    let two : fold min (min x n) xs ≡ min x (fold min n xs) = fold-min-acc x n xs in
-    ap (λ (k : ℕ). fold min k (map (max p) xs)) (commuted n (max p x)) ∙ one ∙ ap (λ (k : ℕ). min (max p x) k) rest ∙ spread p x (fold min n xs) ∙ ap (λ (k : ℕ). max p k) (sym two)
-    ∙ ap (λ (k : ℕ). max p (fold min k xs)) (commuted x n)
-  where
-    commuted : (a b : ℕ) → min a b ≡ min b a
-    commuted a b = omega arith
-
-    spread : (p a b : ℕ) → min (max p a) (max p b) ≡ max p (min a b)
-    spread p a b = omega arith
+fold-min-max p n (x ∷ xs) le = omega (arith, fold-min-max p n xs le, fold-min-acc n (max p x) (map (max p) xs), fold-min-acc n x xs)
 
 -- a start value that is not less changes nothing, if the lesser one is counted too
 fold-min-from : (m n : ℕ) (xs : List ℕ) → m ≤ n → fold min m xs ≡ min m (fold min n xs)
-fold-min-from m n xs le =
-    let same : m ≡ min m n = omega (arith, le) in
-    ap (λ (k : ℕ). fold min k xs) same ∙ fold-min-acc m n xs
+fold-min-from m n xs le = let same : m ≡ min n m = omega (arith, le) in ap (λ (k : ℕ). fold min k xs) same ∙ fold-min-acc n m xs
 
 -- ---- before the earliest time
 
 below-all : (now n : ℕ) (xs : List ℕ) → now < fold min n xs → All (λ time. now < time) xs
 below-all now n [] lt = All-nil (λ time. now < time)
-below-all now n (x ∷ xs) lt =
-    let le : fold min (min n x) xs ≤ min n x = fold-min-le (min n x) xs in
-    let here : now < x = omega (arith, le, lt) in
-    All-cons (λ time. now < time) x xs here (below-all now (min n x) xs lt)
+below-all now n (x ∷ xs) lt = All-cons (λ time. now < time) x xs (omega (arith, fold-min-le (min n x) xs)) (below-all now (min n x) xs lt)
 
 filter_map-same : (f h : Grant → Option ℕ) → ((g : Grant) → f g ≡ h g) → (gs : List Grant) → filter_map f gs ≡ filter_map h gs
 filter_map-same f h same [] = refl
 filter_map-same f h same (g ∷ gs) = rw (same g, filter_map-same f h same gs) refl
 
 lapse-same : (grants : List Grant) (listed : List Listing) (s : State) (g : Grant) → lapse_of (with_lists grants listed s) g ≡ lapse_in listed g
-lapse-same grants listed s (Allocation a) = refl
-lapse-same grants listed s (Permission ip Pending) = refl
-lapse-same grants listed s (Permission ip (Active expiry)) = refl
-lapse-same grants listed s (Permission ip (Reserved until)) = refl
-lapse-same grants listed s (Channel number peer Pending) = refl
-lapse-same grants listed s (Channel number peer (Active expiry)) = refl
-lapse-same grants listed s (Channel number peer (Reserved until)) = refl
-lapse-same grants listed s (Connect peer) = refl
-lapse-same grants listed s (Offer offer) = refl
-lapse-same grants listed s (Connection c) = refl
+lapse-same grants listed s g = grind arith
 
 -- nothing expires before the earliest time at which something does
 pub early-all : (now : ℕ) (grants : List Grant) (listed : List Listing) (s : State) → now < fold min never (filter_map (lapse_in listed) grants)
@@ -126,9 +79,7 @@ none-due now m rank family s [] lt = refl
 none-due now m rank family s (g ∷ gs) lt = by (refresh_time s g) refl lt (λ k later. none-due now k rank family s gs later)
   where
     no : (a b : Bool) (purpose : Option Purpose) → cond (a && b && false) purpose None ≡ None
-    no true true purpose = refl
-    no true false purpose = refl
-    no false b purpose = refl
+    no a b purpose = grind arith
 
     by : (time : Option ℕ) → refresh_time s g ≡ time → now < fold min m (filter_map (refresh_time s) (g ∷ gs))
         → ((k : ℕ) → now < fold min k (filter_map (refresh_time s) gs) → filter_map (due_purpose rank family now s) gs ≡ []) → filter_map (due_purpose rank family now s) (g ∷ gs) ≡ []
@@ -138,8 +89,7 @@ none-due now m rank family s (g ∷ gs) lt = by (refresh_time s g) refl lt (λ k
     by (Some time) e lt others =
         let later : now < fold min (min m time) (filter_map (refresh_time s) gs) = rw e at lt in
         let rest : filter_map (due_purpose rank family now s) gs ≡ [] = others (min m time) later in
-        let le : fold min (min m time) (filter_map (refresh_time s) gs) ≤ min m time = fold-min-le (min m time) (filter_map (refresh_time s) gs) in
-        let below : now < time = omega (arith, le, later) in
+        let below : now < time = omega (arith, fold-min-le (min m time) (filter_map (refresh_time s) gs), later) in
         let not_due : nat_le time now ≡ false = lt-leb time now below in
         rw (e, not_due, no (is_ranked rank g) (is_of family g) (refresh_purpose now g)) rest
 
@@ -167,16 +117,7 @@ relay_end_in now (Allocation a) = if nat_lt now a.expiry then a.expiry ∷ [] el
 relay_end_in now _ = []
 
 end-parts : (now : ℕ) (g : Grant) → end_of now g ≡ relay_end_in now g ++ option_to_list (end_in g)
-end-parts now (Allocation a) = sym (append-nil (relay_end_in now (Allocation a)))
-end-parts now (Permission ip Pending) = refl
-end-parts now (Permission ip (Active expiry)) = refl
-end-parts now (Permission ip (Reserved until)) = refl
-end-parts now (Channel number peer Pending) = refl
-end-parts now (Channel number peer (Active expiry)) = refl
-end-parts now (Channel number peer (Reserved until)) = refl
-end-parts now (Connect peer) = refl
-end-parts now (Offer offer) = refl
-end-parts now (Connection c) = refl
+end-parts now g = grind (arith, append-nil)
 
 flat-same : (f h : Grant → List ℕ) → ((g : Grant) → f g ≡ h g) → (gs : List Grant) → flat_map f gs ≡ flat_map h gs
 flat-same f h same [] = refl
@@ -184,39 +125,19 @@ flat-same f h same (g ∷ gs) = rw (same g, flat-same f h same gs) refl
 
 flat-options : (f : Grant → Option ℕ) (gs : List Grant) → flat_map (λ g. option_to_list (f g)) gs ≡ filter_map f gs
 flat-options f [] = refl
-flat-options f (g ∷ gs) = by (f g) (flat-options f gs)
-  where
-    by : (found : Option ℕ) → flat_map (λ g. option_to_list (f g)) gs ≡ filter_map f gs → option_to_list found ++ flat_map (λ g. option_to_list (f g)) gs ≡ cons_option found (filter_map f gs)
-    by None rest = rest
-    by (Some x) rest = ap (λ (xs : List ℕ). x ∷ xs) rest
+flat-options f (g ∷ gs) = grind (arith, flat-options f gs)
 
 flat-mapped : (p : ℕ) (f : Grant → Option ℕ) (gs : List Grant) → flat_map (λ g. map (max p) (option_to_list (f g))) gs ≡ map (max p) (filter_map f gs)
 flat-mapped p f [] = refl
-flat-mapped p f (g ∷ gs) = by (f g) (flat-mapped p f gs)
-  where
-    by : (found : Option ℕ) → flat_map (λ g. map (max p) (option_to_list (f g))) gs ≡ map (max p) (filter_map f gs)
-        → map (max p) (option_to_list found) ++ flat_map (λ g. map (max p) (option_to_list (f g))) gs ≡ map (max p) (cons_option found (filter_map f gs))
-    by None rest = rest
-    by (Some x) rest = ap (λ (xs : List ℕ). max p x ∷ xs) rest
+flat-mapped p f (g ∷ gs) = grind (arith, flat-mapped p f gs)
 
 flat-relays : (now : ℕ) (gs : List Grant) → flat_map (relay_end_in now) gs ≡ relay_ends now (filter_map as_allocation gs)
 flat-relays now [] = refl
-flat-relays now (Allocation a ∷ gs) = ap (λ (xs : List ℕ). relay_end_in now (Allocation a) ++ xs) (flat-relays now gs)
-flat-relays now (Permission ip progress ∷ gs) = flat-relays now gs
-flat-relays now (Channel number peer progress ∷ gs) = flat-relays now gs
-flat-relays now (Connect peer ∷ gs) = flat-relays now gs
-flat-relays now (Offer offer ∷ gs) = flat-relays now gs
-flat-relays now (Connection c ∷ gs) = flat-relays now gs
+flat-relays now (g ∷ gs) = grind (arith, flat-relays now gs)
 
 relay_ends-both : (now : ℕ) (first second : Option Relay) → relay_ends now (option_to_list first ++ option_to_list second) ≡ relay_ends now (option_to_list first) ++ relay_ends now
     (option_to_list second)
-relay_ends-both now None second = refl
-relay_ends-both now (Some a) None = sym (ap (λ (xs : List ℕ). xs) (append-nil (relay_ends now (a ∷ []))))
-relay_ends-both now (Some a) (Some b) = by (nat_lt now a.expiry)
-  where
-    by : (c : Bool) → (if c then a.expiry ∷ [] else []) ++ relay_ends now (b ∷ []) ≡ ((if c then a.expiry ∷ [] else []) ++ []) ++ relay_ends now (b ∷ [])
-    by true = refl
-    by false = refl
+relay_ends-both now first second = grind (arith, append-nil)
 
 -- from the expiries of all but the allocations, the two allocations, and the first refresh
 pub soonest-is : (now pause time : ℕ) (s : State) (first second : Option Relay) → time ≤ max_time → pause ≤ max_time
@@ -227,54 +148,34 @@ pub soonest-is : (now pause time : ℕ) (s : State) (first second : Option Relay
 soonest-is now pause time s first second low early relays =
     let ends = filter_map end_in s.grants in
     let times = filter_map (refresh_time s) s.grants in
-    let end = fold min max_time ends in
-    let refresh = fold min max_time times in
+    let start = min time (fold min max_time ends) in
     let one = relay_ends now (option_to_list first) in
     let two = relay_ends now (option_to_list second) in
     -- the parts of the sum
     let whole : fold min time (all_times now pause s) ≡ min (fold min time (flat_map (end_of now) s.grants))
     (fold min time (flat_map (λ g. map (max pause) (option_to_list (refresh_time s g))) s.grants)) =
     fold-min-both time (end_of now) (λ g. map (max pause) (option_to_list (refresh_time s g))) s.grants in
-    let later : fold min time (flat_map (λ g. map (max pause) (option_to_list (refresh_time s g))) s.grants) ≡ min time (max pause refresh) =
+    let later : fold min time (flat_map (λ g. map (max pause) (option_to_list (refresh_time s g))) s.grants) ≡ min time (max pause (fold min max_time times)) =
     ap (λ (xs : List ℕ). fold min time xs) (flat-mapped pause (refresh_time s) s.grants)
     ∙ (fold-min-from time max_time (map (max pause) times) low ∙ ap (λ (k : ℕ). min time k) (fold-min-max pause max_time times early)) in
     let all_ends : fold min time (flat_map (end_of now) s.grants) ≡ min (fold min time (flat_map (relay_end_in now) s.grants))
     (fold min time (flat_map (λ g. option_to_list (end_in g)) s.grants)) =
     ap (λ (xs : List ℕ). fold min time xs) (flat-same (end_of now) (λ g. relay_end_in now g ++ option_to_list (end_in g)) (end-parts now) s.grants)
     ∙ fold-min-both time (relay_end_in now) (λ g. option_to_list (end_in g)) s.grants in
-    let own_ends : fold min time (flat_map (λ g. option_to_list (end_in g)) s.grants) ≡ min time end =
+    let own_ends : fold min time (flat_map (λ g. option_to_list (end_in g)) s.grants) ≡ start =
     ap (λ (xs : List ℕ). fold min time xs) (flat-options end_in s.grants) ∙ fold-min-from time max_time ends low in
     let relay_parts : fold min time (flat_map (relay_end_in now) s.grants) ≡ min (fold min time one) (fold min time two) =
     ap (λ (xs : List ℕ). fold min time xs) (flat-relays now s.grants ∙ (ap (relay_ends now) relays ∙ relay_ends-both now first second)) ∙ fold-min-append time one two in
     -- the steps of the code
-    let first_step : fold min (min time end) one ≡ min end (fold min time one) = ap (λ (k : ℕ). fold min k one) (commuted time end) ∙ fold-min-acc end time one in
-    let le : fold min time one ≤ time = fold-min-le time one in
-    let second_step : fold min (fold min (min time end) one) two ≡ min (min end (fold min time one)) (fold min time two) =
-    ap (λ (k : ℕ). fold min k two) (first_step ∙ capped end (fold min time one) time le) ∙ fold-min-acc (min end (fold min time one)) time two in
-    omega (arith, whole, later, all_ends, own_ends, relay_parts, second_step, le)
-  where
-    commuted : (a b : ℕ) → min a b ≡ min b a
-    commuted a b = omega arith
-
-    capped : (a b m : ℕ) → b ≤ m → min a b ≡ min (min a b) m
-    capped a b m le = omega (arith, le)
+    let first_step : fold min start one ≡ min start (fold min time one) = fold-min-from start time one (omega arith) in
+    let second_step : fold min (fold min start one) two ≡ min (fold min start one) (fold min time two) = fold-min-from (fold min start one) time two (omega (arith, first_step)) in
+    omega (arith, whole, later, all_ends, own_ends, relay_parts, first_step, second_step)
 
 -- ---- offers
 
 none-untold : (family : AddressFamily) (gs : List Grant) → list_any is_untold gs ≡ false → filter_map (unreported_in family) gs ≡ []
 none-untold family [] none = refl
-none-untold family (Offer offer ∷ gs) none = by offer.is_reported refl (is_of_family family offer.peer) refl none (none-untold family gs)
-  where
-    by : (b : Bool) → offer.is_reported ≡ b → (c : Bool) → is_of_family family offer.peer ≡ c → list_any is_untold (Offer offer ∷ gs) ≡ false
-        → (list_any is_untold gs ≡ false → filter_map (unreported_in family) gs ≡ []) → filter_map (unreported_in family) (Offer offer ∷ gs) ≡ []
-    by true e true f none rest = rw (e, f) (rest (rw e at none))
-    by true e false f none rest = rw (e, f) (rest (rw e at none))
-    by false e c f none rest = let no : true ≡ false = rw e at none in cc
-none-untold family (Allocation a ∷ gs) none = none-untold family gs none
-none-untold family (Permission ip progress ∷ gs) none = none-untold family gs none
-none-untold family (Channel number peer progress ∷ gs) none = none-untold family gs none
-none-untold family (Connect peer ∷ gs) none = none-untold family gs none
-none-untold family (Connection c ∷ gs) none = none-untold family gs none
+none-untold family (g ∷ gs) none = grind (arith, none-untold family gs)
 
 -- nothing is reported if all offers were reported
 pub no-offer : (s : State) (relays : List Relay) → list_any is_untold s.grants ≡ false → None ≡ slice_get (filter_map (λ a. first_unreported (family_of a.relayed) s) relays) 0
@@ -284,47 +185,15 @@ no-offer s relays none = ap (λ (os : List DataOffer). slice_get os 0) (sym (all
     all [] = refl
     all (a ∷ others) = rw (none-untold (family_of a.relayed) s.grants none) (all others)
 
-other-origin : (id : ℕ) (origin : Origin) → is_by_request origin ≡ false → is_request id origin ≡ false
-other-origin id OwnConnect h = refl
-other-origin id (ServerRequest request) h = cc
-other-origin id ServerIndication h = refl
-
 pub none-requested : (id : ℕ) (gs : List Grant) → list_any is_requested gs ≡ false → list_any (is_of_request id) gs ≡ false
 none-requested id [] none = refl
-none-requested id (Offer offer ∷ gs) none = by (is_by_request offer.origin) refl none (none-requested id gs)
-  where
-    by : (b : Bool) → is_by_request offer.origin ≡ b → list_any is_requested (Offer offer ∷ gs) ≡ false
-        → (list_any is_requested gs ≡ false → list_any (is_of_request id) gs ≡ false) → list_any (is_of_request id) (Offer offer ∷ gs) ≡ false
-    by true e none rest = let no : true ≡ false = rw e at none in cc
-    by false e none rest = rw (other-origin id offer.origin e) (rest (rw e at none))
-none-requested id (Allocation a ∷ gs) none = none-requested id gs none
-none-requested id (Permission ip progress ∷ gs) none = none-requested id gs none
-none-requested id (Channel number peer progress ∷ gs) none = none-requested id gs none
-none-requested id (Connect peer ∷ gs) none = none-requested id gs none
-none-requested id (Connection c ∷ gs) none = none-requested id gs none
+none-requested id (g ∷ gs) none = grind (arith, none-requested id gs)
 
 -- ---- reserved channels
 
 none-reserved : (peer : SocketAddr) (now : ℕ) (gs : List Grant) → list_any is_reserved gs ≡ false → filter_map (reserved_from now) (filter_map (progress_to peer) gs) ≡ []
 none-reserved peer now [] none = refl
-none-reserved peer now (Allocation a ∷ gs) none = none-reserved peer now gs none
-none-reserved peer now (Permission ip progress ∷ gs) none = none-reserved peer now gs none
-none-reserved peer now (Channel number other Pending ∷ gs) none = by (same_address other peer) refl (none-reserved peer now gs none)
-  where
-    by : (b : Bool) → same_address other peer ≡ b → filter_map (reserved_from now) (filter_map (progress_to peer) gs) ≡ []
-        → filter_map (reserved_from now) (filter_map (progress_to peer) (Channel number other Pending ∷ gs)) ≡ []
-    by true e rest = rw e rest
-    by false e rest = rw e rest
-none-reserved peer now (Channel number other (Active expiry) ∷ gs) none = by (same_address other peer) refl (none-reserved peer now gs none)
-  where
-    by : (b : Bool) → same_address other peer ≡ b → filter_map (reserved_from now) (filter_map (progress_to peer) gs) ≡ []
-        → filter_map (reserved_from now) (filter_map (progress_to peer) (Channel number other (Active expiry) ∷ gs)) ≡ []
-    by true e rest = rw e rest
-    by false e rest = rw e rest
-none-reserved peer now (Channel number other (Reserved until) ∷ gs) none = let no : true ≡ false = none in cc
-none-reserved peer now (Connect other ∷ gs) none = none-reserved peer now gs none
-none-reserved peer now (Offer offer ∷ gs) none = none-reserved peer now gs none
-none-reserved peer now (Connection c ∷ gs) none = none-reserved peer now gs none
+none-reserved peer now (g ∷ gs) none = grind (arith, none-reserved peer now gs)
 
 -- no peer is kept from being bound if no channel is reserved
 pub no-reservation : (s : State) (peer : SocketAddr) (now : ℕ) → list_any is_reserved s.grants ≡ false → None ≡ slice_get (filter_map (reserved_from now) (channels_to peer s)) 0
@@ -335,14 +204,4 @@ no-reservation s peer now none = ap (λ (times : List ℕ). slice_get times 0) (
 pub either-found : (family : AddressFamily) (relays : List Relay) (first second : Option Relay) → relays ≡ option_to_list first ++ option_to_list second
     → find (λ (a : Relay). is_of_family family a.relayed) relays
     ≡ option_or (find (λ (a : Relay). is_of_family family a.relayed) (option_to_list first)) (find (λ (a : Relay). is_of_family family a.relayed) (option_to_list second))
-either-found family relays first second are = rw are (by first)
-  where
-    by : (first : Option Relay) → find (λ (a : Relay). is_of_family family a.relayed) (option_to_list first ++ option_to_list second)
-        ≡ option_or (find (λ (a : Relay). is_of_family family a.relayed) (option_to_list first)) (find (λ (a : Relay). is_of_family family a.relayed) (option_to_list second))
-    by None = refl
-    by (Some a) = one (is_of_family family a.relayed) refl
-      where
-        one : (b : Bool) → is_of_family family a.relayed ≡ b → find (λ (a : Relay). is_of_family family a.relayed) (a ∷ option_to_list second)
-            ≡ option_or (find (λ (a : Relay). is_of_family family a.relayed) (a ∷ [])) (find (λ (a : Relay). is_of_family family a.relayed) (option_to_list second))
-        one true e = rw e refl
-        one false e = rw e refl
+either-found family relays first second are = rw are (grind arith)

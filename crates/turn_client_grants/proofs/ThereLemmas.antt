@@ -1,11 +1,10 @@
 -- That a grant exists, and stays.
-use Rattle.std.proofs.Common.{◌≡◌, ◌<◌, ◌≤◌, ◌+◌, ◌∙◌, ℕ, Bool, true, false, List, [], ◌∷◌, ◌++◌, ap, filter, fold, length, map, not, refl, sym, arith}
+use Rattle.std.proofs.Common.{◌≡◌, ◌<◌, ◌∙◌, ℕ, Bool, true, false, List, [], ◌∷◌, ap, filter, fold, length, map, not, refl, arith}
 use Rattle.std.specs.Prelude.{◌||◌, Option, Some, None, find, is_some, option_map}
 use Rattle.std.specs.List.{list_any}
 use Rattle.std.specs.declared.net.ip_addr.IpAddr.{IpAddr}
 use Rattle.std.specs.declared.net.socket_addr.SocketAddr.{SocketAddr}
 use Rattle.std.proofs.lemmas.List.Folds.{list_any-append}
-use Rattle.std.proofs.lemmas.Option.{same_Some}
 use Rattle.turn_agent.specs.Agent.{same_address}
 use Rattle.turn_stun.specs.declared.transport.TransportType.TheVariants.{Udp}
 use Rattle.turn_auth.specs.declared.feature.Feature.TheVariants.{Disabled}
@@ -14,11 +13,11 @@ use Rattle.turn_client_api.specs.Grants.{channel_at, is_channel_of, is_permissio
 use Rattle.turn_client_api.specs.State.{State, initial}
 use Rattle.turn_client_api.specs.declared.grant.DataConnection.{DataConnection}
 use Rattle.turn_client_api.specs.declared.grant.Grant.{Grant}
-use Rattle.turn_client_api.specs.declared.grant.Grant.TheVariants.{Allocation, Permission, Channel, Connect, Offer, Connection}
+use Rattle.turn_client_api.specs.declared.grant.Grant.TheVariants.{Permission}
 use Rattle.turn_client_api.specs.declared.grant.Progress.{Progress}
 use Rattle.turn_client_api.specs.declared.grant.Progress.TheVariants.{Pending, Active, Reserved}
 use Rattle.turn_client_api.specs.declared.grant.Purpose.{Purpose}
-use Rattle.turn_client_api.specs.declared.grant.Purpose.TheVariants.{ForAllocation, ForRefresh, ForPermission, ForChannel, ForConnect, ForBind}
+use Rattle.turn_client_api.specs.declared.grant.Purpose.TheVariants.{ForPermission}
 use Rattle.turn_client_grants.specs.Lists.{first_among}
 use Rattle.turn_client_laws.proofs.AddressLemmas.{same_address-true}
 use Rattle.turn_client_grants.proofs.PushLemmas.{few-of}
@@ -38,56 +37,27 @@ someone address = initial Udp address address
     []
 
 pub fewer-of : {X : Type 0} (p : X → Bool) (xs : List X) → list_any p xs ≡ true → length (filter (λ x. not (p x)) xs) < length xs
-fewer-of p [] there = let no : false ≡ true = there in cc
-fewer-of p (x ∷ xs) there = by (p x) refl there (few-of (λ y. not (p y)) xs) (fewer-of p xs)
-  where
-    by : (b : Bool) → p x ≡ b → list_any p (x ∷ xs) ≡ true → length (filter (λ y. not (p y)) xs) ≤ length xs → (list_any p xs ≡ true → length (filter (λ y. not (p y)) xs) < length xs)
-        → length (filter (λ y. not (p y)) (x ∷ xs)) < length (x ∷ xs)
-    by true e there few rest = rw e (omega (arith, few))
-    by false e there few rest = let less = rest (rw e at there) in rw e (omega (arith, less))
+fewer-of p [] there = cc
+fewer-of p (x ∷ xs) there = grind (arith, few-of (λ y. not (p y)) xs, fewer-of p xs)
 
 pub absent : {X : Type 0} (found : Option X) → is_some found ≡ false → found ≡ None
-absent None none = refl
-absent (Some x) none = let no : true ≡ false = none in cc
+absent found none = grind arith
 
 -- ---- what was found exists
 
 found-there : {X : Type 0} (reader : Grant → Option X) (which : Grant → Bool) → ((g : Grant) (x : X) → reader g ≡ Some x → which g ≡ true)
     → (grants : List Grant) (x : X) → first_among reader grants ≡ Some x → list_any which grants ≡ true
-found-there {X = X} reader which passes [] x found = let no : None ≡ Some x = found in cc
-found-there {X = X} reader which passes (g ∷ others) x found = by (reader g) (which g) refl refl (found-there reader which passes others x)
-  where
-    by : (r : Option X) (b : Bool) → reader g ≡ r → which g ≡ b → (first_among reader others ≡ Some x → list_any which others ≡ true) → list_any which (g ∷ others) ≡ true
-    by r true e f rest = rw f refl
-    by None false e f rest = rw f (rest (rw e at found))
-    by (Some y) false e f rest = let no : false ≡ true = sym f ∙ passes g y e in cc
+found-there reader which passes [] x found = cc
+found-there reader which passes (g ∷ others) x found = grind (arith, passes g x, found-there reader which passes others x)
 
 permission-passes : (ip : IpAddr) (g : Grant) (progress : Progress) → permission_progress ip g ≡ Some progress → is_permission_of ip g ≡ true
-permission-passes ip (Permission other own) progress found = by (is_permission_of ip (Permission other own)) refl
-  where
-    by : (b : Bool) → is_permission_of ip (Permission other own) ≡ b → b ≡ true
-    by true e = refl
-    by false e = let no : None ≡ Some progress = rw e at found in cc
-permission-passes ip (Allocation a) progress found = let no : None ≡ Some progress = found in cc
-permission-passes ip (Channel number peer own) progress found = let no : None ≡ Some progress = found in cc
-permission-passes ip (Connect peer) progress found = let no : None ≡ Some progress = found in cc
-permission-passes ip (Offer offer) progress found = let no : None ≡ Some progress = found in cc
-permission-passes ip (Connection c) progress found = let no : None ≡ Some progress = found in cc
+permission-passes ip g progress found = grind arith
 
 pub permission-there : (ip : IpAddr) (grants : List Grant) (progress : Progress) → first_among (permission_progress ip) grants ≡ Some progress → list_any (is_permission_of ip) grants ≡ true
 permission-there ip grants progress found = found-there (permission_progress ip) (is_permission_of ip) (permission-passes ip) grants progress found
 
 channel-passes : (number : ℕ) (g : Grant) (found : SocketAddr × Progress) → channel_at number g ≡ Some found → is_channel_of number g ≡ true
-channel-passes number (Channel other peer own) x found = by (is_channel_of number (Channel other peer own)) refl
-  where
-    by : (b : Bool) → is_channel_of number (Channel other peer own) ≡ b → b ≡ true
-    by true e = refl
-    by false e = let no : None ≡ Some x = rw e at found in cc
-channel-passes number (Allocation a) x found = let no : None ≡ Some x = found in cc
-channel-passes number (Permission ip own) x found = let no : None ≡ Some x = found in cc
-channel-passes number (Connect peer) x found = let no : None ≡ Some x = found in cc
-channel-passes number (Offer offer) x found = let no : None ≡ Some x = found in cc
-channel-passes number (Connection c) x found = let no : None ≡ Some x = found in cc
+channel-passes number g x found = grind arith
 
 pub channel-there : (number : ℕ) (grants : List Grant) (peer : SocketAddr) → option_map (λ (p : SocketAddr × Progress). p.0) (first_among (channel_at number) grants) ≡ Some peer
     → list_any (is_channel_of number) grants ≡ true
@@ -99,12 +69,8 @@ channel-there number grants peer found = by (first_among (channel_at number) gra
 
 -- a data connection that is found by a local address has that address
 found-local : (local : SocketAddr) (connections : List DataConnection) (c : DataConnection) → find (λ (d : DataConnection). same_address d.local local) connections ≡ Some c → c.local ≡ local
-found-local local [] c found = let no : None ≡ Some c = found in cc
-found-local local (d ∷ others) c found = by (same_address d.local local) refl (found-local local others c)
-  where
-    by : (b : Bool) → same_address d.local local ≡ b → (find (λ (x : DataConnection). same_address x.local local) others ≡ Some c → c.local ≡ local) → c.local ≡ local
-    by true e rest = let same : d ≡ c = same_Some d c (rw e at found) in rw (← same) (same_address-true d.local local e)
-    by false e rest = rest (rw e at found)
+found-local local [] c found = cc
+found-local local (d ∷ others) c found = grind (arith, same_address-true d.local local, found-local local others c)
 
 pub own-end : (local : SocketAddr) (connections : List DataConnection) (c : DataConnection) → find (λ (d : DataConnection). same_address d.local local) connections ≡ Some c
     → find (λ (d : DataConnection). same_address d.local c.local) connections ≡ Some c
@@ -114,13 +80,7 @@ own-end local connections c found = ap (λ l. find (λ (d : DataConnection). sam
 
 any-filtered : {X : Type 0} (p q : X → Bool) → ((x : X) → p x ≡ true → q x ≡ true) → (xs : List X) → list_any p (filter q xs) ≡ list_any p xs
 any-filtered p q passes [] = refl
-any-filtered p q passes (x ∷ xs) = by (p x) (q x) refl refl (any-filtered p q passes xs)
-  where
-    by : (a b : Bool) → p x ≡ a → q x ≡ b → list_any p (filter q xs) ≡ list_any p xs → list_any p (filter q (x ∷ xs)) ≡ list_any p (x ∷ xs)
-    by true true e f rest = rw (f, e) refl
-    by true false e f rest = let no : true ≡ false = sym (passes x e) ∙ f in cc
-    by false true e f rest = rw (f, e) rest
-    by false false e f rest = rw (f, e) rest
+any-filtered p q passes (x ∷ xs) = grind (arith, passes x, any-filtered p q passes xs)
 
 any-mapped : {X : Type 0} (p : X → Bool) (f : X → X) → ((x : X) → p (f x) ≡ p x) → (xs : List X) → list_any p (map f xs) ≡ list_any p xs
 any-mapped p f same [] = refl
@@ -133,11 +93,7 @@ pub record OfChannels (p : Grant → Bool) : Type 0 where
   pub other : (ip : IpAddr) (progress : Progress) → p (Permission ip progress) ≡ false
 
 renewed-channel : (p : Grant → Bool) → OfChannels p → (expiry : ℕ) (which : Grant → Bool) (g : Grant) → p (lasting_if which expiry g) ≡ p g
-renewed-channel p of expiry which g = by (which g) refl
-  where
-    by : (b : Bool) → which g ≡ b → p (lasting_if which expiry g) ≡ p g
-    by true e = rw e (of.lasts expiry g)
-    by false e = rw e refl
+renewed-channel p of expiry which g = grind (arith, of.lasts expiry g)
 
 channels-stay : (p : Grant → Bool) → OfChannels p → (ip : IpAddr) (is_granted : Bool) (now : ℕ) (s : State)
     → list_any p (permission_answered ip is_granted now s).grants ≡ list_any p s.grants
@@ -161,11 +117,7 @@ channels-stay p of ip is_granted now s = by (permission_state ip s) is_granted r
 purpose-stays : (p : Grant → Bool) → OfChannels p → (is_granted : Bool) (now : ℕ) (s : State) (purpose : Purpose)
     → list_any p (permission_answered_for is_granted now s purpose).grants ≡ list_any p s.grants
 purpose-stays p of is_granted now s (ForPermission ip) = channels-stay p of ip is_granted now s
-purpose-stays p of is_granted now s ForAllocation = refl
-purpose-stays p of is_granted now s (ForRefresh family lifetime) = refl
-purpose-stays p of is_granted now s (ForChannel other peer) = refl
-purpose-stays p of is_granted now s (ForConnect peer) = refl
-purpose-stays p of is_granted now s (ForBind local peer id) = refl
+purpose-stays p of is_granted now s purpose = refl
 
 pub purposes-stay : (p : Grant → Bool) → OfChannels p → (is_granted : Bool) (now : ℕ) (s : State) (purposes : List Purpose)
     → list_any p (fold (permission_answered_for is_granted now) s purposes).grants ≡ list_any p s.grants
