@@ -1,5 +1,4 @@
-use Rattle.std.proofs.Common.{◌≡◌, ◌≤◌, ◌+◌, ◌∷◌, [], arith, filter, length, not, refl}
-use Rattle.turn_client_grants.specs.Failures.{close_room_for, event_room_for}
+use Rattle.std.proofs.Common.{arith, refl}
 use Rattle.turn_client_grants.proofs.OfferLemmas.{connections-told, event_room_for-told}
 use Rattle.turn_client_grants.proofs.ledger.GrantLedger.offer_reported.Goals as goal
 
@@ -8,23 +7,18 @@ returns-clause-state c = λ s. rw (c.report_offer.ensures.grants, c.report_offer
 
 pub returns-clause-room : goal.returns-clause-room
 returns-clause-room c =
-    let was = c.self.inside.table.grants in
-    let events : event_room_for c.report_offer.new.self.grants ≡ event_room_for was = rw (c.report_offer.ensures.grants, event_room_for-told) refl in
-    let closes : close_room_for c.report_offer.new.self.grants ≡ close_room_for was = rw (c.report_offer.ensures.grants, connections-told) refl in
-    rw (← c.self.view_is)
+    rw (← c.self.view_is, c.report_offer.ensures.grants, event_room_for-told, connections-told)
     (record {
       grants_left = omega (arith, c.report_offer.ensures.grant_room);
       listings_left = omega (arith, c.report_offer.ensures.listing_room);
-      events_left = omega (arith, events);
-      closes_left = omega (arith, closes);
+      events_left = omega arith;
+      closes_left = omega arith;
     })
 
 pub invariant_of-self : goal.invariant_of-self
 invariant_of-self c =
-    let was = c.self.inside.table.grants in
-    let events : event_room_for c.report_offer.new.self.grants ≡ event_room_for was = rw (c.report_offer.ensures.grants, event_room_for-told) refl in
-    let closes : close_room_for c.report_offer.new.self.grants ≡ close_room_for was = rw (c.report_offer.ensures.grants, connections-told) refl in
-    record {
-      events_fit = omega (arith, events, c.self.invariant.events_fit);
-      closes_fit = omega (arith, closes, c.self.invariant.closes_fit);
-    }
+    rw c.report_offer.ensures.grants
+    (record {
+      events_fit = rw event_room_for-told c.self.invariant.events_fit;
+      closes_fit = rw connections-told c.self.invariant.closes_fit;
+    })

@@ -1,8 +1,7 @@
-use Rattle.std.proofs.Common.{◌≡◌, ◌≤◌, ◌+◌, ◌∷◌, [], arith, filter, not, refl}
+use Rattle.std.proofs.Common.{◌≡◌, arith, filter, not, refl}
 use Rattle.turn_client_grants.specs.Asked.{all_back}
 use Rattle.turn_client_grants.specs.Ledger.{with_ledger}
 use Rattle.turn_client_grants.proofs.PushLemmas.{unlisted-none}
-use Rattle.turn_client_grants.specs.Failures.{close_room_for, event_room_for}
 use Rattle.turn_client_grants.specs.Table.{changed}
 use Rattle.turn_client_grants.specs.GrantFilter.{holds, purposes_in}
 use Rattle.turn_client_grants.specs.declared.grant_filter.GrantFilter.TheVariants as W
@@ -24,27 +23,25 @@ pub returns-clause-room : goal.returns-clause-room
 returns-clause-room c =
     let was = c.self.inside.table.grants in
     let left = filter (λ g. not (holds W.Active g)) was in
-    let events : event_room_for c.list.new.self.grants ≤ event_room_for was =
-    rw (c.list.ensures.grants, c.change.ensures.grants, c.remove.ensures.grants, event_room_for-changed (C.EndAll c.args.now) left) (event_room_for-filtered (λ g. not (holds W.Active g)) was) in
-    let closes : close_room_for c.list.new.self.grants ≤ close_room_for was =
-    rw (c.list.ensures.grants, c.change.ensures.grants, c.remove.ensures.grants, closes-changed (C.EndAll c.args.now) left) (closes-filtered (λ g. not (holds W.Active g)) was) in
-    rw (← c.self.view_is)
+    rw (← c.self.view_is, c.list.ensures.grants, c.change.ensures.grants, c.remove.ensures.grants)
     (record {
       grants_left = omega (arith, c.remove.ensures.grant_room, c.change.ensures.grant_room, c.list.ensures.grant_room);
       listings_left = omega (arith, c.remove.ensures.listing_room, c.change.ensures.listing_room, c.list.ensures.listing_room);
-      events_left = omega (arith, events);
-      closes_left = omega (arith, closes);
+      events_left = omega (arith, event_room_for-changed (C.EndAll c.args.now) left, event_room_for-filtered (λ g. not (holds W.Active g)) was);
+      closes_left = omega (arith, closes-changed (C.EndAll c.args.now) left, closes-filtered (λ g. not (holds W.Active g)) was);
     })
 
 pub invariant_of-self : goal.invariant_of-self
 invariant_of-self c =
     let was = c.self.inside.table.grants in
     let left = filter (λ g. not (holds W.Active g)) was in
-    let events : event_room_for c.list.new.self.grants ≤ event_room_for was =
-    rw (c.list.ensures.grants, c.change.ensures.grants, c.remove.ensures.grants, event_room_for-changed (C.EndAll c.args.now) left) (event_room_for-filtered (λ g. not (holds W.Active g)) was) in
-    let closes : close_room_for c.list.new.self.grants ≤ close_room_for was =
-    rw (c.list.ensures.grants, c.change.ensures.grants, c.remove.ensures.grants, closes-changed (C.EndAll c.args.now) left) (closes-filtered (λ g. not (holds W.Active g)) was) in
-    record {
-      events_fit = omega (arith, events, c.self.invariant.events_fit);
-      closes_fit = omega (arith, closes, c.self.invariant.closes_fit);
-    }
+    rw (c.list.ensures.grants, c.change.ensures.grants, c.remove.ensures.grants)
+    (record {
+      events_fit = omega (
+        arith,
+        event_room_for-changed (C.EndAll c.args.now) left,
+        event_room_for-filtered (λ g. not (holds W.Active g)) was,
+        c.self.invariant.events_fit,
+      );
+      closes_fit = omega (arith, closes-changed (C.EndAll c.args.now) left, closes-filtered (λ g. not (holds W.Active g)) was, c.self.invariant.closes_fit);
+    })
