@@ -1,8 +1,6 @@
-use Rattle.std.proofs.Common.{◌≡◌, ◌≤◌, ◌+◌, ◌++◌, drop, filter, length, map, not, reverse}
-use Rattle.std.specs.List.{list_any}
+use Rattle.std.proofs.Common.{◌≡◌, ◌+◌, ◌++◌, drop, length, map}
 use Rattle.std.specs.VecDeque.{deque_capacity, deque_len}
-use Rattle.turn_client_api.specs.Grants.{is_of_family}
-use Rattle.turn_client_api.specs.declared.event.TurnEvent.TheVariants.{AllocationCreateFailed, AllocationCreated}
+use Rattle.turn_client_api.specs.declared.event.TurnEvent.TheVariants.{AllocationCreated}
 use Rattle.turn_client_grants.proofs.allocation_events.push_created.Given as goal
 
 abbrev pub invariant-loop-address : goal.invariant-loop-address
