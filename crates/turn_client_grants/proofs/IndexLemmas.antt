@@ -40,21 +40,15 @@ module _ {G : Type 0} where
     unfolding IsIndex
     first-by_index {X} f find rows k is h = rw (filter_map-through f (test k) h rows, is k) (by (find k))
       where
-        one : (x : Option X) → slice_get (filter_map (λ (y : Option X). y) (x ∷ [])) 0 ≡ x
-        one None = refl
-        one (Some x) = refl
-
         by : (found : Option G) → slice_get (filter_map f (option_to_list found)) 0 ≡ option_and_then f found
-        by None = refl
-        by (Some g) = one (f g)
+        by found = grind arith
 
     pub any-by_index : (find : K → Option G) (rows : List G) (k : K) → IsIndex test find rows → list_any (test k) rows ≡ is_some (find k)
     unfolding IsIndex
     any-by_index find rows k is = rw (list_any-filter (test k) rows, is k) (by (find k))
       where
         by : (found : Option G) → is_some (slice_get (option_to_list found) 0) ≡ is_some found
-        by None = refl
-        by (Some g) = refl
+        by found = grind arith
 
     -- ---- rows are added and removed
 
@@ -79,8 +73,7 @@ module _ {G : Type 0} where
     index-removed find then rows which is_at is now at k = rw (filter-filter_out (test k) which (is_at k) (at k) rows, is k, now k) (by (is_at k))
       where
         by : (b : Bool) → cond b [] (option_to_list (find k)) ≡ option_to_list (cond b None (find k))
-        by true = refl
-        by false = refl
+        by b = grind arith
 
     -- rows change in their places, and keep their keys
     pub index-changed : (find then : K → Option G) (rows : List G) (h : G → G) → IsIndex test find rows
@@ -90,8 +83,7 @@ module _ {G : Type 0} where
     index-changed find then rows h is now same k = rw (filter-map_same (test k) h (same k) rows, is k, now k) (by (find k))
       where
         by : (found : Option G) → map h (option_to_list found) ≡ option_to_list (option_map h found)
-        by None = refl
-        by (Some g) = refl
+        by found = grind arith
 
     -- the rows that pass stay
     pub index-filtered : (find then : K → Option G) (rows : List G) (passes : G → Bool) → IsIndex test find rows
@@ -99,13 +91,8 @@ module _ {G : Type 0} where
     unfolding IsIndex
     index-filtered find then rows passes is now k = rw (filter-filter (test k) passes rows, is k, now k) (by (find k))
       where
-        kept : (b : Bool) (g : G) → cond b (g ∷ []) [] ≡ option_to_list (cond b (Some g) None)
-        kept true g = refl
-        kept false g = refl
-
         by : (found : Option G) → filter passes (option_to_list found) ≡ option_to_list (option_filter passes found)
-        by None = refl
-        by (Some g) = kept (passes g) g
+        by found = grind arith
 
     pub index-same : (find then : K → Option G) (rows : List G) → IsIndex test find rows → ((k : K) → then k ≡ find k) → IsIndex test then rows
     unfolding IsIndex
@@ -124,12 +111,7 @@ module _ {G : Type 0} where
         both = rw (← is k) (filter-filter other (test k) rows ∙ (rw (alone, passes) refl))
 
         by : (found : Option G) → filter other (option_to_list found) ≡ g ∷ [] → found ≡ Some g
-        by None e = cc
-        by (Some h) e = one (other h) e
-          where
-            one : (b : Bool) → cond b (h ∷ []) [] ≡ g ∷ [] → Some h ≡ Some g
-            one true d = cc
-            one false d = cc
+        by found e = grind arith
 
     -- no row has the key, so the map leads nowhere from it
     pub index-free : (eq : K → K → Bool) → ((a b : K) → eq a b ≡ true → a ≡ b) → (find : K → Option G) (rows : List G) (key : K)
@@ -138,5 +120,4 @@ module _ {G : Type 0} where
         subst (λ (k : K). find k ≡ None) (exact key k at) (none (find key) (sym (any-by_index find rows key is) ∙ free))
       where
         none : (found : Option G) → is_some found ≡ false → found ≡ None
-        none None h = refl
-        none (Some g) h = cc
+        none found h = grind arith

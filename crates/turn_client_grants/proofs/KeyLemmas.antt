@@ -172,11 +172,7 @@ one-goes which rows find k is there = ap (λ (gs : List Grant). list_any which g
 
 pub keyed-found : (which : Grant → Bool) (rows : List Grant) (find : Key → Option Grant) (grant : Grant) → IsIndex is_found_by find rows → IsKeyed which grant rows → (k : Key)
     → is_found_by k grant ≡ true → is_some (find k) ≡ true
-keyed-found which rows find grant is keyed k at = by (find k) (one-goes which rows find k is (keyed k at))
-  where
-    by : (found : Option Grant) → list_any which (option_to_list found) ≡ true → is_some found ≡ true
-    by None h = cc
-    by (Some g) h = refl
+keyed-found which rows find grant is keyed k at = grind (arith, one-goes which rows find k is (keyed k at))
 
 pub index-replaced : (which : Grant → Bool) (rows : List Grant) (find then : Key → Option Grant) (grant : Grant) → IsIndex is_found_by find rows → IsKeyed which grant rows
     → ((k : Key) → then k ≡ cond (is_found_by k grant) (Some grant) (option_filter (λ g. not (which g)) (find k)))
@@ -186,13 +182,8 @@ index-replaced which rows find then grant is keyed now =
     index-pushed is_found_by mid then (filter (λ g. not (which g)) rows) grant (λ k. is_found_by k grant) (index-without which rows find mid is (λ k. refl)) now (λ k. refl)
     (λ k at. by (find k) (one-goes which rows find k is (keyed k at)))
   where
-    gone : (b : Bool) (g : Grant) → (b || false) ≡ true → cond (not b) (Some g) None ≡ None
-    gone true g h = refl
-    gone false g h = cc
-
     by : (found : Option Grant) → list_any which (option_to_list found) ≡ true → option_filter (λ g. not (which g)) found ≡ None
-    by None h = refl
-    by (Some g) h = gone (which g) g h
+    by found h = grind arith
 
 -- ---- the grant that a key finds
 
@@ -211,8 +202,7 @@ unlisted-one rows listed find key old is found =
     filter_agree (λ l. not (is_for l.purpose old)) (λ l. not (list_any (λ g. is_found_by key g && is_for l.purpose g) rows)) (λ l. ap not (by l.purpose)) listed
   where
     none : (b : Bool) → b ≡ (b || false)
-    none true = refl
-    none false = refl
+    none b = grind arith
 
     by : (p : Purpose) → is_for p old ≡ list_any (λ g. is_found_by key g && is_for p g) rows
     by p = none (is_for p old) ∙ sym (any-filtered (is_found_by key) (is_for p) rows ∙ ap (list_any (is_for p)) (index-found is_found_by find rows key old is found))

@@ -62,7 +62,8 @@ any-at reader which x passes (g ∷ rows) found = grind (arith, passes g, any-at
 
 -- a pending channel that was found exists
 pub pending-there : (number : ℕ) (peer : SocketAddr) (rows : List Grant) → first_among (channel_at number) rows ≡ Some (peer, Pending) → list_any (is_open_channel number peer) rows ≡ true
-pending-there number peer rows found = any-at (channel_at number) (is_open_channel number peer) (peer, Pending) (λ g e. grind (arith, same_address-self)) rows found
+pending-there number peer rows found =
+    any-at (channel_at number) (is_open_channel number peer) (peer, Pending) (λ g e. grind (arith, same_address-self)) rows found
 
 -- such a channel stays when permissions are answered
 pub open-of_channels : (number : ℕ) (peer : SocketAddr) → OfChannels (is_open_channel number peer)

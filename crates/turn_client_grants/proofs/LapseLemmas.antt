@@ -1,5 +1,5 @@
 -- What expires as time passes, and the room that it leaves.
-use Rattle.std.proofs.Common.{◌≡◌, ◌≤◌, ◌<◌, ◌+◌, ℕ, Bool, true, false, List, [], ◌∷◌, ◌++◌, filter, find, length, map, not, refl, reverse, sym, ◌∙◌, ◌⊎◌, inl, inr, arith}
+use Rattle.std.proofs.Common.{◌≡◌, ◌≤◌, ◌<◌, ◌+◌, ℕ, Bool, true, false, List, [], ◌∷◌, ◌++◌, filter, find, length, map, not, refl, reverse, inl, inr, arith}
 use Rattle.std.specs.Prelude.{◌&&◌, Option, Some, filter_map, option_to_list, slice_get}
 use Rattle.std.specs.List.{list_all, list_any}
 use Rattle.std.specs.declared.net.socket_addr.SocketAddr.{SocketAddr}
@@ -73,13 +73,8 @@ ended-is family now s number peer expiry found = rw found refl
 
 has-fewer : {X : Type 0} (p : X → Bool) (g : X) (xs : List X) → Has g xs → p g ≡ true → length (filter (λ x. not (p x)) xs) < length xs
 has-fewer p g [] has passes = absurd has
-has-fewer p g (x ∷ xs) has passes = by (p x) refl has (few-of (λ y. not (p y)) xs) (λ later. has-fewer p g xs later passes)
-  where
-    by : (b : Bool) → p x ≡ b → (g ≡ x) ⊎ Has g xs → length (filter (λ y. not (p y)) xs) ≤ length xs → (Has g xs → length (filter (λ y. not (p y)) xs) < length xs)
-        → length (filter (λ y. not (p y)) (x ∷ xs)) < length (x ∷ xs)
-    by true e has few rest = rw e (omega (arith, few))
-    by false e (inl same) few rest = let no : false ≡ true = sym e ∙ (rw same at passes) in cc
-    by false e (inr later) few rest = rw e (omega (arith, rest later))
+has-fewer p g (x ∷ xs) (inl same) passes = rw (← same, passes) (omega (arith, few-of (λ y. not (p y)) xs))
+has-fewer p g (x ∷ xs) (inr later) passes = grind (arith, has-fewer p g xs later passes)
 
 has-any : {X : Type 0} (p : X → Bool) (g : X) (xs : List X) → Has g xs → p g ≡ true → list_any p xs ≡ true
 has-any p g [] has passes = absurd has

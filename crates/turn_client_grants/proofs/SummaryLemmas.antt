@@ -168,7 +168,8 @@ soonest-is now pause time s first second low early relays =
     ap (λ (xs : List ℕ). fold min time xs) (flat-relays now s.grants ∙ (ap (relay_ends now) relays ∙ relay_ends-both now first second)) ∙ fold-min-append time one two in
     -- the steps of the code
     let first_step : fold min start one ≡ min start (fold min time one) = fold-min-from start time one (omega arith) in
-    let second_step : fold min (fold min start one) two ≡ min (fold min start one) (fold min time two) = fold-min-from (fold min start one) time two (omega (arith, first_step)) in
+    let second_step : fold min (fold min start one) two ≡ min (fold min start one) (fold min time two) =
+    fold-min-from (fold min start one) time two (omega (arith, first_step)) in
     omega (arith, whole, later, all_ends, own_ends, relay_parts, first_step, second_step)
 
 -- ---- offers

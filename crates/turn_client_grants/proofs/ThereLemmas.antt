@@ -103,8 +103,7 @@ channels-stay p of ip is_granted now s = by (permission_state ip s) is_granted r
     left = any-filtered p (λ g. not (is_permission_of ip g)) (of.apart ip) s.grants
 
     none-more : (b : Bool) → (b || false) ≡ b
-    none-more true = refl
-    none-more false = refl
+    none-more b = grind arith
 
     by : (found : Option Progress) (b : Bool) → permission_state ip s ≡ found → list_any p (permission_answered ip b now s).grants ≡ list_any p s.grants
     by None b e = rw e refl

@@ -1,4 +1,4 @@
-use Rattle.std.proofs.Common.{◌≡◌, ◌∙◌, Bool, true, false, ap, cond, not, refl}
+use Rattle.std.proofs.Common.{◌≡◌, ◌∙◌, Bool, true, ap, cond, not, arith}
 use Rattle.std.specs.Prelude.{◌&&◌, Option, Some, None, is_some}
 use Rattle.std.specs.HashMap as hash
 use Rattle.turn_client_api.specs.declared.grant.Grant.{Grant}
@@ -8,14 +8,10 @@ use Rattle.turn_client_grants.proofs.key.replace.Goals as goal
 
 -- a key of the new grant is not removed
 stays : (a b : Bool) (found : Option Grant) → a ≡ true → is_some found ≡ true → is_some (cond (b && not a) None found) ≡ true
-stays true true found e there = there
-stays true false found e there = there
-stays false b found e there = cc
+stays a b found e there = grind arith
 
 either : (a b : Bool) (new found : Option Grant) → cond a new (cond (b && not a) None found) ≡ cond a new (cond b None found)
-either true b new found = refl
-either false true new found = refl
-either false false new found = refl
+either a b new found = grind arith
 
 pub set_keys-requires : goal.set_keys-requires
 set_keys-requires c = λ k at. rw (c.remove_keys.ensures.leads k) (stays (is_found_by k c.args.grant.now) (is_found_by k c.args.old.now) (hash.get key_eq c.args.found.now k) at (c.requires k at))
