@@ -1,60 +1,27 @@
 -- A connection is bound by a signed success on it.
-use Rattle.std.proofs.Common.{◌≡◌, ℕ, Bool, true, false, cond, ◌&&◌, List, [], ◌∷◌, Some, refl, sym, subst, ap, inl, inr}
+use Rattle.std.proofs.Common.{◌≡◌, ℕ, Bool, true, false, List, [], ◌∷◌, Some, refl, sym, subst, ap, inl, inr}
 use Rattle.std.specs.Prelude.{find}
 use Rattle.std.specs.List.{list_any}
 use Rattle.std.specs.declared.net.socket_addr.SocketAddr.{SocketAddr}
 use Rattle.turn_stun.specs.Message.{id_of}
-use Rattle.turn_auth.specs.Validation.{validation_of}
-use Rattle.turn_auth.specs.declared.validation.Validation.{Validation}
-use Rattle.turn_auth.specs.declared.validation.Validation.TheVariants.{Validated}
-use Rattle.turn_agent.specs.Agent.{is_outstanding, is_response, same_address}
-use Rattle.turn_client_api.specs.State.{State, auth_of}
+use Rattle.turn_stun.specs.declared.message.header.MessageClass.TheVariants.{Success}
+use Rattle.turn_agent.specs.Agent.{same_address}
+use Rattle.turn_client_api.specs.State.{State}
 use Rattle.turn_client_api.specs.declared.state.Mode.TheVariants.{Waiting}
 use Rattle.turn_client_api.specs.declared.state.Stream.{Stream}
 use Rattle.turn_client_api.specs.declared.grant.DataConnection.{DataConnection}
 use Rattle.turn_client_api.specs.declared.grant.Purpose.{Purpose}
 use Rattle.turn_client_api.specs.declared.grant.Purpose.TheVariants.{ForAllocation, ForBind}
 use Rattle.turn_client_api.specs.Grants.{purposes_of}
-use Rattle.turn_client_api.specs.Judgement.{Judgement, Fatal, SignedSuccess, bind_judgement, by_class, challenge_in, challenged_or, class_in, is_bind_of}
+use Rattle.turn_client_api.specs.Judgement.{is_bind_of}
 use Rattle.turn_client_api.specs.Payloads.{is_message}
 use Rattle.turn_client_laws.specs.Handled.{Input}
 use Rattle.turn_client_laws.specs.LawsBound.{IsBindInput}
 use Rattle.turn_client_laws.proofs.AddressLemmas.{same_address-true}
 use Rattle.turn_client_laws.proofs.HasLemmas.{Has, has-found}
+use Rattle.turn_client_laws.proofs.ChallengeJudgement.{AnswersBind, IsSignedReply, bind-says}
 use Rattle.turn_client_laws.proofs.StandLemmas.{has-contains}
-use Rattle.turn_client_laws.proofs.GrantOriginMessageLemmas.{IsSignedSuccess, &&-second, by_class-granted, challenged_or-granted, cond-granted, validated}
 use Rattle.turn_client_laws.proofs.GrantOriginCallLemmas.{Binds}
-
--- ---- how it is judged
-
--- a message binds the connection only as a signed success to the request that was made for it
-pub bind-granted : (s : State) (local : SocketAddr) (message : List ℕ) → bind_judgement s local message ≡ SignedSuccess → IsSignedSuccess message s
-    × (list_any (is_bind_of local) (purposes_of (id_of message) s) ≡ true)
-bind-granted s local message = by (validation_of (auth_of s) message) refl
-  where
-    is_asked : Bool
-    is_asked = list_any (is_bind_of local) (purposes_of (id_of message) s)
-
-    answers : Bool
-    answers = is_response (class_in message) && is_asked
-
-    Goal : Type 0
-    Goal = IsSignedSuccess message s × (is_asked ≡ true)
-
-    once : (j : Judgement) → cond answers (challenged_or j (challenge_in s message)) Fatal ≡ SignedSuccess → (is_asked ≡ true) × (j ≡ SignedSuccess)
-    once j h =
-        let (is, e) = cond-granted answers (challenged_or j (challenge_in s message)) Fatal (λ e. cc) h in
-        (&&-second (is_response (class_in message)) is_asked is, challenged_or-granted j (challenge_in s message) e)
-
-    by : (v : Validation) → validation_of (auth_of s) message ≡ v → bind_judgement s local message ≡ SignedSuccess → Goal
-    by (Validated algorithm) e = rw e at
-      where
-        at : cond answers (challenged_or (cond (is_outstanding (id_of message) s.transactions) (by_class (class_in message)) Fatal) (challenge_in s message)) Fatal ≡ SignedSuccess → Goal
-        at h =
-            let (asked, g) = once _ h in
-            let (outstanding, k) = cond-granted (is_outstanding (id_of message) s.transactions) (by_class (class_in message)) Fatal (λ e. cc) g in
-            (record { success = by_class-granted (class_in message) k; signed = validated _ (Validated algorithm) e tt; outstanding = outstanding }, asked)
-    by v e = rw e (λ h. let n : Fatal ≡ SignedSuccess = (once Fatal h).1 in cc)
 
 -- ---- for which connection its request was made
 
@@ -88,9 +55,9 @@ binds-turn one stream t of waits whole b = record {
   connection = b.c;
   found = b.found;
   to = refl;
-  success = granted.0.success;
-  signed = granted.0.signed;
-  outstanding = granted.0.outstanding;
+  success = granted.1.class_is;
+  signed = granted.1.signed;
+  outstanding = granted.1.outstanding;
   asked = asked.0;
   number = asked.1;
   listed = has-contains (ForBind stream.local asked.0 asked.1) purposes asked.2;
@@ -99,8 +66,8 @@ binds-turn one stream t of waits whole b = record {
     purposes : List Purpose
     purposes = purposes_of (id_of one.bytes) one.before
 
-    granted : IsSignedSuccess one.bytes one.before × (list_any (is_bind_of b.c.local) purposes ≡ true)
-    granted = bind-granted one.before b.c.local one.bytes b.judged
+    granted : AnswersBind b.c.local one.bytes one.before × IsSignedReply Success one.bytes one.before
+    granted = rw b.judged at (bind-says one.before b.c.local one.bytes)
 
     asked : IsAsked stream.local purposes
-    asked = for-bind stream.local purposes (subst (λ (x : SocketAddr). list_any (is_bind_of x) purposes ≡ true) (found-local stream.local b.c _ b.found) granted.1)
+    asked = for-bind stream.local purposes (subst (λ (x : SocketAddr). list_any (is_bind_of x) purposes ≡ true) (found-local stream.local b.c _ b.found) granted.0)

@@ -1,83 +1,172 @@
--- What is judged to be a challenge is one.
-use Rattle.std.proofs.Common.{◌≡◌, ℕ, Bool, true, false, not, cond, ◌&&◌, eqb, List, Option, Some, None, refl, ap}
+-- What the judgement of a message says of it.
+use Rattle.std.proofs.Common.{◌≡◌, ℕ, Bool, true, false, cond, ◌&&◌, not, eqb, List, Option, Some, None, refl, sym, ◌∙◌}
+use Rattle.std.specs.Prelude.{⊤}
+use Rattle.std.specs.List.{list_any}
+use Rattle.std.proofs.lemmas.Bool.{and_parts}
 use Rattle.std.specs.declared.net.socket_addr.SocketAddr.{SocketAddr}
 use Rattle.turn_stun.specs.Message.{id_of}
 use Rattle.turn_stun.specs.declared.message.header.MessageClass.{MessageClass}
-use Rattle.turn_stun.specs.declared.message.header.MessageClass.TheVariants.{Request, Indication, Error}
+use Rattle.turn_stun.specs.declared.message.header.MessageClass.TheVariants.{Request, Indication, Success, Error}
 use Rattle.turn_auth.specs.LongTerm.{Challenge}
-use Rattle.turn_auth.specs.Validation.{validation_of}
+use Rattle.turn_auth.specs.Validation.{IsValidated, validation_of}
 use Rattle.turn_auth.specs.declared.validation.Validation.{Validation}
 use Rattle.turn_auth.specs.declared.validation.Validation.TheVariants.{Validated, ResendRequest, Refused}
 use Rattle.turn_agent.specs.Agent.{is_outstanding, is_response}
 use Rattle.turn_client_api.specs.State.{State, auth_of}
 use Rattle.turn_client_api.specs.declared.state.Phase.{Phase}
 use Rattle.turn_client_api.specs.declared.state.Phase.TheVariants.{Requesting, Authenticating, Allocated}
+use Rattle.turn_client_api.specs.Grants.{purposes_of}
 use Rattle.turn_client_api.specs.Requests.{connection_attempt_method, data_method}
-use Rattle.turn_client_api.specs.Judgement.{Judgement, Unrelated, Challenged, Fatal, LateResponse, DataIndication, ConnectionAttempt, judgement_of, bind_judgement, by_class, challenged_or}
-use Rattle.turn_client_api.specs.Judgement.{challenge_in, answers_one, answers_allocate, authenticating_judgement, allocated_judgement, indication_judgement, class_in, method_in}
+use Rattle.turn_client_api.specs.Judgement.{Judgement, Unrelated, Challenged, Fatal, LateResponse, DataIndication, ConnectionAttempt, SignedRequest, SignedSuccess, SignedError, allocated_judgement}
+use Rattle.turn_client_api.specs.Judgement.{answers_allocate, answers_one, authenticating_judgement, bind_judgement, by_class, challenge_in, challenged_or, class_in, is_bind_of, judgement_of}
+use Rattle.turn_client_api.specs.Judgement.{method_in}
 
--- ---- challenges
+-- the message is a reply of this class that is signed as the client requires, to an outstanding request
+pub record IsSignedReply (class : MessageClass) (message : List ℕ) (s : State) : Type 0 where
+  pub class_is : class_in message ≡ class
+  pub signed : IsValidated (validation_of (auth_of s) message)
+  pub outstanding : is_outstanding (id_of message) s.transactions ≡ true
 
--- what is a challenge, the message contains
-challenged_or-is : (j : Judgement) (o : Option Challenge) (c : Challenge) → (j ≡ Challenged c → ⊥) → challenged_or j o ≡ Challenged c → o ≡ Some c
-challenged_or-is j None c not_j e = absurd (not_j e)
-challenged_or-is j (Some d) c not_j e = let same : d ≡ c = cc in ap Some same
+-- A signed reply answers a request of this kind; what holds of each judgement, where it may be made.
+record HoldsOfJudged (Answers : Type 0) (P : Judgement → Type 0) (message : List ℕ) (s : State) : Type 0 where
+  unrelated : P Unrelated
+  challenged : (d : Challenge) → challenge_in s message ≡ Some d → P (Challenged d)
+  fatal : P Fatal
+  late : P LateResponse
+  data_told : class_in message ≡ Indication → P DataIndication
+  attempt : class_in message ≡ Indication → P ConnectionAttempt
+  request : class_in message ≡ Request → P SignedRequest
+  success : Answers → IsSignedReply Success message s → P SignedSuccess
+  error : Answers → IsSignedReply Error message s → P SignedError
 
-by_class-plain : (class : MessageClass) (c : Challenge) → by_class class ≡ Challenged c → ⊥
-by_class-plain Request c e = cc
-by_class-plain class c e = cc
+module _ (Answers : Type 0) (P : Judgement → Type 0) (message : List ℕ) (s : State) (k : HoldsOfJudged Answers P message s) where
+  by_test : (b : Bool) (j l : Judgement) → (b ≡ true → P j) → (b ≡ false → P l) → P (cond b j l)
+  by_test true j l p q = p refl
+  by_test false j l p q = q refl
 
-cond-plain : (b : Bool) (j k : Judgement) (c : Challenge) → (j ≡ Challenged c → ⊥) → (k ≡ Challenged c → ⊥) → cond b j k ≡ Challenged c → ⊥
-cond-plain true j k c not_j not_k e = not_j e
-cond-plain false j k c not_j not_k e = not_k e
+  or_challenged : (j : Judgement) → P j → P (challenged_or j (challenge_in s message))
+  or_challenged j p = by (challenge_in s message) refl
+    where
+      by : (o : Option Challenge) → challenge_in s message ≡ o → P (challenged_or j o)
+      by None e = p
+      by (Some d) e = k.challenged d e
 
--- the message is a challenge if the judgement is, and is none otherwise
-if-is : (b : Bool) (j k : Judgement) (o : Option Challenge) (c : Challenge) → (j ≡ Challenged c → ⊥) → (k ≡ Challenged c → ⊥) → cond b (challenged_or j o) k ≡ Challenged c → o ≡ Some c
-if-is true j k o c not_j not_k e = challenged_or-is j o c not_j e
-if-is false j k o c not_j not_k e = absurd (not_k e)
+  -- signed: if it is a response, one is outstanding
+  of_class : (v : Validation) → validation_of (auth_of s) message ≡ v → IsValidated v → Answers → (is_response (class_in message) ≡ true → is_outstanding (id_of message) s.transactions ≡ true)
+      → P (by_class (class_in message))
+  of_class v e valid answers outstanding = by (class_in message) refl
+    where
+      reply : (class : MessageClass) → class_in message ≡ class → is_response class ≡ true → IsSignedReply class message s
+      reply class f is = record { class_is = f; signed = rw e valid; outstanding = outstanding (rw f is) }
 
-authenticating-is : (s : State) (message : List ℕ) (c : Challenge) → authenticating_judgement s message ≡ Challenged c → challenge_in s message ≡ Some c
-authenticating-is s message c = by (validation_of (auth_of s) message) refl
-  where
-    by : (v : Validation) → validation_of (auth_of s) message ≡ v → authenticating_judgement s message ≡ Challenged c → challenge_in s message ≡ Some c
-    by (Validated algorithm) e = rw e (if-is (answers_allocate s message) (cond (is_outstanding (id_of message) s.transactions) (by_class (class_in message)) LateResponse) Unrelated
-        (challenge_in s message) c (cond-plain (is_outstanding (id_of message) s.transactions) (by_class (class_in message)) LateResponse c (by_class-plain (class_in message) c) (λ e. cc)) (λ e. cc))
-    by (Refused integrity) e = rw e (if-is (answers_allocate s message) (cond integrity Fatal Unrelated) Unrelated (challenge_in s message) c
-        (cond-plain integrity Fatal Unrelated c (λ e. cc) (λ e. cc)) (λ e. cc))
-    by (ResendRequest algorithm) e = rw e (if-is (answers_allocate s message) Unrelated Unrelated (challenge_in s message) c (λ e. cc) (λ e. cc))
+      by : (class : MessageClass) → class_in message ≡ class → P (by_class class)
+      by Request f = k.request f
+      by Indication f = k.unrelated
+      by Success f = k.success answers (reply Success f refl)
+      by Error f = k.error answers (reply Error f refl)
 
-indication-plain : (message : List ℕ) (c : Challenge) → indication_judgement message ≡ Challenged c → ⊥
-indication-plain message c =
-    cond-plain (eqb (method_in message) data_method) DataIndication (cond (eqb (method_in message) connection_attempt_method) ConnectionAttempt Unrelated) c (λ e. cc)
-    (cond-plain (eqb (method_in message) connection_attempt_method) ConnectionAttempt Unrelated c (λ e. cc) (λ e. cc))
+  authenticating : (answers_allocate s message ≡ true → Answers) → P (authenticating_judgement s message)
+  authenticating answers = by (validation_of (auth_of s) message) refl
+    where
+      by : (v : Validation) → validation_of (auth_of s) message ≡ v → P (authenticating_judgement s message)
+      by (Validated algorithm) e =
+          rw e
+          (by_test (answers_allocate s message) _ Unrelated
+          (λ a. or_challenged _ (by_test (is_outstanding (id_of message) s.transactions) _ LateResponse (λ o. of_class (Validated algorithm) e tt (answers a) (λ r. o)) (λ n. k.late)))
+          (λ n. k.unrelated))
+      by (Refused integrity) e =
+          rw e (by_test (answers_allocate s message) _ Unrelated (λ a. or_challenged _ (by_test integrity Fatal Unrelated (λ i. k.fatal) (λ n. k.unrelated))) (λ n. k.unrelated))
+      by (ResendRequest algorithm) e = rw e (by_test (answers_allocate s message) _ Unrelated (λ a. or_challenged Unrelated k.unrelated) (λ n. k.unrelated))
 
-allocated-is : (s : State) (message : List ℕ) (c : Challenge) → allocated_judgement s message ≡ Challenged c → challenge_in s message ≡ Some c
-allocated-is s message c = by (challenge_in s message) refl (class_in message) refl (validation_of (auth_of s) message) refl
-  where
-    valid : cond (is_response (class_in message) && not (is_outstanding (id_of message) s.transactions)) Unrelated (by_class (class_in message)) ≡ Challenged c → ⊥
-    valid = cond-plain (is_response (class_in message) && not (is_outstanding (id_of message) s.transactions)) Unrelated (by_class (class_in message)) c (λ e. cc) (by_class-plain (class_in message) c)
+  allocated : Answers → P (allocated_judgement s message)
+  allocated answers = by (class_in message) refl (validation_of (auth_of s) message) refl
+    where
+      awaited : (c b : Bool) → (c && not b) ≡ false → c ≡ true → b ≡ true
+      awaited true true e f = refl
+      awaited c b e f = cc
 
-    by : (o : Option Challenge) → challenge_in s message ≡ o → (k : MessageClass) → class_in message ≡ k → (v : Validation) → validation_of (auth_of s) message ≡ v
-        → allocated_judgement s message ≡ Challenged c → challenge_in s message ≡ Some c
-    by o g Indication e v f = rw e (λ h. absurd (indication-plain message c h))
-    by o g Error e (Validated algorithm) f = rw (g, e, f, g) (challenged_or-is _ o c valid)
-    by o g Error e v f = rw (g, e, f, g) (challenged_or-is Unrelated o c (λ e. cc))
-    by o g k e (Validated algorithm) f = rw (e, f) (λ h. absurd (valid h))
-    by o g k e v f = rw (e, f) (λ h. cc)
+      signed : (v : Validation) → validation_of (auth_of s) message ≡ v → IsValidated v
+          → P (cond (is_response (class_in message) && not (is_outstanding (id_of message) s.transactions)) Unrelated (by_class (class_in message)))
+      signed v f valid =
+          by_test (is_response (class_in message) && not (is_outstanding (id_of message) s.transactions)) Unrelated _ (λ n. k.unrelated)
+          (λ o. of_class v f valid answers (awaited _ _ o))
+
+      by : (class : MessageClass) → class_in message ≡ class → (v : Validation) → validation_of (auth_of s) message ≡ v → P (allocated_judgement s message)
+      by Indication e v f =
+          rw e
+          (by_test (eqb (method_in message) data_method) DataIndication _ (λ is. k.data_told e)
+          (λ n. by_test (eqb (method_in message) connection_attempt_method) ConnectionAttempt Unrelated (λ is. k.attempt e) (λ no. k.unrelated)))
+      by Error e (Validated algorithm) f = rw (e, f) (or_challenged _ (signed (Validated algorithm) f tt))
+      by Error e v f = rw (e, f) (or_challenged Unrelated k.unrelated)
+      by class e (Validated algorithm) f = rw (e, f) (signed (Validated algorithm) f tt)
+      by class e v f = rw (e, f) k.unrelated
+
+  judged : (s.phase ≡ Authenticating → answers_allocate s message ≡ true → Answers) → (s.phase ≡ Allocated → Answers) → P (judgement_of s message)
+  judged to_allocate answers = by s.phase refl
+    where
+      by : (p : Phase) → s.phase ≡ p → P (judgement_of s message)
+      by Requesting e = rw e (by_test (answers_one s message) _ Unrelated (λ a. or_challenged Fatal k.fatal) (λ n. k.unrelated))
+      by Authenticating e = rw e (authenticating (to_allocate e))
+      by Allocated e = rw e (allocated (answers e))
+      by p e = rw e k.unrelated
+
+  bind-judged : (local : SocketAddr) → ((is_response (class_in message) && list_any (is_bind_of local) (purposes_of (id_of message) s)) ≡ true → Answers) → P (bind_judgement s local message)
+  bind-judged local answers = by (validation_of (auth_of s) message) refl
+    where
+      by : (v : Validation) → validation_of (auth_of s) message ≡ v → P (bind_judgement s local message)
+      by (Validated algorithm) e =
+          rw e
+          (by_test (is_response (class_in message) && list_any (is_bind_of local) (purposes_of (id_of message) s)) _ Fatal
+          (λ a. or_challenged _ (by_test (is_outstanding (id_of message) s.transactions) _ Fatal (λ o. of_class (Validated algorithm) e tt (answers a) (λ r. o)) (λ n. k.fatal)))
+          (λ n. k.fatal))
+      by v e =
+          rw e
+          (by_test (is_response (class_in message) && list_any (is_bind_of local) (purposes_of (id_of message) s)) _ Fatal (λ a. or_challenged Fatal k.fatal) (λ n. k.fatal))
+
+-- ---- what a judgement says
+
+abbrev pub Says : Type 0 → List ℕ → State → Judgement → Type 0
+Says Answers message s (Challenged d) = challenge_in s message ≡ Some d
+Says Answers message s DataIndication = class_in message ≡ Indication
+Says Answers message s ConnectionAttempt = class_in message ≡ Indication
+Says Answers message s SignedRequest = class_in message ≡ Request
+Says Answers message s SignedSuccess = Answers × IsSignedReply Success message s
+Says Answers message s SignedError = Answers × IsSignedReply Error message s
+Says Answers message s _ = ⊤
+
+says : (Answers : Type 0) (message : List ℕ) (s : State) → HoldsOfJudged Answers (Says Answers message s) message s
+says Answers message s = record {
+  unrelated = tt;
+  challenged = λ d e. e;
+  fatal = tt;
+  late = tt;
+  data_told = λ e. e;
+  attempt = λ e. e;
+  request = λ e. e;
+  success = λ answers is. (answers, is);
+  error = λ answers is. (answers, is);
+}
+
+-- before anything is allocated, a signed reply answers a request for an allocation
+abbrev pub AnswersAllocate : List ℕ → State → Type 0
+AnswersAllocate message s = s.phase ≡ Authenticating → answers_allocate s message ≡ true
+
+pub judgement-says : (s : State) (message : List ℕ) → Says (AnswersAllocate message s) message s (judgement_of s message)
+judgement-says s message =
+    judged (AnswersAllocate message s) (Says (AnswersAllocate message s) message s) message s (says (AnswersAllocate message s) message s) (λ e is f. is)
+    (λ e f. let no : Authenticating ≡ Allocated = sym f ∙ e in cc)
+
+-- and one on a connection that waits, the request to bind it
+abbrev pub AnswersBind : SocketAddr → List ℕ → State → Type 0
+AnswersBind local message s = list_any (is_bind_of local) (purposes_of (id_of message) s) ≡ true
+
+pub bind-says : (s : State) (local : SocketAddr) (message : List ℕ) → Says (AnswersBind local message s) message s (bind_judgement s local message)
+bind-says s local message =
+    bind-judged (AnswersBind local message s) (Says (AnswersBind local message s) message s) message s (says (AnswersBind local message s) message s) local
+    (λ both. (and_parts (is_response (class_in message)) (list_any (is_bind_of local) (purposes_of (id_of message) s)) both).1)
 
 pub Challenged-is : (s : State) (message : List ℕ) (c : Challenge) → judgement_of s message ≡ Challenged c → challenge_in s message ≡ Some c
-Challenged-is s message c = by s.phase refl
-  where
-    by : (p : Phase) → s.phase ≡ p → judgement_of s message ≡ Challenged c → challenge_in s message ≡ Some c
-    by Requesting e = rw e (if-is (answers_one s message) Fatal Unrelated (challenge_in s message) c (λ e. cc) (λ e. cc))
-    by Authenticating e = rw e (authenticating-is s message c)
-    by Allocated e = rw e (allocated-is s message c)
-    by p e = rw e (λ h. cc)
+Challenged-is s message c e = rw e at (judgement-says s message)
 
 pub bind-is : (s : State) (local : SocketAddr) (message : List ℕ) (c : Challenge) → bind_judgement s local message ≡ Challenged c → challenge_in s message ≡ Some c
-bind-is s local message c = by (validation_of (auth_of s) message) refl
-  where
-    by : (v : Validation) → validation_of (auth_of s) message ≡ v → bind_judgement s local message ≡ Challenged c → challenge_in s message ≡ Some c
-    by (Validated algorithm) e = rw e (if-is _ (cond (is_outstanding (id_of message) s.transactions) (by_class (class_in message)) Fatal) Fatal (challenge_in s message) c
-        (cond-plain (is_outstanding (id_of message) s.transactions) (by_class (class_in message)) Fatal c (by_class-plain (class_in message) c) (λ e. cc)) (λ e. cc))
-    by v e = rw e (if-is _ Fatal Fatal (challenge_in s message) c (λ e. cc) (λ e. cc))
+bind-is s local message c e = rw e at (bind-says s local message)

@@ -5,127 +5,38 @@ use Rattle.std.specs.List.{list_any}
 use Rattle.std.specs.Option.{option_map_or}
 use Rattle.std.specs.Net.Socket.{socket_ip}
 use Rattle.std.specs.declared.net.socket_addr.SocketAddr.{SocketAddr}
+use Rattle.std.proofs.lemmas.Bool.{and_parts}
 use Rattle.turn_types.specs.declared.family.AddressFamily.{AddressFamily}
 use Rattle.turn_stun.specs.Message.{id_of}
-use Rattle.turn_stun.specs.declared.message.header.MessageClass.{MessageClass}
-use Rattle.turn_stun.specs.declared.message.header.MessageClass.TheVariants.{Indication, Success, Error}
+use Rattle.turn_stun.specs.declared.message.header.MessageClass.TheVariants.{Success}
 use Rattle.turn_stun.specs.declared.transport.TransportType.TheVariants.{Tcp}
 use Rattle.turn_auth.specs.LongTerm.{Challenge}
-use Rattle.turn_auth.specs.Validation.{IsValidated, validation_of}
-use Rattle.turn_auth.specs.declared.validation.Validation.{Validation}
-use Rattle.turn_auth.specs.declared.validation.Validation.TheVariants.{Validated, ResendRequest, Refused}
-use Rattle.turn_agent.specs.Agent.{is_outstanding, is_response}
+use Rattle.turn_agent.specs.Agent.{is_response}
 use Rattle.turn_client_api.specs.State.{State}
 use Rattle.turn_client_api.specs.declared.state.Phase.{Phase}
-use Rattle.turn_client_api.specs.declared.state.Phase.TheVariants.{New, Requesting, Authenticating, Allocated}
+use Rattle.turn_client_api.specs.declared.state.Phase.TheVariants.{New, Authenticating}
 use Rattle.turn_client_api.specs.declared.grant.Grant.{Grant}
 use Rattle.turn_client_api.specs.declared.grant.Grant.TheVariants.{Offer}
 use Rattle.turn_client_api.specs.declared.grant.Origin.{Origin}
 use Rattle.turn_client_api.specs.declared.grant.Origin.TheVariants.{ServerRequest, ServerIndication}
 use Rattle.turn_client_api.specs.declared.grant.Purpose.{Purpose}
 use Rattle.turn_client_api.specs.declared.grant.Purpose.TheVariants.{ForAllocation}
-use Rattle.turn_client_api.specs.State.{auth_of}
 use Rattle.turn_client_api.specs.Grants.{find_allocation_to, is_for_allocation, is_of_family, purposes_of}
-use Rattle.turn_client_api.specs.Requests.{connection_attempt_method, data_method}
-use Rattle.turn_client_api.specs.Judgement.{Judgement, Unrelated, Challenged, Fatal, LateResponse, DataIndication, ConnectionAttempt, SignedRequest, SignedSuccess, SignedError, judgement_of, by_class}
-use Rattle.turn_client_api.specs.Judgement.{challenged_or, challenge_in, answers_one, answers_allocate, authenticating_judgement, allocated_judgement, requesting_judgement, indication_judgement}
-use Rattle.turn_client_api.specs.Judgement.{class_in, connection_id_in, lifetime_in, method_in, peer_in}
+use Rattle.turn_client_api.specs.Requests.{connection_attempt_method}
+use Rattle.turn_client_api.specs.Judgement.{Judgement, Challenged, Fatal, ConnectionAttempt, SignedRequest, SignedSuccess, SignedError, judgement_of, class_in, connection_id_in, lifetime_in}
+use Rattle.turn_client_api.specs.Judgement.{method_in, peer_in}
 use Rattle.turn_client_api.specs.Effect.{allocate_granted, effect, transaction_ended, family_not_supported, has_code, new_allocation, relayed_in, taken_addresses, with_offer}
 use Rattle.turn_client_api.specs.Retry.{retried}
 use Rattle.turn_client_api.specs.Connections.{attempt_indicated, attempt_requested, is_connected, accepts_attempt}
 use Rattle.turn_client_api.specs.Payloads.{Outcome, Handled, Ignored, answered_purposes, challenge_step, is_answered, message_step, response_step, signed_step, wrong_step}
 use Rattle.turn_client_laws.specs.LawsGranted.{IsGivenFor, IsGrant, IsActiveGrant}
 use Rattle.turn_client_laws.proofs.HasLemmas.{Has, has-filter}
+use Rattle.turn_client_laws.proofs.ChallengeJudgement.{AnswersAllocate, IsSignedReply, judgement-says}
 use Rattle.turn_client_laws.proofs.StandLemmas.{Covers, Leaves, Left, covers-left, has-contains, leaves-cond, leaves-same, left-one, left-same}
 use Rattle.turn_client_laws.proofs.GrantOriginLemmas.{ChannelsWithin, Gives, IsGiven, IsGivenOf, Takes, gives-append, gives-covers, gives-left, has-mapped, purposes-within, takes-fold}
 use Rattle.turn_client_laws.proofs.GrantOriginEffectLemmas.{effect-takes}
 
 -- ---- what is judged to be granted
-
--- the message is a success that is signed as the client requires, and answers an outstanding request
-pub record IsSignedSuccess (message : List ℕ) (s : State) : Type 0 where
-  pub success : class_in message ≡ Success
-  pub signed : IsValidated (validation_of (auth_of s) message)
-  pub outstanding : is_outstanding (id_of message) s.transactions ≡ true
-
-pub by_class-granted : (class : MessageClass) → by_class class ≡ SignedSuccess → class ≡ Success
-by_class-granted Success e = refl
-by_class-granted class e = cc
-
-pub challenged_or-granted : (j : Judgement) (o : Option Challenge) → challenged_or j o ≡ SignedSuccess → j ≡ SignedSuccess
-challenged_or-granted j None e = e
-challenged_or-granted j (Some challenge) e = cc
-
-pub cond-granted : (b : Bool) (j k : Judgement) → (k ≡ SignedSuccess → ⊥) → cond b j k ≡ SignedSuccess → (b ≡ true) × (j ≡ SignedSuccess)
-cond-granted true j k not_k e = (refl, e)
-cond-granted false j k not_k e = absurd (not_k e)
-
-cond-ungranted : (b : Bool) (j k : Judgement) → (j ≡ SignedSuccess → ⊥) → (k ≡ SignedSuccess → ⊥) → cond b j k ≡ SignedSuccess → ⊥
-cond-ungranted true j k not_j not_k e = not_j e
-cond-ungranted false j k not_j not_k e = not_k e
-
--- a signed message that is granted is a success, and what it answers is outstanding
-stray-granted : (class : MessageClass) (outstanding : Bool) → cond (is_response class && not outstanding) Unrelated (by_class class) ≡ SignedSuccess → (class ≡ Success) × (outstanding ≡ true)
-stray-granted Success true e = (refl, refl)
-stray-granted Success false e = cc
-stray-granted Error true e = cc
-stray-granted class outstanding e = cc
-
--- the result of the validation
-pub validated : (v w : Validation) → v ≡ w → IsValidated w → IsValidated v
-validated v w e is = rw e is
-
-authenticating-granted : (s : State) (message : List ℕ) → authenticating_judgement s message ≡ SignedSuccess → (answers_allocate s message ≡ true) × IsSignedSuccess message s
-authenticating-granted s message = by (validation_of (auth_of s) message) refl
-  where
-    Goal : Type 0
-    Goal = (answers_allocate s message ≡ true) × IsSignedSuccess message s
-
-    -- the judgement if it answers an ALLOCATE, unless it is a challenge
-    judged : Judgement → Judgement
-    judged j = cond (answers_allocate s message) (challenged_or j (challenge_in s message)) Unrelated
-
-    once : (j : Judgement) → judged j ≡ SignedSuccess → (answers_allocate s message ≡ true) × (j ≡ SignedSuccess)
-    once j h =
-        let (answers, e) = cond-granted (answers_allocate s message) (challenged_or j (challenge_in s message)) Unrelated (λ e. cc) h in
-        (answers, challenged_or-granted j (challenge_in s message) e)
-
-    by : (v : Validation) → validation_of (auth_of s) message ≡ v → authenticating_judgement s message ≡ SignedSuccess → Goal
-    by (Validated algorithm) e = rw e at
-      where
-        at : judged (cond (is_outstanding (id_of message) s.transactions) (by_class (class_in message)) LateResponse) ≡ SignedSuccess → Goal
-        at h =
-            let (answers, g) = once _ h in
-            let (outstanding, k) = cond-granted (is_outstanding (id_of message) s.transactions) (by_class (class_in message)) LateResponse (λ e. cc) g in
-            (answers, record { success = by_class-granted (class_in message) k; signed = validated _ (Validated algorithm) e tt; outstanding = outstanding })
-    by (Refused integrity) e = rw e (λ h. absurd (cond-ungranted integrity Fatal Unrelated (λ e. cc) (λ e. cc) (once _ h).1))
-    by (ResendRequest algorithm) e = rw e (λ h. let n : Unrelated ≡ SignedSuccess = (once Unrelated h).1 in cc)
-
-indication-ungranted : (message : List ℕ) → indication_judgement message ≡ SignedSuccess → ⊥
-indication-ungranted message =
-    cond-ungranted (eqb (method_in message) data_method) DataIndication _ (λ e. cc)
-    (cond-ungranted (eqb (method_in message) connection_attempt_method) ConnectionAttempt Unrelated (λ e. cc) (λ e. cc))
-
-allocated-granted : (s : State) (message : List ℕ) → allocated_judgement s message ≡ SignedSuccess → IsSignedSuccess message s
-allocated-granted s message = by (class_in message) refl (validation_of (auth_of s) message) refl
-  where
-    Valid : Type 0
-    Valid = cond (is_response (class_in message) && not (is_outstanding (id_of message) s.transactions)) Unrelated (by_class (class_in message)) ≡ SignedSuccess
-
-    valid : (v : Validation) → validation_of (auth_of s) message ≡ v → IsValidated v → Valid → IsSignedSuccess message s
-    valid v f is h =
-        let (success, outstanding) = stray-granted (class_in message) (is_outstanding (id_of message) s.transactions) h in
-        record { success = success; signed = validated _ v f is; outstanding = outstanding }
-
-    by : (k : MessageClass) → class_in message ≡ k → (v : Validation) → validation_of (auth_of s) message ≡ v → allocated_judgement s message ≡ SignedSuccess → IsSignedSuccess message s
-    by Indication e v f = rw e (λ h. absurd (indication-ungranted message h))
-    by Error e (Validated algorithm) f = rw (e, f) (λ h. valid (Validated algorithm) f tt (challenged_or-granted _ (challenge_in s message) h))
-    by Error e v f = rw (e, f) (λ h. let n : Unrelated ≡ SignedSuccess = challenged_or-granted Unrelated (challenge_in s message) h in cc)
-    by k e (Validated algorithm) f = rw (e, f) (valid (Validated algorithm) f tt)
-    by k e v f = rw (e, f) (λ h. cc)
-
-requesting-ungranted : (s : State) (message : List ℕ) → requesting_judgement s message ≡ SignedSuccess → ⊥
-requesting-ungranted s message h = let n : Fatal ≡ SignedSuccess = challenged_or-granted Fatal (challenge_in s message) (cond-granted (answers_one s message) _ Unrelated (λ e. cc) h).1 in cc
 
 for-allocation : (purposes : List Purpose) → list_any is_for_allocation purposes ≡ true → Has ForAllocation purposes
 for-allocation [] e = cc
@@ -136,26 +47,15 @@ for-allocation (_ ∷ purposes) e = inr (for-allocation purposes e)
 abbrev pub asked_for : List ℕ → State → List Purpose
 asked_for message s = purposes_of (id_of message) s
 
-pub &&-second : (a b : Bool) → (a && b) ≡ true → b ≡ true
-&&-second true b e = e
-&&-second false b e = cc
-
 -- a signed ALLOCATE that is answered was made for an allocation
 abbrev pub IsForAllocation : Phase → List ℕ → State → Type 0
 IsForAllocation phase message s = phase ≡ Authenticating → Has ForAllocation (asked_for message s)
 
-granted_in_phase : (p : Phase) (s : State) (message : List ℕ) → judgement_of (record s { phase = p }) message ≡ SignedSuccess → IsSignedSuccess message (record s { phase = p })
-    × IsForAllocation p message s
-granted_in_phase Requesting s message h = absurd (requesting-ungranted (record s { phase = Requesting }) message h)
-granted_in_phase Authenticating s message h =
-    let (answers, is) = authenticating-granted (record s { phase = Authenticating }) message h in
-    (is, λ e. for-allocation (asked_for message s) (&&-second (is_response (class_in message)) _ answers))
-granted_in_phase Allocated s message h = (allocated-granted (record s { phase = Allocated }) message h, λ e. cc)
-granted_in_phase p s message h = cc
-
 -- before anything is allocated, a request for an allocation is answered
-pub SignedSuccess-is : (s : State) (message : List ℕ) → judgement_of s message ≡ SignedSuccess → IsSignedSuccess message s × IsForAllocation s.phase message s
-SignedSuccess-is s message = granted_in_phase s.phase s message
+pub SignedSuccess-is : (s : State) (message : List ℕ) → judgement_of s message ≡ SignedSuccess → IsSignedReply Success message s × IsForAllocation s.phase message s
+SignedSuccess-is s message e =
+    let (answers, is) : AnswersAllocate message s × IsSignedReply Success message s = rw e at (judgement-says s message) in
+    (is, λ allocates. for-allocation (asked_for message s) (and_parts (is_response (class_in message)) _ (answers allocates)).1)
 
 -- ---- signed replies
 
@@ -334,7 +234,7 @@ message-grants g message now s = by (judgement_of s message) refl
           (
             was,
             record {
-              success = is.success;
+              success = is.class_is;
               signed = is.signed;
               outstanding = is.outstanding;
               purpose = given.purpose;
