@@ -4,11 +4,17 @@ use Rattle.std.proofs.Common.{arith}
 use Rattle.std.specs.Prelude.{All}
 use Rattle.std.proofs.lemmas.Option.{none-some, same_Some}
 use Rattle.std.proofs.Math.Nat.{min-le_left, min-le_right}
+use Rattle.std.proofs.lemmas.Bool.{cases_Bool}
 
 -- x is in the list
 abbrev pub Has : {X : Type 0} → X → List X → Type 0
 Has x [] = ⊥
 Has x (y ∷ ys) = (x ≡ y) ⊎ Has x ys
+
+-- nothing, or what was found
+pub cases_Option : {X : Type 0} (o : Option X) → (o ≡ None) ⊎ ((x : X) × (o ≡ Some x))
+cases_Option None = inl refl
+cases_Option (Some x) = inr (x, refl)
 
 pub has-left : {X : Type 0} (x : X) (xs ys : List X) → Has x xs → Has x (xs ++ ys)
 has-left x [] ys h = absurd h
@@ -22,33 +28,23 @@ has-right x (y ∷ xs) ys h = inr (has-right x xs ys h)
 pub has-append : {X : Type 0} (x : X) (xs ys : List X) → Has x (xs ++ ys) → Has x xs ⊎ Has x ys
 has-append x [] ys h = inr h
 has-append x (y ∷ xs) ys (inl e) = inl (inl e)
-has-append x (y ∷ xs) ys (inr h) = by (has-append x xs ys h)
-  where
-    by : Has x xs ⊎ Has x ys → ((x ≡ y) ⊎ Has x xs) ⊎ Has x ys
-    by (inl here) = inl (inr here)
-    by (inr there) = inr there
+has-append x (y ∷ xs) ys (inr h) = elim (has-append x xs ys h) [ inl here ↦ inl (inr here) | inr there ↦ inr there ]
 
 -- what stays passed, and was in the list
 pub has-filter : {X : Type 0} (p : X → Bool) (x : X) (xs : List X) → Has x (filter p xs) → Has x xs × (p x ≡ true)
 has-filter p x [] h = absurd h
-has-filter p x (y ∷ xs) h = by (p y) refl (has-filter p x xs)
-  where
-    by : (b : Bool) → p y ≡ b → (Has x (filter p xs) → Has x xs × (p x ≡ true)) → Has x (y ∷ xs) × (p x ≡ true)
-    by true passes later = at (rw passes at h)
-      where
-        at : (x ≡ y) ⊎ Has x (filter p xs) → Has x (y ∷ xs) × (p x ≡ true)
-        at (inl e) = (inl e, rw e passes)
-        at (inr there) = (inr (later there).0, (later there).1)
-    by false fails later = (inr (later (rw fails at h)).0, (later (rw fails at h)).1)
+has-filter p x (y ∷ xs) h = elim (cases_Bool (p y)) [
+  inl passes ↦ elim (rw passes at h) [ inl e ↦ (inl e, rw e passes) | inr there ↦ let later = has-filter p x xs there in (inr later.0, later.1) ]
+  | inr fails ↦ let later = has-filter p x xs (rw fails at h) in (inr later.0, later.1)
+]
 
 pub filter-has : {X : Type 0} (p : X → Bool) (x : X) (xs : List X) → Has x xs → p x ≡ true → Has x (filter p xs)
 filter-has p x [] h passes = absurd h
 filter-has p x (y ∷ xs) (inl e) passes = rw (rw e at passes) (inl e)
-filter-has p x (y ∷ xs) (inr h) passes = by (p y) refl (filter-has p x xs h passes)
-  where
-    by : (b : Bool) → p y ≡ b → Has x (filter p xs) → Has x (filter p (y ∷ xs))
-    by true here later = rw here (inr later)
-    by false here later = rw here later
+filter-has p x (y ∷ xs) (inr h) passes = elim (cases_Bool (p y)) [
+  inl here ↦ rw here (inr (filter-has p x xs h passes))
+  | inr fails ↦ rw fails (filter-has p x xs h passes)
+]
 
 pub map-has : {X Y : Type 0} (f : X → Y) (x : X) (xs : List X) → Has x xs → Has (f x) (map f xs)
 map-has f x [] h = absurd h
@@ -68,49 +64,36 @@ pub record Came {X Y : Type 0} (f : X → List Y) (y : Y) (xs : List X) : Type 0
 
 pub has-flat_map : {X Y : Type 0} (f : X → List Y) (y : Y) (xs : List X) → Has y (flat_map f xs) → Came f y xs
 has-flat_map f y [] h = absurd h
-has-flat_map f y (z ∷ xs) h = by (has-flat_map f y xs) (has-append y (f z) (flat_map f xs) h)
-  where
-    by : (Has y (flat_map f xs) → Came f y xs) → Has y (f z) ⊎ Has y (flat_map f xs) → Came f y (z ∷ xs)
-    by later (inl here) = record { from = z; there = inl refl; gives = here }
-    by later (inr there) = record { from = (later there).from; there = inr (later there).there; gives = (later there).gives }
+has-flat_map f y (z ∷ xs) h = elim (has-append y (f z) (flat_map f xs) h) [
+  inl here ↦ record { from = z; there = inl refl; gives = here }
+  | inr later ↦ let came = has-flat_map f y xs later in record { from = came.from; there = inr came.there; gives = came.gives }
+]
 
 pub filter_map-has : {X Y : Type 0} (f : X → Option Y) (x : X) (y : Y) (xs : List X) → Has x xs → f x ≡ Some y → Has y (filter_map f xs)
 filter_map-has f x y [] h gives = absurd h
 filter_map-has f x y (z ∷ xs) (inl e) gives = rw (rw e at gives) (inl refl)
-filter_map-has {Y = Y} f x y (z ∷ xs) (inr h) gives = by (f z) refl (filter_map-has f x y xs h gives)
-  where
-    by : (o : Option Y) → f z ≡ o → Has y (filter_map f xs) → Has y (filter_map f (z ∷ xs))
-    by None e later = rw e later
-    by (Some w) e later = rw e (inr later)
+filter_map-has f x y (z ∷ xs) (inr h) gives = elim (cases_Option (f z)) [
+  inl e ↦ rw e (filter_map-has f x y xs h gives)
+  | inr (w, e) ↦ rw e (inr (filter_map-has f x y xs h gives))
+]
 
 pub has-filter_map : {X Y : Type 0} (f : X → Option Y) (y : Y) (xs : List X) → Has y (filter_map f xs) → (x : X) × Has x xs × (f x ≡ Some y)
 has-filter_map f y [] h = absurd h
-has-filter_map {X = X} {Y = Y} f y (z ∷ xs) h = by (f z) refl (has-filter_map f y xs)
+has-filter_map {X = X} f y (z ∷ xs) h = elim (cases_Option (f z)) [
+  inl e ↦ later (has-filter_map f y xs (rw e at h))
+  | inr (w, e) ↦ elim (rw e at h) [ inl same ↦ (z, inl refl, rw same e) | inr there ↦ later (has-filter_map f y xs there) ]
+]
   where
-    Found : List X → Type 0
-    Found list = (x : X) × Has x list × (f x ≡ Some y)
-
-    later : Found xs → Found (z ∷ xs)
+    later : (x : X) × Has x xs × (f x ≡ Some y) → (x : X) × Has x (z ∷ xs) × (f x ≡ Some y)
     later (x, there, gives) = (x, inr there, gives)
-
-    by : (o : Option Y) → f z ≡ o → (Has y (filter_map f xs) → Found xs) → Found (z ∷ xs)
-    by None e others = later (others (rw e at h))
-    by (Some w) e others = at (rw e at h)
-      where
-        at : (y ≡ w) ⊎ Has y (filter_map f xs) → Found (z ∷ xs)
-        at (inl same) = (z, inl refl, rw same e)
-        at (inr there) = later (others there)
 
 -- what is found is in the list, and passes
 pub has-found : {X : Type 0} (p : X → Bool) (x : X) (xs : List X) → find p xs ≡ Some x → Has x xs × (p x ≡ true)
 has-found p x [] found = absurd (none-some x found)
-has-found p x (y ∷ xs) found = by (p y) refl (has-found p x xs)
-  where
-    by : (b : Bool) → p y ≡ b → (find p xs ≡ Some x → Has x xs × (p x ≡ true)) → Has x (y ∷ xs) × (p x ≡ true)
-    by true passes later =
-        let same : y ≡ x = same_Some y x (rw passes at found) in
-        (inl (sym same), rw (sym same) passes)
-    by false fails later = (inr (later (rw fails at found)).0, (later (rw fails at found)).1)
+has-found p x (y ∷ xs) found = elim (cases_Bool (p y)) [
+  inl passes ↦ let same : y ≡ x = same_Some y x (rw passes at found) in (inl (sym same), rw (sym same) passes)
+  | inr fails ↦ let later = has-found p x xs (rw fails at found) in (inr later.0, later.1)
+]
 
 pub find-none : {X : Type 0} (p : X → Bool) (xs : List X) → ((x : X) → Has x xs → p x ≡ false) → find p xs ≡ None
 find-none p [] fails = refl
