@@ -1,8 +1,8 @@
 -- No two grants are for the same.
-use Rattle.std.proofs.Common.{◌≡◌, ℕ, Bool, true, false, not, cond, List, [], ◌∷◌, ◌++◌, map, filter, filter_map, Some, refl, sym, ◌∙◌, ap, subst}
+use Rattle.std.proofs.Common.{◌≡◌, ℕ, Bool, true, false, not, List, [], ◌∷◌, ◌++◌, map, filter, filter_map, Some, refl, sym, ◌∙◌, ap, subst, inr, inl}
 use Rattle.std.specs.Prelude.{slice_get}
 use Rattle.std.specs.List.{list_any, IsDistinct}
-use Rattle.std.proofs.lemmas.Bool.{or_parts}
+use Rattle.std.proofs.lemmas.Bool.{or_parts, cases_Bool}
 use Rattle.std.proofs.lemmas.Option.{none-some}
 use Rattle.std.specs.declared.net.ip_addr.IpAddr.{IpAddr}
 use Rattle.std.specs.declared.net.socket_addr.SocketAddr.{SocketAddr}
@@ -14,7 +14,7 @@ use Rattle.turn_client_api.specs.State.{State, initial}
 use Rattle.turn_client_api.specs.declared.state.Phase.{Phase}
 use Rattle.turn_client_api.specs.declared.state.Phase.TheVariants.{New, Requesting, Authenticating, Allocated, Closed}
 use Rattle.turn_client_api.specs.declared.grant.Grant.{Grant}
-use Rattle.turn_client_api.specs.declared.grant.Grant.TheVariants.{Allocation, Permission, Channel, Connect, Offer, Connection}
+use Rattle.turn_client_api.specs.declared.grant.Grant.TheVariants.{Allocation, Permission, Channel, Connect, Connection}
 use Rattle.turn_client_api.specs.declared.grant.Progress.{Progress}
 use Rattle.turn_client_api.specs.declared.grant.Progress.TheVariants.{Pending, Active, Reserved}
 use Rattle.turn_client_api.specs.Grants.{family_of, is_channel_of, is_connect_to, is_connection_from, is_of, is_of_family, is_permission_of, permission_state, permission_progress, with_grant}
@@ -29,10 +29,9 @@ use Rattle.turn_client_laws.specs.LawsOrder.{FitsPhase, IsUngranted}
 use Rattle.turn_client_laws.proofs.HasLemmas.{Has}
 use Rattle.turn_client_laws.proofs.InAllocationLemmas.{Room}
 use Rattle.turn_client_laws.proofs.NumberLemmas.{none-filter}
-use Rattle.turn_client_laws.proofs.DoubleLemmas.{AreSingle, IsAlike, IsNew, IsSingle, alike-allocation, alike-channel, alike-connection, alike-offer, alike-permission, alike-same, channel-which}
-use Rattle.turn_client_laws.proofs.DoubleLemmas.{connect-which, connection-which, none-IsNew, none-without_first, offer-IsNew, permission-which, single-filter, single-last, single-map, single-unmap}
-use Rattle.turn_client_laws.proofs.DoubleLemmas.{single-without_first}
-use Rattle.turn_client_laws.proofs.Edits.{aged-outlines, KeepsAllEdits, KeepsEdits, outline, stage}
+use Rattle.turn_client_laws.proofs.DoubleLemmas.{AreSingle, IsNew, IsSingle, channel-which, connect-which, connection-which, none-IsNew, none-without_first, offer-IsNew, permission-which}
+use Rattle.turn_client_laws.proofs.DoubleLemmas.{single-filter, single-last, single-map, single-unmap, single-without_first, outline-alike}
+use Rattle.turn_client_laws.proofs.Edits.{aged-outlines, KeepsAllEdits, KeepsEdits, outline}
 use Rattle.turn_client_laws.proofs.EditsOfCalls.{leaves-walk}
 use Rattle.turn_client_laws.proofs.EditsOfMessages.{granted-with}
 
@@ -45,14 +44,9 @@ differ x y families none some = let no : true ≡ false = sym some ∙ none in c
 
 none-left : {X : Type 0} (p q : X → Bool) (xs : List X) → list_any p xs ≡ false → list_any p (filter q xs) ≡ false
 none-left p q [] none = refl
-none-left p q (x ∷ xs) none = by (q x) (none-left p q xs parts.1)
-  where
-    parts : (p x ≡ false) × (list_any p xs ≡ false)
-    parts = or_parts (p x) (list_any p xs) none
-
-    by : (b : Bool) → list_any p (filter q xs) ≡ false → list_any p (cond b (x ∷ filter q xs) (filter q xs)) ≡ false
-    by true later = rw (parts.0, later) refl
-    by false later = later
+none-left p q (x ∷ xs) none =
+    let (here, later) = or_parts (p x) (list_any p xs) none in
+    elim (cases_Bool (q x)) [ inl e ↦ rw (e, here, none-left p q xs later) refl | inr e ↦ rw e (none-left p q xs later) ]
 
 module _ (lifetime now : ℕ) where
   -- what is allocated of these families
@@ -62,41 +56,26 @@ module _ (lifetime now : ℕ) where
   others-single : (a : SocketAddr) (families : List AddressFamily) (addresses : List SocketAddr) → list_any (λ f. is_of_family f a) families ≡ false
       → IsSingle (new_allocation lifetime now a) (new families addresses)
   others-single a families [] none = tt
-  others-single a families (b ∷ later) none = by (list_any (λ f. is_of_family f b) families) refl (others-single a left later) (others-single a families later none)
-    where
-      left : List AddressFamily
-      left = filter (λ f. not (is_of_family f b)) families
-
-      Others : List AddressFamily → Type 0
-      Others some = IsSingle (new_allocation lifetime now a) (new some later)
-
-      by : (c : Bool) → list_any (λ f. is_of_family f b) families ≡ c → (list_any (λ f. is_of_family f a) left ≡ false → Others left) → Others families
-          → IsSingle (new_allocation lifetime now a) (map (new_allocation lifetime now) (cond c (b ∷ taken_addresses left later) (taken_addresses families later)))
-      by true e less same = (differ (family_of a) (family_of b) families none e, less (none-left (λ f. is_of_family f a) (λ f. not (is_of_family f b)) families none))
-      by false e less same = same
+  others-single a families (b ∷ later) none =
+      let left = filter (λ f. not (is_of_family f b)) families in
+      elim (cases_Bool (list_any (λ f. is_of_family f b) families)) [
+        inl e ↦
+            rw e
+            (differ (family_of a) (family_of b) families none e, others-single a left later (none-left (λ f. is_of_family f a) (λ f. not (is_of_family f b)) families none))
+        | inr e ↦ rw e (others-single a families later none)
+      ]
 
   taken-single : (families : List AddressFamily) (addresses : List SocketAddr) → AreSingle (new families addresses)
   unfolding IsDistinct
   taken-single families [] = tt
-  taken-single families (a ∷ later) = by (list_any (λ f. is_of_family f a) families) (taken-single left later) (taken-single families later)
-    where
-      left : List AddressFamily
-      left = filter (λ f. not (is_of_family f a)) families
-
-      by : (c : Bool) → AreSingle (new left later) → AreSingle (new families later)
-          → AreSingle (map (new_allocation lifetime now) (cond c (a ∷ taken_addresses left later) (taken_addresses families later)))
-      by true less same = (others-single a left later (none-filter (λ f. is_of_family f a) families), less)
-      by false less same = same
+  taken-single families (a ∷ later) =
+      let left = filter (λ f. not (is_of_family f a)) families in
+      elim (cases_Bool (list_any (λ f. is_of_family f a) families)) [
+        inl e ↦ rw e (others-single a left later (none-filter (λ f. is_of_family f a) families), taken-single left later)
+        | inr e ↦ rw e (taken-single families later)
+      ]
 
 -- ---- grants that keep their outlines
-
-outline-alike : (g : Grant) → IsAlike (outline g) g
-outline-alike (Allocation a) = alike-allocation _ a refl
-outline-alike (Permission ip progress) = alike-permission ip (stage progress) progress
-outline-alike (Channel number peer progress) = alike-channel number peer (stage progress) progress
-outline-alike (Connect peer) = alike-same (Connect peer)
-outline-alike (Offer offer) = alike-offer _ offer
-outline-alike (Connection c) = alike-connection _ c refl
 
 single-outline : (gs hs : List Grant) → map outline hs ≡ map outline gs → AreSingle gs → AreSingle hs
 single-outline gs hs e h = single-unmap outline outline-alike hs (subst AreSingle (sym e) (single-map outline outline-alike gs h))

@@ -33,10 +33,7 @@ Within listed later = (l : Listing) → Has l later → Has l listed
 pub has-mapped : {X Y : Type 0} (f : X → Y) (y : Y) (xs : List X) → Has y (map f xs) → (x : X) × Has x xs × (y ≡ f x)
 has-mapped f y [] h = absurd h
 has-mapped f y (x ∷ xs) (inl e) = (x, inl refl, e)
-has-mapped {X = X} f y (x ∷ xs) (inr h) = by (has-mapped f y xs h)
-  where
-    by : (z : X) × Has z xs × (y ≡ f z) → (z : X) × Has z (x ∷ xs) × (y ≡ f z)
-    by (z, there, e) = (z, inr there, e)
+has-mapped f y (x ∷ xs) (inr h) = let (z, there, e) = has-mapped f y xs h in (z, inr there, e)
 
 -- a channel of this number is among these, for this peer
 abbrev pub IsChannelIn : ℕ → SocketAddr → List Grant → Type 0
@@ -58,19 +55,18 @@ abbrev pub KeepsChannels : (Grant → Grant) → Type 0
 KeepsChannels f = (g : Grant) (number : ℕ) (peer : SocketAddr) (progress : Progress) → Channel number peer progress ≡ f g → (was : Progress) × (g ≡ Channel number peer was)
 
 pub channels-map : (f : Grant → Grant) → KeepsChannels f → (grants : List Grant) → ChannelsWithin grants (map f grants)
-channels-map f keeps grants number peer (progress, there) = by (has-mapped f (Channel number peer progress) grants there)
-  where
-    by : (g : Grant) × Has g grants × (Channel number peer progress ≡ f g) → IsChannelIn number peer grants
-    by (g, here, e) = let (was, is) = keeps g number peer progress e in (was, subst (λ (x : Grant). Has x grants) is here)
+channels-map f keeps grants number peer (progress, there) =
+    let (g, here, e) = has-mapped f (Channel number peer progress) grants there in
+    let (was, is) = keeps g number peer progress e in
+    (was, subst (λ (x : Grant). Has x grants) is here)
 
 pub channels-append : (grants later : List Grant) (one : Grant) → ChannelsWithin grants later
     → ((number : ℕ) (peer : SocketAddr) (progress : Progress) → Channel number peer progress ≡ one → IsChannelIn number peer grants) → ChannelsWithin grants (later ++ one ∷ [])
-channels-append grants later one within known number peer (progress, there) = by (has-append (Channel number peer progress) later (one ∷ []) there)
-  where
-    by : Has (Channel number peer progress) later ⊎ Has (Channel number peer progress) (one ∷ []) → IsChannelIn number peer grants
-    by (inl here) = within number peer (progress, here)
-    by (inr (inl e)) = known number peer progress e
-    by (inr (inr none)) = absurd none
+channels-append grants later one within known number peer (progress, there) = elim (has-append (Channel number peer progress) later (one ∷ []) there) [
+  inl here ↦ within number peer (progress, here)
+  | inr (inl e) ↦ known number peer progress e
+  | inr (inr none) ↦ absurd none
+]
 
 -- what a success leaves of a state: nothing is listed anew, and nothing is active but what was so or was
 -- granted
@@ -84,54 +80,40 @@ pub within-filter : (p : Listing → Bool) (listed : List Listing) → Within li
 within-filter p listed l there = (has-filter p l listed there).0
 
 module _ (purposes : List Purpose) (message : List ℕ) (now : ℕ) (before : State) where
-  given-kept : (g h : Grant) → IsSameGrant g h → IsGiven purposes message now before g → IsGiven purposes message now before h
-  given-kept g h kept (was, given, k) = (was, given, kept-trans was g h k kept)
-
   -- what was granted is active
   pub gives-covers : (grants later : List Grant) (g : Grant) → Gives purposes message now before grants later → Covers later g → Covers grants g ⊎ IsGiven purposes message now before g
-  gives-covers grants later g gives (is, there, kept) = by (gives is there (kept-stood is g kept))
-    where
-      by : Covers grants is ⊎ IsGiven purposes message now before is → Covers grants g ⊎ IsGiven purposes message now before g
-      by (inl (was, earlier, k)) = inl (was, earlier, kept-trans was is g k kept)
-      by (inr given) = inr (given-kept is g kept given)
+  gives-covers grants later g gives (is, there, kept) = elim (gives is there (kept-stood is g kept)) [
+    inl (was, earlier, k) ↦ inl (was, earlier, kept-trans was is g k kept)
+    | inr (was, given, k) ↦ inr (was, given, kept-trans was is g k kept)
+  ]
 
   pub gives-left : (grants later : List Grant) → Left grants later → Gives purposes message now before grants later
   gives-left grants later left g there stands = inl (left g there stands)
 
   pub gives-trans : (a b c : List Grant) → Gives purposes message now before a b → Gives purposes message now before b c → Gives purposes message now before a c
-  gives-trans a b c first second g there stands = by (second g there stands)
-    where
-      by : Covers b g ⊎ IsGiven purposes message now before g → Covers a g ⊎ IsGiven purposes message now before g
-      by (inl covers) = gives-covers a b g first covers
-      by (inr given) = inr given
+  gives-trans a b c first second g there stands = elim (second g there stands) [ inl covers ↦ gives-covers a b g first covers | inr given ↦ inr given ]
 
   pub gives-append : (grants more : List Grant) → ((g : Grant) → Has g more → IsActiveGrant g → IsGivenOf purposes message now before g) → Gives purposes message now before grants (grants ++ more)
-  gives-append grants more gives g there stands = by (has-append g grants more there)
-    where
-      by : Has g grants ⊎ Has g more → Covers grants g ⊎ IsGiven purposes message now before g
-      by (inl here) = inl (covers-has grants g here stands)
-      by (inr behind) = inr (g, gives g behind stands, kept-same g stands)
+  gives-append grants more gives g there stands = elim (has-append g grants more there) [
+    inl here ↦ inl (covers-has grants g here stands)
+    | inr behind ↦ inr (g, gives g behind stands, kept-same g stands)
+  ]
 
   pub gives-one : (grants : List Grant) (one : Grant) → (IsActiveGrant one → IsGivenOf purposes message now before one) → Gives purposes message now before grants (grants ++ one ∷ [])
-  gives-one grants one gives = gives-append grants (one ∷ []) by
-    where
-      by : (g : Grant) → Has g (one ∷ []) → IsActiveGrant g → IsGivenOf purposes message now before g
-      by g (inl e) stands = rw e (gives (rw (sym e) stands))
-      by g (inr h) stands = absurd h
+  gives-one grants one gives = gives-append grants (one ∷ []) (λ g there stands. elim there [ inl e ↦ rw e (gives (rw (sym e) stands)) | inr none ↦ absurd none ])
 
   -- if the second is active, it is the first, or was granted
   abbrev Is : Grant → Grant → Type 0
   Is was is = IsActiveGrant is → IsSameGrant was is ⊎ IsGivenOf purposes message now before is
 
   pub gives-map : (f : Grant → Grant) (grants : List Grant) → ((g : Grant) → Has g grants → Is g (f g)) → Gives purposes message now before grants (map f grants)
-  gives-map f grants keeps g there stands = by (has-mapped f g grants there)
-    where
-      by : (x : Grant) × Has x grants × (g ≡ f x) → Covers grants g ⊎ IsGiven purposes message now before g
-      by (x, earlier, e) = at (keeps x earlier (rw (sym e) stands))
-        where
-          at : IsSameGrant x (f x) ⊎ IsGivenOf purposes message now before (f x) → Covers grants g ⊎ IsGiven purposes message now before g
-          at (inl kept) = inl (x, earlier, rw e kept)
-          at (inr given) = inr (f x, given, rw e (kept-same (f x) (rw (sym e) stands)))
+  gives-map f grants keeps g there stands =
+      let (x, earlier, e) = has-mapped f g grants there in
+      let stood : IsActiveGrant (f x) = subst IsActiveGrant e stands in
+      elim (keeps x earlier stood) [
+        inl kept ↦ inl (x, earlier, subst (IsSameGrant x) (sym e) kept)
+        | inr given ↦ inr (f x, given, subst (IsSameGrant (f x)) (sym e) (kept-same (f x) stood))
+      ]
 
   -- ---- states
 
@@ -169,9 +151,7 @@ module _ (purposes : List Purpose) (message : List ℕ) (now : ℕ) (before : St
 
 -- a purpose of what is listed still was one before
 pub purposes-within : (id : ℕ) (s t : State) → Within s.listed t.listed → (p : Purpose) → Has p (purposes_of id t) → Has p (purposes_of id s)
-purposes-within id s t within p there = by (has-mapped (λ (l : Listing). l.purpose) p (filter (λ (l : Listing). eqb l.id id) t.listed) there)
-  where
-    by : (l : Listing) × Has l (filter (λ (l : Listing). eqb l.id id) t.listed) × (p ≡ l.purpose) → Has p (purposes_of id s)
-    by (l, still, e) =
-        let (later, same) = has-filter (λ (l : Listing). eqb l.id id) l t.listed still in
-        rw e (map-has (λ (l : Listing). l.purpose) l (filter (λ (l : Listing). eqb l.id id) s.listed) (filter-has (λ (l : Listing). eqb l.id id) l s.listed (within l later) same))
+purposes-within id s t within p there =
+    let (l, still, e) = has-mapped (λ (l : Listing). l.purpose) p (filter (λ (l : Listing). eqb l.id id) t.listed) there in
+    let (later, same) = has-filter (λ (l : Listing). eqb l.id id) l t.listed still in
+    rw e (map-has (λ (l : Listing). l.purpose) l (filter (λ (l : Listing). eqb l.id id) s.listed) (filter-has (λ (l : Listing). eqb l.id id) l s.listed (within l later) same))

@@ -1,8 +1,8 @@
 -- Grants that have allocations: what happens to lists of grants and of listings.
-use Rattle.std.proofs.Common.{◌≡◌, ℕ, Bool, true, false, not, cond, ◌&&◌, List, [], ◌∷◌, ◌++◌, map, filter, find, Option, Some, None, ◌⊎◌, inl, inr, refl, sym, subst, ap, ◌∙◌}
+use Rattle.std.proofs.Common.{◌≡◌, ℕ, Bool, true, false, not, ◌&&◌, List, [], ◌∷◌, ◌++◌, map, filter, find, Some, None, inl, inr, refl, sym, subst, ap, ◌∙◌, filter_map}
 use Rattle.std.specs.Prelude.{is_some}
 use Rattle.std.specs.List.{list_any}
-use Rattle.std.proofs.lemmas.Bool.{and_from, not_from_false, or_left, or_right}
+use Rattle.std.proofs.lemmas.Bool.{and_from, not_from_false, or_left, or_right, cases_Bool}
 use Rattle.std.specs.declared.net.ip_addr.IpAddr.{IpAddr}
 use Rattle.turn_stun.specs.declared.transport.TransportType.{TransportType}
 use Rattle.turn_types.specs.declared.family.AddressFamily.{AddressFamily}
@@ -20,7 +20,8 @@ use Rattle.turn_client_api.specs.declared.grant.Listing.{Listing}
 use Rattle.turn_client_api.specs.Grants.{find_allocation_to, as_allocation, find_allocation, allocations, family_of, family_of_grant, family_of_ip, is_for, same_transport}
 use Rattle.turn_client_api.specs.Requests.{listings}
 use Rattle.turn_client_laws.specs.LawsGrantAllocations.{asked_family}
-use Rattle.turn_client_laws.proofs.HasLemmas.{Has, has-left, has-append, has-filter, filter-has, map-has, filter_map-has, has-filter_map, has-found}
+use Rattle.turn_client_laws.proofs.HasLemmas.{Has, has-left, has-append, has-filter, filter-has, map-has, filter_map-has, has-filter_map, has-found, cases_Option}
+use Rattle.turn_client_laws.proofs.GrantOriginLemmas.{has-mapped}
 
 -- ---- families and tests
 
@@ -41,11 +42,10 @@ not-both false e f = cc
 -- one that passes
 pub any-has : {X : Type 0} (p : X → Bool) (xs : List X) → list_any p xs ≡ true → (x : X) × Has x xs × (p x ≡ true)
 any-has p [] e = cc
-any-has {X = X} p (y ∷ xs) e = by (p y) refl (any-has p xs)
-  where
-    by : (b : Bool) → p y ≡ b → (list_any p xs ≡ true → (x : X) × Has x xs × (p x ≡ true)) → (x : X) × Has x (y ∷ xs) × (p x ≡ true)
-    by true here later = (y, inl refl, here)
-    by false fails later = let (x, there, passes) = later (rw fails at e) in (x, inr there, passes)
+any-has p (y ∷ xs) e = elim (cases_Bool (p y)) [
+  inl here ↦ (y, inl refl, here)
+  | inr fails ↦ let (x, there, passes) = any-has p xs (rw fails at e) in (x, inr there, passes)
+]
 
 pub has-any : {X : Type 0} (p : X → Bool) (x : X) (xs : List X) → Has x xs → p x ≡ true → list_any p xs ≡ true
 has-any p x [] h passes = absurd h
@@ -74,36 +74,33 @@ pub record Housed (gs : List Grant) (ls : List Listing) : Type 0 where
 abbrev pub Houses : State → State → Type 0
 Houses s t = Housed s.grants s.listed → Housed t.grants t.listed
 
-pub room-of : (family : AddressFamily) (s : State) → is_some (find_allocation family s) ≡ true → Room s.grants family
-room-of family s = by (find_allocation family s) refl
+-- an allocation that is read from the grants
+pub allocation-there : (a : Relay) (gs : List Grant) → Has a (filter_map as_allocation gs) → Has (Allocation a) gs
+allocation-there a gs h = let (g, there, is) = has-filter_map as_allocation a gs h in subst (λ (x : Grant). Has x gs) (the g is) there
   where
-    by : (o : Option Relay) → find_allocation family s ≡ o → is_some o ≡ true → Room s.grants family
-    by None e h = cc
-    by (Some a) e h =
-        let f = has-found (λ (r : Relay). same_family (family_of r.relayed) family) a (allocations s) e in
-        let (g, there, is) = has-filter_map as_allocation a s.grants f.0 in
-        (a, subst (λ (x : Grant). Has x s.grants) (the g is) there, same_family-true (family_of a.relayed) family f.1)
-      where
-        the : (g : Grant) → as_allocation g ≡ Some a → g ≡ Allocation a
-        the (Allocation b) e = cc
-        the g e = cc
+    the : (g : Grant) → as_allocation g ≡ Some a → g ≡ Allocation a
+    the (Allocation b) e = cc
+    the g e = cc
+
+pub room-of : (family : AddressFamily) (s : State) → is_some (find_allocation family s) ≡ true → Room s.grants family
+room-of family s h = elim (cases_Option (find_allocation family s)) [
+  inl none ↦ let no : false ≡ true = rw none at h in cc
+  | inr (a, e) ↦
+      let (there, is) = has-found (λ (r : Relay). same_family (family_of r.relayed) family) a (allocations s) e in
+      (a, allocation-there a s.grants there, same_family-true (family_of a.relayed) family is)
+]
 
 -- an allocation that relays to this address
 pub allocation-room : (transport : TransportType) (ip : IpAddr) (s : State) → is_some (find_allocation_to transport ip s) ≡ true → Room s.grants (family_of_ip ip)
-allocation-room transport ip s e = room-of (family_of_ip ip) s (by (same_transport transport s.config.allocation_transport) (find_allocation (family_of_ip ip) s) e)
-  where
-    by : (b : Bool) (o : Option Relay) → is_some (cond b o None) ≡ true → is_some o ≡ true
-    by true o e = e
-    by false o e = cc
+allocation-room transport ip s e = room-of (family_of_ip ip) s (elim (cases_Bool (same_transport transport s.config.allocation_transport)) [
+  inl is ↦ rw is at e
+  | inr not ↦ let no : false ≡ true = rw not at e in cc
+])
 
 find-some : {X : Type 0} (p : X → Bool) (x : X) (xs : List X) → Has x xs → p x ≡ true → is_some (find p xs) ≡ true
 find-some p x [] h passes = absurd h
 find-some p x (y ∷ xs) (inl e) passes = rw (rw e at passes) refl
-find-some p x (y ∷ xs) (inr h) passes = by (p y) refl (find-some p x xs h passes)
-  where
-    by : (b : Bool) → p y ≡ b → is_some (find p xs) ≡ true → is_some (find p (y ∷ xs)) ≡ true
-    by true here later = rw here refl
-    by false fails later = rw fails later
+find-some p x (y ∷ xs) (inr h) passes = elim (cases_Bool (p y)) [ inl here ↦ rw here refl | inr fails ↦ rw fails (find-some p x xs h passes) ]
 
 pub of-room : (family : AddressFamily) (s : State) → Room s.grants family → is_some (find_allocation family s) ≡ true
 of-room family s (a, there, is) =
@@ -124,36 +121,33 @@ pub housed-filter : (gs : List Grant) (which : Listing → Bool) (ls : List List
 housed-filter gs which ls h = record { stands = h.stands; backed = λ l there. h.backed l (has-filter which l ls there).0 }
 
 pub housed-listings : (gs : List Grant) (ls : List Listing) (id : ℕ) (ps : List Purpose) → Housed gs ls → ((p : Purpose) → Has p ps → Backed gs p) → Housed gs (ls ++ listings id ps)
-housed-listings gs ls id ps h each = record { stands = h.stands; backed = λ l there. by l (has-append l ls (listings id ps) there) }
-  where
-    new : (qs : List Purpose) → ((p : Purpose) → Has p qs → Backed gs p) → (l : Listing) → Has l (listings id qs) → Backed gs l.purpose
-    new [] each l there = absurd there
-    new (q ∷ qs) each l (inl e) = subst (λ (x : Listing). Backed gs x.purpose) (sym e) (each q (inl refl))
-    new (q ∷ qs) each l (inr later) = new qs (λ p h. each p (inr h)) l later
-
-    by : (l : Listing) → Has l ls ⊎ Has l (listings id ps) → Backed gs l.purpose
-    by l (inl old) = h.backed l old
-    by l (inr made) = new ps each l made
+housed-listings gs ls id ps h each = record {
+  stands = h.stands;
+  backed = λ l there. elim (has-append l ls (listings id ps) there) [
+    inl old ↦ h.backed l old
+    | inr made ↦
+        let (p, here, e) = has-mapped (λ (p : Purpose). record { id = id; purpose = p }) l ps made in
+        subst (λ (x : Listing). Backed gs x.purpose) (sym e) (each p here)
+  ];
+}
 
 -- ---- grants are added
 
 pub housed-grants : (gs hs : List Grant) (ls : List Listing) → Housed gs ls → ((g : Grant) → Has g hs → Room (gs ++ hs) (family_of_grant g)) → Housed (gs ++ hs) ls
 housed-grants gs hs ls h each = record {
-  stands = λ g there. by g (has-append g gs hs there);
+  stands = λ g there. elim (has-append g gs hs there) [
+    inl old ↦ room-more gs (gs ++ hs) (λ a there. has-left (Allocation a) gs hs there) (family_of_grant g) (h.stands g old)
+    | inr new ↦ each g new
+  ];
   backed = λ l there. asked-more gs (gs ++ hs) l.purpose (λ g here for. has-left g gs hs here) (h.backed l there);
 }
-  where
-    by : (g : Grant) → Has g gs ⊎ Has g hs → Room (gs ++ hs) (family_of_grant g)
-    by g (inl old) = room-more gs (gs ++ hs) (λ a there. has-left (Allocation a) gs hs there) (family_of_grant g) (h.stands g old)
-    by g (inr new) = each g new
 
 -- one grant more, of a family that has an allocation
 pub housed-grant : (gs : List Grant) (g : Grant) (ls : List Listing) → Housed gs ls → Room gs (family_of_grant g) → Housed (gs ++ g ∷ []) ls
-housed-grant gs g ls h room = housed-grants gs (g ∷ []) ls h by
-  where
-    by : (x : Grant) → Has x (g ∷ []) → Room (gs ++ g ∷ []) (family_of_grant x)
-    by x (inl e) = subst (λ (y : Grant). Room (gs ++ g ∷ []) (family_of_grant y)) (sym e) (room-more gs (gs ++ g ∷ []) (λ a there. has-left (Allocation a) gs (g ∷ []) there) (family_of_grant g) room)
-    by x (inr none) = absurd none
+housed-grant gs g ls h room = housed-grants gs (g ∷ []) ls h (λ x there. elim there [
+  inl e ↦ subst (λ (y : Grant). Room (gs ++ g ∷ []) (family_of_grant y)) (sym e) (room-more gs (gs ++ g ∷ []) (λ a there. has-left (Allocation a) gs (g ∷ []) there) (family_of_grant g) room)
+  | inr none ↦ absurd none
+])
 
 -- ---- grants are removed
 
@@ -179,32 +173,24 @@ pub housed-without : (which : Grant → Bool) → Spares which → (gs : List Gr
 housed-without which spares gs ls h = record { stands = stands; backed = backed }
   where
     stands : (g : Grant) → Has g (filter (λ g. not (which g)) gs) → Room (filter (λ g. not (which g)) gs) (family_of_grant g)
-    stands g there = by (h.stands g f.0)
-      where
-        f : Has g gs × (not (which g) ≡ true)
-        f = has-filter (λ g. not (which g)) g gs there
-
-        by : Room gs (family_of_grant g) → Room (filter (λ g. not (which g)) gs) (family_of_grant g)
-        by (a, here, same) = of (which (Allocation a)) refl
-          where
-            of : (b : Bool) → which (Allocation a) ≡ b → Room (filter (λ g. not (which g)) gs) (family_of_grant g)
-            of true e = absurd (not-both (which g) (spares a g e same) f.1)
-            of false e = (a, stays which (Allocation a) gs here e, same)
+    stands g there =
+        let (was, keeps) = has-filter (λ g. not (which g)) g gs there in
+        let (a, here, same) = h.stands g was in
+        elim (cases_Bool (which (Allocation a))) [
+          inl e ↦ absurd (not-both (which g) (spares a g e same) keeps)
+          | inr e ↦ (a, stays which (Allocation a) gs here e, same)
+        ]
 
     backed : (l : Listing) → Has l (filter (λ l. not (list_any (λ g. which g && is_for l.purpose g) gs)) ls) → Backed (filter (λ g. not (which g)) gs) l.purpose
-    backed l there = asked-more gs (filter (λ g. not (which g)) gs) l.purpose by (h.backed l f.0)
-      where
-        f : Has l ls × (not (list_any (λ g. which g && is_for l.purpose g) gs) ≡ true)
-        f = has-filter (λ l. not (list_any (λ g. which g && is_for l.purpose g) gs)) l ls there
-
-        by : (g : Grant) → Has g gs → is_for l.purpose g ≡ true → Has g (filter (λ g. not (which g)) gs)
-        by g here for = of (which g) refl
-          where
-            of : (b : Bool) → which g ≡ b → Has g (filter (λ g. not (which g)) gs)
-            of true e =
-                let removed = has-any (λ g. which g && is_for l.purpose g) g gs here (and_from (which g) (is_for l.purpose g) e for) in
-                absurd (not-both (list_any (λ g. which g && is_for l.purpose g) gs) removed f.1)
-            of false e = stays which g gs here e
+    backed l there =
+        let of = λ (g : Grant). which g && is_for l.purpose g in
+        let (was, keeps) = has-filter (λ l. not (list_any (λ g. which g && is_for l.purpose g) gs)) l ls there in
+        asked-more gs (filter (λ g. not (which g)) gs) l.purpose
+        (λ g here for. elim (cases_Bool (which g)) [
+          inl e ↦ absurd (not-both (list_any of gs) (has-any of g gs here (and_from (which g) (is_for l.purpose g) e for)) keeps)
+          | inr e ↦ stays which g gs here e
+        ])
+        (h.backed l was)
 
 -- ---- grants change
 
@@ -236,12 +222,9 @@ shape-allocation a (Allocation b) e = (b, refl, ap family_of_grant e)
 shape-allocation a g e = cc
 
 shaped : (gs hs : List Grant) → map shape gs ≡ map shape hs → (g : Grant) → Has g gs → (h : Grant) × Has h hs × (shape h ≡ shape g)
-shaped gs hs e g there = from hs (subst (λ (l : List Grant). Has (shape g) l) e (map-has shape g gs there))
-  where
-    from : (xs : List Grant) → Has (shape g) (map shape xs) → (h : Grant) × Has h xs × (shape h ≡ shape g)
-    from [] none = absurd none
-    from (x ∷ xs) (inl same) = (x, inl refl, sym same)
-    from (x ∷ xs) (inr later) = let (h, there, same) = from xs later in (h, inr there, same)
+shaped gs hs e g there =
+    let (h, here, same) = has-mapped shape (shape g) hs (subst (λ (l : List Grant). Has (shape g) l) e (map-has shape g gs there)) in
+    (h, here, sym same)
 
 pub room-shaped : (gs hs : List Grant) → map shape gs ≡ map shape hs → (family : AddressFamily) → Room gs family → Room hs family
 room-shaped gs hs e family (a, there, is) =
