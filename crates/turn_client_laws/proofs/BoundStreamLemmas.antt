@@ -1,16 +1,17 @@
 -- A stream is bound only by a signed success on it.
-use Rattle.std.proofs.Common.{◌≡◌, ◌⊎◌, Bool, true, false, not, cond, List, [], ◌∷◌, Some, refl, sym, subst, ap, ◌∙◌, inl, inr}
+use Rattle.std.proofs.Common.{◌≡◌, ◌⊎◌, true, not, cond, List, [], ◌∷◌, Some, refl, sym, subst, ap, ◌∙◌, inl, inr}
 use Rattle.std.specs.Prelude.{filter, is_some}
 use Rattle.std.specs.List.{Contains}
 use Rattle.std.specs.declared.net.socket_addr.SocketAddr.{SocketAddr}
+use Rattle.std.proofs.lemmas.Bool.{cases_Bool}
 use Rattle.turn_agent.specs.Agent.{same_address}
 use Rattle.turn_client_api.specs.State.{State}
 use Rattle.turn_client_api.specs.declared.state.Mode.{Mode}
 use Rattle.turn_client_api.specs.declared.state.Mode.TheVariants.{Waiting, Bound}
 use Rattle.turn_client_api.specs.declared.state.Stream.{Stream}
-use Rattle.turn_client_api.specs.declared.grant.Grant.TheVariants.{Allocation, Permission, Channel, Connect, Offer, Connection}
+use Rattle.turn_client_api.specs.declared.grant.Grant.TheVariants.{Permission, Channel, Connection}
 use Rattle.turn_client_api.specs.declared.grant.DataConnection.{DataConnection}
-use Rattle.turn_client_api.specs.declared.grant.Progress.TheVariants.{Pending, Active, Reserved}
+use Rattle.turn_client_api.specs.declared.grant.Progress.TheVariants.{Pending}
 use Rattle.turn_client_api.specs.Connections.{bind_step, connection_at}
 use Rattle.turn_client_api.specs.Payloads.{is_message, message_step}
 use Rattle.turn_client_api.specs.Receive.{connection_gone}
@@ -40,11 +41,10 @@ module _ (local peer : SocketAddr) where
 
   -- a stream whose mode was set, or not
   mode-was : (a : SocketAddr) (mode : Mode) (x z : Stream) → x ≡ cond (same_address z.local a) (record z { mode = mode }) z → (x ≡ z) ⊎ ((x.local ≡ a) × (x.mode ≡ mode))
-  mode-was a mode x z e = by (same_address z.local a) refl
-    where
-      by : (b : Bool) → same_address z.local a ≡ b → (x ≡ z) ⊎ ((x.local ≡ a) × (x.mode ≡ mode))
-      by true f = let is : x ≡ record z { mode = mode } = e ∙ rw f refl in inr (rw is (same_address-true z.local a f), rw is refl)
-      by false f = inl (e ∙ rw f refl)
+  mode-was a mode x z e = elim (cases_Bool (same_address z.local a)) [
+    | inl f ↦ let is : x ≡ record z { mode = mode } = e ∙ rw f refl in inr (rw is (same_address-true z.local a f), rw is refl)
+    | inr f ↦ inl (e ∙ rw f refl)
+  ]
 
   bind-bound : (one : Input) (stream : Stream) (t : State) → one.stream ≡ Some stream → stream.mode ≡ Waiting → is_message one.bytes ≡ true → Binds stream.local one.bytes one.before t
       → IsBoundAt local peer t → IsBoundAt local peer one.before ⊎ IsBindInput local peer one
@@ -64,11 +64,10 @@ module _ (local peer : SocketAddr) where
           (subst (λ (l : SocketAddr). IsBindInput l b.c.peer one) place (binds-turn one stream t of waits whole b))
 
       by : (z : Stream) × Has z one.before.streams × (x ≡ f z) → IsBoundAt local peer one.before ⊎ IsBindInput local peer one
-      by (z, before, e) = now (mode-was b.c.local (Bound b.c.peer) x z e)
-        where
-          now : (x ≡ z) ⊎ ((x.local ≡ b.c.local) × (x.mode ≡ Bound b.c.peer)) → IsBoundAt local peer one.before ⊎ IsBindInput local peer one
-          now (inl same) = inl (x, has-contains x one.before.streams (subst (λ (y : Stream). Has y one.before.streams) (sym same) before), at, mode)
-          now (inr (ends, is)) = inr (bound ends is)
+      by (z, before, e) = elim (mode-was b.c.local (Bound b.c.peer) x z e) [
+        | inl same ↦ inl (x, has-contains x one.before.streams (subst (λ (y : Stream). Has y one.before.streams) (sym same) before), at, mode)
+        | inr (ends, is) ↦ inr (bound ends is)
+      ]
 
   gone-bound : (a : SocketAddr) (s : State) → IsBoundAt local peer (connection_gone a s) → IsBoundAt local peer s
   gone-bound a s = same-bound s (connection_gone a s) (same-cond (is_some (connection_at a s)) s _ _ refl refl)
@@ -92,28 +91,22 @@ module _ (local peer : SocketAddr) where
   -- a new stream waits
   opened-bound : (s t : State) → IsOpened s t → IsBoundAt local peer t → IsBoundAt local peer s
   opened-bound s t (inl same) h = same-bound s t same h
-  opened-bound s t (inr (a, is)) (x, there, at, mode) = by (has-append x kept (record { local = a; mode = Waiting; bytes = [] } ∷ []) (subst (Has x) is (contains-has x t.streams there)))
-    where
-      kept : List Stream
-      kept = filter (λ (z : Stream). not (same_address z.local a)) s.streams
-
-      unlike : Waiting ≡ Bound peer → ⊥
-      unlike e = cc
-
-      by : Has x kept ⊎ Has x (record { local = a; mode = Waiting; bytes = [] } ∷ []) → IsBoundAt local peer s
-      by (inl here) = (x, has-contains x s.streams (has-filter (λ (z : Stream). not (same_address z.local a)) x s.streams here).0, at, mode)
-      by (inr (inl e)) = absurd (unlike (sym (ap (λ (z : Stream). z.mode) e) ∙ mode))
-      by (inr (inr h)) = absurd h
+  opened-bound s t (inr (a, is)) (x, there, at, mode) =
+      let kept = filter (λ (z : Stream). not (same_address z.local a)) s.streams in
+      elim (has-append x kept (record { local = a; mode = Waiting; bytes = [] } ∷ []) (subst (Has x) is (contains-has x t.streams there))) [
+        | inl here ↦ (x, has-contains x s.streams (has-filter (λ (z : Stream). not (same_address z.local a)) x s.streams here).0, at, mode)
+        | inr (inl e) ↦ let unlike : Waiting ≡ Bound peer = sym (ap (λ (z : Stream). z.mode) e) ∙ mode in cc
+        | inr (inr none) ↦ absurd none
+      ]
 
   pub leaves-bound : (call : Call) (s t : State) → Leaves call s t → IsBoundAt local peer t → IsBoundBy local peer call s
   leaves-bound call s t leaves h =
-      by (leaves-bring (IsBoundAt local peer) (IsBindInput local peer) bringing (λ call s. ⊥)
-      (λ call s other there. inl (opened-bound s (state_after call s) (others-opened call s other) there)) call s t leaves h)
-    where
-      by : IsBoundAt local peer s ⊎ ⊥ ⊎ IsDoneBy (IsBindInput local peer) call s → IsBoundAt local peer s ⊎ IsDoneBy (IsBindInput local peer) call s
-      by (inl there) = inl there
-      by (inr (inl no_other)) = absurd no_other
-      by (inr (inr did)) = inr did
+      elim (leaves-bring (IsBoundAt local peer) (IsBindInput local peer) bringing (λ call s. ⊥)
+      (λ call s other there. inl (opened-bound s (state_after call s) (others-opened call s other) there)) call s t leaves h) [
+        | inl there ↦ inl there
+        | inr (inl none) ↦ absurd none
+        | inr (inr did) ↦ inr did
+      ]
 
 -- ---- connections
 
@@ -122,15 +115,9 @@ leaves-connection call s t c leaves (there, none) = by (leaves-grants call s t (
   where
     stood : WasActive s (Connection c) → Contains s.grants (Connection c)
     stood (Connection d, before, (same, h)) = subst (λ (x : DataConnection). Contains s.grants (Connection x)) same before
-    stood (Allocation a, before, k) = absurd k
     stood (Permission ip Pending, before, k) = absurd k
-    stood (Permission ip (Active expiry), before, k) = absurd k
-    stood (Permission ip (Reserved until), before, k) = absurd k
     stood (Channel number peer Pending, before, k) = absurd k
-    stood (Channel number peer (Active expiry), before, k) = absurd k
-    stood (Channel number peer (Reserved until), before, k) = absurd k
-    stood (Connect peer, before, k) = absurd k
-    stood (Offer offer, before, k) = absurd k
+    stood (was, before, k) = absurd k
 
     no_end : (call : Call) → IsEndedNow call s (Connection c) → ⊥
     no_end (Delete now) e = e

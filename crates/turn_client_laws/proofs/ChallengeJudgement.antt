@@ -1,4 +1,5 @@
 -- What the judgement of a message says of it.
+use Rattle.turn_client_laws.proofs.CaseLemmas.{by_test}
 use Rattle.std.proofs.Common.{◌≡◌, ℕ, Bool, true, false, cond, ◌&&◌, not, eqb, List, Option, Some, None, refl, sym, ◌∙◌}
 use Rattle.std.specs.Prelude.{⊤}
 use Rattle.std.specs.List.{list_any}
@@ -40,10 +41,6 @@ record HoldsOfJudged (Answers : Type 0) (P : Judgement → Type 0) (message : Li
   error : Answers → IsSignedReply Error message s → P SignedError
 
 module _ (Answers : Type 0) (P : Judgement → Type 0) (message : List ℕ) (s : State) (k : HoldsOfJudged Answers P message s) where
-  by_test : (b : Bool) (j l : Judgement) → (b ≡ true → P j) → (b ≡ false → P l) → P (cond b j l)
-  by_test true j l p q = p refl
-  by_test false j l p q = q refl
-
   or_challenged : (j : Judgement) → P j → P (challenged_or j (challenge_in s message))
   or_challenged j p = by (challenge_in s message) refl
     where
@@ -71,12 +68,12 @@ module _ (Answers : Type 0) (P : Judgement → Type 0) (message : List ℕ) (s :
       by : (v : Validation) → validation_of (auth_of s) message ≡ v → P (authenticating_judgement s message)
       by (Validated algorithm) e =
           rw e
-          (by_test (answers_allocate s message) _ Unrelated
-          (λ a. or_challenged _ (by_test (is_outstanding (id_of message) s.transactions) _ LateResponse (λ o. of_class (Validated algorithm) e tt (answers a) (λ r. o)) (λ n. k.late)))
+          (by_test P (answers_allocate s message) _ Unrelated
+          (λ a. or_challenged _ (by_test P (is_outstanding (id_of message) s.transactions) _ LateResponse (λ o. of_class (Validated algorithm) e tt (answers a) (λ r. o)) (λ n. k.late)))
           (λ n. k.unrelated))
       by (Refused integrity) e =
-          rw e (by_test (answers_allocate s message) _ Unrelated (λ a. or_challenged _ (by_test integrity Fatal Unrelated (λ i. k.fatal) (λ n. k.unrelated))) (λ n. k.unrelated))
-      by (ResendRequest algorithm) e = rw e (by_test (answers_allocate s message) _ Unrelated (λ a. or_challenged Unrelated k.unrelated) (λ n. k.unrelated))
+          rw e (by_test P (answers_allocate s message) _ Unrelated (λ a. or_challenged _ (by_test P integrity Fatal Unrelated (λ i. k.fatal) (λ n. k.unrelated))) (λ n. k.unrelated))
+      by (ResendRequest algorithm) e = rw e (by_test P (answers_allocate s message) _ Unrelated (λ a. or_challenged Unrelated k.unrelated) (λ n. k.unrelated))
 
   allocated : Answers → P (allocated_judgement s message)
   allocated answers = by (class_in message) refl (validation_of (auth_of s) message) refl
@@ -88,14 +85,14 @@ module _ (Answers : Type 0) (P : Judgement → Type 0) (message : List ℕ) (s :
       signed : (v : Validation) → validation_of (auth_of s) message ≡ v → IsValidated v
           → P (cond (is_response (class_in message) && not (is_outstanding (id_of message) s.transactions)) Unrelated (by_class (class_in message)))
       signed v f valid =
-          by_test (is_response (class_in message) && not (is_outstanding (id_of message) s.transactions)) Unrelated _ (λ n. k.unrelated)
+          by_test P (is_response (class_in message) && not (is_outstanding (id_of message) s.transactions)) Unrelated _ (λ n. k.unrelated)
           (λ o. of_class v f valid answers (awaited _ _ o))
 
       by : (class : MessageClass) → class_in message ≡ class → (v : Validation) → validation_of (auth_of s) message ≡ v → P (allocated_judgement s message)
       by Indication e v f =
           rw e
-          (by_test (eqb (method_in message) data_method) DataIndication _ (λ is. k.data_told e)
-          (λ n. by_test (eqb (method_in message) connection_attempt_method) ConnectionAttempt Unrelated (λ is. k.attempt e) (λ no. k.unrelated)))
+          (by_test P (eqb (method_in message) data_method) DataIndication _ (λ is. k.data_told e)
+          (λ n. by_test P (eqb (method_in message) connection_attempt_method) ConnectionAttempt Unrelated (λ is. k.attempt e) (λ no. k.unrelated)))
       by Error e (Validated algorithm) f = rw (e, f) (or_challenged _ (signed (Validated algorithm) f tt))
       by Error e v f = rw (e, f) (or_challenged Unrelated k.unrelated)
       by class e (Validated algorithm) f = rw (e, f) (signed (Validated algorithm) f tt)
@@ -105,7 +102,7 @@ module _ (Answers : Type 0) (P : Judgement → Type 0) (message : List ℕ) (s :
   judged to_allocate answers = by s.phase refl
     where
       by : (p : Phase) → s.phase ≡ p → P (judgement_of s message)
-      by Requesting e = rw e (by_test (answers_one s message) _ Unrelated (λ a. or_challenged Fatal k.fatal) (λ n. k.unrelated))
+      by Requesting e = rw e (by_test P (answers_one s message) _ Unrelated (λ a. or_challenged Fatal k.fatal) (λ n. k.unrelated))
       by Authenticating e = rw e (authenticating (to_allocate e))
       by Allocated e = rw e (allocated (answers e))
       by p e = rw e k.unrelated
@@ -116,12 +113,12 @@ module _ (Answers : Type 0) (P : Judgement → Type 0) (message : List ℕ) (s :
       by : (v : Validation) → validation_of (auth_of s) message ≡ v → P (bind_judgement s local message)
       by (Validated algorithm) e =
           rw e
-          (by_test (is_response (class_in message) && list_any (is_bind_of local) (purposes_of (id_of message) s)) _ Fatal
-          (λ a. or_challenged _ (by_test (is_outstanding (id_of message) s.transactions) _ Fatal (λ o. of_class (Validated algorithm) e tt (answers a) (λ r. o)) (λ n. k.fatal)))
+          (by_test P (is_response (class_in message) && list_any (is_bind_of local) (purposes_of (id_of message) s)) _ Fatal
+          (λ a. or_challenged _ (by_test P (is_outstanding (id_of message) s.transactions) _ Fatal (λ o. of_class (Validated algorithm) e tt (answers a) (λ r. o)) (λ n. k.fatal)))
           (λ n. k.fatal))
       by v e =
           rw e
-          (by_test (is_response (class_in message) && list_any (is_bind_of local) (purposes_of (id_of message) s)) _ Fatal (λ a. or_challenged Fatal k.fatal) (λ n. k.fatal))
+          (by_test P (is_response (class_in message) && list_any (is_bind_of local) (purposes_of (id_of message) s)) _ Fatal (λ a. or_challenged Fatal k.fatal) (λ n. k.fatal))
 
 -- ---- what a judgement says
 

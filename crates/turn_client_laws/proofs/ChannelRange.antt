@@ -1,5 +1,5 @@
 -- Channels have numbers in the range that a client may bind.
-use Rattle.std.proofs.Common.{◌≡◌, ℕ, zero, suc, ◌+◌, ◌<◌, ◌≤◌, Bool, not, List, [], ◌∷◌, ◌++◌, map, filter, filter_map, Some, ◌⊎◌, inl, inr, refl, sym, subst, ap, ◌∙◌, arith}
+use Rattle.std.proofs.Common.{◌≡◌, ℕ, zero, suc, ◌+◌, ◌<◌, ◌≤◌, Bool, not, List, [], ◌∷◌, ◌++◌, map, filter, filter_map, Some, inl, inr, refl, sym, subst, ap, ◌∙◌, arith}
 use Rattle.std.specs.List.{range_with_len}
 use Rattle.std.proofs.lemmas.Option.{none-some, same_Some}
 use Rattle.std.specs.declared.net.socket_addr.SocketAddr.{SocketAddr}
@@ -46,11 +46,7 @@ abbrev AllFit : List Grant → Type 0
 AllFit gs = (g : Grant) → Has g gs → Fits g
 
 fit-append : (gs hs : List Grant) → AllFit gs → AllFit hs → AllFit (gs ++ hs)
-fit-append gs hs old new g there = by (has-append g gs hs there)
-  where
-    by : Has g gs ⊎ Has g hs → Fits g
-    by (inl here) = old g here
-    by (inr behind) = new g behind
+fit-append gs hs old new g there = elim (has-append g gs hs there) [ inl here ↦ old g here | inr behind ↦ new g behind ]
 
 fit-one : (g : Grant) → Fits g → AllFit (g ∷ [])
 fit-one g fits h (inl e) = subst Fits (sym e) fits
@@ -108,10 +104,9 @@ range-fits : (s : State) → HasNumbersInRange s → AllFit s.grants
 range-fits s h g there n is = has-all IsInRange n (filter_map number_of_channel s.grants) h (filter_map-has number_of_channel g n s.grants there is)
 
 fits-range : (s : State) → AllFit s.grants → HasNumbersInRange s
-fits-range s fits = all-has IsInRange (filter_map number_of_channel s.grants) by
-  where
-    by : (n : ℕ) → Has n (filter_map number_of_channel s.grants) → IsInRange n
-    by n there = let (g, here, is) = has-filter_map number_of_channel n s.grants there in fits g here n is
+fits-range s fits = all-has IsInRange (filter_map number_of_channel s.grants) (λ n there.
+    let (g, here, is) = has-filter_map number_of_channel n s.grants there in
+    fits g here n is)
 
 pub initial-HasNumbersInRange : (transport : TransportType) (local remote : SocketAddr) (config : Config) (seed : List ℕ) → HasNumbersInRange (initial transport local remote config seed)
 initial-HasNumbersInRange transport local remote config seed = all-has IsInRange [] (λ n none. absurd none)

@@ -89,9 +89,8 @@ call-same n call s other fewer = back ⊥ n s (state_after call s) (by call othe
 -- even if memory allocation fails
 pub leaves-heeded : (call : Call) (s t : State) → Leaves call s t → t.challenges < s.challenges → IsBroughtBy IsReplyAccepted call s
 leaves-heeded call s t leaves fewer =
-    by (message-brings (Fewer s.challenges) IsReplyAccepted (bringing s.challenges) (λ call s. ⊥) (call-same s.challenges) call s t leaves fewer)
-  where
-    by : Fewer s.challenges s ⊎ ⊥ ⊎ IsBroughtBy IsReplyAccepted call s → IsBroughtBy IsReplyAccepted call s
-    by (inl same) = absurd (omega (arith, same))
-    by (inr (inl none)) = absurd none
-    by (inr (inr did)) = did
+    elim (message-brings (Fewer s.challenges) IsReplyAccepted (bringing s.challenges) (λ call s. ⊥) (call-same s.challenges) call s t leaves fewer) [
+      | inl same ↦ absurd (omega (arith, same))
+      | inr (inl none) ↦ absurd none
+      | inr (inr did) ↦ did
+    ]

@@ -59,7 +59,7 @@ module _ (lifetime now : ℕ) where
   others-single a families (b ∷ later) none =
       let left = filter (λ f. not (is_of_family f b)) families in
       elim (cases_Bool (list_any (λ f. is_of_family f b) families)) [
-        inl e ↦
+        | inl e ↦
             rw e
             (differ (family_of a) (family_of b) families none e, others-single a left later (none-left (λ f. is_of_family f a) (λ f. not (is_of_family f b)) families none))
         | inr e ↦ rw e (others-single a families later none)
@@ -71,7 +71,7 @@ module _ (lifetime now : ℕ) where
   taken-single families (a ∷ later) =
       let left = filter (λ f. not (is_of_family f a)) families in
       elim (cases_Bool (list_any (λ f. is_of_family f a) families)) [
-        inl e ↦ rw e (others-single a left later (none-filter (λ f. is_of_family f a) families), taken-single left later)
+        | inl e ↦ rw e (others-single a left later (none-filter (λ f. is_of_family f a) families), taken-single left later)
         | inr e ↦ rw e (taken-single families later)
       ]
 

@@ -32,7 +32,7 @@ pub single-filter : (p : Grant → Bool) (gs : List Grant) → AreSingle gs → 
 unfolding IsDistinct
 single-filter p [] h = h
 single-filter p (g ∷ gs) h = elim (cases_Bool (p g)) [
-  inl e ↦ rw e (all-filter (λ x. is_double g x ≡ false) p gs h.0, single-filter p gs h.1)
+  | inl e ↦ rw e (all-filter (λ x. is_double g x ≡ false) p gs h.0, single-filter p gs h.1)
   | inr e ↦ rw e (single-filter p gs h.1)
 ]
 
@@ -129,7 +129,7 @@ connection-which d x = refl
 pub no-permission : (ip : IpAddr) (gs : List Grant) → is_some (slice_get (filter_map (permission_progress ip) gs) 0) ≡ false → list_any (is_permission_of ip) gs ≡ false
 no-permission ip [] none = refl
 no-permission ip (Permission other progress ∷ gs) none = elim (cases_Bool (same_ip other ip)) [
-  inl e ↦ let no : true ≡ false = rw e at none in cc
+  | inl e ↦ let no : true ≡ false = rw e at none in cc
   | inr e ↦ rw e (no-permission ip gs (rw e at none))
 ]
 no-permission ip (_ ∷ gs) none = no-permission ip gs none
@@ -137,7 +137,7 @@ no-permission ip (_ ∷ gs) none = no-permission ip gs none
 pub no-connection : (local : SocketAddr) (gs : List Grant) → is_some (find (λ c. same_address c.local local) (filter_map as_connection gs)) ≡ false → list_any (is_connection_from local) gs ≡ false
 no-connection local [] none = refl
 no-connection local (Connection c ∷ gs) none = elim (cases_Bool (same_address c.local local)) [
-  inl e ↦ let no : true ≡ false = rw e at none in cc
+  | inl e ↦ let no : true ≡ false = rw e at none in cc
   | inr e ↦ rw e (no-connection local gs (rw e at none))
 ]
 no-connection local (_ ∷ gs) none = no-connection local gs none
@@ -152,7 +152,7 @@ pub single-without_first : (which : Grant → Bool) (gs : List Grant) → AreSin
 unfolding IsDistinct
 single-without_first which [] h = h
 single-without_first which (g ∷ gs) h = elim (cases_Bool (which g)) [
-  inl e ↦ rw e h.1
+  | inl e ↦ rw e h.1
   | inr e ↦ rw e (all-without_first (λ x. is_double g x ≡ false) which gs h.0, single-without_first which gs h.1)
 ]
 

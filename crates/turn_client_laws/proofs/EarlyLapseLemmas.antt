@@ -1,11 +1,9 @@
 -- Before the earliest expiry, time changes nothing.
-use Rattle.std.proofs.Common.{◌≡◌, ℕ, ◌<◌, ◌+◌, Bool, true, false, ◌&&◌, ◌||◌, not, cond, leb, ltb, List, [], ◌∷◌, ◌++◌, map, filter, filter_map, fold, reverse, Option, Some, None, refl, ap, ◌∙◌, inl}
-use Rattle.std.proofs.Common.{inr, arith}
+use Rattle.std.proofs.Common.{◌≡◌, ℕ, ◌<◌, ◌+◌, Bool, true, false, ◌&&◌, ◌||◌, not, cond, leb, ltb, List, [], ◌∷◌, ◌++◌, map, filter, filter_map, fold, reverse, Some, None, refl, ap, ◌∙◌, inl, inr}
+use Rattle.std.proofs.Common.{arith}
 use Rattle.std.specs.Prelude.{All}
 use Rattle.std.specs.List.{list_any}
-use Rattle.std.specs.Option.{option_map_or}
 use Rattle.std.proofs.lemmas.List.{append-nil}
-use Rattle.std.proofs.lemmas.Option.{same_Some}
 use Rattle.std.proofs.lemmas.Bool.{leb-true, ltb-true, false_from_ne_true}
 use Rattle.turn_types.specs.declared.family.AddressFamily.{AddressFamily}
 use Rattle.turn_client_api.specs.State.{State}
@@ -15,15 +13,16 @@ use Rattle.turn_client_api.specs.declared.grant.DataConnection.{DataConnection}
 use Rattle.turn_client_api.specs.declared.grant.Relay.{Relay}
 use Rattle.turn_client_api.specs.declared.grant.Progress.TheVariants.{Active, Reserved}
 use Rattle.turn_client_api.specs.declared.grant.Purpose.{Purpose}
-use Rattle.turn_client_api.specs.Grants.{as_allocation, allocations, as_connection, failures_among, family_of, has_request, is_connect, is_for, is_of, is_past, is_pending_channel}
-use Rattle.turn_client_api.specs.Grants.{is_pending_permission, failure_of, unlisted, without_grants}
-use Rattle.turn_client_api.specs.Poll.{failed, allocation_expires, failed_by_timeout, is_lapsed_channel, is_lapsed_permission, is_over, is_unbound, lapsed, lapsed_allocation}
-use Rattle.turn_client_api.specs.Poll.{lapsed_in, last_channel_lapsed, unbound}
+use Rattle.turn_client_api.specs.Grants.{allocations, as_connection, failures_among, family_of, has_request, is_connect, is_for, is_of, is_past, is_pending_channel, is_pending_permission, failure_of}
+use Rattle.turn_client_api.specs.Grants.{unlisted, without_grants}
+use Rattle.turn_client_api.specs.Poll.{failed, allocation_expires, failed_by_timeout, is_lapsed_channel, is_lapsed_permission, is_over, is_unbound, lapsed, lapsed_allocation, lapsed_in}
+use Rattle.turn_client_api.specs.Poll.{last_channel_lapsed, unbound}
 use Rattle.turn_client_laws.specs.LawsBodies.{lapse_of, expiry_times}
 use Rattle.turn_client_api.specs.declared.event.TurnEvent.{TurnEvent}
-use Rattle.turn_client_laws.proofs.HasLemmas.{Has, filter-none, filter_map-has, find-none, has-all, has-filter_map}
+use Rattle.turn_client_laws.proofs.HasLemmas.{Has, filter-none, filter_map-has, find-none, has-all, cases_Option}
 use Rattle.turn_client_laws.proofs.LapseLemmas.{has-unreversed}
 use Rattle.turn_client_laws.proofs.LapseSteps.{lapsed_in-does}
+use Rattle.turn_client_laws.proofs.InAllocationLemmas.{allocation-there}
 
 -- none of these passes the test
 abbrev PassesNone : (Grant → Bool) → List Grant → Type 0
@@ -93,11 +92,10 @@ early-over now s (Channel number peer (Reserved until)) early = late-lt until no
 early-over now s g early = refl
 
 early-unbound : (now : ℕ) (s : State) (g : Grant) → IsEarly now s g → is_unbound [] now g ≡ false
-early-unbound now s (Connection c) early = by c.deadline refl
-  where
-    by : (o : Option ℕ) → c.deadline ≡ o → option_map_or (λ deadline. leb deadline now || false) o false ≡ false
-    by None e = refl
-    by (Some deadline) e = rw (late-le deadline now (early deadline e)) refl
+early-unbound now s (Connection c) early = elim (cases_Option c.deadline) [
+  | inl e ↦ rw e refl
+  | inr (deadline, e) ↦ rw (e, late-le deadline now (early deadline e)) refl
+]
 early-unbound now s g early = refl
 
 and-false : (a b : Bool) → (a && b && false) ≡ false
@@ -153,11 +151,5 @@ lapsed-none now s all = fold-rest (lapsed_allocation None [] now) (allocations s
     early : (g : Grant) → Has g s.grants → IsEarly now s g
     early g h time e = has-all (λ m. now < m) time (expiry_times s) all (filter_map-has (lapse_of s) g time s.grants h e)
 
-    is-allocation : (g : Grant) (a : Relay) → as_allocation g ≡ Some a → IsEarly now s g → IsEarly now s (Allocation a)
-    is-allocation (Allocation b) a e is = rw (← same_Some b a e) is
-    is-allocation g a e is = cc
-
     by : (a : Relay) → Has a (allocations s) → lapsed_allocation None [] now s a ≡ s
-    by a h =
-        let (g, there, is) = has-filter_map as_allocation a s.grants h in
-        rw (early-stays now s a (is-allocation g a is (early g there))) (lapsed_in-none now s early (family_of a.relayed))
+    by a h = rw (early-stays now s a (early (Allocation a) (allocation-there a s.grants h))) (lapsed_in-none now s early (family_of a.relayed))

@@ -5,18 +5,17 @@ use Rattle.std.specs.List.{list_any}
 use Rattle.std.proofs.lemmas.Bool.{and_parts, not-false, not-true, or_parts}
 use Rattle.std.proofs.lemmas.List.{append_assoc}
 use Rattle.std.proofs.lemmas.List.Folds.{list_any-append}
-use Rattle.std.proofs.lemmas.Option.{none-some, same_Some}
 use Rattle.std.specs.declared.net.ip_addr.IpAddr.{IpAddr}
 use Rattle.std.specs.declared.net.socket_addr.SocketAddr.{SocketAddr}
 use Rattle.std.specs.Net.Socket.{socket_ip}
 use Rattle.turn_stun.specs.declared.transport.TransportType.{TransportType}
 use Rattle.turn_stun.specs.declared.transport.TransportType.TheVariants.{Udp, Tcp}
 use Rattle.turn_agent.specs.Agent.{same_address}
-use Rattle.turn_client_api.specs.State.{State}
+use Rattle.turn_client_api.specs.State.{State, later_by}
 use Rattle.turn_client_api.specs.declared.state.Phase.{Phase}
 use Rattle.turn_client_api.specs.declared.state.Phase.TheVariants.{Allocated}
 use Rattle.turn_client_api.specs.declared.grant.Grant.{Grant}
-use Rattle.turn_client_api.specs.declared.grant.Grant.TheVariants.{Allocation, Permission, Channel, Connect, Offer, Connection}
+use Rattle.turn_client_api.specs.declared.grant.Grant.TheVariants.{Allocation, Permission, Channel, Connect, Connection}
 use Rattle.turn_client_api.specs.declared.grant.DataConnection.{DataConnection}
 use Rattle.turn_client_api.specs.declared.grant.Relay.{Relay}
 use Rattle.turn_client_api.specs.declared.grant.Progress.{Progress}
@@ -25,9 +24,8 @@ use Rattle.turn_client_api.specs.declared.grant.Origin.{Origin}
 use Rattle.turn_client_api.specs.declared.grant.Origin.TheVariants.{ServerRequest}
 use Rattle.turn_client_api.specs.declared.grant.Purpose.{Purpose}
 use Rattle.turn_client_api.specs.declared.grant.Purpose.TheVariants.{ForAllocation, ForRefresh, ForPermission, ForChannel, ForConnect, ForBind}
-use Rattle.turn_client_api.specs.State.{later_by}
 use Rattle.turn_client_api.specs.declared.state.Queued.{Queued}
-use Rattle.turn_client_api.specs.Grants.{find_allocation_to, as_allocation, allocations, changed_allocation, as_connection, family_of, family_of_ip, is_past, is_permission_of, has_active_permission}
+use Rattle.turn_client_api.specs.Grants.{find_allocation_to, allocations, changed_allocation, as_connection, family_of, family_of_ip, is_past, is_permission_of, has_active_permission}
 use Rattle.turn_client_api.specs.Grants.{permission_state, same_transport, with_expired, with_grant, with_more_grants, without_grants}
 use Rattle.turn_client_api.specs.Requests.{accepted_reply, request_started, fresh_id, replied, request_for, requested}
 use Rattle.turn_client_api.specs.Retry.{bind_time}
@@ -47,8 +45,8 @@ use Rattle.turn_client_api.specs.declared.call.Call.TheVariants.{Delete, CreateP
 use Rattle.turn_client_api.specs.declared.call.Call.TheVariants.{PollEvent, RelayedAddresses, Permissions, HavePermission, ProtocolError}
 use Rattle.turn_client_laws.specs.LawsStates.{is_asked_by}
 use Rattle.turn_client_laws.proofs.AddressLemmas.{same_address-self}
-use Rattle.turn_client_laws.proofs.HasLemmas.{Has, filter-has, has-filter_map, has-found, has-left, has-right, map-has}
-use Rattle.turn_client_laws.proofs.InAllocationLemmas.{allocation-room, Room, room-more, same_family-self}
+use Rattle.turn_client_laws.proofs.HasLemmas.{Has, filter-has, has-found, has-left, has-right, map-has}
+use Rattle.turn_client_laws.proofs.InAllocationLemmas.{allocation-room, Room, room-more, same_family-self, allocation-there}
 use Rattle.turn_client_laws.proofs.GrantOriginLemmas.{has-mapped}
 use Rattle.turn_client_laws.proofs.GrantOriginEffectLemmas.{same_ip-same}
 use Rattle.turn_client_laws.proofs.DoubleLemmas.{no-connection, no-permission}
@@ -76,27 +74,12 @@ for-last p g s is = for-there p g (with_grant g s) (has-right g s.grants (g ∷ 
 delete-askable : (now : ℕ) (s : State) (p : Purpose) → Has p (map (λ (a : Relay). ForRefresh (family_of a.relayed) 0) (allocations s)) → IsAskable (all_expired now (without_grants is_granted_in s)) p
 delete-askable now s p there =
     let (a, listed, e) = has-mapped (λ (a : Relay). ForRefresh (family_of a.relayed) 0) p (allocations s) there in
-    let (g, here, reads) = has-filter_map as_allocation a s.grants listed in
-    of a e g reads here
-  where
-    t : State
-    t = all_expired now (without_grants is_granted_in s)
-
-    expire : Grant → Grant
-    expire = changed_allocation (λ a. true) (λ a. record a { expiry = now; is_expired = true })
-
-    of : (a : Relay) → p ≡ ForRefresh (family_of a.relayed) 0 → (g : Grant) → as_allocation g ≡ Some a → Has g s.grants → IsAskable t p
-    of a e (Allocation b) reads here =
-        let kept = filter-has (λ g. not (is_granted_in g)) (Allocation b) s.grants here refl in
-        let same : b ≡ a = same_Some b a reads in
-        subst (IsAskable t) (sym e)
-        (for-there (ForRefresh (family_of a.relayed) 0) (expire (Allocation b)) t (map-has expire (Allocation b) (without_grants is_granted_in s).grants kept)
-        (rw same (same_family-self (family_of a.relayed) (family_of a.relayed) refl)))
-    of a e (Permission ip progress) reads here = absurd (none-some a reads)
-    of a e (Channel number peer progress) reads here = absurd (none-some a reads)
-    of a e (Connect peer) reads here = absurd (none-some a reads)
-    of a e (Offer offer) reads here = absurd (none-some a reads)
-    of a e (Connection c) reads here = absurd (none-some a reads)
+    let kept = filter-has (λ g. not (is_granted_in g)) (Allocation a) s.grants (allocation-there a s.grants listed) refl in
+    let expire = changed_allocation (λ a. true) (λ a. record a { expiry = now; is_expired = true }) in
+    let t = all_expired now (without_grants is_granted_in s) in
+    subst (IsAskable t) (sym e)
+    (for-there (ForRefresh (family_of a.relayed) 0) (expire (Allocation a)) t (map-has expire (Allocation a) (without_grants is_granted_in s).grants kept)
+    (same_family-self (family_of a.relayed) (family_of a.relayed) refl))
 
 -- by a REFRESH
 delete-other : (s : State) (p : Purpose) → Has p (map (λ (a : Relay). ForRefresh (family_of a.relayed) 0) (allocations s)) → p ≡ ForAllocation → ⊥

@@ -1,38 +1,35 @@
 -- The edits of which messages are made.
 use Rattle.std.proofs.Common.{◌≡◌, ◌≤◌, ◌∙◌, ◌+◌, ℕ, Bool, true, false, not, cond, ◌&&◌, ◌||◌, eqb, ltb, leb, List, [], ◌∷◌, filter, filter_map, length, Option, Some, None, inl, inr, refl, sym, subst}
-use Rattle.std.specs.Prelude.{codes, is_some, find, IfSome, ⊤}
+use Rattle.std.specs.Prelude.{is_some, find, IfSome, ⊤}
 use Rattle.std.specs.List.{list_any}
 use Rattle.std.specs.Option.{option_map_or}
 use Rattle.std.specs.Net.Socket.{socket_ip}
 use Rattle.std.proofs.lemmas.Bool.{and_parts, leb-true, ltb-true}
-use Rattle.std.proofs.lemmas.Option.{none-some, same_Some}
+use Rattle.std.proofs.lemmas.Option.{same_Some}
 use Rattle.std.specs.declared.net.socket_addr.SocketAddr.{SocketAddr}
 use Rattle.turn_stun.specs.Message.{id_of}
 use Rattle.turn_stun.specs.declared.transport.TransportType.TheVariants.{Tcp}
 use Rattle.turn_types.specs.declared.family.AddressFamily.TheVariants.{IPV4, IPV6}
 use Rattle.turn_auth.specs.LongTerm.{Challenge}
 use Rattle.turn_agent.specs.Agent.{same_address}
-use Rattle.turn_client_api.specs.State.{State}
+use Rattle.turn_client_api.specs.State.{State, later_by}
 use Rattle.turn_client_api.specs.declared.state.Phase.{Phase}
 use Rattle.turn_client_api.specs.declared.state.Phase.TheVariants.{New, Requesting, Authenticating, Allocated, Closed}
 use Rattle.turn_client_api.specs.declared.grant.Grant.{Grant}
-use Rattle.turn_client_api.specs.declared.grant.Grant.TheVariants.{Allocation, Permission, Channel, Connect, Offer, Connection}
+use Rattle.turn_client_api.specs.declared.grant.Grant.TheVariants.{Connection}
 use Rattle.turn_client_api.specs.declared.grant.DataConnection.{DataConnection}
-use Rattle.turn_client_api.specs.State.{later_by}
 use Rattle.turn_client_api.specs.declared.grant.Origin.TheVariants.{ServerIndication, ServerRequest}
 use Rattle.turn_client_api.specs.declared.grant.Purpose.{Purpose}
 use Rattle.turn_client_api.specs.declared.grant.Purpose.TheVariants.{ForAllocation, ForBind}
 use Rattle.turn_client_api.specs.declared.grant.Listing.{Listing}
 use Rattle.turn_client_api.specs.declared.state.Mode.TheVariants.{Bound}
 use Rattle.turn_client_api.specs.Grants.{find_allocation_to, as_connection, is_connection_from, has_active_permission, purposes_of, unlisted, wait}
-use Rattle.turn_client_api.specs.Requests.{request_started, bad_request, connection_already_exists, connection_attempt_method, connection_bind_method, fresh_id, refused_reply, replied, request_for}
-use Rattle.turn_client_api.specs.Requests.{requested}
-use Rattle.turn_client_api.specs.Judgement.{Judgement, Unrelated, Challenged, Fatal, ConnectionAttempt, SignedRequest, SignedSuccess, SignedError, answers_one}
-use Rattle.turn_client_api.specs.Judgement.{challenge_in, challenged_or, judgement_of, bind_judgement, is_bind_of, connection_id_in, lifetime_in, method_in, peer_in}
+use Rattle.turn_client_api.specs.Requests.{request_started, connection_attempt_method, fresh_id, request_for, requested}
+use Rattle.turn_client_api.specs.Judgement.{Judgement, Unrelated, Challenged, Fatal, ConnectionAttempt, SignedRequest, SignedSuccess, SignedError, answers_one, challenge_in, challenged_or}
+use Rattle.turn_client_api.specs.Judgement.{judgement_of, bind_judgement, is_bind_of, lifetime_in, method_in}
 use Rattle.turn_client_api.specs.Effect.{allocate_denied, allocate_granted, allocated, closed, transaction_ended, fail_all, family_not_supported, has_code, in_phase, phase_with, relayed_in}
 use Rattle.turn_client_api.specs.Effect.{taken_addresses, with_offer}
-use Rattle.turn_client_api.specs.Retry.{bind_time, first_or, is_allocate_or_connect, is_channel_bind, is_create_permission, is_refresh, phase_after, retried, state_after_retry}
-use Rattle.turn_client_api.specs.Retry.{with_held}
+use Rattle.turn_client_api.specs.Retry.{bind_time, first_or, is_allocate_or_connect, is_channel_bind, is_create_permission, is_refresh, phase_after, retried, state_after_retry, with_held}
 use Rattle.turn_client_api.specs.Connections.{attempt_indicated, attempt_requested, bind_again, bind_answered, bind_step, bound, connection_at, is_connected, is_connecting, accepts_attempt}
 use Rattle.turn_client_api.specs.Connections.{is_indicated, max_indicated, not_bound, with_deadline, with_mode}
 use Rattle.turn_client_api.specs.Payloads.{Outcome, Handled, Ignored, answered_purposes, challenge_step, is_answered, message_step, response_step, signed_step, wrong_step}
@@ -48,7 +45,8 @@ use Rattle.turn_client_laws.proofs.ChallengeJudgement.{Challenged-is, bind-is}
 use Rattle.turn_client_laws.proofs.StandLemmas.{has-contains}
 use Rattle.turn_client_laws.proofs.RunKeepLemmas.{IsKept}
 use Rattle.turn_client_laws.proofs.Edits.{KeepsAllEdits, IgnoresAll, KeepsHeeded}
-use Rattle.turn_client_laws.proofs.EditsOfReplies.{deadline-walk, effects-walk, fail-walk, gone-walk, one-of, removed, requested-walk, spelled-else, unlisted-walk, without-allocates}
+use Rattle.turn_client_laws.proofs.EditsOfReplies.{deadline-walk, effects-walk, fail-walk, gone-walk, removed, requested-walk, spelled-else, unlisted-walk, without-allocates}
+use Rattle.turn_client_laws.proofs.CaseLemmas.{requested-by, indicated-by, by_heeded, bind-by}
 
 -- ---- what may be requested again
 
@@ -75,11 +73,7 @@ connection-there local c s e =
   where
     of : (g : Grant) → as_connection g ≡ Some c → Has g s.grants → Has (Connection c) s.grants
     of (Connection d) reads there = rw (sym (same_Some d c reads)) there
-    of (Allocation a) reads there = absurd (none-some c reads)
-    of (Permission ip p) reads there = absurd (none-some c reads)
-    of (Channel number to p) reads there = absurd (none-some c reads)
-    of (Connect to) reads there = absurd (none-some c reads)
-    of (Offer offer) reads there = absurd (none-some c reads)
+    of g reads there = cc
 
 -- ---- the purpose for which a request is made again
 
@@ -247,22 +241,9 @@ module _ (Heeded : Type 0) (R : State → State → Type 0) (k : KeepsHeeded Hee
   -- ---- the server requests a connection
 
   attempt-walk : (message : List ℕ) (s : State) → IsBegun s.phase → R s (attempt_requested message s)
-  attempt-walk message s begun = by (connection_id_in message) refl (peer_in message) refl
-    where
-      answers : (text : List ℕ) → R s (replied text s)
-      answers text = k.edits.queues (replied text s).queue s begun
-
-      room : (id : ℕ) (peer : SocketAddr) (b : Bool) → is_some (find_allocation_to Tcp (socket_ip peer) s) ≡ b → (refused taken : State) → R s refused → R s taken
-          → R s (cond (not b) refused (cond (is_connected peer s) taken (with_offer id peer (ServerRequest (id_of message)) s)))
-      room id peer false e refused taken p q = p
-      room id peer true e refused taken p q = one-of R k.edits (is_connected peer s) s taken _ q
-          (k.offers id peer (ServerRequest (id_of message)) s (allocation-room Tcp (socket_ip peer) s e) (λ f. cc))
-
-      by : (i : Option ℕ) → connection_id_in message ≡ i → (p : Option SocketAddr) → peer_in message ≡ p → R s (attempt_requested message s)
-      by (Some id) e (Some peer) f = rw (e, f) (room id peer (is_some (find_allocation_to Tcp (socket_ip peer) s)) refl _ _
-          (answers (refused_reply bad_request (codes "Bad Request") s (id_of message))) (answers (refused_reply connection_already_exists (codes "Connection Already Exists") s (id_of message))))
-      by (Some id) e None f = rw (e, f) (answers (refused_reply bad_request (codes "Bad Request") s (id_of message)))
-      by None e p f = rw e (answers (refused_reply bad_request (codes "Bad Request") s (id_of message)))
+  attempt-walk message s begun =
+      requested-by (R s) message s (λ queue. k.edits.queues queue s begun)
+      (λ id peer room free. k.offers id peer (ServerRequest (id_of message)) s (allocation-room Tcp (socket_ip peer) s room) (λ f. cc))
 
   heeded-walk : (id : ℕ) (peer : SocketAddr) (s : State) → accepts_attempt peer s ≡ true → R s (with_offer id peer ServerIndication s)
   heeded-walk id peer s e =
@@ -272,16 +253,7 @@ module _ (Heeded : Type 0) (R : State → State → Type 0) (k : KeepsHeeded Hee
       k.offers id peer ServerIndication s (allocation-room Tcp (socket_ip peer) s let_in.0) (λ f. ltb-true (length (filter is_indicated s.grants)) max_indicated few.1)
 
   indicated-walk : (message : List ℕ) (s : State) → IfSome (attempt_indicated message s) (R s)
-  indicated-walk message s = by (connection_id_in message) refl (peer_in message) refl
-    where
-      if_heeded : (id : ℕ) (peer : SocketAddr) (b : Bool) → accepts_attempt peer s ≡ b → IfSome (cond b (Some (with_offer id peer ServerIndication s)) None) (R s)
-      if_heeded id peer true e = heeded-walk id peer s e
-      if_heeded id peer false e = tt
-
-      by : (i : Option ℕ) → connection_id_in message ≡ i → (p : Option SocketAddr) → peer_in message ≡ p → IfSome (attempt_indicated message s) (R s)
-      by (Some id) e (Some peer) f = rw (e, f) (if_heeded id peer (accepts_attempt peer s) refl)
-      by (Some id) e None f = rw (e, f) tt
-      by None e p f = rw e tt
+  indicated-walk message s = indicated-by (R s) message s (λ id peer accepts. heeded-walk id peer s accepts)
 
   -- ---- messages
 
@@ -291,10 +263,6 @@ module _ (Heeded : Type 0) (R : State → State → Type 0) (k : KeepsHeeded Hee
       heeded : (j : Judgement) → judgement_of s message ≡ j → IsSigned j → (p : Purpose) → Has p (answered_purposes message s) → Heeded
       heeded j e is p there = allowed (subst IsSigned (sym e) is, (p, has-contains p (answered_purposes message s) there))
 
-      indicated : (o : Option State) → IfSome o (R s) → R s (option_map_or {T = State} {U = Outcome × State} (λ t. (Handled, t)) o (Ignored, s)).1
-      indicated None r = k.edits.same s
-      indicated (Some t) r = r
-
       if_asked : IsBegun s.phase → (b : Bool) → R s (cond {A = Outcome × State} b (Handled, attempt_requested message s) (Ignored, s)).1
       if_asked begun true = attempt-walk message s begun
       if_asked begun false = k.edits.same s
@@ -302,7 +270,7 @@ module _ (Heeded : Type 0) (R : State → State → Type 0) (k : KeepsHeeded Hee
       by : (j : Judgement) → judgement_of s message ≡ j → R s (message_step message now s).1
       by (Challenged d) e = rw e (challenge-walk message d now s (judged-begun s message (Challenged d) e tt) (Challenged-is s message d e))
       by Fatal e = rw e (wrong-walk s.phase message s)
-      by ConnectionAttempt e = rw e (indicated (attempt_indicated message s) (indicated-walk message s))
+      by ConnectionAttempt e = rw e (by_heeded (R s) (attempt_indicated message s) s (indicated-walk message s) (k.edits.same s))
       by SignedRequest e = rw e (if_asked (judged-begun s message SignedRequest e tt) (eqb (method_in message) connection_attempt_method))
       by SignedSuccess e = rw e (signed-walk s.phase true message now s SignedSuccess e tt (heeded SignedSuccess e tt))
       by SignedError e = rw e (signed-walk s.phase false message now s SignedError e tt (heeded SignedError e tt))
@@ -352,20 +320,10 @@ module _ (Heeded : Type 0) (R : State → State → Type 0) (k : KeepsHeeded Hee
       by SignedError e = rw e (then s less _ (k.edits.finishes (id_of message) s) (not_bound-walk c less))
       by j e = rw e (not_bound-walk c s)
 
-  bind_in_phase : IgnoresAll R → (p : Phase) (local : SocketAddr) (message : List ℕ) (now : ℕ) (s : State) → R (record s { phase = p }) (bind_step local message now (record s { phase = p }))
-  bind_in_phase streams Allocated local message now s = by (connection_at local s) refl
-    where
-      u : State
-      u = record s { phase = Allocated }
-
-      by : (o : Option DataConnection) → connection_at local s ≡ o → R u (bind_step local message now u)
-      by None e = rw e (k.edits.same u)
-      by (Some c) e = rw e (one-of R k.edits (eqb (method_in message) connection_bind_method) u _ _ (answered-walk streams c message now u refl (connection-there local c u e)) (k.edits.same u))
-  bind_in_phase streams p local message now s = k.edits.same (record s { phase = p })
-
   -- a message of a connection
   pub bind-walk : IgnoresAll R → (local : SocketAddr) (message : List ℕ) (now : ℕ) (s : State) → R s (bind_step local message now s)
-  bind-walk streams local message now s = bind_in_phase streams s.phase local message now s
+  bind-walk streams local message now s =
+      bind-by (R s) local message now s (k.edits.same s) (λ c allocated found method. answered-walk streams c message now s allocated (connection-there local c s found))
 
 -- ---- messages in sequence
 

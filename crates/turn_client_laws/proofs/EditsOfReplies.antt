@@ -1,24 +1,22 @@
 -- The edits of which the effects of a reply are made.
 use Rattle.std.proofs.Common.{◌≡◌, ℕ, Bool, true, false, not, cond, ◌&&◌, ◌||◌, eqb, leb, List, [], ◌∷◌, map, filter_map, fold, Option, Some, None, inl, inr, refl, sym, subst, ap, ◌∙◌, arith}
-use Rattle.std.specs.Prelude.{is_some, slice_get}
+use Rattle.std.specs.Prelude.{is_some}
 use Rattle.std.specs.Option.{option_map_or}
 use Rattle.std.proofs.lemmas.Bool.{eqb-true}
-use Rattle.std.proofs.lemmas.Option.{cond_some, none-some, same_Some}
+use Rattle.std.proofs.lemmas.Option.{cond_some}
 use Rattle.std.specs.declared.net.ip_addr.IpAddr.{IpAddr}
 use Rattle.std.specs.declared.net.socket_addr.SocketAddr.{SocketAddr}
 use Rattle.turn_types.specs.declared.family.AddressFamily.{AddressFamily}
 use Rattle.turn_agent.specs.Agent.{same_address}
-use Rattle.turn_client_api.specs.State.{State}
+use Rattle.turn_client_api.specs.State.{State, later_by, seconds}
 use Rattle.turn_client_api.specs.declared.state.Phase.TheVariants.{Allocated}
 use Rattle.turn_client_api.specs.declared.grant.Grant.{Grant}
-use Rattle.turn_client_api.specs.declared.grant.Grant.TheVariants.{Allocation, Permission, Channel, Connect, Offer, Connection}
+use Rattle.turn_client_api.specs.declared.grant.Grant.TheVariants.{Allocation, Permission, Channel, Offer, Connection}
 use Rattle.turn_client_api.specs.declared.grant.Relay.{Relay}
 use Rattle.turn_client_api.specs.declared.grant.Progress.{Progress}
 use Rattle.turn_client_api.specs.declared.grant.Progress.TheVariants.{Pending, Active}
 use Rattle.turn_client_api.specs.declared.grant.Purpose.{Purpose}
-use Rattle.turn_client_api.specs.declared.grant.Purpose.TheVariants.{ForAllocation}
-use Rattle.turn_client_api.specs.State.{later_by, seconds}
-use Rattle.turn_client_api.specs.declared.grant.Purpose.TheVariants.{ForRefresh, ForPermission, ForChannel, ForConnect}
+use Rattle.turn_client_api.specs.declared.grant.Purpose.TheVariants.{ForAllocation, ForRefresh, ForPermission, ForChannel, ForConnect}
 use Rattle.turn_client_api.specs.declared.grant.Listing.{Listing}
 use Rattle.turn_client_api.specs.Grants.{as_allocation, changed_allocation, channel_at, first_in, is_channel_of, is_connect_to, is_connection_from, is_for_allocation, is_of, is_of_family}
 use Rattle.turn_client_api.specs.Grants.{is_permission_of, permission_state, purposes_of, unlisted, with_allocations, without_grants, with_expired}
@@ -32,8 +30,9 @@ use Rattle.turn_client_api.specs.Requests.{request_started, channel_bind_method,
 use Rattle.turn_client_api.specs.Payloads.{is_answered}
 use Rattle.turn_client_laws.specs.LawsOrder.{IsBegun, IsUngranted}
 use Rattle.turn_client_api.specs.Poll.{as_reported, first_reported, unreported_in}
-use Rattle.turn_client_laws.proofs.HasLemmas.{Has, filter-has, has-filter, has-filter_map, has-left, map-has}
+use Rattle.turn_client_laws.proofs.HasLemmas.{Has, filter-has, has-filter, has-filter_map, has-left, map-has, first-has}
 use Rattle.turn_client_laws.proofs.Edits.{IsAskable, IsSpelled, KeepsEdits, SparesAllocations, listing, outline, AllocationsStay, KeepsHeeded, aged}
+use Rattle.turn_client_laws.proofs.CaseLemmas.{by_test}
 
 -- ---- grants that change and keep their outlines
 
@@ -41,12 +40,8 @@ pub alike-map : (h f : Grant → Grant) → ((g : Grant) → h (f g) ≡ h g) �
 alike-map h f same [] = refl
 alike-map h f same (g ∷ gs) = rw (same g, alike-map h f same gs) refl
 
-pub outline-cond : (b : Bool) (g h : Grant) → outline h ≡ outline g → outline (cond b h g) ≡ outline g
-outline-cond true g h same = same
-outline-cond false g h same = refl
-
 pub changed-outline : (which : Relay → Bool) (change : Relay → Relay) → ((a : Relay) → (change a).relayed ≡ a.relayed) → (g : Grant) → outline (changed_allocation which change g) ≡ outline g
-changed-outline which change same (Allocation a) = outline-cond (which a) (Allocation a) (Allocation (change a)) (rw (same a) refl)
+changed-outline which change same (Allocation a) = by_test (λ (g : Grant). outline g ≡ outline (Allocation a)) (which a) (Allocation (change a)) (Allocation a) (λ e. rw (same a) refl) (λ e. refl)
 changed-outline which change same g = refl
 
 lasting-outline : (expiry : ℕ) (g : Grant) → outline (lasting expiry g) ≡ outline g
@@ -56,7 +51,7 @@ lasting-outline expiry (Channel number peer Pending) = refl
 lasting-outline expiry g = refl
 
 deadline-outline : (local : SocketAddr) (deadline : Option ℕ) (g : Grant) → outline (deadline_set local deadline g) ≡ outline g
-deadline-outline local deadline (Connection c) = outline-cond (same_address c.local local) (Connection c) (Connection (record c { deadline = deadline })) refl
+deadline-outline local deadline (Connection c) = by_test (λ (g : Grant). outline g ≡ outline (Connection c)) (same_address c.local local) _ _ (λ e. refl) (λ e. refl)
 deadline-outline local deadline g = refl
 
 told-aged : (g : Grant) → aged (as_reported g) ≡ aged g
@@ -65,18 +60,11 @@ told-aged g = refl
 
 pub told-alike : (family : AddressFamily) (gs : List Grant) → map aged (first_reported family gs) ≡ map aged gs
 told-alike family [] = refl
-told-alike family (g ∷ gs) = by (is_some (unreported_in family g)) (told-alike family gs)
-  where
-    by : (b : Bool) → map aged (first_reported family gs) ≡ map aged gs → map aged (cond b (as_reported g ∷ gs) (g ∷ first_reported family gs)) ≡ map aged (g ∷ gs)
-    by true later = rw (told-aged g) refl
-    by false later = rw later refl
+told-alike family (g ∷ gs) =
+    by_test (λ (hs : List Grant). map aged hs ≡ map aged (g ∷ gs)) (is_some (unreported_in family g)) _ _ (λ e. rw (told-aged g) refl) (λ e. rw (told-alike family gs) refl)
 
 expired-aged : (family : AddressFamily) (g : Grant) → aged (changed_allocation (λ a. is_of_family family a.relayed) (λ a. record a { is_expired = true }) g) ≡ aged g
-expired-aged family (Allocation a) = by (is_of_family family a.relayed)
-  where
-    by : (b : Bool) → aged (cond b (Allocation (record a { is_expired = true })) (Allocation a)) ≡ aged (Allocation a)
-    by true = refl
-    by false = refl
+expired-aged family (Allocation a) = by_test (λ (g : Grant). aged g ≡ aged (Allocation a)) (is_of_family family a.relayed) _ _ (λ e. refl) (λ e. refl)
 expired-aged family g = refl
 
 -- an allocation that is used no more
@@ -94,10 +82,6 @@ spares-kind family which spares a = rw (spares a) (and-false (is_of family (Allo
 
 -- ---- what a look-up finds
 
-pub first-has : {X : Type 0} (x : X) (xs : List X) → slice_get xs 0 ≡ Some x → Has x xs
-first-has x [] e = absurd (none-some x e)
-first-has x (y ∷ ys) e = inl (sym (same_Some y x e))
-
 -- the channel of this number
 pub channel-there : (number : ℕ) (peer : SocketAddr) (progress : Progress) (s : State) → first_in (channel_at number) s ≡ Some (peer, progress) → Has (Channel number peer progress) s.grants
 channel-there number peer progress s e =
@@ -110,11 +94,7 @@ channel-there number peer progress s e =
         let first : to ≡ peer = ap (λ (x : SocketAddr × Progress). x.0) both in
         let second : p ≡ progress = ap (λ (x : SocketAddr × Progress). x.1) both in
         rw (sym (eqb-true other number same), sym first, sym second) there
-    of (Allocation a) reads there = absurd (none-some (peer, progress) reads)
-    of (Permission ip p) reads there = absurd (none-some (peer, progress) reads)
-    of (Connect to) reads there = absurd (none-some (peer, progress) reads)
-    of (Offer offer) reads there = absurd (none-some (peer, progress) reads)
-    of (Connection c) reads there = absurd (none-some (peer, progress) reads)
+    of g reads there = cc
 
 -- ---- permissions that are answered leave channels unchanged
 
@@ -245,7 +225,7 @@ module _ (Heeded : Type 0) (R : State → State → Type 0) (k : KeepsHeeded Hee
 
   renewed-walk : (which : Grant → Bool) (expiry : ℕ) (s : State) → R s (renewed which expiry s)
   renewed-walk which expiry s = k.reshapes (renewed which expiry s).grants s (alike-map outline (lasting_if which expiry)
-      (λ g. outline-cond (which g) g (lasting expiry g) (lasting-outline expiry g)) s.grants)
+      (λ g. by_test (λ (h : Grant). outline h ≡ outline g) (which g) _ _ (λ e. lasting-outline expiry g) (λ e. refl)) s.grants)
 
   pub deadline-walk : (local : SocketAddr) (deadline : Option ℕ) (s : State) → R s (with_deadline local deadline s)
   deadline-walk local deadline s = k.reshapes (with_deadline local deadline s).grants s (alike-map outline (deadline_set local deadline) (deadline-outline local deadline) s.grants)

@@ -8,14 +8,13 @@ use Rattle.std.specs.declared.net.socket_addr.SocketAddr.{SocketAddr}
 use Rattle.turn_types.specs.declared.family.AddressFamily.{AddressFamily}
 use Rattle.turn_agent.specs.Agent.{due, timed_out_transaction, resent, same_address}
 use Rattle.turn_agent.specs.declared.transaction.Transaction.{Transaction}
-use Rattle.turn_client_api.specs.State.{State}
+use Rattle.turn_client_api.specs.State.{State, agent_of}
 use Rattle.turn_client_api.specs.declared.state.Phase.{Phase}
 use Rattle.turn_client_api.specs.declared.state.Phase.TheVariants.{New, Requesting, Authenticating, Allocated}
 use Rattle.turn_client_api.specs.declared.grant.Grant.{Grant}
 use Rattle.turn_client_api.specs.declared.grant.Grant.TheVariants.{Allocation, Permission, Channel}
 use Rattle.turn_client_api.specs.declared.grant.Relay.{Relay}
 use Rattle.turn_client_api.specs.declared.grant.Progress.{Progress}
-use Rattle.turn_client_api.specs.State.{agent_of}
 use Rattle.turn_client_api.specs.declared.grant.Progress.TheVariants.{Active}
 use Rattle.turn_client_api.specs.declared.grant.Purpose.{Purpose}
 use Rattle.turn_client_api.specs.declared.grant.Purpose.TheVariants.{ForAllocation, ForRefresh, ForPermission, ForChannel}
@@ -25,19 +24,20 @@ use Rattle.turn_client_api.specs.Requests.{request_started, asked_lifetime, firs
 use Rattle.turn_client_api.specs.Effect.{closed, transaction_ended, reserved}
 use Rattle.turn_client_api.specs.Due.{has_event, has_reply, is_paused}
 use Rattle.turn_client_api.specs.Poll.{answer_step, channel_lapsed, connections_unbound, timed_out_purposes, timed_out_step, allocation_expires, failed_by_timeout, is_timed_out_offer}
-use Rattle.turn_client_api.specs.Poll.{is_lapsed_channel, is_lapsed_permission, is_listed_for_allocation, is_over, is_unbound, lapsed, lapsed_allocation, lapsed_in, next_offer}
-use Rattle.turn_client_api.specs.Poll.{offer_step, offers_timed_out, permissions_lapsed, poll_step, silent_step, timed_step}
+use Rattle.turn_client_api.specs.Poll.{is_lapsed_channel, is_lapsed_permission, is_listed_for_allocation, is_over, is_unbound, lapsed, lapsed_allocation, lapsed_in, next_offer, offer_step}
+use Rattle.turn_client_api.specs.Poll.{offers_timed_out, permissions_lapsed, poll_step, silent_step, timed_step}
 use Rattle.turn_client_api.specs.Transmit.{idle_step, is_due_in, queue_step, refresh_purpose, refreshes_in, refreshes_of_rank, sent, transmit_step}
 use Rattle.turn_client_api.specs.Transmit as T
 use Rattle.turn_client_laws.specs.LawsStates.{is_asked_by}
 use Rattle.turn_client_laws.proofs.AddressLemmas.{same_address-self}
-use Rattle.turn_client_laws.proofs.HasLemmas.{Has, has-filter, has-filter_map, has-flat_map, has-found}
+use Rattle.turn_client_laws.proofs.HasLemmas.{Has, has-filter, has-filter_map, has-flat_map, has-found, first-has}
 use Rattle.turn_client_laws.proofs.InAllocationLemmas.{has-any, same_family-self}
 use Rattle.turn_client_laws.proofs.GrantOriginEffectLemmas.{same_ip-same}
 use Rattle.turn_client_laws.proofs.LapseLemmas.{has-unreversed}
 use Rattle.turn_client_laws.proofs.Edits.{IsAskable, KeepsEdits, SparesAllocations}
-use Rattle.turn_client_laws.proofs.EditsOfReplies.{closed-walk, each, either, first-has, found, one-of, removed, asked-walk, reserved-walk, spares-kind, spelled-else, unlisted-walk, told-alike}
+use Rattle.turn_client_laws.proofs.EditsOfReplies.{closed-walk, each, either, found, one-of, removed, asked-walk, reserved-walk, spares-kind, spelled-else, unlisted-walk, told-alike}
 use Rattle.turn_client_laws.proofs.LapseSteps.{lapsed_in-does}
+use Rattle.turn_client_laws.proofs.CaseLemmas.{by_test}
 
 -- ---- what is refreshed exists
 
@@ -101,18 +101,9 @@ has-dropped (first ∷ queue) q there = inr there
 
 has-unreplied : (q : Queued) (queue : List Queued) → Has q (T.without_first_reply queue) → Has q queue
 has-unreplied q [] there = there
-has-unreplied q (first ∷ queue) there = by first.is_request there (has-unreplied q queue)
-  where
-    Further : Type 0
-    Further = Has q (T.without_first_reply queue) → Has q queue
-
-    further : Has q (first ∷ T.without_first_reply queue) → Further → Has q (first ∷ queue)
-    further (inl e) more = inl e
-    further (inr later) more = inr (more later)
-
-    by : (b : Bool) → Has q (cond b (first ∷ T.without_first_reply queue) queue) → Further → Has q (first ∷ queue)
-    by true here more = further here more
-    by false later more = inr later
+has-unreplied q (first ∷ queue) there =
+    by_test (λ (l : List Queued). Has q l → Has q (first ∷ queue)) first.is_request (first ∷ T.without_first_reply queue) queue
+    (λ is h. elim h [ inl e ↦ inl e | inr later ↦ inr (has-unreplied q queue later) ]) (λ no h. inr h) there
 
 -- ---- as time passes
 

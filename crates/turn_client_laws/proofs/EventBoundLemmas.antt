@@ -3,25 +3,22 @@ use Rattle.std.proofs.Common.{◌≡◌, ◌≢◌, ℕ, ◌≤◌, ◌+◌, Boo
 use Rattle.std.proofs.Common.{◌∙◌, inl, inr, arith}
 use Rattle.std.specs.Prelude.{is_some}
 use Rattle.std.specs.List.{cons_option}
-use Rattle.std.specs.Option.{option_map_or}
 use Rattle.std.proofs.lemmas.List.{length-append, length-map, length-reverse}
-use Rattle.std.proofs.lemmas.Bool.{eq-eqb}
+use Rattle.std.proofs.lemmas.Bool.{eq-eqb, cases_Bool}
 use Rattle.std.specs.declared.net.socket_addr.SocketAddr.{SocketAddr}
 use Rattle.turn_stun.specs.declared.transport.TransportType.{TransportType}
 use Rattle.turn_types.specs.declared.family.AddressFamily.{AddressFamily}
 use Rattle.turn_agent.specs.Agent.{timed_out_transaction}
-use Rattle.turn_client_api.specs.State.{State}
+use Rattle.turn_client_api.specs.State.{State, agent_of}
 use Rattle.turn_client_api.specs.declared.grant.DataOffer.{DataOffer}
 use Rattle.turn_client_api.specs.declared.state.Phase.{Phase}
 use Rattle.turn_client_api.specs.declared.state.Phase.TheVariants.{Requesting, Authenticating, Allocated}
 use Rattle.turn_client_api.specs.declared.grant.Grant.{Grant}
 use Rattle.turn_client_api.specs.declared.grant.Grant.TheVariants.{Channel, Offer}
 use Rattle.turn_client_api.specs.declared.grant.Relay.{Relay}
-use Rattle.turn_client_api.specs.State.{agent_of}
 use Rattle.turn_client_api.specs.declared.grant.Progress.TheVariants.{Active, Reserved}
 use Rattle.turn_client_api.specs.declared.grant.Purpose.{Purpose}
-use Rattle.turn_client_api.specs.Grants.{allocations, failure_of, failures_among, family_of, is_channel_of, is_connect, is_for_any, is_of, is_pending_channel, is_pending_permission}
-use Rattle.turn_client_api.specs.Grants.{without_grants}
+use Rattle.turn_client_api.specs.Grants.{allocations, failure_of, failures_among, family_of, is_channel_of, is_connect, is_for_any, is_of, is_pending_channel, is_pending_permission, without_grants}
 use Rattle.turn_client_api.specs.Effect.{closed, transaction_ended, reserved}
 use Rattle.turn_client_api.specs.Due.{has_event, has_reply}
 use Rattle.turn_client_api.specs.Poll.{answer_by, answer_step, channel_lapsed, connections_unbound, failed, timed_out_step, allocation_expires, failed_by_timeout, is_timed_out_offer}
@@ -30,9 +27,12 @@ use Rattle.turn_client_api.specs.Poll.{permissions_lapsed, poll_step, timed_step
 use Rattle.turn_client_laws.specs.LawsBodies.{TellsOfFailed, can_fail, max_failures}
 use Rattle.turn_client_api.specs.declared.event.TurnEvent.{TurnEvent}
 use Rattle.turn_client_api.specs.declared.event.TurnEvent.TheVariants.{AllocationCreateFailed}
+use Rattle.turn_client_api.specs.declared.poll.TurnPollRet.{TurnPollRet}
 use Rattle.turn_client_laws.proofs.HasLemmas.{Has, has-found}
 use Rattle.turn_client_laws.proofs.LapseLemmas.{IsReserved, has-unreversed}
 use Rattle.turn_client_laws.proofs.LapseSteps.{lapsed_in-does}
+use Rattle.turn_client_laws.proofs.CaseLemmas.{by_test, by_found}
+use Rattle.turn_client_laws.proofs.EditsOfReplies.{and-false}
 
 tells-self : (s : State) → TellsOfFailed s s
 tells-self s = omega arith
@@ -52,11 +52,7 @@ one g = cond (can_fail g) 1 0
 
 count-cons : (g : Grant) (gs : List Grant) → count (g ∷ gs) ≡ one g + count gs
 unfolding count one
-count-cons g gs = by (can_fail g)
-  where
-    by : (b : Bool) → length (cond b (g ∷ filter can_fail gs) (filter can_fail gs)) ≡ cond b 1 0 + length (filter can_fail gs)
-    by true = omega arith
-    by false = omega arith
+count-cons g gs = elim (cases_Bool (can_fail g)) [ inl e ↦ rw e (omega arith) | inr e ↦ rw e (omega arith) ]
 
 count-append : (xs ys : List Grant) → count (xs ++ ys) ≡ count xs + count ys
 unfolding count
@@ -66,11 +62,9 @@ count-append (g ∷ xs) ys = omega (arith, count-append xs ys, count-cons g (xs 
 count-filter : (p : Grant → Bool) (gs : List Grant) → count (filter p gs) ≤ count gs
 unfolding count
 count-filter p [] = omega arith
-count-filter p (g ∷ gs) = by (p g) refl (count-filter p gs)
-  where
-    by : (b : Bool) → p g ≡ b → count (filter p gs) ≤ count gs → count (filter p (g ∷ gs)) ≤ count (g ∷ gs)
-    by true e later = rw e (omega (arith, later, count-cons g (filter p gs), count-cons g gs))
-    by false e later = rw e (omega (arith, later, count-cons g gs))
+count-filter p (g ∷ gs) =
+    let later = count-filter p gs in
+    elim (cases_Bool (p g)) [ inl e ↦ rw e (omega (arith, later, count-cons g (filter p gs), count-cons g gs)) | inr e ↦ rw e (omega (arith, later, count-cons g gs)) ]
 
 -- one that exists and does not stay
 count-without : (p : Grant → Bool) (g : Grant) (gs : List Grant) → Has g gs → p g ≡ false → can_fail g ≡ true → count (filter p gs) + 1 ≤ count gs
@@ -81,11 +75,9 @@ count-without p g (x ∷ gs) (inl e) fails can =
     (let can_here : can_fail x ≡ true = rw e at can in
     let more : count (x ∷ gs) ≡ 1 + count gs = count-cons x gs ∙ rw can_here refl in
     omega (arith, more, count-filter p gs))
-count-without p g (x ∷ gs) (inr h) fails can = by (p x) refl (count-without p g gs h fails can)
-  where
-    by : (b : Bool) → p x ≡ b → count (filter p gs) + 1 ≤ count gs → count (filter p (x ∷ gs)) + 1 ≤ count (x ∷ gs)
-    by true e later = rw e (omega (arith, later, count-cons x (filter p gs), count-cons x gs))
-    by false e later = rw e (omega (arith, later, count-cons x gs))
+count-without p g (x ∷ gs) (inr h) fails can =
+    let later = count-without p g gs h fails can in
+    elim (cases_Bool (p x)) [ inl e ↦ rw e (omega (arith, later, count-cons x (filter p gs), count-cons x gs)) | inr e ↦ rw e (omega (arith, later, count-cons x gs)) ]
 
 -- ---- failures
 
@@ -160,10 +152,6 @@ spared : (which : Grant → Bool) → ((number : ℕ) (peer : SocketAddr) (until
 spared which none (Channel number peer (Reserved until)) e is = let no : true ≡ false = sym e ∙ none number peer until in cc
 spared which none g e is = is
 
-and-none : (a : Bool) → (a && false) ≡ false
-and-none true = refl
-and-none false = refl
-
 and-none-between : (a b : Bool) → (a && false && b) ≡ false
 and-none-between true b = refl
 and-none-between false b = refl
@@ -171,39 +159,32 @@ and-none-between false b = refl
 -- ---- an allocation
 
 module _ (family : AddressFamily) (purposes : List Purpose) where
-  vain-tells : (which : Grant → Bool) (s : State) → ((number : ℕ) (peer : SocketAddr) (until : ℕ) → which (Channel number peer (Reserved until)) ≡ false)
+  vain-tells : (which : Grant → Bool) → ((number : ℕ) (peer : SocketAddr) (until : ℕ) → which (Channel number peer (Reserved until)) ≡ false) → (s : State)
       → TellsOfFailed s (failed_by_timeout family purposes which s)
-  vain-tells which s none =
-      failed-tells _ s (spared _ (λ number peer until. by number peer until (is_of family (Channel number peer (Reserved until))) (is_for_any purposes (Channel number peer (Reserved until)))))
-    where
-      by : (number : ℕ) (peer : SocketAddr) (until : ℕ) (a b : Bool) → (a && which (Channel number peer (Reserved until)) && b) ≡ false
-      by number peer until a b = rw (none number peer until) (and-none-between a b)
+  vain-tells which none s =
+      failed-tells _ s (spared _ (λ number peer until. rw (none number peer until) (and-none-between (is_of family (Channel number peer (Reserved until))) (is_for_any purposes (Channel number peer (Reserved until))))))
 
   permissions-tell : (now : ℕ) (s : State) → TellsOfFailed s (permissions_lapsed family now s)
-  permissions-tell now s = failed-tells _ s (spared _ (λ number peer until. and-none (is_of family (Channel number peer (Reserved until)))))
+  permissions-tell now s = failed-tells _ s (spared _ (λ number peer until. and-false (is_of family (Channel number peer (Reserved until)))))
 
   connections-tell : (now : ℕ) (s : State) → TellsOfFailed s (connections_unbound family purposes now s)
-  connections-tell now s = unbound-tells _ s (spared _ (λ number peer until. and-none (is_of family (Channel number peer (Reserved until)))))
+  connections-tell now s = unbound-tells _ s (spared _ (λ number peer until. and-false (is_of family (Channel number peer (Reserved until)))))
 
   offers-tell : (given : Option ℕ) (s : State) → TellsOfFailed s (offers_timed_out family given s)
   offers-tell given s = failed-tells _ s (spared _ (λ number peer until. by number peer until given))
     where
       by : (number : ℕ) (peer : SocketAddr) (until : ℕ) (o : Option ℕ) → (is_of family (Channel number peer (Reserved until)) && is_timed_out_offer o (Channel number peer (Reserved until))) ≡ false
-      by number peer until None = and-none (is_of family (Channel number peer (Reserved until)))
-      by number peer until (Some id) = and-none (is_of family (Channel number peer (Reserved until)))
-
-  vain-all : (which : Grant → Bool) → ((number : ℕ) (peer : SocketAddr) (until : ℕ) → which (Channel number peer (Reserved until)) ≡ false) → (s : State)
-      → TellsOfFailed s (failed_by_timeout family purposes which s)
-  vain-all which none s = vain-tells which s none
+      by number peer until None = and-false (is_of family (Channel number peer (Reserved until)))
+      by number peer until (Some id) = and-false (is_of family (Channel number peer (Reserved until)))
 
   lapsed_in-tells : (given : Option ℕ) (now : ℕ) (s : State) → TellsOfFailed s (lapsed_in family given purposes now s)
   lapsed_in-tells given now = lapsed_in-does TellsOfFailed family given purposes now (record {
     trans = tells-then;
-    channels = vain-all is_pending_channel (λ number peer until. refl);
-    permissions = vain-all is_pending_permission (λ number peer until. refl);
+    channels = vain-tells is_pending_channel (λ number peer until. refl);
+    permissions = vain-tells is_pending_permission (λ number peer until. refl);
     last_channel = last-tells family now;
     lapsed_permissions = permissions-tell now;
-    connects = vain-all is_connect (λ number peer until. refl);
+    connects = vain-tells is_connect (λ number peer until. refl);
     connections = connections-tell now;
     offers = offers-tell given;
     refreshes = tells-self;
@@ -211,11 +192,8 @@ module _ (family : AddressFamily) (purposes : List Purpose) where
   })
 
 allocation-tells : (given : Option ℕ) (purposes : List Purpose) (now : ℕ) (s : State) (a : Relay) → TellsOfFailed s (lapsed_allocation given purposes now s a)
-allocation-tells given purposes now s a = by (allocation_expires purposes now s a)
-  where
-    by : (b : Bool) → TellsOfFailed s (cond b (without_grants (is_of (family_of a.relayed)) s) (lapsed_in (family_of a.relayed) given purposes now s))
-    by true = without-tells (is_of (family_of a.relayed)) s
-    by false = lapsed_in-tells (family_of a.relayed) purposes given now s
+allocation-tells given purposes now s a =
+    by_test (TellsOfFailed s) (allocation_expires purposes now s a) _ _ (λ e. without-tells (is_of (family_of a.relayed)) s) (λ e. lapsed_in-tells (family_of a.relayed) purposes given now s)
 
 each-tells : (given : Option ℕ) (purposes : List Purpose) (now : ℕ) (relays : List Relay) (s : State) → TellsOfFailed s (fold (lapsed_allocation given purposes now) s relays)
 each-tells given purposes now [] s = tells-self s
@@ -261,25 +239,17 @@ timed-tells Authenticating (Some id) now s other = by (is_listed_for_allocation 
 timed-tells Allocated given now s other = tells-then s (lapsed given now s) (answer_step given now (lapsed given now s)).1 (lapsed-tells given now s) (answer-tells given now (lapsed given now s))
 timed-tells p given now s other = tells-self s
 
--- a pair by a test, or by the result of a look-up
-by_test : {A : Type 0} (P : State → Type 0) (b : Bool) (x y : A × State) → P x.1 → P y.1 → P (cond b x y).1
-by_test P true x y k l = k
-by_test P false x y k l = l
-
-by_found : {A X : Type 0} (P : State → Type 0) (f : X → A × State) (o : Option X) (y : A × State) → ((x : X) → P (f x).1) → P y.1 → P (option_map_or f o y).1
-by_found P f None y k l = l
-by_found P f (Some x) y k l = k x
-
 offer-tells : (offer : DataOffer) (s : State) → TellsOfFailed s (offer_step offer s).1
 unfolding count
 offer-tells offer s = let same = told-can_fail (family_of offer.peer) s.grants in omega (arith, same)
 
 pub poll-tells : (now : ℕ) (s : State) → s.phase ≢ Requesting → TellsOfFailed s (poll_step now s).1
 poll-tells now s other =
-    by_test (TellsOfFailed s) (has_event s || has_reply s) _ _ (tells-self s)
-    (by_found (TellsOfFailed s) (λ offer. offer_step offer s) (next_offer s) (timed_out_step now s) (λ offer. offer-tells offer s)
-    (by_found (TellsOfFailed s) (λ t. timed_step s.phase (Some t.id) now (transaction_ended t.id s)) (timed_out_transaction (agent_of s) now) (timed_step s.phase None now s)
-    (λ t. timed-tells s.phase (Some t.id) now (transaction_ended t.id s) other) (timed-tells s.phase None now s other)))
+    let told = λ (p : TurnPollRet × State). TellsOfFailed s p.1 in
+    by_test told (has_event s || has_reply s) _ _ (λ e. tells-self s)
+    (λ e. by_found told (λ offer. offer_step offer s) (next_offer s) (timed_out_step now s) (λ offer is. offer-tells offer s)
+    (by_found told (λ t. timed_step s.phase (Some t.id) now (transaction_ended t.id s)) (timed_out_transaction (agent_of s) now) (timed_step s.phase None now s)
+    (λ t is. timed-tells s.phase (Some t.id) now (transaction_ended t.id s) other) (timed-tells s.phase None now s other)))
 
 -- ---- families
 
@@ -309,10 +279,11 @@ timed-families p given now s e = cc
 
 pub poll-tells_families : (now : ℕ) (s : State) → s.phase ≡ Requesting → TellsOfFamilies s (poll_step now s).1
 poll-tells_families now s e =
-    by_test (TellsOfFamilies s) (has_event s || has_reply s) _ _ (omega arith)
-    (by_found (TellsOfFamilies s) (λ offer. offer_step offer s) (next_offer s) (timed_out_step now s) (λ offer. omega arith)
-    (by_found (TellsOfFamilies s) (λ t. timed_step s.phase (Some t.id) now (transaction_ended t.id s)) (timed_out_transaction (agent_of s) now) (timed_step s.phase None now s)
-    (λ t. timed-families s.phase (Some t.id) now (transaction_ended t.id s) e) (timed-families s.phase None now s e)))
+    let told = λ (p : TurnPollRet × State). TellsOfFamilies s p.1 in
+    by_test told (has_event s || has_reply s) _ _ (λ i. omega arith)
+    (λ i. by_found told (λ offer. offer_step offer s) (next_offer s) (timed_out_step now s) (λ offer is. omega arith)
+    (by_found told (λ t. timed_step s.phase (Some t.id) now (transaction_ended t.id s)) (timed_out_transaction (agent_of s) now) (timed_step s.phase None now s)
+    (λ t is. timed-families s.phase (Some t.id) now (transaction_ended t.id s) e) (timed-families s.phase None now s e)))
 
 pub most-failures : (s : State) → max_failures s ≤ length s.grants
 most-failures s = by s.grants

@@ -1,7 +1,8 @@
 -- The effect of a frame is independent of the bytes after it.
-use Rattle.std.proofs.Common.{◌≡◌, ℕ, Bool, true, false, not, cond, eqb, List, [], ◌∷◌, map, Option, Some, None, refl, ap, sym, ◌∙◌}
+use Rattle.std.proofs.Common.{◌≡◌, ℕ, Bool, true, false, not, cond, eqb, List, [], ◌∷◌, map, Option, Some, None, refl, ap, sym, ◌∙◌, inl, inr}
 use Rattle.std.specs.Prelude.{find}
 use Rattle.std.specs.declared.net.socket_addr.SocketAddr.{SocketAddr}
+use Rattle.std.proofs.lemmas.Bool.{cases_Bool}
 use Rattle.turn_stun.specs.Message.{id_of}
 use Rattle.turn_types.specs.Frames.{begins_message}
 use Rattle.turn_auth.specs.LongTerm.{Challenge}
@@ -11,18 +12,17 @@ use Rattle.turn_client_api.specs.declared.state.Mode.{Mode}
 use Rattle.turn_client_api.specs.declared.state.Mode.TheVariants.{Control, Waiting, Bound}
 use Rattle.turn_client_api.specs.declared.state.Stream.{Stream}
 use Rattle.turn_client_api.specs.declared.grant.DataConnection.{DataConnection}
-use Rattle.turn_client_api.specs.declared.grant.Purpose.{Purpose}
 use Rattle.turn_client_api.specs.declared.state.Phase.{Phase}
 use Rattle.turn_client_api.specs.declared.state.Phase.TheVariants.{Allocated}
 use Rattle.turn_client_api.specs.Grants.{purposes_of}
 use Rattle.turn_client_api.specs.Requests.{connection_bind_method}
-use Rattle.turn_client_api.specs.Judgement.{Judgement, Challenged, SignedSuccess, bind_judgement}
-use Rattle.turn_client_api.specs.Judgement.{is_bind_of, method_in}
+use Rattle.turn_client_api.specs.Judgement.{Judgement, Challenged, SignedSuccess, bind_judgement, is_bind_of, method_in}
 use Rattle.turn_client_api.specs.Connections.{bind_again, bind_answered, bind_step, connection_at}
 use Rattle.turn_client_api.specs.Payloads.{Outcome, Handled, is_message, message_step}
 use Rattle.turn_client_api.specs.Streams.{control_frame_step, frame_step, waiting_frame_step, with_bytes}
 use Rattle.turn_client_laws.proofs.StreamMessageLemmas.{message-same}
 use Rattle.turn_client_laws.proofs.AnyStreamsLemmas.{both_with, message-alike}
+use Rattle.turn_client_laws.proofs.HasLemmas.{cases_Option}
 
 -- ---- bytes and modes
 
@@ -33,13 +33,10 @@ abbrev mode_by : SocketAddr → Mode → Stream → Stream
 mode_by a mode stream = cond (same_address stream.local a) (record stream { mode = mode }) stream
 
 swapped : (a b : SocketAddr) (bytes : List ℕ) (mode : Mode) (stream : Stream) → mode_by b mode (bytes_by a bytes stream) ≡ bytes_by a bytes (mode_by b mode stream)
-swapped a b bytes mode stream = by (same_address stream.local a) refl (same_address stream.local b) refl
-  where
-    by : (c : Bool) → same_address stream.local a ≡ c → (d : Bool) → same_address stream.local b ≡ d → mode_by b mode (bytes_by a bytes stream) ≡ bytes_by a bytes (mode_by b mode stream)
-    by true e true f = rw (e, f, e) refl
-    by true e false f = rw (e, f, e) refl
-    by false e true f = rw (e, f, e) refl
-    by false e false f = rw (e, f, e) refl
+swapped a b bytes mode stream = elim (cases_Bool (same_address stream.local a)) [
+  | inl e ↦ elim (cases_Bool (same_address stream.local b)) [ inl f ↦ rw (e, f, e) refl | inr f ↦ rw (e, f, e) refl ]
+  | inr e ↦ elim (cases_Bool (same_address stream.local b)) [ inl f ↦ rw (e, f, e) refl | inr f ↦ rw (e, f, e) refl ]
+]
 
 all-swapped : (a b : SocketAddr) (bytes : List ℕ) (mode : Mode) (xs : List Stream) → map (mode_by b mode) (map (bytes_by a bytes) xs) ≡ map (bytes_by a bytes) (map (mode_by b mode) xs)
 all-swapped a b bytes mode [] = refl
@@ -51,11 +48,7 @@ both a bytes p = (p.0, with_bytes a bytes p.1)
 
 module _ (a : SocketAddr) (bytes : List ℕ) where
   again-bytes : (c : DataConnection) (id : ℕ) (d : Challenge) (now : ℕ) (s : State) → bind_again c id d now (with_bytes a bytes s) ≡ with_bytes a bytes (bind_again c id d now s)
-  again-bytes c id d now s = by (find (is_bind_of c.local) (purposes_of id s)) refl
-    where
-      by : (o : Option Purpose) → find (is_bind_of c.local) (purposes_of id s) ≡ o → bind_again c id d now (with_bytes a bytes s) ≡ with_bytes a bytes (bind_again c id d now s)
-      by None f = rw f refl
-      by (Some purpose) f = rw f refl
+  again-bytes c id d now s = elim (cases_Option (find (is_bind_of c.local) (purposes_of id s))) [ inl f ↦ rw f refl | inr (purpose, f) ↦ rw f refl ]
 
   answered-bytes : (c : DataConnection) (message : List ℕ) (now : ℕ) (s : State) → bind_answered c message now (with_bytes a bytes s) ≡ with_bytes a bytes (bind_answered c message now s)
   answered-bytes c message now s = by (bind_judgement s c.local message) refl

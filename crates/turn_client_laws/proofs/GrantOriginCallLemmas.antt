@@ -1,26 +1,21 @@
 -- What is active after a call: without a message of the server nothing is granted.
-use Rattle.std.proofs.Common.{◌≡◌, ◌⊎◌, ℕ, Bool, true, false, cond, eqb, List, [], ◌∷◌, map, Option, Some, None, refl, sym, subst, inl, inr}
+use Rattle.std.proofs.Common.{◌≡◌, ◌⊎◌, ℕ, Bool, List, [], ◌∷◌, map, Some, None, refl, sym, subst, inl, inr}
 use Rattle.std.specs.Prelude.{find, IsSome}
-use Rattle.std.proofs.lemmas.Bool.{eqb-true}
+use Rattle.std.proofs.lemmas.Bool.{cases_Bool}
 use Rattle.std.proofs.lemmas.Option.{none-some}
 use Rattle.std.specs.declared.net.socket_addr.SocketAddr.{SocketAddr}
 use Rattle.turn_stun.specs.Message.{id_of}
 use Rattle.turn_auth.specs.LongTerm.{Challenge}
 use Rattle.turn_agent.specs.Agent.{same_address}
-use Rattle.turn_client_api.specs.State.{State}
+use Rattle.turn_client_api.specs.State.{State, later_by}
 use Rattle.turn_client_api.specs.declared.state.Mode.TheVariants.{Bound}
-use Rattle.turn_client_api.specs.declared.state.Phase.{Phase}
-use Rattle.turn_client_api.specs.declared.state.Phase.TheVariants.{Allocated}
-use Rattle.turn_client_api.specs.State.{later_by}
 use Rattle.turn_client_api.specs.declared.grant.Grant.{Grant}
 use Rattle.turn_client_api.specs.declared.grant.Grant.TheVariants.{Allocation, Permission, Channel, Connect, Offer, Connection}
 use Rattle.turn_client_api.specs.declared.grant.DataConnection.{DataConnection}
 use Rattle.turn_client_api.specs.declared.grant.Progress.TheVariants.{Pending, Reserved}
-use Rattle.turn_client_api.specs.declared.grant.Purpose.{Purpose}
 use Rattle.turn_client_api.specs.Grants.{is_channel_of, purposes_of, without_grants}
 use Rattle.turn_client_api.specs.Requests.{connection_bind_method}
-use Rattle.turn_client_api.specs.Judgement.{Judgement, Challenged, SignedSuccess, bind_judgement}
-use Rattle.turn_client_api.specs.Judgement.{is_bind_of, method_in}
+use Rattle.turn_client_api.specs.Judgement.{Judgement, Challenged, SignedSuccess, bind_judgement, is_bind_of, method_in}
 use Rattle.turn_client_api.specs.Connections.{deadline_set, with_deadline, with_mode, bind_again, bind_answered, bind_step, connection_at}
 use Rattle.turn_client_api.specs.Calls.{is_offer_of, offer_taken, without_first}
 use Rattle.turn_client_api.specs.Retry.{bind_time}
@@ -29,29 +24,22 @@ use Rattle.turn_client_laws.proofs.Edits.{KeepsEdits, aged}
 use Rattle.turn_client_laws.proofs.EditsOfReplies.{gone-walk}
 use Rattle.turn_client_laws.specs.LawsGranted.{IsActiveGrant, IsSameGrant}
 use Rattle.turn_client_laws.proofs.StandLemmas.{Leaves, Left, kept-same, kept-trans, leaves-same, leaves-trans, left-cons, left-filter, left-map, left-skip, left-trans, left-one, left-same}
+use Rattle.turn_client_laws.proofs.CaseLemmas.{bind-by, by_test, by_found}
 
 -- ---- data connections
 
 deadline-kept : (local : SocketAddr) (time : ℕ) (g : Grant) → IsActiveGrant (deadline_set local (Some time) g) → IsSameGrant g (deadline_set local (Some time) g)
-deadline-kept local time (Connection c) = by (same_address c.local local)
-  where
-    waits : Grant
-    waits = Connection (record c { deadline = Some time })
-
-    by : (b : Bool) → IsActiveGrant (cond b waits (Connection c)) → IsSameGrant (Connection c) (cond b waits (Connection c))
-    by true stands = absurd (none-some time (sym stands))
-    by false stands = kept-same (Connection c) stands
+deadline-kept local time (Connection c) =
+    by_test (λ g. IsActiveGrant g → IsSameGrant (Connection c) g) (same_address c.local local) (Connection (record c { deadline = Some time })) (Connection c)
+    (λ is stands. absurd (none-some time (sym stands))) (λ no. kept-same (Connection c))
 deadline-kept local time g = kept-same g
 
 deadline-left : (local : SocketAddr) (time : ℕ) (grants : List Grant) → Left grants (map (deadline_set local (Some time)) grants)
 deadline-left local time grants = left-map (deadline_set local (Some time)) (deadline-kept local time) grants
 
 again-leaves : (c : DataConnection) (id : ℕ) (d : Challenge) (now : ℕ) (s : State) → Leaves s (bind_again c id d now s)
-again-leaves c id d now s = by (find (is_bind_of c.local) (purposes_of id s)) refl
-  where
-    by : (o : Option Purpose) → find (is_bind_of c.local) (purposes_of id s) ≡ o → Leaves s (bind_again c id d now s)
-    by None f = rw f (leaves-same s)
-    by (Some purpose) f = rw f (deadline-left c.local (later_by bind_time now) s.grants)
+again-leaves c id d now s =
+    by_found (Leaves s) _ (find (is_bind_of c.local) (purposes_of id s)) s (λ purpose e. deadline-left c.local (later_by bind_time now) s.grants) (leaves-same s)
 
 -- The connection at the local address is bound, by a signed success on it.
 pub record Binds (local : SocketAddr) (message : List ℕ) (s t : State) : Type 0 where
@@ -67,11 +55,7 @@ abbrev pub BindsOrLeaves : SocketAddr → List ℕ → State → State → Type 
 BindsOrLeaves local message s t = Binds local message s t ⊎ (Leaves s t × (t.streams ≡ s.streams))
 
 again-streams : (c : DataConnection) (id : ℕ) (d : Challenge) (now : ℕ) (s : State) → (bind_again c id d now s).streams ≡ s.streams
-again-streams c id d now s = by (find (is_bind_of c.local) (purposes_of id s)) refl
-  where
-    by : (o : Option Purpose) → find (is_bind_of c.local) (purposes_of id s) ≡ o → (bind_again c id d now s).streams ≡ s.streams
-    by None f = rw f refl
-    by (Some purpose) f = rw f refl
+again-streams c id d now s = by_found (λ (t : State). t.streams ≡ s.streams) _ (find (is_bind_of c.local) (purposes_of id s)) s (λ purpose e. refl) refl
 
 answered-leaves : (local : SocketAddr) (c : DataConnection) (message : List ℕ) (now : ℕ) (s : State) → connection_at local s ≡ Some c → method_in message ≡ connection_bind_method
     → BindsOrLeaves local message s (bind_answered c message now s)
@@ -82,30 +66,18 @@ answered-leaves local c message now s found method = by (bind_judgement s c.loca
     by SignedSuccess e = inl (record { c = c; found = found; method = method; judged = e; grants = rw e refl; streams = rw e refl })
     by j e = rw e (inr (left-filter _ s.grants, refl))
 
-bind_in_phase : (p : Phase) (local : SocketAddr) (message : List ℕ) (now : ℕ) (s : State) → BindsOrLeaves local message (record s { phase = p }) (bind_step local message now (record s { phase = p }))
-bind_in_phase Allocated local message now s = by (connection_at local s) refl (eqb (method_in message) connection_bind_method) refl
-  where
-    u : State
-    u = record s { phase = Allocated }
-
-    by : (o : Option DataConnection) → connection_at local s ≡ o → (b : Bool) → eqb (method_in message) connection_bind_method ≡ b → BindsOrLeaves local message u (bind_step local message now u)
-    by None e b f = rw e (inr (leaves-same u, refl))
-    by (Some c) e false f = rw (e, f) (inr (leaves-same u, refl))
-    by (Some c) e true f = subst (BindsOrLeaves local message u) (rw (e, f) refl) (answered-leaves local c message now u e (eqb-true (method_in message) connection_bind_method f))
-bind_in_phase p local message now s = inr (leaves-same s, refl)
-
 pub bind-leaves : (local : SocketAddr) (message : List ℕ) (now : ℕ) (s : State) → BindsOrLeaves local message s (bind_step local message now s)
-bind-leaves local message now s = bind_in_phase s.phase local message now s
+bind-leaves local message now s =
+    bind-by (BindsOrLeaves local message s) local message now s (inr (leaves-same s, refl)) (λ c allocated found method. answered-leaves local c message now s found method)
 
 -- ---- the edits of calls
 
 first-left : (which : Grant → Bool) (grants : List Grant) → Left grants (without_first which grants)
 first-left which [] = left-same []
-first-left which (g ∷ others) = by (which g) (first-left which others)
-  where
-    by : (b : Bool) → Left others (without_first which others) → Left (g ∷ others) (cond b others (g ∷ without_first which others))
-    by true later = left-skip g others others (left-same others)
-    by false later = left-cons g g others (without_first which others) (kept-same g) later
+first-left which (g ∷ others) = elim (cases_Bool (which g)) [
+  | inl e ↦ rw e (left-skip g others others (left-same others))
+  | inr e ↦ rw e (left-cons g g others (without_first which others) (kept-same g) (first-left which others))
+]
 
 -- whether a grant was reported does not count
 aged-stands : (g : Grant) → IsActiveGrant (aged g) → IsActiveGrant g
@@ -171,11 +143,7 @@ Leaves-KeepsEdits = record {
 }
   where
     unbound : (c : DataConnection) → IsSome c.deadline → IsActiveGrant (Connection c) → ⊥
-    unbound c waits none = by c.deadline waits none
-      where
-        by : (o : Option ℕ) → IsSome o → o ≡ None → ⊥
-        by None waits none = cc
-        by (Some deadline) waits none = none-some deadline (sym none)
+    unbound c waits none = let no : IsSome {T = ℕ} None = rw none at waits in cc
 
 pub gone-leaves : (local : SocketAddr) (s : State) → Leaves s (connection_gone local s)
 gone-leaves = gone-walk Leaves Leaves-KeepsEdits

@@ -63,7 +63,7 @@ channels-map f keeps grants number peer (progress, there) =
 pub channels-append : (grants later : List Grant) (one : Grant) → ChannelsWithin grants later
     → ((number : ℕ) (peer : SocketAddr) (progress : Progress) → Channel number peer progress ≡ one → IsChannelIn number peer grants) → ChannelsWithin grants (later ++ one ∷ [])
 channels-append grants later one within known number peer (progress, there) = elim (has-append (Channel number peer progress) later (one ∷ []) there) [
-  inl here ↦ within number peer (progress, here)
+  | inl here ↦ within number peer (progress, here)
   | inr (inl e) ↦ known number peer progress e
   | inr (inr none) ↦ absurd none
 ]
@@ -83,7 +83,7 @@ module _ (purposes : List Purpose) (message : List ℕ) (now : ℕ) (before : St
   -- what was granted is active
   pub gives-covers : (grants later : List Grant) (g : Grant) → Gives purposes message now before grants later → Covers later g → Covers grants g ⊎ IsGiven purposes message now before g
   gives-covers grants later g gives (is, there, kept) = elim (gives is there (kept-stood is g kept)) [
-    inl (was, earlier, k) ↦ inl (was, earlier, kept-trans was is g k kept)
+    | inl (was, earlier, k) ↦ inl (was, earlier, kept-trans was is g k kept)
     | inr (was, given, k) ↦ inr (was, given, kept-trans was is g k kept)
   ]
 
@@ -95,7 +95,7 @@ module _ (purposes : List Purpose) (message : List ℕ) (now : ℕ) (before : St
 
   pub gives-append : (grants more : List Grant) → ((g : Grant) → Has g more → IsActiveGrant g → IsGivenOf purposes message now before g) → Gives purposes message now before grants (grants ++ more)
   gives-append grants more gives g there stands = elim (has-append g grants more there) [
-    inl here ↦ inl (covers-has grants g here stands)
+    | inl here ↦ inl (covers-has grants g here stands)
     | inr behind ↦ inr (g, gives g behind stands, kept-same g stands)
   ]
 
@@ -111,7 +111,7 @@ module _ (purposes : List Purpose) (message : List ℕ) (now : ℕ) (before : St
       let (x, earlier, e) = has-mapped f g grants there in
       let stood : IsActiveGrant (f x) = subst IsActiveGrant e stands in
       elim (keeps x earlier stood) [
-        inl kept ↦ inl (x, earlier, subst (IsSameGrant x) (sym e) kept)
+        | inl kept ↦ inl (x, earlier, subst (IsSameGrant x) (sym e) kept)
         | inr given ↦ inr (f x, given, subst (IsSameGrant (f x)) (sym e) (kept-same (f x) stood))
       ]
 

@@ -3,6 +3,7 @@ use Rattle.std.proofs.Common.{◌≡◌, ℕ, Bool, true, false, not, cond, List
 use Rattle.std.specs.List.{Contains}
 use Rattle.turn_client_api.specs.State.{State}
 use Rattle.std.specs.declared.net.socket_addr.SocketAddr.{SocketAddr}
+use Rattle.std.proofs.lemmas.Bool.{cases_Bool}
 use Rattle.turn_client_api.specs.declared.grant.Grant.{Grant}
 use Rattle.turn_client_api.specs.declared.grant.Grant.TheVariants.{Allocation, Permission, Channel, Connect, Offer, Connection}
 use Rattle.turn_client_api.specs.declared.grant.DataConnection.{DataConnection}
@@ -20,7 +21,7 @@ use Rattle.turn_client_api.specs.Receive.{connection_gone}
 use Rattle.turn_client_api.specs.Calls.{deleted, is_allocated, is_granted_in}
 use Rattle.turn_client_laws.specs.Handled.{Input}
 use Rattle.turn_client_api.specs.Payloads.{is_message, message_step}
-use Rattle.turn_client_laws.specs.LawsHandled.{IsDoneBy, IsOverControl, TakesInput}
+use Rattle.turn_client_laws.specs.LawsHandled.{IsOverControl, TakesInput}
 use Rattle.turn_client_laws.specs.LawsBound.{IsBindInput}
 use Rattle.turn_client_laws.specs.LawsGranted.{HasCause, IsEndedNow, IsGivenFor, IsGrant, IsGrantInput, IsGrantedBy, IsGrantedIn, IsSameGrant, IsActiveGrant, WasActive}
 use Rattle.turn_client_api.specs.Steps.{state_after}
@@ -54,10 +55,9 @@ delete-ends now s g = by (is_allocated s.phase)
 
     by : (b : Bool) → Has g (cond {A = Result Unit DeleteError × State} b (Ok tt, deleted now s) (Err No.NoAllocation, s)).1.grants → IsActiveGrant g → WasActive s g ⊎ IsEndedNow (Delete now) s g
     by false there stands = inl (covers-stood s g (covers-has s.grants g there stands))
-    by true there stands = from (has-mapped all g (filter (λ g. not (is_granted_in g)) s.grants) there)
-      where
-        from : (x : Grant) × Has x (filter (λ g. not (is_granted_in g)) s.grants) × (g ≡ all x) → WasActive s g ⊎ IsEndedNow (Delete now) s g
-        from (x, before, e) = rw e (at x (has-filter (λ g. not (is_granted_in g)) x s.grants before).0 (rw (sym e) stands))
+    by true there stands =
+        let (x, before, e) = has-mapped all g (filter (λ g. not (is_granted_in g)) s.grants) there in
+        subst (λ (h : Grant). WasActive s h ⊎ IsEndedNow (Delete now) s h) (sym e) (at x (has-filter (λ g. not (is_granted_in g)) x s.grants before).0 (subst IsActiveGrant e stands))
 
 -- ---- what the inputs of a call grant
 
@@ -90,11 +90,10 @@ control-grants g one over whole covers = by g (message-brings g one.bytes one.ti
 
 -- a grant that a map leaves existed before, or is a connection at this local address
 pub deadline-has : (local : SocketAddr) (g x : Grant) → g ≡ deadline_set local None x → (g ≡ x) ⊎ ((c : DataConnection) × (g ≡ Connection c) × (c.local ≡ local))
-deadline-has local g (Connection c) e = by (same_address c.local local) refl
-  where
-    by : (b : Bool) → same_address c.local local ≡ b → (g ≡ Connection c) ⊎ ((d : DataConnection) × (g ≡ Connection d) × (d.local ≡ local))
-    by true f = inr (record c { deadline = None }, e ∙ rw f refl, same_address-true c.local local f)
-    by false f = inl (e ∙ rw f refl)
+deadline-has local g (Connection c) e = elim (cases_Bool (same_address c.local local)) [
+  | inl f ↦ inr (record c { deadline = None }, e ∙ rw f refl, same_address-true c.local local f)
+  | inr f ↦ inl (e ∙ rw f refl)
+]
 deadline-has local g x e = inl e
 
 bind-covers : (one : Input) (stream : Stream) (g : Grant) (t : State) → one.stream ≡ Some stream → stream.mode ≡ Waiting → is_message one.bytes ≡ true → Binds stream.local one.bytes one.before t
@@ -108,11 +107,10 @@ bind-covers one stream g t of waits whole b (is, there, kept) = by (has-mapped (
     bound c h at k = absurd k
 
     by : (x : Grant) × Has x one.before.grants × (is ≡ deadline_set b.c.local None x) → Covers one.before.grants g ⊎ IsGrantedIn g one
-    by (x, before, e) = at (deadline-has b.c.local is x e)
-      where
-        at : (is ≡ x) ⊎ ((c : DataConnection) × (is ≡ Connection c) × (c.local ≡ b.c.local)) → Covers one.before.grants g ⊎ IsGrantedIn g one
-        at (inl same) = inl (is, rw same before, kept)
-        at (inr (c, connection, ends)) = inr (bound c g ends (rw connection at kept))
+    by (x, before, e) = elim (deadline-has b.c.local is x e) [
+      | inl same ↦ inl (is, rw same before, kept)
+      | inr (c, connection, ends) ↦ inr (bound c g ends (rw connection at kept))
+    ]
 
 -- for each grant: it was active, or an input granted it
 pub bringing : (g : Grant) → IsBrought (λ s. Covers s.grants g) (IsGrantedIn g)
@@ -144,18 +142,11 @@ module _ (s : State) (g : Grant) where
     where
       ended : (h i : Grant) → IsEndedNow (Delete now) s h → IsSameGrant h i → IsEndedNow (Delete now) s i
       ended (Allocation a) (Allocation b) (e, (was, before, same)) (f, d) = (sym d ∙ e, (was, before, same ∙ f))
-      ended (Permission ip progress) i e k = absurd e
-      ended (Channel number peer progress) i e k = absurd e
-      ended (Connect peer) i e k = absurd e
-      ended (Offer offer) i e k = absurd e
-      ended (Connection c) i e k = absurd e
       ended (Allocation a) i e k = absurd k
-
-      stood : WasActive s is → Before (Delete now)
-      stood (was, before, k) = inl (was, contains-has was s.grants before, kept-trans was is g k kept)
+      ended h i e k = absurd e
 
       by : WasActive s is ⊎ IsEndedNow (Delete now) s is → Before (Delete now)
-      by (inl was) = stood was
+      by (inl (was, before, k)) = inl (was, contains-has was s.grants before, kept-trans was is g k kept)
       by (inr e) = inr (ended is g e kept)
 
   call-grants : (call : Call) → (TakesInput call → ⊥) → Covers (state_after call s).grants g → Before call
@@ -168,9 +159,8 @@ module _ (s : State) (g : Grant) where
 
 pub leaves-grants : (call : Call) (s t : State) (g : Grant) → S.Leaves call s t → Contains t.grants g → IsActiveGrant g → HasCause call s g
 leaves-grants call s t g leaves there stands =
-    by (leaves-bring (λ u. Covers u.grants g) (IsGrantedIn g) (bringing g) (λ call s. IsEndedNow call s g) (λ call s. call-grants s g call) call s t leaves
-    (covers-has t.grants g (contains-has g t.grants there) stands))
-  where
-    by : Covers s.grants g ⊎ IsEndedNow call s g ⊎ IsDoneBy (IsGrantedIn g) call s → WasActive s g ⊎ IsEndedNow call s g ⊎ IsDoneBy (IsGrantedIn g) call s
-    by (inl covers) = inl (covers-stood s g covers)
-    by (inr other) = inr other
+    elim (leaves-bring (λ u. Covers u.grants g) (IsGrantedIn g) (bringing g) (λ call s. IsEndedNow call s g) (λ call s. call-grants s g call) call s t leaves
+    (covers-has t.grants g (contains-has g t.grants there) stands)) [
+      | inl covers ↦ inl (covers-stood s g covers)
+      | inr other ↦ inr other
+    ]

@@ -1,7 +1,7 @@
 -- What is in a list.
 use Rattle.std.proofs.Common.{◌≡◌, ℕ, zero, suc, ◌≤◌, min, Bool, true, false, List, [], ◌∷◌, ◌++◌, map, filter, flat_map, filter_map, find, fold, Option, Some, None, ◌⊎◌, inl, inr, refl, sym, subst}
 use Rattle.std.proofs.Common.{arith}
-use Rattle.std.specs.Prelude.{All}
+use Rattle.std.specs.Prelude.{All, slice_get}
 use Rattle.std.proofs.lemmas.Option.{none-some, same_Some}
 use Rattle.std.proofs.Math.Nat.{min-le_left, min-le_right}
 use Rattle.std.proofs.lemmas.Bool.{cases_Bool}
@@ -34,7 +34,7 @@ has-append x (y ∷ xs) ys (inr h) = elim (has-append x xs ys h) [ inl here ↦ 
 pub has-filter : {X : Type 0} (p : X → Bool) (x : X) (xs : List X) → Has x (filter p xs) → Has x xs × (p x ≡ true)
 has-filter p x [] h = absurd h
 has-filter p x (y ∷ xs) h = elim (cases_Bool (p y)) [
-  inl passes ↦ elim (rw passes at h) [ inl e ↦ (inl e, rw e passes) | inr there ↦ let later = has-filter p x xs there in (inr later.0, later.1) ]
+  | inl passes ↦ elim (rw passes at h) [ inl e ↦ (inl e, rw e passes) | inr there ↦ let later = has-filter p x xs there in (inr later.0, later.1) ]
   | inr fails ↦ let later = has-filter p x xs (rw fails at h) in (inr later.0, later.1)
 ]
 
@@ -42,7 +42,7 @@ pub filter-has : {X : Type 0} (p : X → Bool) (x : X) (xs : List X) → Has x x
 filter-has p x [] h passes = absurd h
 filter-has p x (y ∷ xs) (inl e) passes = rw (rw e at passes) (inl e)
 filter-has p x (y ∷ xs) (inr h) passes = elim (cases_Bool (p y)) [
-  inl here ↦ rw here (inr (filter-has p x xs h passes))
+  | inl here ↦ rw here (inr (filter-has p x xs h passes))
   | inr fails ↦ rw fails (filter-has p x xs h passes)
 ]
 
@@ -65,7 +65,7 @@ pub record Came {X Y : Type 0} (f : X → List Y) (y : Y) (xs : List X) : Type 0
 pub has-flat_map : {X Y : Type 0} (f : X → List Y) (y : Y) (xs : List X) → Has y (flat_map f xs) → Came f y xs
 has-flat_map f y [] h = absurd h
 has-flat_map f y (z ∷ xs) h = elim (has-append y (f z) (flat_map f xs) h) [
-  inl here ↦ record { from = z; there = inl refl; gives = here }
+  | inl here ↦ record { from = z; there = inl refl; gives = here }
   | inr later ↦ let came = has-flat_map f y xs later in record { from = came.from; there = inr came.there; gives = came.gives }
 ]
 
@@ -73,14 +73,14 @@ pub filter_map-has : {X Y : Type 0} (f : X → Option Y) (x : X) (y : Y) (xs : L
 filter_map-has f x y [] h gives = absurd h
 filter_map-has f x y (z ∷ xs) (inl e) gives = rw (rw e at gives) (inl refl)
 filter_map-has f x y (z ∷ xs) (inr h) gives = elim (cases_Option (f z)) [
-  inl e ↦ rw e (filter_map-has f x y xs h gives)
+  | inl e ↦ rw e (filter_map-has f x y xs h gives)
   | inr (w, e) ↦ rw e (inr (filter_map-has f x y xs h gives))
 ]
 
 pub has-filter_map : {X Y : Type 0} (f : X → Option Y) (y : Y) (xs : List X) → Has y (filter_map f xs) → (x : X) × Has x xs × (f x ≡ Some y)
 has-filter_map f y [] h = absurd h
 has-filter_map {X = X} f y (z ∷ xs) h = elim (cases_Option (f z)) [
-  inl e ↦ later (has-filter_map f y xs (rw e at h))
+  | inl e ↦ later (has-filter_map f y xs (rw e at h))
   | inr (w, e) ↦ elim (rw e at h) [ inl same ↦ (z, inl refl, rw same e) | inr there ↦ later (has-filter_map f y xs there) ]
 ]
   where
@@ -91,9 +91,13 @@ has-filter_map {X = X} f y (z ∷ xs) h = elim (cases_Option (f z)) [
 pub has-found : {X : Type 0} (p : X → Bool) (x : X) (xs : List X) → find p xs ≡ Some x → Has x xs × (p x ≡ true)
 has-found p x [] found = absurd (none-some x found)
 has-found p x (y ∷ xs) found = elim (cases_Bool (p y)) [
-  inl passes ↦ let same : y ≡ x = same_Some y x (rw passes at found) in (inl (sym same), rw (sym same) passes)
+  | inl passes ↦ let same : y ≡ x = same_Some y x (rw passes at found) in (inl (sym same), rw (sym same) passes)
   | inr fails ↦ let later = has-found p x xs (rw fails at found) in (inr later.0, later.1)
 ]
+
+pub first-has : {X : Type 0} (x : X) (xs : List X) → slice_get xs 0 ≡ Some x → Has x xs
+first-has x [] e = absurd (none-some x e)
+first-has x (y ∷ ys) e = inl (sym (same_Some y x e))
 
 pub find-none : {X : Type 0} (p : X → Bool) (xs : List X) → ((x : X) → Has x xs → p x ≡ false) → find p xs ≡ None
 find-none p [] fails = refl

@@ -31,13 +31,12 @@ use Rattle.turn_client_api.specs.declared.call.Call.{Call}
 use Rattle.turn_client_laws.specs.LawsGrantAllocations.{asked_family, IsAskedIn, ReplyHasAllocation, GrantsHaveAllocations}
 use Rattle.turn_client_laws.specs.LawsStates.{is_asked_by}
 use Rattle.turn_client_laws.proofs.AddressLemmas.{same_ip-true}
-use Rattle.turn_client_laws.proofs.HasLemmas.{Has, all-has, has-all, has-filter, has-filter_map, has-right}
+use Rattle.turn_client_laws.proofs.HasLemmas.{Has, all-has, has-all, has-filter, has-filter_map, has-right, cases_Option, first-has}
 use Rattle.turn_client_laws.proofs.InAllocationLemmas.{Backed, Housed, Houses, Room, Spares, SparesAll, all-spared, any-has, asked-more, has-any, housed-filter, housed-grant, housed-grants}
 use Rattle.turn_client_laws.proofs.InAllocationLemmas.{housed-listings, housed-shaped, housed-without, of-room, room-more, room-of, room-without, same_family-self, same_family-true, shape}
 use Rattle.turn_client_laws.proofs.TakenOfferLemmas.{no-offer, stays-first, was-first}
 use Rattle.turn_client_laws.proofs.GrantOriginLemmas.{has-mapped}
 use Rattle.turn_client_laws.proofs.Edits.{IsAskable, KeepsAllEdits, KeepsEdits, aged-outlines, outline}
-use Rattle.turn_client_laws.proofs.EditsOfReplies.{first-has}
 use Rattle.turn_client_laws.proofs.EditsOfMessages.{purposes-listed}
 use Rattle.turn_client_laws.proofs.EditsOfCalls.{leaves-walk}
 
@@ -73,23 +72,18 @@ same_address-family a b e = refl
 
 -- an offer that exists has an allocation
 offer-room : (id : ℕ) (peer : SocketAddr) (origin : Origin) (s : State) → offer_origin id peer s ≡ Some origin → Housed s.grants s.listed → Room s.grants (family_of peer)
-offer-room id peer origin s e h = by (slice_get (filter_map as_offer (filter (is_offer_of id peer) s.grants)) 0) refl
+offer-room id peer origin s e h = elim (cases_Option (slice_get (filter_map as_offer (filter (is_offer_of id peer) s.grants)) 0)) [
+  | inl f ↦ absurd (none-some origin (rw f at e))
+  | inr (offer, f) ↦
+      let (g, there, reads) = has-filter_map as_offer offer (filter (is_offer_of id peer) s.grants) (first-has offer _ f) in
+      let (was, is) = has-filter (is_offer_of id peer) g s.grants there in
+      of offer g reads is (h.stands g was)
+]
   where
     of : (offer : DataOffer) (g : Grant) → as_offer g ≡ Some offer → is_offer_of id peer g ≡ true → Room s.grants (family_of_grant g) → Room s.grants (family_of peer)
     of offer (Offer other) reads is room =
         subst (λ (f : AddressFamily). Room s.grants f) (same_address-family other.peer peer (and_parts (eqb other.connection_id id) (same_address other.peer peer) is).1) room
-    of offer (Allocation a) reads is room = cc
-    of offer (Permission ip progress) reads is room = cc
-    of offer (Channel number to progress) reads is room = cc
-    of offer (Connect to) reads is room = cc
-    of offer (Connection c) reads is room = cc
-
-    by : (o : Option DataOffer) → slice_get (filter_map as_offer (filter (is_offer_of id peer) s.grants)) 0 ≡ o → Room s.grants (family_of peer)
-    by None f = absurd (none-some origin (rw f at e))
-    by (Some offer) f =
-        let (g, there, reads) = has-filter_map as_offer offer (filter (is_offer_of id peer) s.grants) (first-has offer _ f) in
-        let (was, is) = has-filter (is_offer_of id peer) g s.grants there in
-        of offer g reads is (h.stands g was)
+    of offer g reads is room = cc
 
 -- a permission that exists has an allocation
 permission-room : (ip : IpAddr) (p : Progress) (s : State) → permission_state ip s ≡ Some p → Housed s.grants s.listed → Room s.grants (family_of_ip ip)
@@ -100,11 +94,7 @@ permission-room ip p s e h =
     of : (g : Grant) → permission_progress ip g ≡ Some p → Room s.grants (family_of_grant g) → Room s.grants (family_of_ip ip)
     of (Permission other progress) reads room =
         subst (λ (x : IpAddr). Room s.grants (family_of_ip x)) (same_ip-true other ip (cond_some (same_ip other ip) progress p reads).0) room
-    of (Allocation a) reads room = absurd (none-some p reads)
-    of (Channel number peer progress) reads room = absurd (none-some p reads)
-    of (Connect peer) reads room = absurd (none-some p reads)
-    of (Offer offer) reads room = absurd (none-some p reads)
-    of (Connection c) reads room = absurd (none-some p reads)
+    of g reads room = cc
 
 -- ---- grants change
 

@@ -43,7 +43,7 @@ not-both false e f = cc
 pub any-has : {X : Type 0} (p : X → Bool) (xs : List X) → list_any p xs ≡ true → (x : X) × Has x xs × (p x ≡ true)
 any-has p [] e = cc
 any-has p (y ∷ xs) e = elim (cases_Bool (p y)) [
-  inl here ↦ (y, inl refl, here)
+  | inl here ↦ (y, inl refl, here)
   | inr fails ↦ let (x, there, passes) = any-has p xs (rw fails at e) in (x, inr there, passes)
 ]
 
@@ -84,7 +84,7 @@ allocation-there a gs h = let (g, there, is) = has-filter_map as_allocation a gs
 
 pub room-of : (family : AddressFamily) (s : State) → is_some (find_allocation family s) ≡ true → Room s.grants family
 room-of family s h = elim (cases_Option (find_allocation family s)) [
-  inl none ↦ let no : false ≡ true = rw none at h in cc
+  | inl none ↦ let no : false ≡ true = rw none at h in cc
   | inr (a, e) ↦
       let (there, is) = has-found (λ (r : Relay). same_family (family_of r.relayed) family) a (allocations s) e in
       (a, allocation-there a s.grants there, same_family-true (family_of a.relayed) family is)
@@ -93,7 +93,7 @@ room-of family s h = elim (cases_Option (find_allocation family s)) [
 -- an allocation that relays to this address
 pub allocation-room : (transport : TransportType) (ip : IpAddr) (s : State) → is_some (find_allocation_to transport ip s) ≡ true → Room s.grants (family_of_ip ip)
 allocation-room transport ip s e = room-of (family_of_ip ip) s (elim (cases_Bool (same_transport transport s.config.allocation_transport)) [
-  inl is ↦ rw is at e
+  | inl is ↦ rw is at e
   | inr not ↦ let no : false ≡ true = rw not at e in cc
 ])
 
@@ -124,7 +124,7 @@ pub housed-listings : (gs : List Grant) (ls : List Listing) (id : ℕ) (ps : Lis
 housed-listings gs ls id ps h each = record {
   stands = h.stands;
   backed = λ l there. elim (has-append l ls (listings id ps) there) [
-    inl old ↦ h.backed l old
+    | inl old ↦ h.backed l old
     | inr made ↦
         let (p, here, e) = has-mapped (λ (p : Purpose). record { id = id; purpose = p }) l ps made in
         subst (λ (x : Listing). Backed gs x.purpose) (sym e) (each p here)
@@ -136,7 +136,7 @@ housed-listings gs ls id ps h each = record {
 pub housed-grants : (gs hs : List Grant) (ls : List Listing) → Housed gs ls → ((g : Grant) → Has g hs → Room (gs ++ hs) (family_of_grant g)) → Housed (gs ++ hs) ls
 housed-grants gs hs ls h each = record {
   stands = λ g there. elim (has-append g gs hs there) [
-    inl old ↦ room-more gs (gs ++ hs) (λ a there. has-left (Allocation a) gs hs there) (family_of_grant g) (h.stands g old)
+    | inl old ↦ room-more gs (gs ++ hs) (λ a there. has-left (Allocation a) gs hs there) (family_of_grant g) (h.stands g old)
     | inr new ↦ each g new
   ];
   backed = λ l there. asked-more gs (gs ++ hs) l.purpose (λ g here for. has-left g gs hs here) (h.backed l there);
@@ -145,7 +145,7 @@ housed-grants gs hs ls h each = record {
 -- one grant more, of a family that has an allocation
 pub housed-grant : (gs : List Grant) (g : Grant) (ls : List Listing) → Housed gs ls → Room gs (family_of_grant g) → Housed (gs ++ g ∷ []) ls
 housed-grant gs g ls h room = housed-grants gs (g ∷ []) ls h (λ x there. elim there [
-  inl e ↦ subst (λ (y : Grant). Room (gs ++ g ∷ []) (family_of_grant y)) (sym e) (room-more gs (gs ++ g ∷ []) (λ a there. has-left (Allocation a) gs (g ∷ []) there) (family_of_grant g) room)
+  | inl e ↦ subst (λ (y : Grant). Room (gs ++ g ∷ []) (family_of_grant y)) (sym e) (room-more gs (gs ++ g ∷ []) (λ a there. has-left (Allocation a) gs (g ∷ []) there) (family_of_grant g) room)
   | inr none ↦ absurd none
 ])
 
@@ -177,7 +177,7 @@ housed-without which spares gs ls h = record { stands = stands; backed = backed 
         let (was, keeps) = has-filter (λ g. not (which g)) g gs there in
         let (a, here, same) = h.stands g was in
         elim (cases_Bool (which (Allocation a))) [
-          inl e ↦ absurd (not-both (which g) (spares a g e same) keeps)
+          | inl e ↦ absurd (not-both (which g) (spares a g e same) keeps)
           | inr e ↦ (a, stays which (Allocation a) gs here e, same)
         ]
 
@@ -187,7 +187,7 @@ housed-without which spares gs ls h = record { stands = stands; backed = backed 
         let (was, keeps) = has-filter (λ l. not (list_any (λ g. which g && is_for l.purpose g) gs)) l ls there in
         asked-more gs (filter (λ g. not (which g)) gs) l.purpose
         (λ g here for. elim (cases_Bool (which g)) [
-          inl e ↦ absurd (not-both (list_any of gs) (has-any of g gs here (and_from (which g) (is_for l.purpose g) e for)) keeps)
+          | inl e ↦ absurd (not-both (list_any of gs) (has-any of g gs here (and_from (which g) (is_for l.purpose g) e for)) keeps)
           | inr e ↦ stays which g gs here e
         ])
         (h.backed l was)

@@ -22,6 +22,7 @@ use Rattle.turn_client_laws.specs.LawsStates.{HasFewIndicated}
 use Rattle.turn_client_laws.proofs.Edits.{outline}
 use Rattle.turn_client_laws.proofs.GrantEdits.{KeepsGrants, grants-KeepsAllEdits}
 use Rattle.turn_client_laws.proofs.EditsOfCalls.{leaves-walk}
+use Rattle.turn_client_laws.proofs.CaseLemmas.{by_test}
 
 abbrev indicated : List Grant → ℕ
 indicated gs = length (filter is_indicated gs)
@@ -42,19 +43,17 @@ indicated-cons g gs = length-cond (is_indicated g) g (filter is_indicated gs)
 
 indicated-filter : (p : Grant → Bool) (gs : List Grant) → indicated (filter p gs) ≤ indicated gs
 indicated-filter p [] = omega arith
-indicated-filter p (g ∷ gs) = by (p g) (indicated-filter p gs)
-  where
-    by : (b : Bool) → indicated (filter p gs) ≤ indicated gs → indicated (cond b (g ∷ filter p gs) (filter p gs)) ≤ indicated (g ∷ gs)
-    by true later = omega (arith, later, indicated-cons g (filter p gs), indicated-cons g gs)
-    by false later = omega (arith, later, indicated-cons g gs)
+indicated-filter p (g ∷ gs) =
+    let later = indicated-filter p gs in
+    by_test (λ (hs : List Grant). indicated hs ≤ indicated (g ∷ gs)) (p g) _ _ (λ e. omega (arith, later, indicated-cons g (filter p gs), indicated-cons g gs))
+    (λ e. omega (arith, later, indicated-cons g gs))
 
 indicated-without_first : (which : Grant → Bool) (gs : List Grant) → indicated (without_first which gs) ≤ indicated gs
 indicated-without_first which [] = omega arith
-indicated-without_first which (g ∷ gs) = by (which g) (indicated-without_first which gs)
-  where
-    by : (b : Bool) → indicated (without_first which gs) ≤ indicated gs → indicated (cond b gs (g ∷ without_first which gs)) ≤ indicated (g ∷ gs)
-    by true later = omega (arith, indicated-cons g gs)
-    by false later = omega (arith, later, indicated-cons g (without_first which gs), indicated-cons g gs)
+indicated-without_first which (g ∷ gs) =
+    let later = indicated-without_first which gs in
+    by_test (λ (hs : List Grant). indicated hs ≤ indicated (g ∷ gs)) (which g) _ _ (λ e. omega (arith, indicated-cons g gs))
+    (λ e. omega (arith, later, indicated-cons g (without_first which gs), indicated-cons g gs))
 
 outline-indicated : (g : Grant) → is_indicated (outline g) ≡ is_indicated g
 outline-indicated (Allocation a) = refl

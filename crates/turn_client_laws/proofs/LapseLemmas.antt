@@ -1,10 +1,9 @@
 -- What remains after time has passed.
-use Rattle.std.proofs.Common.{◌≡◌, ℕ, ◌<◌, Bool, true, false, ◌&&◌, ◌||◌, not, List, [], ◌∷◌, ◌++◌, filter, filter_map, find, fold, reverse, Option, Some, None, ◌⊎◌, inl, inr, refl, sym}
-use Rattle.std.proofs.Common.{subst, ◌∙◌}
-use Rattle.std.specs.Prelude.{All, IfSome, ⊤, slice_get}
+use Rattle.std.proofs.Common.{◌≡◌, ℕ, ◌<◌, Bool, true, false, ◌&&◌, ◌||◌, not, List, [], ◌∷◌, ◌++◌, filter, filter_map, find, fold, reverse, Option, Some, None, ◌⊎◌, inl, inr, refl, sym, subst, ◌∙◌}
+use Rattle.std.specs.Prelude.{All, ⊤, slice_get}
 use Rattle.std.proofs.lemmas.List.{reverse-append}
-use Rattle.std.proofs.lemmas.Option.{none-some, same_Some}
-use Rattle.std.proofs.lemmas.Bool.{not-true, leb-false, and_parts}
+use Rattle.std.proofs.lemmas.Option.{none-some}
+use Rattle.std.proofs.lemmas.Bool.{not-true, leb-false, and_parts, cases_Bool}
 use Rattle.std.specs.declared.net.socket_addr.SocketAddr.{SocketAddr}
 use Rattle.turn_types.specs.declared.family.AddressFamily.{AddressFamily}
 use Rattle.turn_types.specs.declared.family.AddressFamily.TheVariants.{IPV4, IPV6}
@@ -26,9 +25,10 @@ use Rattle.turn_client_api.specs.Poll.{permissions_lapsed, refreshes_timed_out, 
 use Rattle.turn_client_api.specs.Poll.{lapsed_in, unbound}
 use Rattle.turn_client_api.specs.declared.event.TurnEvent.{TurnEvent}
 use Rattle.turn_client_api.specs.declared.event.TurnEvent.TheVariants.{ChannelCreateFailed}
-use Rattle.turn_client_laws.proofs.HasLemmas.{Has, has-all, has-left, has-right, has-append, has-filter, filter_map-has, has-filter_map, has-found}
+use Rattle.turn_client_laws.proofs.HasLemmas.{Has, has-all, has-left, has-right, has-append, has-filter, filter_map-has, has-filter_map, has-found, cases_Option, first-has}
 use Rattle.turn_client_laws.proofs.ReadyLemmas.{Alive}
 use Rattle.turn_client_laws.proofs.LapseSteps.{lapsed_in-does}
+use Rattle.turn_client_laws.proofs.CaseLemmas.{by_test}
 
 -- a channel that is reserved
 abbrev pub IsReserved : Grant → Type 0
@@ -54,13 +54,9 @@ shrinks-then s t u first later = record {
   transactions = later.transactions ∙ first.transactions;
   queue = later.queue ∙ first.queue;
   phase = later.phase ∙ first.phase;
-  grants = λ g h. back g (later.grants g h);
+  grants = λ g h. elim (later.grants g h) [ inl there ↦ first.grants g there | inr is ↦ inr is ];
   events = λ e. first.events (later.events e);
 }
-  where
-    back : (g : Grant) → Has g t.grants ⊎ IsReserved g → Has g s.grants ⊎ IsReserved g
-    back g (inl there) = first.grants g there
-    back g (inr is) = inr is
 
 append-empty : {X : Type 0} (xs ys : List X) → xs ++ ys ≡ [] → (xs ≡ []) × (ys ≡ [])
 append-empty [] ys e = (refl, e)
@@ -73,12 +69,11 @@ has-reverse x (y ∷ xs) (inr h) = rw (reverse-append (y ∷ []) xs) (has-left x
 
 pub has-unreversed : {X : Type 0} (x : X) (xs : List X) → Has x (reverse xs) → Has x xs
 has-unreversed x [] h = h
-has-unreversed x (y ∷ xs) h = by (has-unreversed x xs) (has-append x (reverse xs) (y ∷ []) (rw (reverse-append (y ∷ []) xs) at h))
-  where
-    by : (Has x (reverse xs) → Has x xs) → Has x (reverse xs) ⊎ Has x (y ∷ []) → Has x (y ∷ xs)
-    by later (inl there) = inr (later there)
-    by later (inr (inl e)) = inl e
-    by later (inr (inr none)) = absurd none
+has-unreversed x (y ∷ xs) h = elim (has-append x (reverse xs) (y ∷ []) (rw (reverse-append (y ∷ []) xs) at h)) [
+  | inl there ↦ inr (has-unreversed x xs there)
+  | inr (inl e) ↦ inl e
+  | inr (inr none) ↦ absurd none
+]
 
 -- ---- what each part of an expiry does
 
@@ -100,21 +95,13 @@ unbound-shrinks which s =
     record { agent = refl; transactions = refl; queue = refl; phase = refl; grants = f.grants; events = f.events }
 
 reserved-shrinks : (number : ℕ) (peer : SocketAddr) (expiry : ℕ) (s : State) → Shrinks s (reserved number peer expiry s)
-reserved-shrinks number peer expiry s = record { agent = refl; transactions = refl; queue = refl; phase = refl; grants = by; events = λ e. e }
+reserved-shrinks number peer expiry s =
+    record { agent = refl; transactions = refl; queue = refl; phase = refl; grants = λ g h. of g (has-append g (without_grants (is_channel_of number) s).grants _ h); events = λ e. e }
   where
-    kept : List Grant
-    kept = (without_grants (is_channel_of number) s).grants
-
-    held : Grant
-    held = Channel number peer (Reserved (later_by reserved_time expiry))
-
-    by : (g : Grant) → Has g (kept ++ held ∷ []) → Has g s.grants ⊎ IsReserved g
-    by g h = of (has-append g kept (held ∷ []) h)
-      where
-        of : Has g kept ⊎ Has g (held ∷ []) → Has g s.grants ⊎ IsReserved g
-        of (inl k) = inl (has-filter (λ x. not (is_channel_of number x)) g s.grants k).0
-        of (inr (inl e)) = inr (rw e tt)
-        of (inr (inr none)) = absurd none
+    of : (g : Grant) → Has g (without_grants (is_channel_of number) s).grants ⊎ Has g (Channel number peer (Reserved (later_by reserved_time expiry)) ∷ []) → Has g s.grants ⊎ IsReserved g
+    of g (inl kept) = inl (has-filter (λ x. not (is_channel_of number x)) g s.grants kept).0
+    of g (inr (inl e)) = inr (rw e tt)
+    of g (inr (inr none)) = absurd none
 
 channel-shrinks : (o : Option Grant) (s : State) → Shrinks s (channel_lapsed o s)
 channel-shrinks (Some (Channel number peer (Active expiry))) s =
@@ -170,11 +157,7 @@ not-passed p g gs h = not-true (p g) (has-filter (λ x. not (p x)) g gs h).1
 
 -- the grants in between, from the end back
 back : (s t : State) → Shrinks s t → (g : Grant) → (IsReserved g → ⊥) → Has g t.grants → Has g s.grants
-back s t shrinks g not_reserved h = by (shrinks.grants g h)
-  where
-    by : Has g s.grants ⊎ IsReserved g → Has g s.grants
-    by (inl there) = there
-    by (inr is) = absurd (not_reserved is)
+back s t shrinks g not_reserved h = elim (shrinks.grants g h) [ inl there ↦ there | inr is ↦ absurd (not_reserved is) ]
 
 -- a test that is false for a pair only by its second part
 what-false : (here what : Bool) → here ≡ true → (here && what) ≡ false → what ≡ false
@@ -183,31 +166,27 @@ what-false false what e f = let no : false ≡ true = e in cc
 
 -- if no event was queued, no channel had expired
 no_channel_lapsed : (family : AddressFamily) (now : ℕ) (s : State) → (last_channel_lapsed family now s).events ≡ [] → find (λ g. is_of family g && is_lapsed_channel now g) (reverse s.grants) ≡ None
-no_channel_lapsed family now s none = by (find test (reverse s.grants)) refl
+no_channel_lapsed family now s none = elim (cases_Option (find test (reverse s.grants))) [
+  | inl e ↦ e
+  | inr (g, e) ↦
+      let (there, is) = has-found test g (reverse s.grants) e in
+      absurd (lapsed_is g (has-unreversed g s.grants there) (and_parts (is_of family g) (is_lapsed_channel now g) is).1 (rw e at none))
+]
   where
     test : Grant → Bool
     test g = is_of family g && is_lapsed_channel now g
-
-    found : (g : Grant) → find test (reverse s.grants) ≡ Some g → Has g (reverse s.grants) × (test g ≡ true)
-    found g e = has-found test g (reverse s.grants) e
 
     lapsed_is : (g : Grant) → Has g s.grants → is_lapsed_channel now g ≡ true → (channel_lapsed (Some g) s).events ≡ [] → ⊥
     lapsed_is (Channel number peer (Active expiry)) h is e =
         let no : ChannelCreateFailed s.config.allocation_transport peer ∷ s.events ≡ [] = e in cc
     lapsed_is g h is e = cc
 
-    by : (o : Option Grant) → find test (reverse s.grants) ≡ o → find test (reverse s.grants) ≡ None
-    by None e = e
-    by (Some g) e = absurd (lapsed_is g (has-unreversed g s.grants (found g e).0) (and_parts (is_of family g) (is_lapsed_channel now g) (found g e).1).1 (rw e at none))
-
 find-none-false : {X : Type 0} (p : X → Bool) (x : X) (xs : List X) → find p xs ≡ None → Has x xs → p x ≡ false
 find-none-false p x [] none h = absurd h
-find-none-false p x (y ∷ xs) none h = by (p y) refl h (find-none-false p x xs)
-  where
-    by : (b : Bool) → p y ≡ b → Has x (y ∷ xs) → (find p xs ≡ None → Has x xs → p x ≡ false) → p x ≡ false
-    by true e at later = absurd (none-some y (sym (rw e at none)))
-    by false e (inl same) later = rw same e
-    by false e (inr there) later = later (rw e at none) there
+find-none-false p x (y ∷ xs) none h = elim (cases_Bool (p y)) [
+  | inl e ↦ absurd (none-some y (sym (rw e at none)))
+  | inr e ↦ elim h [ inl same ↦ rw same e | inr there ↦ find-none-false p x xs (rw e at none) there ]
+]
 
 or-left : (x y : Bool) → (x || y) ≡ false → x ≡ false
 or-left true y e = e
@@ -259,21 +238,17 @@ alive_in family given purposes now s none g h here = by g h here
     by (Connection c) h here =
         let inside = back s6 t (tail6-shrinks family given purposes now s6) (Connection c) (λ is. is) h in
         let bound = what-false _ _ here (not-passed (λ x. is_of family x && is_unbound purposes now x) (Connection c) s5.grants inside) in
-        of c.deadline refl bound
-      where
-        of : (d : Option ℕ) → c.deadline ≡ d → is_unbound purposes now (Connection c) ≡ false → IfSome c.deadline (λ deadline. now < deadline)
-        of None e f = rw e tt
-        of (Some deadline) e f = rw e (leb-false deadline now (or-left _ _ (rw e at f)))
+        elim (cases_Option c.deadline) [
+          | inl e ↦ rw e tt
+          | inr (deadline, e) ↦ rw e (leb-false deadline now (or-left _ _ (rw e at bound)))
+        ]
     by g h here = tt
 
 -- ---- all allocations
 
 lapsed_allocation-shrinks : (given : Option ℕ) (purposes : List Purpose) (now : ℕ) (s : State) (a : Relay) → Shrinks s (lapsed_allocation given purposes now s a)
-lapsed_allocation-shrinks given purposes now s a = by (allocation_expires purposes now s a) refl
-  where
-    by : (b : Bool) → allocation_expires purposes now s a ≡ b → Shrinks s (lapsed_allocation given purposes now s a)
-    by true e = rw e (without-shrinks (is_of (family_of a.relayed)) s)
-    by false e = rw e (lapsed_in-shrinks (family_of a.relayed) given purposes now s)
+lapsed_allocation-shrinks given purposes now s a =
+    by_test (Shrinks s) (allocation_expires purposes now s a) _ _ (λ e. without-shrinks (is_of (family_of a.relayed)) s) (λ e. lapsed_in-shrinks (family_of a.relayed) given purposes now s)
 
 each-shrinks : (given : Option ℕ) (purposes : List Purpose) (now : ℕ) (relays : List Relay) (s : State) → Shrinks s (fold (lapsed_allocation given purposes now) s relays)
 each-shrinks given purposes now [] s = shrinks-self s
@@ -291,27 +266,24 @@ reserved-outlives now g is = absurd is
 -- what remains of one allocation after it was processed
 after-turn : (given : Option ℕ) (purposes : List Purpose) (now : ℕ) (s : State) (a : Relay) (g : Grant) → (lapsed_allocation given purposes now s a).events ≡ []
     → Has g (lapsed_allocation given purposes now s a).grants → is_of (family_of a.relayed) g ≡ true → Outlives now g
-after-turn given purposes now s a g none h here = by (allocation_expires purposes now s a) refl
-  where
-    by : (b : Bool) → allocation_expires purposes now s a ≡ b → Outlives now g
-    by true e =
-        let stayed : Has g (without_grants (is_of (family_of a.relayed)) s).grants = rw e at h in
-        let no : false ≡ true = sym (not-passed (is_of (family_of a.relayed)) g s.grants stayed) ∙ here in
-        cc
-    by false e = alive_in (family_of a.relayed) given purposes now s (rw e at none) g (rw e at h) here
+after-turn given purposes now s a g none h here = elim (cases_Bool (allocation_expires purposes now s a)) [
+  | inl e ↦
+      let stayed : Has g (without_grants (is_of (family_of a.relayed)) s).grants = rw e at h in
+      let no : false ≡ true = sym (not-passed (is_of (family_of a.relayed)) g s.grants stayed) ∙ here in
+      cc
+  | inr e ↦ alive_in (family_of a.relayed) given purposes now s (rw e at none) g (rw e at h) here
+]
 
 outlives : (given : Option ℕ) (purposes : List Purpose) (now : ℕ) (relays : List Relay) (s : State) → (fold (lapsed_allocation given purposes now) s relays).events ≡ [] → (a : Relay) → Has a relays
     → (g : Grant) → Has g (fold (lapsed_allocation given purposes now) s relays).grants → is_of (family_of a.relayed) g ≡ true → Outlives now g
 outlives given purposes now [] s none a inside g h here = absurd inside
 outlives given purposes now (b ∷ bs) s none a (inr inside) g h here = outlives given purposes now bs (lapsed_allocation given purposes now s b) none a inside g h here
-outlives given purposes now (b ∷ bs) s none a (inl e) g h here = by ((each-shrinks given purposes now bs post).grants g h)
-  where
-    post : State
-    post = lapsed_allocation given purposes now s b
-
-    by : Has g post.grants ⊎ IsReserved g → Outlives now g
-    by (inl there) = after-turn given purposes now s b g ((each-shrinks given purposes now bs post).events none) there (rw e at here)
-    by (inr is) = reserved-outlives now g is
+outlives given purposes now (b ∷ bs) s none a (inl e) g h here =
+    let later = each-shrinks given purposes now bs (lapsed_allocation given purposes now s b) in
+    elim (later.grants g h) [
+      | inl there ↦ after-turn given purposes now s b g (later.events none) there (rw e at here)
+      | inr is ↦ reserved-outlives now g is
+    ]
 
 same_family-self : (a : AddressFamily) → same_family a a ≡ true
 same_family-self IPV4 = refl
@@ -325,20 +297,19 @@ same_family-swap a b e = refl
 -- an allocation in use is removed at its expiry
 stays-alive : (given : Option ℕ) (purposes : List Purpose) (now : ℕ) (s : State) (a : Relay) → Has (Allocation a) (lapsed_allocation given purposes now s a).grants → a.is_expired ≡ false
     → now < a.expiry
-stays-alive given purposes now s a h used = by (allocation_expires purposes now s a) refl
+stays-alive given purposes now s a h used = elim (cases_Bool (allocation_expires purposes now s a)) [
+  | inl e ↦
+      let stayed : Has (Allocation a) (without_grants (is_of (family_of a.relayed)) s).grants = rw e at h in
+      let no : false ≡ true = sym (not-passed (is_of (family_of a.relayed)) (Allocation a) s.grants stayed) ∙ same_family-self (family_of a.relayed) in
+      cc
+  | inr e ↦ leb-false a.expiry now (past (is_past now a) (is_for_any purposes (Allocation a)) (not (has_request (Allocation a) s)) (not a.is_expired) (rw used refl) e)
+]
   where
     past : (p x y n : Bool) → n ≡ true → (p && (x || y || n)) ≡ false → p ≡ false
     past false x y n e f = refl
-    past true true y n e f = let no : true ≡ false = f in cc
-    past true false true n e f = let no : true ≡ false = f in cc
-    past true false false n e f = let no : true ≡ false = sym e ∙ f in cc
-
-    by : (b : Bool) → allocation_expires purposes now s a ≡ b → now < a.expiry
-    by true e =
-        let stayed : Has (Allocation a) (without_grants (is_of (family_of a.relayed)) s).grants = rw e at h in
-        let no : false ≡ true = sym (not-passed (is_of (family_of a.relayed)) (Allocation a) s.grants stayed) ∙ same_family-self (family_of a.relayed) in
-        cc
-    by false e = leb-false a.expiry now (past (is_past now a) (is_for_any purposes (Allocation a)) (not (has_request (Allocation a) s)) (not a.is_expired) (rw used refl) e)
+    past true true y n e f = cc
+    past true false true n e f = cc
+    past true false false n e f = cc
 
 allocation-alive : (given : Option ℕ) (purposes : List Purpose) (now : ℕ) (relays : List Relay) (s : State) (a : Relay) → Has a relays
     → Has (Allocation a) (fold (lapsed_allocation given purposes now) s relays).grants → a.is_expired ≡ false → now < a.expiry
@@ -361,17 +332,12 @@ lapsed-alive given now s stand none g h = by g h ((each-shrinks given purposes n
 
     -- its allocation was processed
     turn : (g : Grant) → Has g t.grants → Has g s.grants → Outlives now g
-    turn g h there = of (find_allocation (family_of_grant g) s) refl
-      where
-        of : (o : Option Relay) → find_allocation (family_of_grant g) s ≡ o → Outlives now g
-        of None e = let no : false ≡ true = rw e at (has-all (HasAllocation s) g s.grants stand there) in cc
-        of (Some a) e =
-            let found = has-found (λ a. same_family (family_of a.relayed) (family_of_grant g)) a (allocations s) e in
-            outlives given purposes now (allocations s) s none a found.0 g h (same_family-swap _ _ found.1)
-
-    other : (g : Grant) → Has g t.grants → Has g s.grants ⊎ IsReserved g → Outlives now g
-    other g h (inl there) = turn g h there
-    other g h (inr is) = reserved-outlives now g is
+    turn g h there = elim (cases_Option (find_allocation (family_of_grant g) s)) [
+      | inl e ↦ let no : false ≡ true = rw e at (has-all (HasAllocation s) g s.grants stand there) in cc
+      | inr (a, e) ↦
+          let (listed, is) = has-found (λ a. same_family (family_of a.relayed) (family_of_grant g)) a (allocations s) e in
+          outlives given purposes now (allocations s) s none a listed g h (same_family-swap _ _ is)
+    ]
 
     by : (g : Grant) → Has g t.grants → Has g s.grants ⊎ IsReserved g → Alive now g
     by (Allocation a) h (inl there) =
@@ -379,7 +345,8 @@ lapsed-alive given now s stand none g h = by g h ((each-shrinks given purposes n
     by (Allocation a) h (inr is) = absurd is
     by (Connect peer) h o = tt
     by (Offer offer) h o = tt
-    by g h o = other g h o
+    by g h (inl there) = turn g h there
+    by g h (inr is) = reserved-outlives now g is
 
 -- no offer is added
 pub lapsed-no_offer : (s t : State) → Shrinks s t → next_offer s ≡ None → next_offer t ≡ None
@@ -389,17 +356,9 @@ lapsed-no_offer s t shrinks none = by (is_allocated t.phase) refl
     offers : State → List DataOffer
     offers u = filter_map (λ a. first_unreported (family_of a.relayed) u) (allocations u)
 
-    first : {X : Type 0} (xs : List X) (x : X) → Has x xs → slice_get xs 0 ≡ None → ⊥
-    first [] x h e = absurd h
-    first (y ∷ ys) x h e = none-some y (sym e)
-
     empty : {X : Type 0} (xs : List X) → ((x : X) → Has x xs → ⊥) → slice_get xs 0 ≡ None
     empty [] nothing = refl
     empty (y ∷ ys) nothing = absurd (nothing y (inl refl))
-
-    first-has : {X : Type 0} (xs : List X) (x : X) → slice_get xs 0 ≡ Some x → Has x xs
-    first-has [] x e = absurd (none-some x e)
-    first-has (y ∷ ys) x e = inl (sym (same_Some y x e))
 
     -- of a list that has one, there is a first
     has-first : {X : Type 0} (xs : List X) (x : X) → Has x xs → (y : X) × (slice_get xs 0 ≡ Some y)
@@ -421,14 +380,17 @@ lapsed-no_offer s t shrinks none = by (is_allocated t.phase) refl
         let relay = has-filter_map as_allocation a t.grants inside in
         let relay_before = filter_map-has as_allocation relay.0 a s.grants (back s t shrinks relay.0 (is_allocation relay.0 a relay.2) relay.1) relay.2 in
         let family = family_of a.relayed in
-        let grant = has-filter_map (unreported_in family) x t.grants (first-has (filter_map (unreported_in family) t.grants) x gives) in
+        let grant = has-filter_map (unreported_in family) x t.grants (first-has x (filter_map (unreported_in family) t.grants) gives) in
         let there = back s t shrinks grant.0 (is_offer family grant.0 x grant.2) grant.1 in
         let (y, one) = has-first (filter_map (unreported_in family) s.grants) x (filter_map-has (unreported_in family) grant.0 x s.grants there grant.2) in
         (y, filter_map-has (λ (a : Relay). first_unreported (family_of a.relayed) s) a y (allocations s) relay_before one)
 
-    nothing : next_offer s ≡ None → is_allocated s.phase ≡ true → (x : DataOffer) → Has x (offers t) → ⊥
-    nothing none is x h = let (y, there) = before x h in first (offers s) y there (rw is at none)
+    nothing : is_allocated s.phase ≡ true → (x : DataOffer) → Has x (offers t) → ⊥
+    nothing is x h =
+        let (y, there) = before x h in
+        let (z, e) = has-first (offers s) y there in
+        none-some z (sym (rw is at none) ∙ e)
 
     by : (b : Bool) → is_allocated t.phase ≡ b → next_offer t ≡ None
     by false e = rw e refl
-    by true e = rw e (empty (offers t) (nothing none (rw shrinks.phase at e)))
+    by true e = rw e (empty (offers t) (nothing (rw shrinks.phase at e)))

@@ -4,6 +4,7 @@ pub mod AllocateFamilies
 pub mod AnyStreamsLemmas
 pub mod BoundLemmas
 pub mod BoundStreamLemmas
+pub mod CaseLemmas
 pub mod ChallengeJudgement
 pub mod ChannelPeers
 pub mod ChannelRange

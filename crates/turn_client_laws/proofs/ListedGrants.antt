@@ -1,7 +1,7 @@
 -- What a request is listed for exists.
-use Rattle.std.proofs.Common.{◌≡◌, ℕ, Bool, true, false, not, eqb, ◌&&◌, List, [], ◌∷◌, ◌++◌, map, ◌⊎◌, inl, inr, refl, sym, subst, ap, ◌∙◌}
+use Rattle.std.proofs.Common.{◌≡◌, ℕ, Bool, true, not, eqb, ◌&&◌, List, [], ◌∷◌, ◌++◌, map, ◌⊎◌, inl, inr, refl, sym, subst, ap, ◌∙◌}
 use Rattle.std.specs.List.{list_any}
-use Rattle.std.proofs.lemmas.Bool.{and_from, and_parts, or_left}
+use Rattle.std.proofs.lemmas.Bool.{and_from, and_parts, or_left, cases_Bool}
 use Rattle.std.proofs.lemmas.List.Folds.{list_any-append}
 use Rattle.std.specs.declared.net.socket_addr.SocketAddr.{SocketAddr}
 use Rattle.turn_stun.specs.declared.transport.TransportType.{TransportType}
@@ -53,33 +53,27 @@ with_grant-founded g s h l there = founded-append s.grants (g ∷ []) l.purpose 
 -- ---- grants are removed
 
 without-founded : (which : Grant → Bool) (s : State) → StayFounded s (without_grants which s)
-without-founded which s h l there = by (h l kept.0)
+without-founded which s h l there =
+    let (listed, keeps) = has-filter (λ l. not (gone l)) l s.listed there in
+    elim (h l listed) [
+      | inl e ↦ inl e
+      | inr some ↦ let (g, here, for) = any-has (is_asked_by l.purpose) s.grants some in
+          inr (elim (cases_Bool (which g)) [
+            | inl e ↦ absurd (not-both (gone l) (has-any (λ g. which g && is_for l.purpose g) g s.grants here (and_from (which g) (is_for l.purpose g) e (asked-for l.purpose g for))) keeps)
+            | inr e ↦ has-any (is_asked_by l.purpose) g (without_grants which s).grants (stays which g s.grants here e) for
+          ])
+    ]
   where
     gone : Listing → Bool
     gone l = list_any (λ g. which g && is_for l.purpose g) s.grants
 
-    kept : Has l s.listed × (not (gone l) ≡ true)
-    kept = has-filter (λ l. not (gone l)) l s.listed there
-
-    left : List Grant
-    left = (without_grants which s).grants
-
-    of : (g : Grant) → Has g s.grants → is_asked_by l.purpose g ≡ true → (b : Bool) → which g ≡ b → list_any (is_asked_by l.purpose) left ≡ true
-    of g here for true e = absurd (not-both (gone l) (has-any (λ g. which g && is_for l.purpose g) g s.grants here (and_from (which g) (is_for l.purpose g) e (asked-for l.purpose g for))) kept.1)
-    of g here for false e = has-any (is_asked_by l.purpose) g left (stays which g s.grants here e) for
-
-    by : HasGrant s.grants l.purpose → HasGrant left l.purpose
-    by (inl e) = inl e
-    by (inr some) = let (g, here, for) = any-has (is_asked_by l.purpose) s.grants some in inr (of g here for (which g) refl)
-
 taken-founded : (id : ℕ) (peer : SocketAddr) (s : State) → StayFounded s (offer_taken id peer s)
-taken-founded id peer s h l there = by (h l there)
-  where
-    by : HasGrant s.grants l.purpose → HasGrant (offer_taken id peer s).grants l.purpose
-    by (inl e) = inl e
-    by (inr some) =
-        let (g, here, for) = any-has (is_asked_by l.purpose) s.grants some in
-        inr (has-any (is_asked_by l.purpose) g (offer_taken id peer s).grants (stays-first (is_offer_of id peer) g s.grants here (no-offer id peer l.purpose g (asked-for l.purpose g for))) for)
+taken-founded id peer s h l there = elim (h l there) [
+  | inl e ↦ inl e
+  | inr some ↦
+      let (g, here, for) = any-has (is_asked_by l.purpose) s.grants some in
+      inr (has-any (is_asked_by l.purpose) g (offer_taken id peer s).grants (stays-first (is_offer_of id peer) g s.grants here (no-offer id peer l.purpose g (asked-for l.purpose g for))) for)
+]
 
 -- ---- grants change
 
@@ -97,11 +91,10 @@ any-outline p [] = refl
 any-outline p (g ∷ gs) = rw (asked-outline p g, any-outline p gs) refl
 
 reshaped-founded : (grants : List Grant) (s : State) → map outline grants ≡ map outline s.grants → StayFounded s (record s { grants = grants })
-reshaped-founded grants s e h l there = by (h l there)
-  where
-    by : HasGrant s.grants l.purpose → HasGrant grants l.purpose
-    by (inl is) = inl is
-    by (inr some) = inr (sym (any-outline l.purpose grants) ∙ (ap (list_any (is_asked_by l.purpose)) e ∙ (any-outline l.purpose s.grants ∙ some)))
+reshaped-founded grants s e h l there = elim (h l there) [
+  | inl is ↦ inl is
+  | inr some ↦ inr (sym (any-outline l.purpose grants) ∙ (ap (list_any (is_asked_by l.purpose)) e ∙ (any-outline l.purpose s.grants ∙ some)))
+]
 
 -- ---- requests
 
@@ -112,16 +105,12 @@ askable-founded s p h (inr (inr (l, there, e))) = subst (HasGrant s.grants) e (h
 
 asked-founded : (id : ℕ) (purposes : List Purpose) (s : State) → ((p : Purpose) → Has p purposes → IsAskable s p) → AllHaveGrant s → (l : Listing) → Has l (s.listed ++ listings id purposes)
     → HasGrant s.grants l.purpose
-asked-founded id purposes s askable h l there = by (has-append l s.listed (listings id purposes) there)
-  where
-    made : Purpose → Listing
-    made p = record { id = id; purpose = p }
-
-    by : Has l s.listed ⊎ Has l (listings id purposes) → HasGrant s.grants l.purpose
-    by (inl old) = h l old
-    by (inr new) =
-        let (p, here, e) = has-mapped made l purposes new in
-        subst (λ (x : Listing). HasGrant s.grants x.purpose) (sym e) (askable-founded s p h (askable p here))
+asked-founded id purposes s askable h l there = elim (has-append l s.listed (listings id purposes) there) [
+  | inl old ↦ h l old
+  | inr new ↦
+      let (p, here, e) = has-mapped (λ (p : Purpose). record { id = id; purpose = p }) l purposes new in
+      subst (λ (x : Listing). HasGrant s.grants x.purpose) (sym e) (askable-founded s p h (askable p here))
+]
 
 StayFounded-KeepsEdits : KeepsEdits StayFounded
 StayFounded-KeepsEdits = record {
