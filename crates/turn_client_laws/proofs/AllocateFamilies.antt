@@ -19,15 +19,14 @@ use Rattle.turn_client_api.specs.declared.grant.Purpose.{Purpose}
 use Rattle.turn_client_api.specs.declared.grant.Purpose.TheVariants.{ForAllocation}
 use Rattle.turn_client_api.specs.declared.grant.Listing.{Listing}
 use Rattle.turn_client_api.specs.Grants.{is_channel_of, is_connect_to, is_for, is_of, is_permission_of, purposes_of, without_grants}
-use Rattle.turn_client_api.specs.Requests.{request_started, first_allocate, listings, request_for}
+use Rattle.turn_client_api.specs.Requests.{request_started, listings, request_for}
 use Rattle.turn_client_api.specs.Effect.{transaction_ended, phase_with, relayed_in, taken_addresses}
 use Rattle.turn_client_api.specs.Retry.{phase_after}
 use Rattle.turn_client_laws.specs.Handled.{Input, handled}
 use Rattle.turn_client_api.specs.Steps.{Leaves}
 use Rattle.turn_client_api.specs.declared.call.Call.{Call}
 use Rattle.turn_client_laws.specs.LawsAllocates.{AllocatesAsAsked, AllocatesInOrder, AsksForFamilies, HasConfiguredFamilies, IsAllocate, IsAllocationInput, IsAskedForFamilies}
-use Rattle.turn_client_laws.specs.LawsGranted.{IsEndedNow, IsGrantInput, WasActive}
-use Rattle.turn_client_laws.specs.LawsHandled.{IsDoneBy}
+use Rattle.turn_client_laws.specs.LawsGranted.{IsGrantInput}
 use Rattle.turn_client_laws.specs.LawsOrder.{IsUngranted}
 use Rattle.turn_client_laws.proofs.Edits.{IsSpelled, IsUnlisted, KeepsAllEdits, KeepsEdits, MayAskFor, listing}
 use Rattle.turn_client_laws.proofs.EditsOfCalls.{leaves-walk}
@@ -90,14 +89,15 @@ families-in_order families s (inl granted) h = (
   λ y here there. absurd (h.1 granted y.id there),
   λ u. absurd (granted u),
 )
-families-in_order families s (inr (alone, two, none)) h = (h.0, h.1, λ y here there. absurd (none y.id there), λ u. by (h.3 u))
-  where
-    Configured : List AddressFamily → Type 0
-    Configured f = (f ≡ s.config.address_families) ⊎ ((f ≡ IPV6 ∷ []) × (2 ≤ length s.config.address_families))
-
-    by : Configured s.families → Configured families
-    by (inl e) = inr (alone, subst (λ (f : List AddressFamily). 2 ≤ length f) e two)
-    by (inr (e, more)) = absurd (two-one s.families e two)
+families-in_order families s (inr (alone, two, none)) h = (
+  h.0,
+  h.1,
+  λ y here there. absurd (none y.id there),
+  λ u. elim (h.3 u) [
+    | inl e ↦ inr (alone, subst (λ (f : List AddressFamily). 2 ≤ length f) e two)
+    | inr (e, more) ↦ absurd (two-one s.families e two)
+  ],
+)
 
 -- ---- a request is made
 
@@ -119,52 +119,45 @@ module _ (id : ℕ) (text : List ℕ) (purposes : List Purpose) (now : ℕ) (s :
 
   -- before, it is for the allocation alone
   each : IsUngranted s.phase → (p : Purpose) → Has p purposes → p ≡ ForAllocation
-  each u p there = by spelled
-    where
-      by : IsSpelled id text purposes s → p ≡ ForAllocation
-      by (inl (allocated, other)) = absurd (subst IsUngranted allocated u)
-      by (inr (inl (begins, all, spells))) = all p there
-      by (inr (inr (listed, again))) = let (l, here, e) = listed p there in sym e ∙ h.0 u l here
+  each u p there = elim spelled [
+    | inl (allocated, other) ↦ absurd (subst IsUngranted allocated u)
+    | inr (inl (begins, all, spells)) ↦ all p there
+    | inr (inr (listed, again)) ↦ let (l, here, e) = listed p there in sym e ∙ h.0 u l here
+  ]
 
   -- and later it is not
   never : (IsUngranted s.phase → ⊥) → Has ForAllocation purposes → ⊥
-  never granted there = by spelled
-    where
-      by : IsSpelled id text purposes s → ⊥
-      by (inl (allocated, other)) = other ForAllocation there refl
-      by (inr (inl (u, all, spells))) = granted u
-      by (inr (inr (listed, again))) = let (l, here, e) = listed ForAllocation there in h.1 granted l.id (of-purpose l ForAllocation s.listed e here)
+  never granted there = elim spelled [
+    | inl (allocated, other) ↦ other ForAllocation there refl
+    | inr (inl (u, all, spells)) ↦ granted u
+    | inr (inr (listed, again)) ↦ let (l, here, e) = listed ForAllocation there in h.1 granted l.id (of-purpose l ForAllocation s.listed e here)
+  ]
 
   -- so that it requests the families
   asks-families : IsUngranted s.phase → AsksForFamilies s.config s.families new
-  asks-families u = (s, refl, refl, by spelled)
-    where
-      by : IsSpelled id text purposes s → (text ≡ first_allocate s id) ⊎ (text ≡ request_for s ForAllocation id)
-      by (inl (allocated, other)) = absurd (subst IsUngranted allocated u)
-      by (inr (inl (begins, all, spells))) = spells
-      by (inr (inr (listed, (p, there, spells)))) = inr (spells ∙ ap (λ (q : Purpose). request_for s q id) (each u p there))
+  asks-families u = (
+    s,
+    refl,
+    refl,
+    elim spelled [
+      | inl (allocated, other) ↦ absurd (subst IsUngranted allocated u)
+      | inr (inl (begins, all, spells)) ↦ spells
+      | inr (inr (listed, (p, there, spells))) ↦ inr (spells ∙ ap (λ (q : Purpose). request_for s q id) (each u p there))
+    ],
+  )
 
   -- what is listed was so before, or is by this request
   listed-by : (l : Listing) → Has l (s.listed ++ listings id purposes) → Has l s.listed ⊎ ((p : Purpose) × Has p purposes × (l ≡ listing id p))
-  listed-by l there = by (has-append l s.listed (listings id purposes) there)
-    where
-      by : Has l s.listed ⊎ Has l (listings id purposes) → Has l s.listed ⊎ ((p : Purpose) × Has p purposes × (l ≡ listing id p))
-      by (inl old) = inl old
-      by (inr more) = inr (has-mapped (listing id) l purposes more)
+  listed-by l there = elim (has-append l s.listed (listings id purposes) there) [ inl old ↦ inl old | inr more ↦ inr (has-mapped (listing id) l purposes more) ]
 
   asked-alone : IsUngranted s.phase → (l : Listing) → Has l (s.listed ++ listings id purposes) → l.purpose ≡ ForAllocation
-  asked-alone u l there = by (listed-by l there)
-    where
-      by : Has l s.listed ⊎ ((p : Purpose) × Has p purposes × (l ≡ listing id p)) → l.purpose ≡ ForAllocation
-      by (inl old) = h.0 u l old
-      by (inr (p, here, e)) = ap (λ (x : Listing). x.purpose) e ∙ each u p here
+  asked-alone u l there = elim (listed-by l there) [ inl old ↦ h.0 u l old | inr (p, here, e) ↦ ap (λ (x : Listing). x.purpose) e ∙ each u p here ]
 
   asked-none : (IsUngranted s.phase → ⊥) → (other : ℕ) → Has (listing other ForAllocation) (s.listed ++ listings id purposes) → ⊥
-  asked-none granted other there = by (listed-by (listing other ForAllocation) there)
-    where
-      by : Has (listing other ForAllocation) s.listed ⊎ ((p : Purpose) × Has p purposes × (listing other ForAllocation ≡ listing id p)) → ⊥
-      by (inl old) = h.1 granted other old
-      by (inr (p, here, e)) = never granted (subst (λ (q : Purpose). Has q purposes) (sym (ap (λ (x : Listing). x.purpose) e)) here)
+  asked-none granted other there = elim (listed-by (listing other ForAllocation) there) [
+    | inl old ↦ h.1 granted other old
+    | inr (p, here, e) ↦ never granted (subst (λ (q : Purpose). Has q purposes) (sym (ap (λ (x : Listing). x.purpose) e)) here)
+  ]
 
   asked-all : (y : Transaction) → Has y (s.transactions ++ new ∷ []) → Has (listing y.id ForAllocation) (s.listed ++ listings id purposes) → HasAsked y.id t
   asked-all y here there = of (ungranted-or s.phase)
@@ -214,13 +207,11 @@ resends-in_order id now s h = (h.0, h.1, all, h.3)
     same-asks false x asks = asks
 
     all : (y : Transaction) → Has y (resent id now s.transactions) → Has (listing y.id ForAllocation) s.listed → HasAsked y.id (record s { transactions = resent id now s.transactions })
-    all y here there = of (has-mapped again y s.transactions here)
-      where
-        of : (z : Transaction) × Has z s.transactions × (y ≡ again z) → HasAsked y.id (record s { transactions = resent id now s.transactions })
-        of (z, before, e) =
-            let named : y.id ≡ z.id = ap (λ (x : Transaction). x.id) e ∙ same-id (eqb z.id id) z in
-            let (x, is, same, asks) = h.2 z before (subst (λ (n : ℕ). Has (listing n ForAllocation) s.listed) named there) in
-            (again x, map-has again x s.transactions is, same-id (eqb x.id id) x ∙ (same ∙ sym named), same-asks (eqb x.id id) x asks)
+    all y here there =
+        let (z, before, e) = has-mapped again y s.transactions here in
+        let named : y.id ≡ z.id = ap (λ (x : Transaction). x.id) e ∙ same-id (eqb z.id id) z in
+        let (x, is, same, asks) = h.2 z before (subst (λ (n : ℕ). Has (listing n ForAllocation) s.listed) named there) in
+        (again x, map-has again x s.transactions is, same-id (eqb x.id id) x ∙ (same ∙ sym named), same-asks (eqb x.id id) x asks)
 
 -- ---- the phase advances
 
@@ -324,7 +315,11 @@ leaves-AllocatesInOrder call s t leaves h = in_order-stated t (leaves-walk StayI
 -- ---- what is allocated
 
 pub leaves-allocations : (call : Call) (s t : State) → Leaves call s t → AllocatesInOrder s → AllocatesAsAsked call s t
-leaves-allocations call s t leaves h a there = by (leaves-grants call s t (Allocation a) leaves there tt)
+leaves-allocations call s t leaves h a there = elim (leaves-grants call s t (Allocation a) leaves there tt) [
+  | inl stood ↦ inl stood
+  | inr (inl ended) ↦ inr (inl ended)
+  | inr (inr (one, among, turn)) ↦ inr (inr (one, among, turned one among turn))
+]
   where
     turned : (one : Input) → Contains (handled call s) one → IsGrantInput (Allocation a) one → IsAllocationInput a one
     turned one among turn = (turn, request_started)
@@ -337,9 +332,3 @@ leaves-allocations call s t leaves h a there = by (leaves-grants call s t (Alloc
             let answers = subst (λ (p : Purpose). Contains (purposes_of (id_of one.bytes) one.before) p) e turn.grant.1.listed in
             let listed = purpose-with (id_of one.bytes) ForAllocation one.before (contains-has ForAllocation (purposes_of (id_of one.bytes) one.before) answers) in
             order.1 (id_of one.bytes) (has-contains (listing (id_of one.bytes) ForAllocation) one.before.listed listed) turn.grant.1.outstanding
-
-    by : WasActive s (Allocation a) ⊎ IsEndedNow call s (Allocation a) ⊎ IsDoneBy (IsGrantInput (Allocation a)) call s → WasActive s (Allocation a) ⊎ IsEndedNow call s (Allocation a)
-        ⊎ IsDoneBy (IsAllocationInput a) call s
-    by (inl stood) = inl stood
-    by (inr (inl transaction_ended)) = inr (inl transaction_ended)
-    by (inr (inr (one, among, turn))) = inr (inr (one, among, turned one among turn))

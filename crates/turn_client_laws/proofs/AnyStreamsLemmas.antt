@@ -1,10 +1,12 @@
 -- The effect of a message is independent of the streams.
-use Rattle.std.proofs.Common.{◌≡◌, ℕ, Bool, true, false, not, cond, ◌&&◌, ◌||◌, eqb, ltb, leb, List, [], ◌∷◌, length, fold, Option, Some, None, refl, ap, ◌∙◌}
+use Rattle.turn_client_laws.proofs.HasLemmas.{cases_Option}
+use Rattle.std.proofs.Common.{◌≡◌, ℕ, Bool, true, false, not, cond, ◌&&◌, ◌||◌, eqb, ltb, leb, List, [], ◌∷◌, length, fold, Option, Some, None, refl, ap, ◌∙◌, inl, inr}
 use Rattle.std.specs.Prelude.{is_some}
 use Rattle.std.specs.Option.{option_map_or}
 use Rattle.std.specs.Net.Socket.{socket_ip}
 use Rattle.std.specs.declared.net.ip_addr.IpAddr.{IpAddr}
 use Rattle.std.specs.declared.net.socket_addr.SocketAddr.{SocketAddr}
+use Rattle.std.proofs.lemmas.Bool.{cases_Bool}
 use Rattle.turn_stun.specs.Message.{id_of}
 use Rattle.turn_stun.specs.declared.transport.TransportType.TheVariants.{Tcp}
 use Rattle.turn_types.specs.declared.family.AddressFamily.{AddressFamily}
@@ -19,8 +21,7 @@ use Rattle.turn_client_api.specs.declared.grant.Purpose.{Purpose}
 use Rattle.turn_client_api.specs.declared.grant.Purpose.TheVariants.{ForRefresh, ForPermission, ForChannel, ForConnect}
 use Rattle.turn_client_api.specs.Grants.{find_allocation_to, channel_at, first_in, permission_state, purposes_of}
 use Rattle.turn_client_api.specs.Requests.{connection_attempt_method, fresh_id}
-use Rattle.turn_client_api.specs.Judgement.{Judgement, Challenged, Fatal, ConnectionAttempt, SignedRequest, SignedSuccess, SignedError, judgement_of}
-use Rattle.turn_client_api.specs.Judgement.{connection_id_in, lifetime_in, method_in, peer_in}
+use Rattle.turn_client_api.specs.Judgement.{Judgement, Challenged, Fatal, ConnectionAttempt, SignedRequest, SignedSuccess, SignedError, judgement_of, connection_id_in, lifetime_in, method_in, peer_in}
 use Rattle.turn_client_api.specs.Effect.{allocate_denied, allocate_granted, allocation_mismatch, channel_answered, connect_answered, effect, transaction_ended, family_not_supported, has_code}
 use Rattle.turn_client_api.specs.Effect.{min_lifetime, permission_answered, permission_answered_for, listed_permissions_answered, prolonged, refreshed}
 use Rattle.turn_client_api.specs.Retry.{retried}
@@ -55,9 +56,7 @@ module _ (x : List Stream) where
   permission-alike ip is_granted now s = by (permission_state ip s) refl is_granted
     where
       by : (o : Option Progress) → permission_state ip s ≡ o → (g : Bool) → permission_answered ip g now (with_streams x s) ≡ with_streams x (permission_answered ip g now s)
-      by None e g = rw e refl
       by (Some Pending) e true = rw e refl
-      by (Some Pending) e false = rw e refl
       by (Some (Active expiry)) e true = rw e refl
       by o e g = rw e refl
 
@@ -77,7 +76,6 @@ module _ (x : List Stream) where
       by : (o : Option (SocketAddr × Progress)) → first_in (channel_at number) s ≡ o → (g : Bool)
           → channel_answered number id g now (with_streams x s) ≡ with_streams x (channel_answered number id g now s)
       by (Some (peer, Pending)) e true = rw (e, permissions-alike id true now s) refl
-      by (Some (peer, Pending)) e false = rw e refl
       by (Some (peer, Active expiry)) e true = rw e refl
       by o e g = rw e refl
 
@@ -108,13 +106,10 @@ module _ (x : List Stream) where
   -- ---- over the control connection
 
   challenge-alike : (message : List ℕ) (d : Challenge) (now : ℕ) (s : State) → challenge_step message d now (with_streams x s) ≡ both_with x (challenge_step message d now s)
-  challenge-alike message d now s = by (ltb s.challenges s.config.max_stale_nonces) refl (retried (purposes_of (id_of message) s)) refl
-    where
-      by : (b : Bool) → ltb s.challenges s.config.max_stale_nonces ≡ b → (o : Option Purpose) → retried (purposes_of (id_of message) s) ≡ o
-          → challenge_step message d now (with_streams x s) ≡ both_with x (challenge_step message d now s)
-      by false e o f = rw e refl
-      by true e None f = rw (e, f) refl
-      by true e (Some purpose) f = rw (e, f) refl
+  challenge-alike message d now s = elim (cases_Bool (ltb s.challenges s.config.max_stale_nonces)) [
+    | inl e ↦ elim (cases_Option (retried (purposes_of (id_of message) s))) [ inl f ↦ rw (e, f) refl | inr (purpose, f) ↦ rw (e, f) refl ]
+    | inr e ↦ rw e refl
+  ]
 
   wrong-alike : (p : Phase) (message : List ℕ) (s : State) → wrong_step message (with_streams x (record s { phase = p })) ≡ both_with x (wrong_step message (record s { phase = p }))
   wrong-alike New message s = refl
@@ -126,11 +121,7 @@ module _ (x : List Stream) where
       (alike-fold (effect (id_of message) is_granted message now) (effect-alike (id_of message) is_granted message now) (answered_purposes message s) (transaction_ended (id_of message) s))
 
   granted-alike : (message : List ℕ) (now : ℕ) (s : State) → allocate_granted message now (with_streams x s) ≡ with_streams x (allocate_granted message now s)
-  granted-alike message now s = by (lifetime_in message) refl
-    where
-      by : (o : Option ℕ) → lifetime_in message ≡ o → allocate_granted message now (with_streams x s) ≡ with_streams x (allocate_granted message now s)
-      by None e = rw e refl
-      by (Some lifetime) e = rw e refl
+  granted-alike message now s = elim (cases_Option (lifetime_in message)) [ inl e ↦ rw e refl | inr (lifetime, e) ↦ rw e refl ]
 
   denied-alike : (fresh : ℕ) (message : List ℕ) (now : ℕ) (s : State) → allocate_denied fresh message now (with_streams x s) ≡ with_streams x (allocate_denied fresh message now s)
   denied-alike fresh message now s = alike-cond (has_code family_not_supported message && leb 2 (length s.families)) _ _ _ _ refl refl

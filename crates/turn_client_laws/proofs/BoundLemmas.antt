@@ -1,8 +1,9 @@
 -- A connection is bound by a signed success on it.
-use Rattle.std.proofs.Common.{◌≡◌, ℕ, Bool, true, false, List, [], ◌∷◌, Some, refl, sym, subst, ap, inl, inr}
+use Rattle.std.proofs.Common.{◌≡◌, ℕ, true, List, [], ◌∷◌, Some, refl, sym, subst, ap, inl, inr}
 use Rattle.std.specs.Prelude.{find}
 use Rattle.std.specs.List.{list_any}
 use Rattle.std.specs.declared.net.socket_addr.SocketAddr.{SocketAddr}
+use Rattle.std.proofs.lemmas.Bool.{cases_Bool}
 use Rattle.turn_stun.specs.Message.{id_of}
 use Rattle.turn_stun.specs.declared.message.header.MessageClass.TheVariants.{Success}
 use Rattle.turn_agent.specs.Agent.{same_address}
@@ -11,7 +12,7 @@ use Rattle.turn_client_api.specs.declared.state.Mode.TheVariants.{Waiting}
 use Rattle.turn_client_api.specs.declared.state.Stream.{Stream}
 use Rattle.turn_client_api.specs.declared.grant.DataConnection.{DataConnection}
 use Rattle.turn_client_api.specs.declared.grant.Purpose.{Purpose}
-use Rattle.turn_client_api.specs.declared.grant.Purpose.TheVariants.{ForAllocation, ForBind}
+use Rattle.turn_client_api.specs.declared.grant.Purpose.TheVariants.{ForBind}
 use Rattle.turn_client_api.specs.Grants.{purposes_of}
 use Rattle.turn_client_api.specs.Judgement.{is_bind_of}
 use Rattle.turn_client_api.specs.Payloads.{is_message}
@@ -34,12 +35,10 @@ asked-later local p purposes (peer, number, there) = (peer, number, inr there)
 
 for-bind : (local : SocketAddr) (purposes : List Purpose) → list_any (is_bind_of local) purposes ≡ true → IsAsked local purposes
 for-bind local [] e = cc
-for-bind local (ForBind other peer number ∷ purposes) e = by (same_address other local) refl (for-bind local purposes)
-  where
-    by : (b : Bool) → same_address other local ≡ b → (list_any (is_bind_of local) purposes ≡ true → IsAsked local purposes) → IsAsked local (ForBind other peer number ∷ purposes)
-    by true f more = (peer, number, inl (ap (λ x. ForBind x peer number) (sym (same_address-true other local f))))
-    by false f more = asked-later local (ForBind other peer number) purposes (more (rw f at e))
-for-bind local (ForAllocation ∷ purposes) e = asked-later local ForAllocation purposes (for-bind local purposes e)
+for-bind local (ForBind other peer number ∷ purposes) e = elim (cases_Bool (same_address other local)) [
+  | inl f ↦ (peer, number, inl (ap (λ x. ForBind x peer number) (sym (same_address-true other local f))))
+  | inr f ↦ asked-later local (ForBind other peer number) purposes (for-bind local purposes (rw f at e))
+]
 for-bind local (x ∷ purposes) e = asked-later local x purposes (for-bind local purposes e)
 
 pub found-local : (local : SocketAddr) (c : DataConnection) (cs : List DataConnection) → find (λ (d : DataConnection). same_address d.local local) cs ≡ Some c → c.local ≡ local

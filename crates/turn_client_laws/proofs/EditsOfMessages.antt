@@ -4,7 +4,7 @@ use Rattle.std.specs.Prelude.{is_some, find, IfSome, ⊤}
 use Rattle.std.specs.List.{list_any}
 use Rattle.std.specs.Option.{option_map_or}
 use Rattle.std.specs.Net.Socket.{socket_ip}
-use Rattle.std.proofs.lemmas.Bool.{and_parts, leb-true, ltb-true}
+use Rattle.std.proofs.lemmas.Bool.{and_parts, leb-true, ltb-true, cases_Bool}
 use Rattle.std.proofs.lemmas.Option.{same_Some}
 use Rattle.std.specs.declared.net.socket_addr.SocketAddr.{SocketAddr}
 use Rattle.turn_stun.specs.Message.{id_of}
@@ -38,7 +38,7 @@ use Rattle.turn_client_laws.specs.LawsReplies.{IsAccepted, IsReplyAccepted}
 use Rattle.turn_client_laws.specs.LawsOrder.{IsBegun, IsUngranted}
 use Rattle.turn_client_laws.specs.LawsStates.{is_asked_by}
 use Rattle.turn_client_laws.proofs.AddressLemmas.{same_address-self, same_address-true}
-use Rattle.turn_client_laws.proofs.HasLemmas.{Has, has-filter, has-filter_map, has-found}
+use Rattle.turn_client_laws.proofs.HasLemmas.{Has, has-filter, has-filter_map, has-found, cases_Option}
 use Rattle.turn_client_laws.proofs.InAllocationLemmas.{allocation-room, has-any}
 use Rattle.turn_client_laws.proofs.GrantOriginLemmas.{has-mapped}
 use Rattle.turn_client_laws.proofs.ChallengeJudgement.{Challenged-is, bind-is}
@@ -154,12 +154,13 @@ module _ (Heeded : Type 0) (R : State → State → Type 0) (k : KeepsHeeded Hee
       (inr (inr (purposes-listed id s, (purpose, answers, refl))))) (k.edits.queues end.queue f (begun-after s.phase begun)))))
 
   challenge-walk : (message : List ℕ) (d : Challenge) (now : ℕ) (s : State) → IsBegun s.phase → challenge_in s message ≡ Some d → R s (challenge_step message d now s).1
-  challenge-walk message d now s begun e = by (ltb s.challenges s.config.max_stale_nonces) refl (retried (purposes_of (id_of message) s)) refl
-    where
-      by : (b : Bool) → ltb s.challenges s.config.max_stale_nonces ≡ b → (o : Option Purpose) → retried (purposes_of (id_of message) s) ≡ o → R s (challenge_step message d now s).1
-      by false f o g = rw f (fail-walk R k.edits s)
-      by true f None g = rw (f, g) (k.edits.same s)
-      by true f (Some purpose) g = rw (f, g) (retry-walk s message (id_of message) purpose d now begun e f (retried-has (purposes_of (id_of message) s) purpose g))
+  challenge-walk message d now s begun e = elim (cases_Bool (ltb s.challenges s.config.max_stale_nonces)) [
+    | inl f ↦ elim (cases_Option (retried (purposes_of (id_of message) s))) [
+      | inl g ↦ rw (f, g) (k.edits.same s)
+      | inr (purpose, g) ↦ rw (f, g) (retry-walk s message (id_of message) purpose d now begun e f (retried-has (purposes_of (id_of message) s) purpose g))
+    ]
+    | inr f ↦ rw f (fail-walk R k.edits s)
+  ]
 
   wrong-walk : (p : Phase) (message : List ℕ) (s : State) → R (record s { phase = p }) (wrong_step message (record s { phase = p })).1
   wrong-walk Requesting message s =

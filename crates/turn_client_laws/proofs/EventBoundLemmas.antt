@@ -162,7 +162,9 @@ module _ (family : AddressFamily) (purposes : List Purpose) where
   vain-tells : (which : Grant → Bool) → ((number : ℕ) (peer : SocketAddr) (until : ℕ) → which (Channel number peer (Reserved until)) ≡ false) → (s : State)
       → TellsOfFailed s (failed_by_timeout family purposes which s)
   vain-tells which none s =
-      failed-tells _ s (spared _ (λ number peer until. rw (none number peer until) (and-none-between (is_of family (Channel number peer (Reserved until))) (is_for_any purposes (Channel number peer (Reserved until))))))
+      failed-tells _ s (spared _ (λ number peer until.
+      let g = Channel number peer (Reserved until) in
+      rw (none number peer until) (and-none-between (is_of family g) (is_for_any purposes g))))
 
   permissions-tell : (now : ℕ) (s : State) → TellsOfFailed s (permissions_lapsed family now s)
   permissions-tell now s = failed-tells _ s (spared _ (λ number peer until. and-false (is_of family (Channel number peer (Reserved until)))))

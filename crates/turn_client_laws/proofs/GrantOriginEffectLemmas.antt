@@ -1,7 +1,5 @@
 -- What is active after a signed reply, effect by effect.
-use Rattle.std.proofs.Common.{◌≡◌, ◌≤◌, ℕ, zero, suc, Bool, true, false, cond, ◌||◌, eqb, leb, List, [], ◌∷◌, map, filter_map, Option, Some, None, ◌⊎◌, inl, inr, refl, sym, ap, arith}
-use Rattle.std.specs.Prelude.{slice_get}
-use Rattle.std.proofs.lemmas.Option.{same_Some}
+use Rattle.std.proofs.Common.{◌≡◌, ◌≤◌, ℕ, zero, suc, Bool, true, false, cond, ◌||◌, eqb, leb, List, map, Option, Some, None, ◌⊎◌, inl, inr, refl, sym, arith}
 use Rattle.std.specs.Option.{option_map_or}
 use Rattle.std.specs.Cmp.Lexicographic.{nat_list_eq_equiv}
 use Rattle.std.specs.Net.Addr.{ipv4_octets, ipv6_segments}
@@ -10,16 +8,14 @@ use Rattle.std.specs.declared.net.ip_addr.IpAddr.TheVariants.{V4, V6}
 use Rattle.std.specs.declared.net.socket_addr.SocketAddr.{SocketAddr}
 use Rattle.std.proofs.lemmas.Bool.{eqb-true, leb-true}
 use Rattle.turn_types.specs.declared.family.AddressFamily.{AddressFamily}
-use Rattle.turn_client_api.specs.State.{State}
+use Rattle.turn_client_api.specs.State.{State, later_by, seconds}
 use Rattle.turn_client_api.specs.declared.grant.Grant.{Grant}
 use Rattle.turn_client_api.specs.declared.grant.Grant.TheVariants.{Allocation, Permission, Channel, Connect, Offer}
 use Rattle.turn_client_api.specs.declared.grant.DataOffer.{DataOffer}
 use Rattle.turn_client_api.specs.declared.grant.Progress.{Progress}
 use Rattle.turn_client_api.specs.declared.grant.Progress.TheVariants.{Pending, Active, Reserved}
 use Rattle.turn_client_api.specs.declared.grant.Purpose.{Purpose}
-use Rattle.turn_client_api.specs.declared.grant.Purpose.TheVariants.{ForRefresh}
-use Rattle.turn_client_api.specs.State.{later_by, seconds}
-use Rattle.turn_client_api.specs.declared.grant.Purpose.TheVariants.{ForPermission, ForChannel, ForConnect}
+use Rattle.turn_client_api.specs.declared.grant.Purpose.TheVariants.{ForRefresh, ForPermission, ForChannel, ForConnect}
 use Rattle.turn_client_api.specs.declared.grant.Origin.TheVariants.{OwnConnect}
 use Rattle.turn_client_api.specs.Grants.{changed_allocation, channel_at, first_in, is_channel_of, is_connect_to, is_of_family, is_permission_of, permission_state, purposes_of, same_ip, unlisted}
 use Rattle.turn_client_api.specs.Grants.{with_grant, without_grants}
@@ -31,6 +27,8 @@ use Rattle.turn_client_laws.proofs.HasLemmas.{Has}
 use Rattle.turn_client_laws.proofs.StandLemmas.{has-contains, kept-same, left-filter}
 use Rattle.turn_client_laws.proofs.GrantOriginLemmas.{ChannelsWithin, IsChannelIn, IsGivenOf, KeepsChannels, Takes, channels-append, channels-filter, channels-map, gives-left, gives-map, gives-one}
 use Rattle.turn_client_laws.proofs.GrantOriginLemmas.{gives-trans, takes-cond, takes-fold, takes-same, takes-trans, within-filter}
+use Rattle.turn_client_laws.proofs.CaseLemmas.{by_test}
+use Rattle.turn_client_laws.proofs.EditsOfReplies.{channel-there}
 
 pub same_ip-same : (ip : IpAddr) → same_ip ip ip ≡ true
 same_ip-same (V4 a) = nat_list_eq_equiv.refl (ipv4_octets a)
@@ -40,23 +38,6 @@ same_ip-same (V6 a) = nat_list_eq_equiv.refl (ipv6_segments a)
 eqb-positive : (n : ℕ) → eqb n 0 ≡ false → 1 ≤ n
 eqb-positive zero e = cc
 eqb-positive (suc n) e = omega arith
-
--- the first grant of a number that is a channel's exists
-first-channel : (number : ℕ) (peer : SocketAddr) (progress : Progress) (grants : List Grant) → slice_get (filter_map (channel_at number) grants) 0 ≡ Some (peer, progress)
-    → Has (Channel number peer progress) grants
-first-channel number peer progress [] e = cc
-first-channel number peer progress (Channel other to p ∷ grants) e = by (eqb other number) refl (first-channel number peer progress grants)
-  where
-    by : (b : Bool) → eqb other number ≡ b → (slice_get (filter_map (channel_at number) grants) 0 ≡ Some (peer, progress) → Has (Channel number peer progress) grants)
-        → Has (Channel number peer progress) (Channel other to p ∷ grants)
-    by true f later =
-        let pair : (to, p) ≡ (peer, progress) = same_Some (to, p) (peer, progress) (rw f at e) in
-        let same : other ≡ number = eqb-true other number f in
-        let ends : to ≡ peer = ap (λ (x : SocketAddr × Progress). x.0) pair in
-        let how : p ≡ progress = ap (λ (x : SocketAddr × Progress). x.1) pair in
-        inl (rw (same, ends, how) refl)
-    by false f later = inr (later (rw f at e))
-first-channel number peer progress (_ ∷ grants) e = inr (first-channel number peer progress grants e)
 
 -- two ways to name one channel
 same-channel : (n number : ℕ) (to peer : SocketAddr) (p q : Progress) (grants : List Grant) → Channel n to p ≡ Channel number peer q → IsChannelIn number peer grants → IsChannelIn n to grants
@@ -122,11 +103,9 @@ module _ (purposes : List Purpose) (message : List ℕ) (now : ℕ) (before : St
 
   -- a permission of this IP address is granted anew
   permission_lasts : (ip : IpAddr) → Has (ForPermission ip) purposes → (g : Grant) → Is g (lasting_if (is_permission_of ip) (later_by permission_lifetime now) g)
-  permission_lasts ip one (Permission other (Active was)) = by (same_ip other ip) refl
-    where
-      by : (b : Bool) → same_ip other ip ≡ b → Is (Permission other (Active was)) (cond b (Permission other (Active (later_by permission_lifetime now))) (Permission other (Active was)))
-      by true e stands = inr (record { purpose = ForPermission ip; one = one; given = (e, refl) })
-      by false e stands = inl (kept-same (Permission other (Active was)) stands)
+  permission_lasts ip one (Permission other (Active was)) =
+      by_test (Is (Permission other (Active was))) (same_ip other ip) (Permission other (Active (later_by permission_lifetime now))) (Permission other (Active was))
+      (λ e stands. inr (record { purpose = ForPermission ip; one = one; given = (e, refl) })) (λ e stands. inl (kept-same (Permission other (Active was)) stands))
   permission_lasts ip one (Connect peer) = λ stands. absurd stands
   permission_lasts ip one (Offer offer) = λ stands. absurd stands
   permission_lasts ip one (Permission other x) = untouched (same_ip other ip) (Permission other x)
@@ -135,14 +114,12 @@ module _ (purposes : List Purpose) (message : List ℕ) (now : ℕ) (before : St
   -- a channel of this number is granted anew
   channel_lasts : (number : ℕ) (peer : SocketAddr) → Has (ForChannel number peer) purposes → (s : State) → AreKnown s → (g : Grant) → Has g s.grants
       → Is g (lasting_if (is_channel_of number) (later_by channel_lifetime now) g)
-  channel_lasts number peer one s known (Channel other to (Active was)) there = by (eqb other number) refl
+  channel_lasts number peer one s known (Channel other to (Active was)) there =
+      by_test (Is (Channel other to (Active was))) (eqb other number) (Channel other to (Active (later_by channel_lifetime now))) (Channel other to (Active was))
+      (λ e stands. inr (record { purpose = ForChannel number peer; one = one; given = (eqb-true other number e, refl, held) })) (λ e stands. inl (kept-same (Channel other to (Active was)) stands))
     where
       held : HasChannelTo other to before
       held = let (progress, here) = known other to (Active was, there) in (progress, has-contains (Channel other to progress) before.grants here)
-
-      by : (b : Bool) → eqb other number ≡ b → Is (Channel other to (Active was)) (cond b (Channel other to (Active (later_by channel_lifetime now))) (Channel other to (Active was)))
-      by true e stands = inr (record { purpose = ForChannel number peer; one = one; given = (eqb-true other number e, refl, held) })
-      by false e stands = inl (kept-same (Channel other to (Active was)) stands)
   channel_lasts number peer one s known (Connect to) there = λ stands. absurd stands
   channel_lasts number peer one s known (Offer offer) there = λ stands. absurd stands
   channel_lasts number peer one s known (Channel other to x) there = untouched (eqb other number) (Channel other to x)
@@ -202,7 +179,7 @@ module _ (purposes : List Purpose) (message : List ℕ) (now : ℕ) (before : St
           let new = Channel number peer (Active (later_by channel_lifetime now)) in
           let less = without_grants (is_channel_of number) t in
           let taken = trans s t less (permissions-takes id true s all) (without-takes (is_channel_of number) t) in
-          let here = first-channel number peer Pending s.grants e in
+          let here = channel-there number peer Pending s e in
           rw e (more-takes new s less taken (λ stands. record { purpose = ForChannel number asked; one = one refl; given = (refl, refl, held peer Pending here) })
           (λ n to progress f. same-channel n number to peer progress (Active (later_by channel_lifetime now)) s.grants f (Pending, here)))
       by (Some (peer, Pending)) e false one all =
@@ -212,7 +189,7 @@ module _ (purposes : List Purpose) (message : List ℕ) (now : ℕ) (before : St
           rw e (lasting-takes (is_channel_of number) (lasting_if (is_channel_of number) (later_by channel_lifetime now)) s (lasting-channels (is_channel_of number) (later_by channel_lifetime now))
           (channel_lasts number asked (one refl) s known))
       by (Some (peer, Active expiry)) e false one all =
-          let here = first-channel number peer (Active expiry) s.grants e in
+          let here = channel-there number peer (Active expiry) s e in
           rw e (replaced-takes (is_channel_of number) (Channel number peer (Reserved (later_by reserved_time expiry))) s (λ stands. absurd stands)
           (λ n to progress f. same-channel n number to peer progress (Reserved (later_by reserved_time expiry)) s.grants f (Active expiry, here)))
       by o e g one all = rw e (same s)
@@ -227,11 +204,9 @@ module _ (purposes : List Purpose) (message : List ℕ) (now : ℕ) (before : St
   prolonged_by family n g = changed_allocation (λ a. is_of_family family a.relayed) (λ a. record a { expiry = later_by (seconds n) now }) g
 
   prolonged-channels : (family : AddressFamily) (n : ℕ) → KeepsChannels (prolonged_by family n)
-  prolonged-channels family n (Allocation a) number peer progress f = by (is_of_family family a.relayed) f
-    where
-      by : (b : Bool) → Channel number peer progress ≡ cond b (Allocation (record a { expiry = later_by (seconds n) now })) (Allocation a) → (was : Progress) × (Allocation a ≡ Channel number peer was)
-      by true h = cc
-      by false h = cc
+  prolonged-channels family n (Allocation a) number peer progress f =
+      by_test (λ (g : Grant). Channel number peer progress ≡ g → (was : Progress) × (Allocation a ≡ Channel number peer was)) (is_of_family family a.relayed)
+      (Allocation (record a { expiry = later_by (seconds n) now })) (Allocation a) (λ e h. cc) (λ e h. cc) f
   prolonged-channels family n g number peer progress f = (progress, sym f)
 
   -- a lifetime of so many seconds was requested and is granted
@@ -240,11 +215,9 @@ module _ (purposes : List Purpose) (message : List ℕ) (now : ℕ) (before : St
 
   -- an allocation of this family is granted anew
   allocation_lasts : (family : AddressFamily) (lifetime n : ℕ) → Lengthens family lifetime n → (g : Grant) → Is g (prolonged_by family n g)
-  allocation_lasts family lifetime n (one, asked, said, enough) (Allocation a) = by (is_of_family family a.relayed) refl
-    where
-      by : (b : Bool) → is_of_family family a.relayed ≡ b → Is (Allocation a) (cond b (Allocation (record a { expiry = later_by (seconds n) now })) (Allocation a))
-      by true e stands = inr (record { purpose = ForRefresh family lifetime; one = one; given = (asked, e, (n, said, enough, refl)) })
-      by false e stands = inl (kept-same (Allocation a) stands)
+  allocation_lasts family lifetime n (one, asked, said, enough) (Allocation a) =
+      by_test (Is (Allocation a)) (is_of_family family a.relayed) (Allocation (record a { expiry = later_by (seconds n) now })) (Allocation a)
+      (λ e stands. inr (record { purpose = ForRefresh family lifetime; one = one; given = (asked, e, (n, said, enough, refl)) })) (λ e stands. inl (kept-same (Allocation a) stands))
   allocation_lasts family lifetime n lengthens (Connect peer) = λ stands. absurd stands
   allocation_lasts family lifetime n lengthens (Offer offer) = λ stands. absurd stands
   allocation_lasts family lifetime n lengthens g = λ stands. inl (kept-same g stands)

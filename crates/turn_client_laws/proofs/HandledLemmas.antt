@@ -1,10 +1,10 @@
 -- The payloads that a call returns are those of its inputs.
-use Rattle.std.proofs.Common.{◌≡◌, ℕ, zero, suc, Bool, true, false, cond, List, [], ◌∷◌, ◌++◌, take, Option, Some, None, refl, sym, subst, ap, ◌∙◌, inl}
+use Rattle.std.proofs.Common.{◌≡◌, ℕ, zero, suc, Bool, true, false, cond, List, [], ◌∷◌, ◌++◌, take, Option, Some, None, refl, sym, subst, ap, ◌∙◌, inl, inr}
 use Rattle.std.specs.Prelude.{find, option_to_list, IfSome, ⊤}
-use Rattle.std.specs.List.{cons_option}
 use Rattle.std.specs.Option.{option_map_or}
 use Rattle.std.proofs.lemmas.List.Elements.{filter_map-append}
 use Rattle.std.specs.declared.net.socket_addr.SocketAddr.{SocketAddr}
+use Rattle.std.proofs.lemmas.Bool.{cases_Bool}
 use Rattle.turn_stun.specs.declared.transport.Transmit.{Transmit}
 use Rattle.turn_types.specs.Frames.{begins_no_frame, frame_len}
 use Rattle.turn_agent.specs.Agent.{same_address}
@@ -13,16 +13,16 @@ use Rattle.turn_client_api.specs.declared.state.Mode.{Mode}
 use Rattle.turn_client_api.specs.declared.state.Mode.TheVariants.{Control, Waiting, Bound, Broken}
 use Rattle.turn_client_api.specs.declared.state.Stream.{Stream}
 use Rattle.turn_client_api.specs.Payloads.{Payload, Outcome, Handled, Ignored, PeerData, PeerIcmp}
-use Rattle.turn_client_api.specs.Streams.{broken_at, framed_by, framed_stream_step, go_on, is_ready, max_steps, owned, payload_in, poll_recv_step, next_frame_step, first_ready_step}
-use Rattle.turn_client_api.specs.Streams.{detached_frame_step, steps_until_payload, with_bytes}
+use Rattle.turn_client_api.specs.Streams.{broken_at, framed_by, framed_stream_step, go_on, is_ready, max_steps, owned, payload_in, poll_recv_step, next_frame_step, detached_frame_step}
+use Rattle.turn_client_api.specs.Streams.{steps_until_payload, with_bytes}
 use Rattle.turn_client_api.specs.Receive.{first_frame_step, piece_step, place_kept, stream_step, then_all}
 use Rattle.turn_client_api.specs.Steps.{packet_step}
 use Rattle.turn_client_api.specs.declared.call.Call.{Call}
 use Rattle.turn_client_api.specs.declared.call.Call.TheVariants.{PollRecv, Recv}
 use Rattle.turn_client_laws.specs.Handled.{Input, datagram_input, stream_with_piece, fed_taken, frame_taken, handled, is_front, processed, payloads, piece_inputs, poll_recv_inputs, stream_inputs}
-use Rattle.turn_client_laws.specs.Handled.{stream_inputs_taken, taken_first, taken_in, taken_of_len, then_taken, stream_input, input_payload, inputs_taken, unless_given}
+use Rattle.turn_client_laws.specs.Handled.{stream_inputs_taken, taken_in, taken_of_len, then_taken, stream_input, input_payload, inputs_taken, unless_given}
 use Rattle.turn_client_laws.specs.LawsPeers.{IsDeliveredByInput, IsPermittedInput, IsToldBy}
-use Rattle.turn_client_laws.proofs.HasLemmas.{Has, has-filter_map, has-left}
+use Rattle.turn_client_laws.proofs.HasLemmas.{Has, has-filter_map, has-left, cases_Option}
 use Rattle.turn_client_laws.proofs.StandLemmas.{has-contains}
 use Rattle.turn_client_laws.proofs.PeerLemmas.{datagram-IsMessageFromPermitted, frame-IsFromPermitted}
 use Rattle.turn_client_laws.proofs.PacketLemmas.{packet-by}
@@ -32,11 +32,7 @@ abbrev AreOf : List Input → Outcome → Type 0
 AreOf turns o = payloads turns ≡ option_to_list (payload_in o)
 
 one-AreOf : (t : Input) → payloads (t ∷ []) ≡ option_to_list (input_payload t)
-one-AreOf t = by (input_payload t)
-  where
-    by : (o : Option Payload) → cons_option o [] ≡ option_to_list o
-    by None = refl
-    by (Some payload) = refl
+one-AreOf t = elim (cases_Option (input_payload t)) [ inl e ↦ rw e refl | inr (payload, e) ↦ rw e refl ]
 
 payloads-append : (front later : List Input) → payloads (front ++ later) ≡ payloads front ++ payloads later
 payloads-append front later = filter_map-append input_payload front later
@@ -84,12 +80,12 @@ go_on-Gives next later front (_, t) first more = payloads-append front (later t)
 turns-Gives : (n now : ℕ) (s : State) → Gives (inputs_taken n now s) (steps_until_payload n now s)
 unfolding steps_until_payload inputs_taken
 turns-Gives zero now s = refl
-turns-Gives (suc n) now s = by (find is_ready s.streams) (λ t. turns-Gives n now t)
-  where
-    by : (o : Option Stream) → ((t : State) → Gives (inputs_taken n now t) (steps_until_payload n now t))
-        → Gives (taken_first (inputs_taken n now) now s o) (first_ready_step (steps_until_payload n now) now s o)
-    by None more = refl
-    by (Some stream) more = go_on-Gives (steps_until_payload n now) (inputs_taken n now) (stream_inputs_taken false stream now s) (next_frame_step stream now s) (turn-AreOf stream now s) more
+turns-Gives (suc n) now s = elim (cases_Option (find is_ready s.streams)) [
+  | inl e ↦ rw e refl
+  | inr (stream, e) ↦
+      rw e
+      (go_on-Gives (steps_until_payload n now) (inputs_taken n now) (stream_inputs_taken false stream now s) (next_frame_step stream now s) (turn-AreOf stream now s) (turns-Gives n now))
+]
 
 pub poll_recv-Gives : (now : ℕ) (s : State) → payloads (poll_recv_inputs now s) ≡ option_to_list (poll_recv_step now s).0
 poll_recv-Gives now s = turns-Gives (max_steps s) now s
@@ -133,11 +129,7 @@ piece_in_mode Control stream piece now s =
     then_all-AreOf now (fed_taken u piece now s) (first_frame_step u piece now s) (framed-fed u piece now (with_bytes stream.local [] s))
 piece_in_mode Waiting stream piece now s = framed-fed (record stream { mode = Waiting }) piece now (with_bytes stream.local [] s)
 piece_in_mode (Bound peer) stream piece now s = bound-AreOf peer stream.bytes piece stream now s
-piece_in_mode Broken stream piece now s = by (same_address stream.local s.local)
-  where
-    by : (b : Bool) → AreOf (cond b (poll_recv_inputs now s) []) (cond {A = Outcome × State} b (then_all now (Handled, s)) (Handled, s)).0
-    by true = others-AreOf now s Handled refl
-    by false = refl
+piece_in_mode Broken stream piece now s = elim (cases_Bool (same_address stream.local s.local)) [ inl e ↦ rw e (others-AreOf now s Handled refl) | inr e ↦ rw e refl ]
 
 stream-AreOf : (stream : Stream) (piece : List ℕ) (now : ℕ) (s : State) → AreOf (stream_inputs stream piece now s) (stream_step stream piece now s).0
 stream-AreOf stream [] now s = refl
