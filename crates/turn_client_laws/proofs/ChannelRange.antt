@@ -48,12 +48,8 @@ AllFit gs = (g : Grant) → Has g gs → Fits g
 fit-append : (gs hs : List Grant) → AllFit gs → AllFit hs → AllFit (gs ++ hs)
 fit-append gs hs old new g there = elim (has-append g gs hs there) [ inl here ↦ old g here | inr behind ↦ new g behind ]
 
-fit-one : (g : Grant) → Fits g → AllFit (g ∷ [])
-fit-one g fits h (inl e) = subst Fits (sym e) fits
-fit-one g fits h (inr none) = absurd none
-
 fit-last : (g : Grant) (gs : List Grant) → Fits g → AllFit gs → AllFit (gs ++ g ∷ [])
-fit-last g gs fits old = fit-append gs (g ∷ []) old (fit-one g fits)
+fit-last g gs fits old = fit-append gs (g ∷ []) old (λ h one. elim one [ inl e ↦ subst Fits (sym e) fits | inr none ↦ absurd none ])
 
 fit-filter : (p : Grant → Bool) (gs : List Grant) → AllFit gs → AllFit (filter p gs)
 fit-filter p gs fits g there = fits g (has-filter p g gs there).0

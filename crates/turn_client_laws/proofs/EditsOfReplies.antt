@@ -131,11 +131,7 @@ without-allocates s id there = let kept = (has-filter (λ (l : Listing). not (is
 
 -- a request that is no ALLOCATE
 pub spelled-else : (id : ℕ) (text : List ℕ) (purpose : Purpose) (s : State) → s.phase ≡ Allocated → (purpose ≡ ForAllocation → ⊥) → IsSpelled id text (purpose ∷ []) s
-spelled-else id text purpose s there other = inl (there, of)
-  where
-    of : (p : Purpose) → Has p (purpose ∷ []) → p ≡ ForAllocation → ⊥
-    of p (inl e) f = other (sym e ∙ f)
-    of p (inr none) f = absurd none
+spelled-else id text purpose s there other = inl (there, λ p one f. elim one [ inl e ↦ other (sym e ∙ f) | inr none ↦ absurd none ])
 
 -- ---- the tools of a walk
 
@@ -168,13 +164,10 @@ module _ (R : State → State → Type 0) (k : KeepsEdits R) where
   pub reserved-walk : (number : ℕ) (peer : SocketAddr) (was : Progress) (expiry : ℕ) (s : State) → Has (Channel number peer was) s.grants → R s (reserved number peer expiry s)
   reserved-walk number peer was expiry s there = k.reserves number peer was _ s there
 
-  asked_one : (s : State) (purpose : Purpose) → IsAskable s purpose → (p : Purpose) → Has p (purpose ∷ []) → IsAskable s p
-  asked_one s purpose askable p (inl e) = subst (IsAskable s) (sym e) askable
-  asked_one s purpose askable p (inr none) = absurd none
-
   pub asked-walk : (id : ℕ) (text : List ℕ) (purpose : Purpose) (now : ℕ) (s : State) → IsBegun s.phase → IsAskable s purpose → IsSpelled id text (purpose ∷ []) s
       → R s (request_started id text (purpose ∷ []) now s)
-  asked-walk id text purpose now s begun askable spelled = k.asks id text (purpose ∷ []) now s begun (asked_one s purpose askable) spelled
+  asked-walk id text purpose now s begun askable spelled =
+      k.asks id text (purpose ∷ []) now s begun (λ p one. elim one [ inl e ↦ subst (IsAskable s) (sym e) askable | inr none ↦ absurd none ]) spelled
 
   -- a request is made and queued
   pub requested-walk : (id : ℕ) (purpose : Purpose) (now : ℕ) (s : State) → IsBegun s.phase → IsAskable s purpose → IsSpelled id (request_for s purpose id) (purpose ∷ []) s

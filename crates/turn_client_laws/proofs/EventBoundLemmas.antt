@@ -292,8 +292,4 @@ most-failures s = by s.grants
   where
     by : (gs : List Grant) → length (filter can_fail gs) ≤ length gs
     by [] = omega arith
-    by (g ∷ gs) = at (can_fail g) (by gs)
-      where
-        at : (b : Bool) → length (filter can_fail gs) ≤ length gs → length (cond b (g ∷ filter can_fail gs) (filter can_fail gs)) ≤ length (g ∷ gs)
-        at true later = omega (arith, later)
-        at false later = omega (arith, later)
+    by (g ∷ gs) = let later = by gs in elim (cases_Bool (can_fail g)) [ inl e ↦ rw e (omega (arith, later)) | inr e ↦ rw e (omega (arith, later)) ]

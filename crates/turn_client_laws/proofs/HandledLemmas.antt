@@ -1,6 +1,6 @@
 -- The payloads that a call returns are those of its inputs.
 use Rattle.std.proofs.Common.{◌≡◌, ℕ, zero, suc, Bool, true, false, cond, List, [], ◌∷◌, ◌++◌, take, Option, Some, None, refl, sym, subst, ap, ◌∙◌, inl, inr}
-use Rattle.std.specs.Prelude.{find, option_to_list, IfSome, ⊤}
+use Rattle.std.specs.Prelude.{find, option_to_list, ⊤}
 use Rattle.std.specs.Option.{option_map_or}
 use Rattle.std.proofs.lemmas.List.Elements.{filter_map-append}
 use Rattle.std.specs.declared.net.socket_addr.SocketAddr.{SocketAddr}
@@ -94,11 +94,10 @@ poll_recv-Gives now s = turns-Gives (max_steps s) now s
 
 -- a payload replaces the result
 others-AreOf : (now : ℕ) (t : State) (o : Outcome) → payload_in o ≡ None → AreOf (poll_recv_inputs now t) (option_map_or PeerData (poll_recv_step now t).0 o)
-others-AreOf now t o none = poll_recv-Gives now t ∙ by (poll_recv_step now t).0
-  where
-    by : (p : Option Payload) → option_to_list p ≡ option_to_list (payload_in (option_map_or PeerData p o))
-    by None = ap option_to_list (sym none)
-    by (Some payload) = refl
+others-AreOf now t o none = poll_recv-Gives now t ∙ elim (cases_Option (poll_recv_step now t).0) [
+  | inl e ↦ rw e (ap option_to_list (sym none))
+  | inr (payload, e) ↦ rw e refl
+]
 
 then_all-AreOf : (now : ℕ) (front : List Input) (p : Outcome × State) → AreOf front p.0 → AreOf (front ++ then_taken now p) (then_all now p).0
 then_all-AreOf now front (Handled, t) first =
@@ -153,24 +152,17 @@ turn-IsFromPermitted t = by t.stream t
 
 -- ---- the input that returns it
 
--- one input of a list returns the payload that the list returns
-given-among : (turns : List Input) (o : Option Payload) → payloads turns ≡ option_to_list o → IfSome o (λ payload. (one : Input) × Has one turns × (input_payload one ≡ Some payload))
-given-among turns None e = tt
-given-among turns (Some payload) e = has-filter_map input_payload payload turns (subst (Has payload) (sym e) (inl refl))
-
-given-by : (call : Call) (s : State) (o : Option Payload) → IfSome o (λ payload. (one : Input) × Has one (handled call s) × (input_payload one ≡ Some payload)) → IsDeliveredByInput o call s
-given-by call s None h = tt
-given-by call s (Some payload) (one, there, gives) = (one, has-contains one (handled call s) there, (gives, turn-IsFromPermitted one))
+given-by : (call : Call) (s : State) (o : Option Payload) → payloads (handled call s) ≡ option_to_list o → IsDeliveredByInput o call s
+given-by call s None e = tt
+given-by call s (Some payload) e =
+    let (one, there, gives) = has-filter_map input_payload payload (handled call s) (subst (Has payload) (sym e) (inl refl)) in
+    (one, has-contains one (handled call s) there, (gives, turn-IsFromPermitted one))
 
 pub recv-IsGivenBy : (packet : Transmit (List ℕ)) (now : ℕ) (s : State) → IsDeliveredByInput (payload_in (packet_step packet now s).0) (Recv packet now) s
-recv-IsGivenBy packet now s =
-    let o = payload_in (packet_step packet now s).0 in
-    given-by (Recv packet now) s o (given-among (handled (Recv packet now) s) o (recv-AreOf packet now s))
+recv-IsGivenBy packet now s = given-by (Recv packet now) s (payload_in (packet_step packet now s).0) (recv-AreOf packet now s)
 
 pub poll_recv-IsGivenBy : (now : ℕ) (s : State) → IsDeliveredByInput (poll_recv_step now s).0 (PollRecv now) s
-poll_recv-IsGivenBy now s =
-    let o = (poll_recv_step now s).0 in
-    given-by (PollRecv now) s o (given-among (handled (PollRecv now) s) o (poll_recv-Gives now s))
+poll_recv-IsGivenBy now s = given-by (PollRecv now) s (poll_recv_step now s).0 (poll_recv-Gives now s)
 
 -- ---- ICMP reports
 

@@ -21,8 +21,8 @@ use Rattle.turn_client_api.specs.Grants.{is_pending_channel, is_pending_permissi
 use Rattle.turn_client_api.specs.Effect.{reserved, reserved_time}
 use Rattle.turn_client_api.specs.Calls.{is_allocated}
 use Rattle.turn_client_api.specs.Poll.{first_unreported, timed_out_purposes, next_offer, unreported_in, channel_lapsed, connections_unbound, failed_by_timeout, last_channel_lapsed, offers_timed_out}
-use Rattle.turn_client_api.specs.Poll.{permissions_lapsed, refreshes_timed_out, set_free, failed, allocation_expires, is_lapsed_channel, is_lapsed_permission, is_unbound, lapsed, lapsed_allocation}
-use Rattle.turn_client_api.specs.Poll.{lapsed_in, unbound}
+use Rattle.turn_client_api.specs.Poll.{permissions_lapsed, refreshes_timed_out, failed, allocation_expires, is_lapsed_channel, is_lapsed_permission, is_unbound, lapsed, lapsed_allocation, lapsed_in}
+use Rattle.turn_client_api.specs.Poll.{unbound}
 use Rattle.turn_client_api.specs.declared.event.TurnEvent.{TurnEvent}
 use Rattle.turn_client_api.specs.declared.event.TurnEvent.TheVariants.{ChannelCreateFailed}
 use Rattle.turn_client_laws.proofs.HasLemmas.{Has, has-all, has-left, has-right, has-append, has-filter, filter_map-has, has-filter_map, has-found, cases_Option, first-has}
@@ -112,31 +112,6 @@ channel-shrinks o s = shrinks-self s
 
 -- ---- one allocation
 
--- from its unbound connections on
-tail6 : AddressFamily → Option ℕ → List Purpose → ℕ → State → State
-tail6 family given purposes now s = set_free family now (refreshes_timed_out family purposes (offers_timed_out family given s))
-
-tail6-shrinks : (family : AddressFamily) (given : Option ℕ) (purposes : List Purpose) (now : ℕ) (s : State) → Shrinks s (tail6 family given purposes now s)
-unfolding tail6
-tail6-shrinks family given purposes now s6 =
-    let s7 = offers_timed_out family given s6 in
-    let s8 = refreshes_timed_out family purposes s7 in
-    shrinks-then s6 s7 (set_free family now s8) (failed-shrinks _ s6)
-    (shrinks-then s7 s8 (set_free family now s8) (unlisted-shrinks _ s7) (without-shrinks _ s8))
-
--- from its expired permissions on
-tail4 : AddressFamily → Option ℕ → List Purpose → ℕ → State → State
-unfolding tail6
-tail4 family given purposes now s = tail6 family given purposes now (connections_unbound family purposes now (failed_by_timeout family purposes is_connect s))
-
-tail4-shrinks : (family : AddressFamily) (given : Option ℕ) (purposes : List Purpose) (now : ℕ) (s : State) → Shrinks s (tail4 family given purposes now s)
-unfolding tail6 tail4
-tail4-shrinks family given purposes now s4 =
-    let s5 = failed_by_timeout family purposes is_connect s4 in
-    let s6 = connections_unbound family purposes now s5 in
-    shrinks-then s4 s5 (tail6 family given purposes now s6) (failed-shrinks _ s4)
-    (shrinks-then s5 s6 (tail6 family given purposes now s6) (unbound-shrinks _ s5) (tail6-shrinks family given purposes now s6))
-
 lapsed_in-shrinks : (family : AddressFamily) (given : Option ℕ) (purposes : List Purpose) (now : ℕ) (s : State) → Shrinks s (lapsed_in family given purposes now s)
 lapsed_in-shrinks family given purposes now = lapsed_in-does Shrinks family given purposes now (record {
   trans = shrinks-then;
@@ -200,7 +175,6 @@ Outlives now grant = Alive now grant
 -- what remains in an allocation without an event has not expired
 alive_in : (family : AddressFamily) (given : Option ℕ) (purposes : List Purpose) (now : ℕ) (s : State) → (lapsed_in family given purposes now s).events ≡ [] → (g : Grant)
     → Has g (lapsed_in family given purposes now s).grants → is_of family g ≡ true → Outlives now g
-unfolding tail6 tail4
 alive_in family given purposes now s none g h here = by g h here
   where
     s2 : State
@@ -221,12 +195,22 @@ alive_in family given purposes now s none g h here = by g h here
     t : State
     t = lapsed_in family given purposes now s
 
+    -- the last steps
+    from6 : Shrinks s6 t
+    from6 =
+        let s7 = offers_timed_out family given s6 in
+        let s8 = refreshes_timed_out family purposes s7 in
+        shrinks-then s6 s7 t (failed-shrinks _ s6) (shrinks-then s7 s8 t (unlisted-shrinks _ s7) (without-shrinks _ s8))
+
+    from4 : Shrinks s4 t
+    from4 = shrinks-then s4 s5 t (failed-shrinks _ s4) (shrinks-then s5 s6 t (unbound-shrinks _ s5) from6)
+
     from3 : Shrinks s3 t
-    from3 = shrinks-then s3 s4 t (failed-shrinks _ s3) (tail4-shrinks family given purposes now s4)
+    from3 = shrinks-then s3 s4 t (failed-shrinks _ s3) from4
 
     by : (g : Grant) → Has g t.grants → is_of family g ≡ true → Outlives now g
     by (Permission ip (Active expiry)) h here =
-        let inside = back s4 t (tail4-shrinks family given purposes now s4) (Permission ip (Active expiry)) (λ is. is) h in
+        let inside = back s4 t from4 (Permission ip (Active expiry)) (λ is. is) h in
         leb-false expiry now (what-false _ _ here (not-passed (λ x. is_of family x && is_lapsed_permission now x) (Permission ip (Active expiry)) s3.grants inside))
     by (Channel number peer (Active expiry)) h here =
         let g = Channel number peer (Active expiry) in
@@ -236,7 +220,7 @@ alive_in family given purposes now s none g h here = by g h here
         let inside2 : Has g s2.grants = subst (λ o. Has g (channel_lapsed o s2).grants) not_found inside3 in
         leb-false expiry now (what-false _ _ here (find-none-false (λ x. is_of family x && is_lapsed_channel now x) g (reverse s2.grants) not_found (has-reverse g s2.grants inside2)))
     by (Connection c) h here =
-        let inside = back s6 t (tail6-shrinks family given purposes now s6) (Connection c) (λ is. is) h in
+        let inside = back s6 t from6 (Connection c) (λ is. is) h in
         let bound = what-false _ _ here (not-passed (λ x. is_of family x && is_unbound purposes now x) (Connection c) s5.grants inside) in
         elim (cases_Option c.deadline) [
           | inl e ↦ rw e tt
