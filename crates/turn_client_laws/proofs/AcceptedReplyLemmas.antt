@@ -1,6 +1,7 @@
 -- A reply that is accepted is to an outstanding request, and ends it.
-use Rattle.std.proofs.Common.{◌≡◌, ◌∙◌, sym, ℕ, Bool, true, false, not, List, inl, inr, refl}
+use Rattle.std.proofs.Common.{◌≡◌, ◌∙◌, sym, ℕ, true, false, not, List, inl, inr, refl}
 use Rattle.std.specs.declared.net.socket_addr.SocketAddr.{SocketAddr}
+use Rattle.std.proofs.lemmas.Bool.{cases_Bool}
 use Rattle.turn_stun.specs.Message.{id_of}
 use Rattle.turn_agent.specs.Agent.{is_outstanding}
 use Rattle.turn_agent.specs.Agent as A
@@ -56,16 +57,13 @@ bind-ended c message now s = by (bind_judgement s c.local message) refl
     by SignedError e = rw e (λ h. is_outstanding-without (id_of message) s.transactions)
     by j e = rw e (λ h. absurd h)
 
-unlike : true ≡ false → ⊥
-unlike e = cc
-
 -- an ID that is used is free, so that it is not the ID of the reply
 pub accepted-gone : (message : List ℕ) (now : ℕ) (s : State) → IsAccepted (judgement_of s message) → is_outstanding (id_of message) (message_step message now s).1.transactions ≡ false
-accepted-gone message now s accepted = by (is_outstanding (id_of message) (message_step message now s).1.transactions) refl
-  where
-    by : (b : Bool) → is_outstanding (id_of message) (message_step message now s).1.transactions ≡ b → is_outstanding (id_of message) (message_step message now s).1.transactions ≡ false
-    by false e = e
-    by true e =
-        let taken : is_taken (id_of message) s ≡ true = rw (accepted-outstanding message s accepted) refl in
-        let free : is_taken (id_of message) s ≡ false = rw (accepted-ended message now s accepted e) (fresh-free s) in
-        absurd (unlike (sym taken ∙ free))
+accepted-gone message now s accepted = elim (cases_Bool (is_outstanding (id_of message) (message_step message now s).1.transactions)) [
+  | inl e ↦
+      let taken : is_taken (id_of message) s ≡ true = rw (accepted-outstanding message s accepted) refl in
+      let free : is_taken (id_of message) s ≡ false = rw (accepted-ended message now s accepted e) (fresh-free s) in
+      let no : true ≡ false = sym taken ∙ free in
+      cc
+  | inr e ↦ e
+]

@@ -20,8 +20,8 @@ use Rattle.turn_client_api.specs.Steps.{Leaves, state_after}
 use Rattle.turn_client_api.specs.declared.call.Call.{Call}
 use Rattle.turn_client_api.specs.declared.call.Call.TheVariants.{Delete}
 use Rattle.turn_client_laws.specs.LawsBound.{IsBindInput, IsBoundBy, IsBoundConnection, IsConnectedBy}
-use Rattle.turn_client_laws.specs.LawsGranted.{IsEndedNow, IsGrantedIn, WasActive}
-use Rattle.turn_client_laws.specs.LawsHandled.{IsBoundAt, IsDoneBy}
+use Rattle.turn_client_laws.specs.LawsGranted.{IsEndedNow, WasActive}
+use Rattle.turn_client_laws.specs.LawsHandled.{IsBoundAt}
 use Rattle.turn_client_laws.proofs.AddressLemmas.{same_address-true}
 use Rattle.turn_client_laws.proofs.HasLemmas.{Has, has-append, has-filter}
 use Rattle.turn_client_laws.proofs.StandLemmas.{contains-has, has-contains}
@@ -111,7 +111,11 @@ module _ (local peer : SocketAddr) where
 -- ---- connections
 
 pub leaves-connection : (call : Call) (s t : State) (c : DataConnection) → Leaves call s t → IsBoundConnection c t → IsConnectedBy c call s
-leaves-connection call s t c leaves (there, none) = by (leaves-grants call s t (Connection c) leaves there none)
+leaves-connection call s t c leaves (there, none) = elim (leaves-grants call s t (Connection c) leaves there none) [
+  | inl was ↦ inl (stood was, none)
+  | inr (inl e) ↦ absurd (no_end call e)
+  | inr (inr did) ↦ inr did
+]
   where
     stood : WasActive s (Connection c) → Contains s.grants (Connection c)
     stood (Connection d, before, (same, h)) = subst (λ (x : DataConnection). Contains s.grants (Connection x)) same before
@@ -122,8 +126,3 @@ leaves-connection call s t c leaves (there, none) = by (leaves-grants call s t (
     no_end : (call : Call) → IsEndedNow call s (Connection c) → ⊥
     no_end (Delete now) e = e
     no_end call e = e
-
-    by : WasActive s (Connection c) ⊎ IsEndedNow call s (Connection c) ⊎ IsDoneBy (IsGrantedIn (Connection c)) call s → IsConnectedBy c call s
-    by (inl was) = inl (stood was, none)
-    by (inr (inl e)) = absurd (no_end call e)
-    by (inr (inr did)) = inr did

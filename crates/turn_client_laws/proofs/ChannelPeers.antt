@@ -1,5 +1,5 @@
 -- A channel is granted to the peer of its request.
-use Rattle.std.proofs.Common.{◌≡◌, ◌⊎◌, ℕ, true, false, eqb, List, [], ◌∷◌, inl, inr, refl, sym, subst, ◌∙◌}
+use Rattle.std.proofs.Common.{◌≡◌, ℕ, true, false, eqb, List, [], ◌∷◌, inl, inr, refl, sym, subst, ◌∙◌}
 use Rattle.std.specs.List.{Contains, AllByRecursion, IsDistinct}
 use Rattle.std.proofs.lemmas.Bool.{and_parts, eq-eqb, eqb-true}
 use Rattle.std.specs.declared.net.socket_addr.SocketAddr.{SocketAddr}
@@ -18,8 +18,7 @@ use Rattle.turn_client_laws.specs.Handled.{Input, handled}
 use Rattle.turn_client_api.specs.Steps.{Leaves}
 use Rattle.turn_client_api.specs.declared.call.Call.{Call}
 use Rattle.turn_client_api.specs.declared.call.Call.TheVariants.{Delete}
-use Rattle.turn_client_laws.specs.LawsGranted.{GrantsToPeers, HasChannelCause, HasChannelTo, IsChannelInput, IsEndedNow, IsGivenFor, IsGrantInput, IsGrantedBy, IsSameGrant, WasActive}
-use Rattle.turn_client_laws.specs.LawsHandled.{IsDoneBy}
+use Rattle.turn_client_laws.specs.LawsGranted.{GrantsToPeers, HasChannelTo, IsChannelInput, IsEndedNow, IsGivenFor, IsGrantInput, IsGrantedBy, IsSameGrant}
 use Rattle.turn_client_laws.specs.LawsNumbers.{HasDistinctNumbers}
 use Rattle.turn_client_laws.specs.LawsStates.{HasGrantsAsked, HasItsGrant, is_asked_by}
 use Rattle.turn_client_laws.proofs.AddressLemmas.{same_address-true}
@@ -105,7 +104,11 @@ module _ (number : ℕ) (peer : SocketAddr) (expiry : ℕ) (message : List ℕ) 
 -- ---- over a call
 
 pub leaves-channels : (call : Call) (s t : State) → Leaves call s t → HasGrantsAsked s → HasDistinctNumbers s → GrantsToPeers call s t
-leaves-channels call s t leaves asked distinct number peer expiry there = by (leaves-grants call s t channel leaves there tt)
+leaves-channels call s t leaves asked distinct number peer expiry there = elim (leaves-grants call s t channel leaves there tt) [
+  | inl (was, here, kept) ↦ inl (has-contains channel s.grants (stood was (contains-has was s.grants here) kept))
+  | inr (inl ended) ↦ absurd (never call ended)
+  | inr (inr (one, among, turn)) ↦ inr (one, among, turned one among turn)
+]
   where
     channel : Grant
     channel = Channel number peer (Active expiry)
@@ -124,8 +127,3 @@ leaves-channels call s t leaves asked distinct number peer expiry there = by (le
     never : (call : Call) → IsEndedNow call s channel → ⊥
     never (Delete now) e = e
     never call e = e
-
-    by : WasActive s channel ⊎ IsEndedNow call s channel ⊎ IsDoneBy (IsGrantInput channel) call s → HasChannelCause number peer expiry call s
-    by (inl (was, here, kept)) = inl (has-contains channel s.grants (stood was (contains-has was s.grants here) kept))
-    by (inr (inl ended)) = absurd (never call ended)
-    by (inr (inr (one, among, turn))) = inr (one, among, turned one among turn)

@@ -46,7 +46,7 @@ use Rattle.turn_client_laws.proofs.StandLemmas.{has-contains}
 use Rattle.turn_client_laws.proofs.RunKeepLemmas.{IsKept}
 use Rattle.turn_client_laws.proofs.Edits.{KeepsAllEdits, IgnoresAll, KeepsHeeded}
 use Rattle.turn_client_laws.proofs.EditsOfReplies.{deadline-walk, effects-walk, fail-walk, gone-walk, removed, requested-walk, spelled-else, unlisted-walk, without-allocates}
-use Rattle.turn_client_laws.proofs.CaseLemmas.{requested-by, indicated-by, by_heeded, bind-by}
+use Rattle.turn_client_laws.proofs.CaseLemmas.{requested-by, indicated-by, by_heeded, bind-by, by_test}
 
 -- ---- what may be requested again
 
@@ -212,15 +212,11 @@ module _ (Heeded : Type 0) (R : State → State → Type 0) (k : KeepsHeeded Hee
       c : State
       c = wait (AllocationCreateFailed IPV4 ∷ []) b
 
-      alone : (p : Purpose) → Has p (ForAllocation ∷ []) → p ≡ ForAllocation
-      alone p (inl is) = is
-      alone p (inr none) = absurd none
-
       again : 2 ≤ length s.families → R s (requested fresh ForAllocation now c)
       again two =
           then s a _ (k.edits.unlists _ s)
           (then a b _ (k.edits.families (IPV6 ∷ []) a (inr (refl, two, without-allocates s)))
-          (then b c _ (k.edits.aside b c) (requested-walk R k.edits fresh ForAllocation now c begun (inl refl) (inr (inl (ungranted, alone, inr refl))))))
+          (then b c _ (k.edits.aside b c) (requested-walk R k.edits fresh ForAllocation now c begun (inl refl) (inr (inl (ungranted, (λ p one. elim one [ inl is ↦ is | inr none ↦ absurd none ]), inr refl))))))
 
       by : (b : Bool) → (has_code family_not_supported message && leb 2 (length s.families)) ≡ b → R s (allocate_denied fresh message now s)
       by true f = rw f (again (leb-true 2 (length s.families) (and_parts (has_code family_not_supported message) (leb 2 (length s.families)) f).1))
@@ -264,15 +260,15 @@ module _ (Heeded : Type 0) (R : State → State → Type 0) (k : KeepsHeeded Hee
       heeded : (j : Judgement) → judgement_of s message ≡ j → IsSigned j → (p : Purpose) → Has p (answered_purposes message s) → Heeded
       heeded j e is p there = allowed (subst IsSigned (sym e) is, (p, has-contains p (answered_purposes message s) there))
 
-      if_asked : IsBegun s.phase → (b : Bool) → R s (cond {A = Outcome × State} b (Handled, attempt_requested message s) (Ignored, s)).1
-      if_asked begun true = attempt-walk message s begun
-      if_asked begun false = k.edits.same s
+      if_asked : IsBegun s.phase → R s (cond {A = Outcome × State} (eqb (method_in message) connection_attempt_method) (Handled, attempt_requested message s) (Ignored, s)).1
+      if_asked begun =
+          by_test (λ (p : Outcome × State). R s p.1) (eqb (method_in message) connection_attempt_method) _ _ (λ is. attempt-walk message s begun) (λ no. k.edits.same s)
 
       by : (j : Judgement) → judgement_of s message ≡ j → R s (message_step message now s).1
       by (Challenged d) e = rw e (challenge-walk message d now s (judged-begun s message (Challenged d) e tt) (Challenged-is s message d e))
       by Fatal e = rw e (wrong-walk s.phase message s)
       by ConnectionAttempt e = rw e (by_heeded (R s) (attempt_indicated message s) s (indicated-walk message s) (k.edits.same s))
-      by SignedRequest e = rw e (if_asked (judged-begun s message SignedRequest e tt) (eqb (method_in message) connection_attempt_method))
+      by SignedRequest e = rw e (if_asked (judged-begun s message SignedRequest e tt))
       by SignedSuccess e = rw e (signed-walk s.phase true message now s SignedSuccess e tt (heeded SignedSuccess e tt))
       by SignedError e = rw e (signed-walk s.phase false message now s SignedError e tt (heeded SignedError e tt))
       by j e = rw e (k.edits.same s)

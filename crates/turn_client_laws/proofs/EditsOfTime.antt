@@ -219,12 +219,10 @@ module _ (R : State → State → Type 0) (k : KeepsEdits R) where
   idle-walk p now s = k.same (record s { phase = p })
 
   queue-walk : (now : ℕ) (s : State) → R s (queue_step now s).1
-  queue-walk now s = found R k _ (slice_get s.queue 0) s (idle_step s.phase now s) by (idle-walk s.phase now s)
-    where
-      by : (q : Queued) → slice_get s.queue 0 ≡ Some q → R s (sent now (record s { queue = drop 1 s.queue }))
-      by q e =
-          let t = sent now s in
-          then s t (record t { queue = drop 1 s.queue }) (k.sends now s (λ new none. absurd (rw none at (first-has q s.queue e)))) (k.dequeues (drop 1 s.queue) t (has-dropped s.queue))
+  queue-walk now s = found R k _ (slice_get s.queue 0) s (idle_step s.phase now s)
+      (λ q e. let t = sent now s in
+      then s t (record t { queue = drop 1 s.queue }) (k.sends now s (λ new none. absurd (rw none at (first-has q s.queue e)))) (k.dequeues (drop 1 s.queue) t (has-dropped s.queue)))
+      (idle-walk s.phase now s)
 
   pub transmit-walk : (now : ℕ) (s : State) → R s (transmit_step now s).1
   transmit-walk now s =

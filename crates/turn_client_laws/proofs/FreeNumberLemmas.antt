@@ -2,7 +2,7 @@
 use Rattle.std.proofs.Common.{◌≡◌, ◌⊎◌, ℕ, zero, suc, ◌+◌, ◌<◌, ◌≤◌, Bool, true, false, not, Some, None, refl, sym, ap, inl, inr, arith}
 use Rattle.std.specs.Prelude.{find}
 use Rattle.std.specs.List.{range_with_len}
-use Rattle.std.proofs.lemmas.Bool.{cases_lt, not-true, not-false}
+use Rattle.std.proofs.lemmas.Bool.{cases_lt, not-true, not-false, cases_Bool}
 use Rattle.std.proofs.lemmas.Option.{none-some, same_Some}
 use Rattle.turn_client_api.specs.State.{State}
 use Rattle.turn_client_api.specs.Calls.{channel_numbers, free_number, is_number_taken}
@@ -23,42 +23,37 @@ FailAll p start end = (m : ℕ) → start ≤ m → m < end → p m ≡ false
 
 find-IsFirst : (p : ℕ → Bool) (start len n : ℕ) → find p (range_with_len start len) ≡ Some n → IsFirst p start len n
 find-IsFirst p start zero n e = absurd (none-some n e)
-find-IsFirst p start (suc len) n e = by (p start) refl e (find-IsFirst p (start + 1) len n)
-  where
-    Later : Type 0
-    Later = find p (range_with_len (start + 1) len) ≡ Some n → IsFirst p (start + 1) len n
-
-    by : (b : Bool) → p start ≡ b → find p (range_with_len start (suc len)) ≡ Some n → Later → IsFirst p start (suc len) n
-    by true f g later =
-        let same : start ≡ n = same_Some start n (rw f at g) in
-        record {
-          from = omega (arith, same);
-          to = omega (arith, same);
-          passes = rw (sym same) f;
-          below = λ m low high. absurd (omega (arith, same, low, high));
-        }
-    by false f g later =
-        let l = later (rw f at g) in
-        record {
-          from = let low = l.from in omega (arith, low);
-          to = let high = l.to in omega (arith, high);
-          passes = l.passes;
-          below = λ m low high. at l m low high (cases_lt start m);
-        }
-      where
-        at : IsFirst p (start + 1) len n → (m : ℕ) → start ≤ m → m < n → (start < m) ⊎ (m ≤ start) → p m ≡ false
-        at l m low high (inl above) = l.below m (omega (arith, above)) high
-        at l m low high (inr here) = let same : m ≡ start = omega (arith, low, here) in rw same f
+find-IsFirst p start (suc len) n e = elim (cases_Bool (p start)) [
+  | inl f ↦
+      let same : start ≡ n = same_Some start n (rw f at e) in
+      record {
+        from = omega (arith, same);
+        to = omega (arith, same);
+        passes = rw (sym same) f;
+        below = λ m low high. absurd (omega (arith, same, low, high));
+      }
+  | inr f ↦
+      let l = find-IsFirst p (start + 1) len n (rw f at e) in
+      record {
+        from = let low = l.from in omega (arith, low);
+        to = let high = l.to in omega (arith, high);
+        passes = l.passes;
+        below = λ m low high. elim (cases_lt start m) [
+          | inl above ↦ l.below m (omega (arith, above)) high
+          | inr here ↦ let same : m ≡ start = omega (arith, low, here) in rw same f
+        ];
+      }
+]
 
 find-FailAll : (p : ℕ → Bool) (start len : ℕ) → find p (range_with_len start len) ≡ None → FailAll p start (start + len)
 find-FailAll p start zero e m low high = absurd (omega (arith, low, high))
-find-FailAll p start (suc len) e m low high = by (p start) refl e (find-FailAll p (start + 1) len) (cases_lt start m)
-  where
-    by : (b : Bool) → p start ≡ b → find p (range_with_len start (suc len)) ≡ None → (find p (range_with_len (start + 1) len) ≡ None → FailAll p (start + 1) (start + 1 + len)) → (start < m)
-        ⊎ (m ≤ start) → p m ≡ false
-    by true f g later o = absurd (none-some start (sym (rw f at g)))
-    by false f g later (inl above) = later (rw f at g) m (omega (arith, above)) (omega (arith, high))
-    by false f g later (inr here) = let same : m ≡ start = omega (arith, low, here) in rw same f
+find-FailAll p start (suc len) e m low high = elim (cases_Bool (p start)) [
+  | inl f ↦ absurd (none-some start (sym (rw f at e)))
+  | inr f ↦ elim (cases_lt start m) [
+    | inl above ↦ find-FailAll p (start + 1) len (rw f at e) m (omega (arith, above)) (omega (arith, high))
+    | inr here ↦ let same : m ≡ start = omega (arith, low, here) in rw same f
+  ]
+]
 
 FailAll-find : (p : ℕ → Bool) (start len : ℕ) → FailAll p start (start + len) → find p (range_with_len start len) ≡ None
 FailAll-find p start zero none = refl
