@@ -1,5 +1,5 @@
 -- What holds in each case of a step holds of the step.
-use Rattle.std.proofs.Common.{◌≡◌, ℕ, Bool, true, false, cond, not, eqb, List, Option, Some, None, refl, inr, inl}
+use Rattle.std.proofs.Common.{◌≡◌, ℕ, Bool, true, false, cond, not, eqb, List, Option, Some, None, refl, inr, inl, [], ◌∷◌}
 use Rattle.std.specs.Prelude.{is_some, IfSome}
 use Rattle.std.specs.Option.{option_map_or}
 use Rattle.std.specs.Net.Socket.{socket_ip}
@@ -13,12 +13,14 @@ use Rattle.turn_client_api.specs.declared.state.Phase.TheVariants.{Allocated}
 use Rattle.turn_client_api.specs.declared.state.Queued.{Queued}
 use Rattle.turn_client_api.specs.declared.grant.DataConnection.{DataConnection}
 use Rattle.turn_client_api.specs.declared.grant.Origin.TheVariants.{ServerIndication, ServerRequest}
-use Rattle.turn_client_api.specs.Grants.{find_allocation_to}
+use Rattle.turn_client_api.specs.Grants.{find_allocation_to, allocations}
 use Rattle.turn_client_api.specs.Requests.{connection_bind_method}
 use Rattle.turn_client_api.specs.Judgement.{connection_id_in, method_in, peer_in}
 use Rattle.turn_client_api.specs.Effect.{with_offer}
 use Rattle.turn_client_api.specs.Connections.{accepts_attempt, attempt_indicated, attempt_requested, bind_answered, bind_step, connection_at, is_connected}
 use Rattle.turn_client_api.specs.Payloads.{Outcome, Handled, Ignored}
+use Rattle.turn_client_api.specs.Poll.{answer_step, answer_by}
+use Rattle.turn_client_api.specs.declared.grant.Relay.{Relay}
 use Rattle.turn_client_laws.proofs.HasLemmas.{cases_Option}
 
 -- ---- a test and a look-up
@@ -82,3 +84,15 @@ pub bind-by : (P : State → Type 0) (local : SocketAddr) (message : List ℕ) (
     → ((c : DataConnection) → s.phase ≡ Allocated → connection_at local s ≡ Some c → method_in message ≡ connection_bind_method → P (bind_answered c message now s))
     → P (bind_step local message now s)
 bind-by P local message now s = bind_in_phase P s.phase local message now s
+
+-- ---- what a poll returns
+
+-- at most a connection to close is taken from the list
+pub answer-by : (P : State → Type 0) (given : Option ℕ) (now : ℕ) (s : State) → ((closes : List SocketAddr) → P (record s { closes = closes })) → P (answer_step given now s).1
+answer-by P given now s each = by s.closes s.phase (allocations s)
+  where
+    by : (closes : List SocketAddr) (p : Phase) (relays : List Relay) → P (answer_by closes p relays given now s).1
+    by (local ∷ others) p relays = each others
+    by [] Allocated [] = each s.closes
+    by [] Allocated (a ∷ relays) = each s.closes
+    by closes p relays = each s.closes

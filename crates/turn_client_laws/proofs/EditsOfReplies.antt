@@ -32,7 +32,7 @@ use Rattle.turn_client_laws.specs.LawsOrder.{IsBegun, IsUngranted}
 use Rattle.turn_client_api.specs.Poll.{as_reported, first_reported, unreported_in}
 use Rattle.turn_client_laws.proofs.HasLemmas.{Has, filter-has, has-filter, has-filter_map, has-left, map-has, first-has}
 use Rattle.turn_client_laws.proofs.Edits.{IsAskable, IsSpelled, KeepsEdits, SparesAllocations, listing, outline, AllocationsStay, KeepsHeeded, aged}
-use Rattle.turn_client_laws.proofs.CaseLemmas.{by_test}
+use Rattle.turn_client_laws.proofs.CaseLemmas.{by_test, by_found}
 
 -- ---- grants that change and keep their outlines
 
@@ -289,11 +289,8 @@ module _ (Heeded : Type 0) (R : State → State → Type 0) (k : KeepsHeeded Hee
   refreshed-walk heeded family lifetime is_granted message now s =
       one-of R k.edits (eqb lifetime 0) s _ _
       (one-of R k.edits (is_granted || has_code allocation_mismatch message) s _ _ (all_gone-walk heeded s) (k.edits.same s))
-      (one-of R k.edits is_granted s _ _ (by (lifetime_in message)) (k.edits.same s))
-    where
-      by : (o : Option ℕ) → R s (option_map_or (λ granted. prolonged family granted now s) o s)
-      by None = k.edits.same s
-      by (Some granted) = prolonged-walk heeded family granted now s
+      (one-of R k.edits is_granted s _ _
+      (by_found (R s) _ (lifetime_in message) s (λ granted e. prolonged-walk heeded family granted now s) (k.edits.same s)) (k.edits.same s))
 
   -- the reply was received when the client was in the first state
   module _ (first : State) (id : ℕ) (granted : IsUngranted first.phase → ⊥) where

@@ -37,7 +37,7 @@ use Rattle.turn_client_laws.proofs.LapseLemmas.{has-unreversed}
 use Rattle.turn_client_laws.proofs.Edits.{IsAskable, KeepsEdits, SparesAllocations}
 use Rattle.turn_client_laws.proofs.EditsOfReplies.{closed-walk, each, either, found, one-of, removed, asked-walk, reserved-walk, spares-kind, spelled-else, unlisted-walk, told-alike}
 use Rattle.turn_client_laws.proofs.LapseSteps.{lapsed_in-does}
-use Rattle.turn_client_laws.proofs.CaseLemmas.{by_test}
+use Rattle.turn_client_laws.proofs.CaseLemmas.{by_test, answer-by}
 
 -- ---- what is refreshed exists
 
@@ -154,21 +154,8 @@ module _ (R : State → State → Type 0) (k : KeepsEdits R) where
       by : (t : State) (a : Relay) → R t (lapsed_allocation given purposes now t a)
       by t a = one-of R k (allocation_expires purposes now t a) t _ _ (k.removes_family (family_of a.relayed) t) (lapsed_in-walk (family_of a.relayed) given purposes now t)
 
-  answer_by : (closes : List SocketAddr) (p : Phase) (given : Option ℕ) (now : ℕ) (s : State)
-      → R (record s { closes = closes; phase = p }) (answer_step given now (record s { closes = closes; phase = p })).1
-  answer_by (local ∷ others) p given now s = k.aside (record s { closes = local ∷ others; phase = p }) (record s { closes = others })
-  answer_by [] Allocated given now s = by (allocations s) refl
-    where
-      u : State
-      u = record s { closes = []; phase = Allocated }
-
-      by : (l : List Relay) → allocations s ≡ l → R u (answer_step given now u).1
-      by [] e = rw e (k.same u)
-      by (a ∷ others) e = rw e (k.same u)
-  answer_by [] p given now s = k.same (record s { closes = []; phase = p })
-
   answer-walk : (given : Option ℕ) (now : ℕ) (s : State) → R s (answer_step given now s).1
-  answer-walk given now s = answer_by s.closes s.phase given now s
+  answer-walk given now s = answer-by (R s) given now s (λ closes. k.aside s (record s { closes = closes }))
 
   silent-walk : (s : State) → R s (silent_step s).1
   silent-walk s =

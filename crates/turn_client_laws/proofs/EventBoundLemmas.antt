@@ -21,9 +21,9 @@ use Rattle.turn_client_api.specs.declared.grant.Purpose.{Purpose}
 use Rattle.turn_client_api.specs.Grants.{allocations, failure_of, failures_among, family_of, is_channel_of, is_connect, is_for_any, is_of, is_pending_channel, is_pending_permission, without_grants}
 use Rattle.turn_client_api.specs.Effect.{closed, transaction_ended, reserved}
 use Rattle.turn_client_api.specs.Due.{has_event, has_reply}
-use Rattle.turn_client_api.specs.Poll.{answer_by, answer_step, channel_lapsed, connections_unbound, failed, timed_out_step, allocation_expires, failed_by_timeout, is_timed_out_offer}
-use Rattle.turn_client_api.specs.Poll.{is_lapsed_channel, is_listed_for_allocation, is_over, lapsed, lapsed_allocation, lapsed_in, last_channel_lapsed, next_offer, offer_step, offers_timed_out}
-use Rattle.turn_client_api.specs.Poll.{permissions_lapsed, poll_step, timed_step, as_reported, first_reported, unbound, unreported_in, timed_out_purposes}
+use Rattle.turn_client_api.specs.Poll.{answer_step, channel_lapsed, connections_unbound, failed, timed_out_step, allocation_expires, failed_by_timeout, is_lapsed_channel, is_listed_for_allocation}
+use Rattle.turn_client_api.specs.Poll.{is_over, lapsed, lapsed_allocation, lapsed_in, last_channel_lapsed, next_offer, offer_step, offers_timed_out, permissions_lapsed, poll_step, timed_step}
+use Rattle.turn_client_api.specs.Poll.{as_reported, first_reported, unbound, unreported_in, timed_out_purposes}
 use Rattle.turn_client_laws.specs.LawsBodies.{TellsOfFailed, can_fail, max_failures}
 use Rattle.turn_client_api.specs.declared.event.TurnEvent.{TurnEvent}
 use Rattle.turn_client_api.specs.declared.event.TurnEvent.TheVariants.{AllocationCreateFailed}
@@ -31,7 +31,7 @@ use Rattle.turn_client_api.specs.declared.poll.TurnPollRet.{TurnPollRet}
 use Rattle.turn_client_laws.proofs.HasLemmas.{Has, has-found}
 use Rattle.turn_client_laws.proofs.LapseLemmas.{IsReserved, has-unreversed}
 use Rattle.turn_client_laws.proofs.LapseSteps.{lapsed_in-does}
-use Rattle.turn_client_laws.proofs.CaseLemmas.{by_test, by_found}
+use Rattle.turn_client_laws.proofs.CaseLemmas.{by_test, by_found, answer-by}
 use Rattle.turn_client_laws.proofs.EditsOfReplies.{and-false}
 
 tells-self : (s : State) → TellsOfFailed s s
@@ -173,11 +173,8 @@ module _ (family : AddressFamily) (purposes : List Purpose) where
   connections-tell now s = unbound-tells _ s (spared _ (λ number peer until. and-false (is_of family (Channel number peer (Reserved until)))))
 
   offers-tell : (given : Option ℕ) (s : State) → TellsOfFailed s (offers_timed_out family given s)
-  offers-tell given s = failed-tells _ s (spared _ (λ number peer until. by number peer until given))
-    where
-      by : (number : ℕ) (peer : SocketAddr) (until : ℕ) (o : Option ℕ) → (is_of family (Channel number peer (Reserved until)) && is_timed_out_offer o (Channel number peer (Reserved until))) ≡ false
-      by number peer until None = and-false (is_of family (Channel number peer (Reserved until)))
-      by number peer until (Some id) = and-false (is_of family (Channel number peer (Reserved until)))
+  offers-tell None s = failed-tells _ s (spared _ (λ number peer until. and-false (is_of family (Channel number peer (Reserved until)))))
+  offers-tell (Some id) s = failed-tells _ s (spared _ (λ number peer until. and-false (is_of family (Channel number peer (Reserved until)))))
 
   lapsed_in-tells : (given : Option ℕ) (now : ℕ) (s : State) → TellsOfFailed s (lapsed_in family given purposes now s)
   lapsed_in-tells given now = lapsed_in-does TellsOfFailed family given purposes now (record {
@@ -222,22 +219,14 @@ told-can_fail family (g ∷ gs) = by (is_some (unreported_in family g)) (told-ca
     by false later = omega (arith, later, count-cons g (first_reported family gs), count-cons g gs)
 
 answer-tells : (given : Option ℕ) (now : ℕ) (s : State) → TellsOfFailed s (answer_step given now s).1
-answer-tells given now s = by s.closes s.phase (allocations s)
-  where
-    by : (closes : List SocketAddr) (p : Phase) (relays : List Relay) → TellsOfFailed s (answer_by closes p relays given now s).1
-    by (local ∷ others) p relays = tells-self s
-    by [] Allocated [] = tells-self s
-    by [] Allocated (a ∷ relays) = tells-self s
-    by closes p relays = tells-self s
+answer-tells given now s = answer-by (TellsOfFailed s) given now s (λ closes. tells-self s)
 
 timed-tells : (p : Phase) (given : Option ℕ) (now : ℕ) (s : State) → p ≢ Requesting → TellsOfFailed s (timed_step p given now s).1
 timed-tells Requesting given now s other = absurd (other refl)
 timed-tells Authenticating None now s other = answer-tells None now s
-timed-tells Authenticating (Some id) now s other = by (is_listed_for_allocation id s)
-  where
-    by : (b : Bool) → TellsOfFailed s (answer_step (Some id) now (cond b (closed s) s)).1
-    by true = tells-then s (closed s) (answer_step (Some id) now (closed s)).1 (tells-self s) (answer-tells (Some id) now (closed s))
-    by false = answer-tells (Some id) now s
+timed-tells Authenticating (Some id) now s other =
+    by_test (λ (t : State). TellsOfFailed s (answer_step (Some id) now t).1) (is_listed_for_allocation id s) (closed s) s
+    (λ e. tells-then s (closed s) (answer_step (Some id) now (closed s)).1 (tells-self s) (answer-tells (Some id) now (closed s))) (λ e. answer-tells (Some id) now s)
 timed-tells Allocated given now s other = tells-then s (lapsed given now s) (answer_step given now (lapsed given now s)).1 (lapsed-tells given now s) (answer-tells given now (lapsed given now s))
 timed-tells p given now s other = tells-self s
 
@@ -260,16 +249,7 @@ abbrev TellsOfFamilies : State → State → Type 0
 TellsOfFamilies s t = length t.events ≤ length s.events + length s.families
 
 answer-families : (given : Option ℕ) (now : ℕ) (s : State) → TellsOfFamilies s (answer_step given now s).1
-answer-families given now s = by s.closes s.phase (allocations s)
-  where
-    same : TellsOfFamilies s s
-    same = omega arith
-
-    by : (closes : List SocketAddr) (p : Phase) (relays : List Relay) → TellsOfFamilies s (answer_by closes p relays given now s).1
-    by (local ∷ others) p relays = same
-    by [] Allocated [] = same
-    by [] Allocated (a ∷ relays) = same
-    by closes p relays = same
+answer-families given now s = answer-by (TellsOfFamilies s) given now s (λ closes. omega arith)
 
 timed-families : (p : Phase) (given : Option ℕ) (now : ℕ) (s : State) → p ≡ Requesting → TellsOfFamilies s (timed_step p given now s).1
 timed-families Requesting None now s e = answer-families None now s

@@ -26,8 +26,8 @@ use Rattle.turn_client_laws.specs.LawsGranted.{HasChannelTo, IsActiveGrant, IsSa
 use Rattle.turn_client_laws.proofs.HasLemmas.{Has}
 use Rattle.turn_client_laws.proofs.StandLemmas.{has-contains, kept-same, left-filter}
 use Rattle.turn_client_laws.proofs.GrantOriginLemmas.{ChannelsWithin, IsChannelIn, IsGivenOf, KeepsChannels, Takes, channels-append, channels-filter, channels-map, gives-left, gives-map, gives-one}
-use Rattle.turn_client_laws.proofs.GrantOriginLemmas.{gives-trans, takes-cond, takes-fold, takes-same, takes-trans, within-filter}
-use Rattle.turn_client_laws.proofs.CaseLemmas.{by_test}
+use Rattle.turn_client_laws.proofs.GrantOriginLemmas.{gives-trans, takes-fold, takes-same, takes-trans, within-filter}
+use Rattle.turn_client_laws.proofs.CaseLemmas.{by_test, by_found}
 use Rattle.turn_client_laws.proofs.EditsOfReplies.{channel-there}
 
 pub same_ip-same : (ip : IpAddr) → same_ip ip ip ≡ true
@@ -231,20 +231,16 @@ module _ (purposes : List Purpose) (message : List ℕ) (now : ℕ) (before : St
           let t = without_grants (λ g. true) s in
           trans s t (challenges_reset (all_gone s)) (without-takes (λ g. true) s) ((within-filter _ t.listed, λ number peer h. h), (same t).1)
 
-      longer : Has (ForRefresh family lifetime) purposes → 1 ≤ lifetime → (o : Option ℕ) → lifetime_in message ≡ o → Taken s (option_map_or (λ granted. prolonged family granted now s) o s)
-      longer one asked None said = same s
-      longer one asked (Some n) said = at (leb min_lifetime n) refl
-        where
-          at : (b : Bool) → leb min_lifetime n ≡ b → Taken s (prolonged family n now s)
-          at false e = rw e (same s)
-          at true e =
-              let lengthens : Lengthens family lifetime n = (one, asked, said, leb-true min_lifetime n e) in
-              rw e (lasting-takes _ (prolonged_by family n) s (prolonged-channels family n) (λ g there. allocation_lasts family lifetime n lengthens g))
+      longer : Has (ForRefresh family lifetime) purposes → 1 ≤ lifetime → Taken s (option_map_or (λ granted. prolonged family granted now s) (lifetime_in message) s)
+      longer one asked =
+          by_found (Taken s) _ (lifetime_in message) s (λ n said. by_test (Taken s) (leb min_lifetime n) _ s
+          (λ e. lasting-takes _ (prolonged_by family n) s (prolonged-channels family n) (λ g there. allocation_lasts family lifetime n (one, asked, said, leb-true min_lifetime n e) g))
+          (λ no. same s)) (same s)
 
       by : (b : Bool) → eqb lifetime 0 ≡ b → (g : Bool) → Names g (ForRefresh family lifetime) → Taken s (refreshed family lifetime g message now s)
-      by true e g one = rw e (takes-cond purposes message now before (g || has_code allocation_mismatch message) s _ _ gone (same s))
+      by true e g one = rw e (by_test (Taken s) (g || has_code allocation_mismatch message) _ _ (λ is. gone) (λ no. same s))
       by false e false one = rw e (same s)
-      by false e true one = rw e (longer (one refl) (eqb-positive lifetime e) (lifetime_in message) refl)
+      by false e true one = rw e (longer (one refl) (eqb-positive lifetime e))
 
   -- ---- a whole effect
 

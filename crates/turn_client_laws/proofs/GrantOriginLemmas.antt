@@ -1,5 +1,5 @@
 -- What a success grants for the purposes of its request, list by list.
-use Rattle.std.proofs.Common.{◌≡◌, ℕ, Bool, true, false, cond, eqb, List, [], ◌∷◌, ◌++◌, map, filter, fold, ◌⊎◌, inl, inr, refl, sym, subst}
+use Rattle.std.proofs.Common.{◌≡◌, ℕ, Bool, eqb, List, [], ◌∷◌, ◌++◌, map, filter, fold, ◌⊎◌, inl, inr, refl, sym, subst}
 use Rattle.std.specs.declared.net.socket_addr.SocketAddr.{SocketAddr}
 use Rattle.turn_client_api.specs.State.{State}
 use Rattle.turn_client_api.specs.declared.grant.Grant.{Grant}
@@ -129,10 +129,6 @@ module _ (purposes : List Purpose) (message : List ℕ) (now : ℕ) (before : St
     (λ l there. first.0.0 l (second.0.0 l there), λ number peer h. first.0.1 number peer (second.0.1 number peer h)),
     gives-trans s.grants t.grants u.grants first.1 second.1,
   )
-
-  pub takes-cond : (b : Bool) (s t u : State) → Taken s t → Taken s u → Taken s (cond b t u)
-  takes-cond true s t u k l = k
-  takes-cond false s t u k l = l
 
   abbrev Among : List Purpose → List Purpose → Type 0
   Among some all = (p : Purpose) → Has p some → Has p all
