@@ -106,10 +106,6 @@ ungranted-or Allocated = inr (λ none. none)
 ungranted-or Closed = inr (λ none. none)
 ungranted-or p = inl tt
 
--- each listing is one of a purpose
-of-purpose : (l : Listing) (p : Purpose) (ls : List Listing) → l.purpose ≡ p → Has l ls → Has (listing l.id p) ls
-of-purpose l p ls e there = subst (λ (q : Purpose). Has (listing l.id q) ls) e there
-
 module _ (id : ℕ) (text : List ℕ) (purposes : List Purpose) (now : ℕ) (s : State) (spelled : IsSpelled id text purposes s) (h : IsInOrder s) where
   abbrev t : State
   t = request_started id text purposes now s
@@ -130,7 +126,7 @@ module _ (id : ℕ) (text : List ℕ) (purposes : List Purpose) (now : ℕ) (s :
   never granted there = elim spelled [
     | inl (allocated, other) ↦ other ForAllocation there refl
     | inr (inl (u, all, spells)) ↦ granted u
-    | inr (inr (listed, again)) ↦ let (l, here, e) = listed ForAllocation there in h.1 granted l.id (of-purpose l ForAllocation s.listed e here)
+    | inr (inr (listed, again)) ↦ let (l, here, e) = listed ForAllocation there in h.1 granted l.id (subst (λ (q : Purpose). Has (listing l.id q) s.listed) e here)
   ]
 
   -- so that it requests the families

@@ -89,10 +89,6 @@ refresh-other now s p there e =
     let no : true ≡ false = sym some ∙ none-allocates s.grants in
     cc
 
-allocate-alone : (p : Purpose) → Has p (ForAllocation ∷ []) → p ≡ ForAllocation
-allocate-alone p (inl e) = e
-allocate-alone p (inr none) = absurd none
-
 -- ---- queued packets
 
 has-dropped : (queue : List Queued) (q : Queued) → Has q (drop 1 queue) → Has q queue
@@ -194,7 +190,7 @@ module _ (R : State → State → Type 0) (k : KeepsEdits R) where
   idle-walk New now s =
       let u = record s { phase = New } in
       let t = record s { phase = Requesting; last_send = Some now } in
-      then u t _ (k.begins now u refl) (asked-walk R k (fresh_id u) (first_allocate u (fresh_id u)) ForAllocation now t tt (inl refl) (inr (inl (tt, allocate-alone, inl refl))))
+      then u t _ (k.begins now u refl) (asked-walk R k (fresh_id u) (first_allocate u (fresh_id u)) ForAllocation now t tt (inl refl) (inr (inl (tt, (λ p one. elim one [ inl e ↦ e | inr none ↦ absurd none ]), inl refl))))
   idle-walk Allocated now s =
       let u = record s { phase = Allocated } in
       let wanted = flat_map (refreshes_in now u) (allocations u) in

@@ -73,9 +73,6 @@ channels-append grants later one within known number peer (progress, there) = el
 abbrev pub Takes : List Purpose → List ℕ → ℕ → State → State → State → Type 0
 Takes purposes message now before s t = IsWithin s t × Gives purposes message now before s.grants t.grants
 
-pub within-same : (listed : List Listing) → Within listed listed
-within-same listed l there = there
-
 pub within-filter : (p : Listing → Bool) (listed : List Listing) → Within listed (filter p listed)
 within-filter p listed l there = (has-filter p l listed there).0
 
@@ -122,7 +119,7 @@ module _ (purposes : List Purpose) (message : List ℕ) (now : ℕ) (before : St
   Taken s t = Takes purposes message now before s t
 
   pub takes-same : (s : State) → Taken s s
-  takes-same s = ((within-same s.listed, λ number peer h. h), gives-left s.grants s.grants (covers-has s.grants))
+  takes-same s = ((λ l there. there, λ number peer h. h), gives-left s.grants s.grants (covers-has s.grants))
 
   pub takes-trans : (s t u : State) → Taken s t → Taken t u → Taken s u
   takes-trans s t u first second = (

@@ -1,8 +1,9 @@
 -- Offers by indications are few.
-use Rattle.std.proofs.Common.{◌≡◌, ℕ, ◌+◌, ◌<◌, ◌≤◌, Bool, true, false, not, cond, List, [], ◌∷◌, ◌++◌, map, filter, length, refl, sym, ap, ◌∙◌, subst, arith}
+use Rattle.std.proofs.Common.{◌≡◌, ℕ, ◌+◌, ◌<◌, ◌≤◌, Bool, true, false, not, List, [], ◌∷◌, ◌++◌, map, filter, length, refl, sym, ap, ◌∙◌, subst, arith, inl, inr}
 use Rattle.std.proofs.lemmas.List.{length-append}
 use Rattle.std.proofs.lemmas.List.Elements.{filter-append}
 use Rattle.std.specs.declared.net.socket_addr.SocketAddr.{SocketAddr}
+use Rattle.std.proofs.lemmas.Bool.{cases_Bool}
 use Rattle.turn_stun.specs.declared.transport.TransportType.{TransportType}
 use Rattle.turn_client_api.specs.Config.{Config}
 use Rattle.turn_client_api.specs.State.{State, initial}
@@ -34,12 +35,8 @@ abbrev weight : Bool → ℕ
 weight true = 1
 weight false = 0
 
-length-cond : (b : Bool) (g : Grant) (gs : List Grant) → length (cond b (g ∷ gs) gs) ≡ weight b + length gs
-length-cond true g gs = omega arith
-length-cond false g gs = omega arith
-
 indicated-cons : (g : Grant) (gs : List Grant) → indicated (g ∷ gs) ≡ weight (is_indicated g) + indicated gs
-indicated-cons g gs = length-cond (is_indicated g) g (filter is_indicated gs)
+indicated-cons g gs = elim (cases_Bool (is_indicated g)) [ inl e ↦ rw e (omega arith) | inr e ↦ rw e (omega arith) ]
 
 indicated-filter : (p : Grant → Bool) (gs : List Grant) → indicated (filter p gs) ≤ indicated gs
 indicated-filter p [] = omega arith

@@ -1,12 +1,12 @@
 -- What remains after time has passed.
 use Rattle.std.proofs.Common.{◌≡◌, ℕ, ◌<◌, Bool, true, false, ◌&&◌, ◌||◌, not, List, [], ◌∷◌, ◌++◌, filter, filter_map, find, fold, reverse, Option, Some, None, ◌⊎◌, inl, inr, refl, sym, subst, ◌∙◌}
+use Rattle.std.proofs.Common.{leb}
 use Rattle.std.specs.Prelude.{All, ⊤, slice_get}
 use Rattle.std.proofs.lemmas.List.{reverse-append}
 use Rattle.std.proofs.lemmas.Option.{none-some}
-use Rattle.std.proofs.lemmas.Bool.{not-true, leb-false, and_parts, cases_Bool}
+use Rattle.std.proofs.lemmas.Bool.{not-true, leb-false, and_parts, cases_Bool, or_parts}
 use Rattle.std.specs.declared.net.socket_addr.SocketAddr.{SocketAddr}
 use Rattle.turn_types.specs.declared.family.AddressFamily.{AddressFamily}
-use Rattle.turn_types.specs.declared.family.AddressFamily.TheVariants.{IPV4, IPV6}
 use Rattle.turn_client_api.specs.Config.{same_family}
 use Rattle.turn_client_api.specs.Alarm.{HasAllocation}
 use Rattle.turn_client_api.specs.State.{State, agent_of, later_by}
@@ -29,6 +29,7 @@ use Rattle.turn_client_laws.proofs.HasLemmas.{Has, has-all, has-left, has-right,
 use Rattle.turn_client_laws.proofs.ReadyLemmas.{Alive}
 use Rattle.turn_client_laws.proofs.LapseSteps.{lapsed_in-does}
 use Rattle.turn_client_laws.proofs.CaseLemmas.{by_test}
+use Rattle.turn_client_laws.proofs.InAllocationLemmas.{same_family-self, same_family-true}
 
 -- a channel that is reserved
 abbrev pub IsReserved : Grant → Type 0
@@ -163,10 +164,6 @@ find-none-false p x (y ∷ xs) none h = elim (cases_Bool (p y)) [
   | inr e ↦ elim h [ inl same ↦ rw same e | inr there ↦ find-none-false p x xs (rw e at none) there ]
 ]
 
-or-left : (x y : Bool) → (x || y) ≡ false → x ≡ false
-or-left true y e = e
-or-left false y e = refl
-
 -- all but an allocation
 abbrev pub Outlives : ℕ → Grant → Type 0
 Outlives now (Allocation a) = ⊤
@@ -224,7 +221,7 @@ alive_in family given purposes now s none g h here = by g h here
         let bound = what-false _ _ here (not-passed (λ x. is_of family x && is_unbound purposes now x) (Connection c) s5.grants inside) in
         elim (cases_Option c.deadline) [
           | inl e ↦ rw e tt
-          | inr (deadline, e) ↦ rw e (leb-false deadline now (or-left _ _ (rw e at bound)))
+          | inr (deadline, e) ↦ rw e (leb-false deadline now (or_parts (leb deadline now) _ (rw e at bound)).0)
         ]
     by g h here = tt
 
@@ -269,22 +266,13 @@ outlives given purposes now (b ∷ bs) s none a (inl e) g h here =
       | inr is ↦ reserved-outlives now g is
     ]
 
-same_family-self : (a : AddressFamily) → same_family a a ≡ true
-same_family-self IPV4 = refl
-same_family-self IPV6 = refl
-
-same_family-swap : (a b : AddressFamily) → same_family a b ≡ true → same_family b a ≡ true
-same_family-swap IPV4 IPV6 e = e
-same_family-swap IPV6 IPV4 e = e
-same_family-swap a b e = refl
-
 -- an allocation in use is removed at its expiry
 stays-alive : (given : Option ℕ) (purposes : List Purpose) (now : ℕ) (s : State) (a : Relay) → Has (Allocation a) (lapsed_allocation given purposes now s a).grants → a.is_expired ≡ false
     → now < a.expiry
 stays-alive given purposes now s a h used = elim (cases_Bool (allocation_expires purposes now s a)) [
   | inl e ↦
       let stayed : Has (Allocation a) (without_grants (is_of (family_of a.relayed)) s).grants = rw e at h in
-      let no : false ≡ true = sym (not-passed (is_of (family_of a.relayed)) (Allocation a) s.grants stayed) ∙ same_family-self (family_of a.relayed) in
+      let no : false ≡ true = sym (not-passed (is_of (family_of a.relayed)) (Allocation a) s.grants stayed) ∙ same_family-self (family_of a.relayed) (family_of a.relayed) refl in
       cc
   | inr e ↦ leb-false a.expiry now (past (is_past now a) (is_for_any purposes (Allocation a)) (not (has_request (Allocation a) s)) (not a.is_expired) (rw used refl) e)
 ]
@@ -320,7 +308,7 @@ lapsed-alive given now s stand none g h = by g h ((each-shrinks given purposes n
       | inl e ↦ let no : false ≡ true = rw e at (has-all (HasAllocation s) g s.grants stand there) in cc
       | inr (a, e) ↦
           let (listed, is) = has-found (λ a. same_family (family_of a.relayed) (family_of_grant g)) a (allocations s) e in
-          outlives given purposes now (allocations s) s none a listed g h (same_family-swap _ _ is)
+          outlives given purposes now (allocations s) s none a listed g h (same_family-self _ _ (sym (same_family-true _ _ is)))
     ]
 
     by : (g : Grant) → Has g t.grants → Has g s.grants ⊎ IsReserved g → Alive now g
