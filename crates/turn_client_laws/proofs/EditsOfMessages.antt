@@ -216,7 +216,8 @@ module _ (Heeded : Type 0) (R : State → State → Type 0) (k : KeepsHeeded Hee
       again two =
           then s a _ (k.edits.unlists _ s)
           (then a b _ (k.edits.families (IPV6 ∷ []) a (inr (refl, two, without-allocates s)))
-          (then b c _ (k.edits.aside b c) (requested-walk R k.edits fresh ForAllocation now c begun (inl refl) (inr (inl (ungranted, (λ p one. elim one [ inl is ↦ is | inr none ↦ absurd none ]), inr refl))))))
+          (then b c _ (k.edits.aside b c) (requested-walk R k.edits fresh ForAllocation now c begun (inl refl)
+          (inr (inl (ungranted, (λ p one. elim one [ inl is ↦ is | inr none ↦ absurd none ]), inr refl))))))
 
       by : (b : Bool) → (has_code family_not_supported message && leb 2 (length s.families)) ≡ b → R s (allocate_denied fresh message now s)
       by true f = rw f (again (leb-true 2 (length s.families) (and_parts (has_code family_not_supported message) (leb 2 (length s.families)) f).1))

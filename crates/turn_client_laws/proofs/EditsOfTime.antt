@@ -190,7 +190,8 @@ module _ (R : State → State → Type 0) (k : KeepsEdits R) where
   idle-walk New now s =
       let u = record s { phase = New } in
       let t = record s { phase = Requesting; last_send = Some now } in
-      then u t _ (k.begins now u refl) (asked-walk R k (fresh_id u) (first_allocate u (fresh_id u)) ForAllocation now t tt (inl refl) (inr (inl (tt, (λ p one. elim one [ inl e ↦ e | inr none ↦ absurd none ]), inl refl))))
+      then u t _ (k.begins now u refl) (asked-walk R k (fresh_id u) (first_allocate u (fresh_id u)) ForAllocation now t tt (inl refl)
+      (inr (inl (tt, (λ p one. elim one [ inl e ↦ e | inr none ↦ absurd none ]), inl refl))))
   idle-walk Allocated now s =
       let u = record s { phase = Allocated } in
       let wanted = flat_map (refreshes_in now u) (allocations u) in
