@@ -1,9 +1,9 @@
--- Where the bytes of an input lie, and when it is processed.
-use Rattle.std.proofs.Common.{◌≡◌, ◌⊎◌, ◌++◌, ℕ, zero, suc, Bool, true, false, cond, List, [], ◌∷◌, Option, Some, None, refl, sym, inl, inr}
+-- Where the bytes of an input lie, when it is processed, and that its stream stands in the state.
+use Rattle.std.proofs.Common.{◌≡◌, ◌⊎◌, ◌++◌, ℕ, zero, suc, Bool, true, false, cond, map, List, [], ◌∷◌, Option, Some, None, refl, sym, subst, ◌∙◌, inl, inr}
 use Rattle.std.specs.Prelude.{drop, find, take}
+use Rattle.std.specs.List.{Contains}
+use Rattle.std.specs.declared.net.socket_addr.SocketAddr.{SocketAddr}
 use Rattle.std.proofs.lemmas.List.{append-nil, take-append-drop}
-use Rattle.turn_stun.specs.declared.transport.TransportType.{TransportType}
-use Rattle.turn_stun.specs.declared.transport.TransportType.TheVariants.{Udp, Tcp}
 use Rattle.turn_stun.specs.declared.transport.Transmit.{Transmit}
 use Rattle.turn_types.specs.Frames.{begins_no_frame, frame_len}
 use Rattle.turn_agent.specs.Agent.{same_address}
@@ -11,126 +11,151 @@ use Rattle.turn_client_api.specs.State.{State}
 use Rattle.turn_client_api.specs.declared.call.Call.{Call}
 use Rattle.turn_client_api.specs.declared.call.Call.TheVariants.{Recv, PollRecv}
 use Rattle.turn_client_api.specs.declared.state.Mode.{Mode}
-use Rattle.turn_client_api.specs.declared.state.Mode.TheVariants.{Control, Waiting, Bound, Broken}
+use Rattle.turn_client_api.specs.declared.state.Mode.TheVariants.{Control, Bound, Broken}
 use Rattle.turn_client_api.specs.declared.state.Stream.{Stream}
-use Rattle.turn_client_laws.specs.Handled.{Input, stream_with_piece, fed_taken, frame_taken, handled, is_front, piece_inputs, poll_recv_inputs, recv_inputs, stream_inputs, stream_inputs_taken}
-use Rattle.turn_client_laws.specs.Handled.{taken_first, taken_in, taken_of_len, then_taken, inputs_taken, unless_given}
+use Rattle.turn_client_laws.specs.Handled.{Input, stream_with_piece, fed_taken, frame_taken, handled, is_front, piece_inputs, poll_recv_inputs, stream_inputs, stream_inputs_taken}
+use Rattle.turn_client_laws.specs.Handled.{stream_input, taken_first, taken_in, taken_of_len, then_taken, inputs_taken, unless_given}
 use Rattle.turn_client_api.specs.Payloads.{Payload, Outcome, Handled, Ignored}
-use Rattle.turn_client_api.specs.Receive.{first_frame_step, is_from_server}
-use Rattle.turn_client_api.specs.Streams.{is_ready, max_steps, payload_in, stream_at, next_frame_step, with_bytes}
-use Rattle.turn_client_laws.proofs.HasLemmas.{Has, has-append}
+use Rattle.turn_client_api.specs.Receive.{first_frame_step}
+use Rattle.turn_client_api.specs.Streams.{is_ready, max_steps, payload_in, next_frame_step, with_bytes}
+use Rattle.turn_client_laws.proofs.HasLemmas.{Has, has-append, has-found, map-has}
+use Rattle.turn_client_laws.proofs.PacketLemmas.{packet-by}
+use Rattle.turn_client_laws.proofs.StandLemmas.{contains-has, has-contains}
 use Rattle.turn_client_runs.specs.Granted.{ComesIn, IsInFront}
+
+-- ---- the stream is in the state, with its local address and its mode
+
+abbrev pub Stands : Stream → State → Type 0
+Stands stream s = (x : Stream) × Contains s.streams x × (x.local ≡ stream.local) × (x.mode ≡ stream.mode)
+
+-- bytes do not count
+emptied-stands : (a : SocketAddr) (bytes : List ℕ) (stream : Stream) (s : State) → Stands stream s → Stands stream (with_bytes a bytes s)
+emptied-stands a bytes stream s (x, there, at, mode) =
+    let (ends, means) = by (same_address x.local a) in
+    (f x, has-contains (f x) (map f s.streams) (map-has f x s.streams (contains-has x s.streams there)), ends, means)
+  where
+    f : Stream → Stream
+    f z = cond (same_address z.local a) (record z { bytes = bytes }) z
+
+    by : (b : Bool) → ((cond b (record x { bytes = bytes }) x).local ≡ stream.local) × ((cond b (record x { bytes = bytes }) x).mode ≡ stream.mode)
+    by true = (at, mode)
+    by false = (at, mode)
+
+found-stands : (p : Stream → Bool) (stream : Stream) (s : State) → find p s.streams ≡ Some stream → Stands stream s
+found-stands p stream s e = (stream, has-contains stream s.streams (has-found p stream s.streams e).0, refl, refl)
 
 -- ---- steps of streams
 
--- it is processed now, and is first in its stream
-abbrev IsFrame : ℕ → Input → Type 0
-IsFrame now one = (one.time ≡ now) × ((stream : Stream) × (one.stream ≡ Some stream) × IsInFront one.bytes stream.bytes)
+-- it is processed now, and is first in its stream, which stands in the state just before it
+record IsFrame (now : ℕ) (one : Input) : Type 0 where
+  at : one.time ≡ now
+  stream : Stream
+  of : one.stream ≡ Some stream
+  front : IsInFront one.bytes stream.bytes
+  stands : Stands stream one.before
 
-abbrev AllFrames : ℕ → List Input → Type 0
-AllFrames now turns = (one : Input) → Has one turns → IsFrame now one
+module _ (now : ℕ) where
+  abbrev AllFrames : List Input → Type 0
+  AllFrames turns = (one : Input) → Has one turns → IsFrame now one
 
-no-frames : (now : ℕ) → AllFrames now []
-no-frames now one none = absurd none
+  no-frames : AllFrames []
+  no-frames one none = absurd none
 
-if-frames : (now : ℕ) (b : Bool) (xs ys : List Input) → AllFrames now xs → AllFrames now ys → AllFrames now (cond b xs ys)
-if-frames now true xs ys k l = k
-if-frames now false xs ys k l = l
+  joined-frames : (xs ys : List Input) → AllFrames xs → AllFrames ys → AllFrames (xs ++ ys)
+  joined-frames xs ys k l one there = elim (has-append one xs ys there) [ inl h ↦ k one h | inr h ↦ l one h ]
 
-joined-frames : (now : ℕ) (xs ys : List Input) → AllFrames now xs → AllFrames now ys → AllFrames now (xs ++ ys)
-joined-frames now xs ys k l one there = by (has-append one xs ys there)
-  where
-    by : Has one xs ⊎ Has one ys → IsFrame now one
-    by (inl h) = k one h
-    by (inr h) = l one h
+  one-frame : (is_lent : Bool) (stream : Stream) (bytes : List ℕ) (t : State) → IsInFront bytes stream.bytes → Stands stream t
+      → AllFrames (stream_input is_lent stream bytes now t ∷ [])
+  one-frame is_lent stream bytes t front stands one (inl e) = rw e (record { at = refl; stream = stream; of = refl; front = front; stands = stands })
+  one-frame is_lent stream bytes t front stands one (inr none) = absurd none
 
-in-front : (len : ℕ) (bytes : List ℕ) → IsInFront (take len bytes) bytes
-in-front len bytes = (drop len bytes, sym (take-append-drop len bytes))
+  front-frames : (is_lent : Bool) (stream : Stream) (t : State) → Stands stream t → AllFrames (frame_taken is_lent stream now t)
+  front-frames is_lent stream t stands = by (begins_no_frame stream.bytes) (frame_len stream.bytes)
+    where
+      by : (b : Bool) (o : Option ℕ) → AllFrames (cond b [] (taken_of_len is_lent stream now t o))
+      by false (Some len) = one-frame is_lent stream (take len stream.bytes) t (drop len stream.bytes, sym (take-append-drop len stream.bytes)) stands
+      by b o = no-frames
 
-len-frames : (is_lent : Bool) (stream : Stream) (now : ℕ) (t : State) (o : Option ℕ) → AllFrames now (taken_of_len is_lent stream now t o)
-len-frames is_lent stream now t None one none = absurd none
-len-frames is_lent stream now t (Some len) one (inl e) = rw e (refl, (stream, refl, in-front len stream.bytes))
-len-frames is_lent stream now t (Some len) one (inr none) = absurd none
+  mode-frames : (m : Mode) (is_lent : Bool) (stream : Stream) (t : State) → Stands (record stream { mode = m }) t
+      → AllFrames (taken_in is_lent (record stream { mode = m }) now t)
+  mode-frames (Bound peer) is_lent stream t stands =
+      one-frame is_lent (record stream { mode = Bound peer }) stream.bytes t ([], sym (append-nil stream.bytes)) stands
+  mode-frames Broken is_lent stream t stands = no-frames
+  mode-frames m is_lent stream t stands = front-frames is_lent (record stream { mode = m }) t stands
 
-front-frames : (is_lent : Bool) (stream : Stream) (now : ℕ) (t : State) → AllFrames now (frame_taken is_lent stream now t)
-front-frames is_lent stream now t = if-frames now (begins_no_frame stream.bytes) [] _ (no-frames now) (len-frames is_lent stream now t (frame_len stream.bytes))
+  taken-frames : (is_lent : Bool) (stream : Stream) (s : State) → Stands stream s → AllFrames (stream_inputs_taken is_lent stream now s)
+  taken-frames is_lent stream s stands = mode-frames stream.mode is_lent stream (with_bytes stream.local [] s) (emptied-stands stream.local [] stream s stands)
 
-mode-frames : (m : Mode) (is_lent : Bool) (stream : Stream) (now : ℕ) (t : State) → AllFrames now (taken_in is_lent (record stream { mode = m }) now t)
-mode-frames (Bound peer) is_lent stream now t = all
-  where
-    all : AllFrames now (taken_in is_lent (record stream { mode = Bound peer }) now t)
-    all one (inl e) = rw e (refl, (record stream { mode = Bound peer }, refl, ([], sym (append-nil stream.bytes))))
-    all one (inr none) = absurd none
-mode-frames Broken is_lent stream now t = no-frames now
-mode-frames m is_lent stream now t = front-frames is_lent (record stream { mode = m }) now t
+  unless-frames : (o : Option Payload) (later : List Input) → AllFrames later → AllFrames (unless_given o later)
+  unless-frames (Some payload) later k = no-frames
+  unless-frames None later k = k
 
-taken-frames : (is_lent : Bool) (stream : Stream) (now : ℕ) (s : State) → AllFrames now (stream_inputs_taken is_lent stream now s)
-taken-frames is_lent stream now s = mode-frames stream.mode is_lent stream now (with_bytes stream.local [] s)
+  turns-frames : (n : ℕ) (s : State) → AllFrames (inputs_taken n now s)
+  unfolding inputs_taken
+  turns-frames zero s = no-frames
+  turns-frames (suc n) s = by (find is_ready s.streams) refl (λ t. turns-frames n t)
+    where
+      by : (o : Option Stream) → find is_ready s.streams ≡ o → ((t : State) → AllFrames (inputs_taken n now t))
+          → AllFrames (taken_first (inputs_taken n now) now s o)
+      by None e more = no-frames
+      by (Some stream) e more =
+          joined-frames _ _ (taken-frames false stream s (found-stands is_ready stream s e))
+          (unless-frames (payload_in (next_frame_step stream now s).0) _ (more (next_frame_step stream now s).1))
 
-unless-frames : (now : ℕ) (o : Option Payload) (later : List Input) → AllFrames now later → AllFrames now (unless_given o later)
-unless-frames now (Some payload) later k = no-frames now
-unless-frames now None later k = k
+  poll-frames : (s : State) → AllFrames (poll_recv_inputs now s)
+  poll-frames s = turns-frames (max_steps s) s
 
-turns-frames : (n now : ℕ) (s : State) → AllFrames now (inputs_taken n now s)
-unfolding inputs_taken
-turns-frames zero now s = no-frames now
-turns-frames (suc n) now s = by (find is_ready s.streams) (λ t. turns-frames n now t)
-  where
-    by : (o : Option Stream) → ((t : State) → AllFrames now (inputs_taken n now t)) → AllFrames now (taken_first (inputs_taken n now) now s o)
-    by None more = no-frames now
-    by (Some stream) more = joined-frames now _ _ (taken-frames false stream now s) (unless-frames now (payload_in (next_frame_step stream now s).0) _ (more (next_frame_step stream now s).1))
+  then-frames : (p : Outcome × State) → AllFrames (then_taken now p)
+  then-frames (Handled, s) = poll-frames s
+  then-frames (Ignored, s) = poll-frames s
+  then-frames (_, s) = no-frames
 
-poll-frames : (now : ℕ) (s : State) → AllFrames now (poll_recv_inputs now s)
-poll-frames now s = turns-frames (max_steps s) now s
+  fed-frames : (stream : Stream) (piece : List ℕ) (s : State) → Stands stream s → AllFrames (fed_taken stream piece now s)
+  fed-frames stream piece s stands = taken-frames (is_front stream.bytes) (stream_with_piece stream piece) s stands
 
-then-frames : (now : ℕ) (p : Outcome × State) → AllFrames now (then_taken now p)
-then-frames now (Handled, s) = poll-frames now s
-then-frames now (Ignored, s) = poll-frames now s
-then-frames now (_, s) = no-frames now
+  piece-frames : (m : Mode) (stream : Stream) (piece : List ℕ) (s : State) → Stands (record stream { mode = m }) s
+      → AllFrames (piece_inputs (record stream { mode = m }) piece now s)
+  piece-frames Control stream piece s stands =
+      let u = record stream { mode = Control } in
+      joined-frames _ _ (fed-frames u piece s stands) (then-frames (first_frame_step u piece now s))
+  piece-frames Broken stream piece s stands =
+      elim (same_address stream.local s.local) as (λ b. AllFrames (cond b (poll_recv_inputs now s) [])) [ true ↦ poll-frames s | false ↦ no-frames ]
+  piece-frames m stream piece s stands = fed-frames (record stream { mode = m }) piece s stands
 
-fed-frames : (stream : Stream) (piece : List ℕ) (now : ℕ) (s : State) → AllFrames now (fed_taken stream piece now s)
-fed-frames stream piece now s = taken-frames (is_front stream.bytes) (stream_with_piece stream piece) now s
+  stream-frames : (stream : Stream) (piece : List ℕ) (s : State) → Stands stream s → AllFrames (stream_inputs stream piece now s)
+  stream-frames stream [] s stands = no-frames
+  stream-frames stream (b ∷ bs) s stands = piece-frames stream.mode stream (b ∷ bs) s stands
 
-piece-frames : (m : Mode) (stream : Stream) (piece : List ℕ) (now : ℕ) (s : State) → AllFrames now (piece_inputs (record stream { mode = m }) piece now s)
-piece-frames Control stream piece now s = let u = record stream { mode = Control } in joined-frames now _ _ (fed-frames u piece now s) (then-frames now (first_frame_step u piece now s))
-piece-frames Waiting stream piece now s = fed-frames (record stream { mode = Waiting }) piece now s
-piece-frames (Bound peer) stream piece now s = fed-frames (record stream { mode = Bound peer }) piece now s
-piece-frames Broken stream piece now s = if-frames now (same_address stream.local s.local) _ [] (poll-frames now s) (no-frames now)
-
-stream-frames : (stream : Stream) (piece : List ℕ) (now : ℕ) (s : State) → AllFrames now (stream_inputs stream piece now s)
-stream-frames stream [] now s = no-frames now
-stream-frames stream (b ∷ bs) now s = piece-frames stream.mode stream (b ∷ bs) now s
+  frame-stands : (one : Input) → IsFrame now one → (stream : Stream) → one.stream ≡ Some stream → Stands stream one.before
+  frame-stands one frame stream is = let same : frame.stream ≡ stream = cc in subst (λ (x : Stream). Stands x one.before) same frame.stands
 
 -- ---- a call
 
-frames-come : (packet : Transmit (List ℕ)) (now : ℕ) (turns : List Input) → AllFrames now turns → (one : Input) → Has one turns → ComesIn (Recv packet now) one
-frames-come packet now turns frames one there = let (at, (stream, is, front)) = frames one there in (at, rw is front)
+-- a datagram of no stream
+abbrev IsDatagram : List ℕ → ℕ → Input → Type 0
+IsDatagram payload now one = (one.time ≡ now) × (one.stream ≡ None) × (one.bytes ≡ payload)
 
-recv-comes : (carrier : TransportType) (packet : Transmit (List ℕ)) (now : ℕ) (s : State) → s.transport ≡ carrier → (one : Input)
-    → Has one (recv_inputs packet.transport packet.from packet.to packet.payload now (record s { transport = carrier })) → ComesIn (Recv packet now) one
-recv-comes Udp packet now s e one = by (is_from_server packet.transport packet.from u) (same_address packet.to s.local)
-  where
-    u : State
-    u = record s { transport = Udp }
-
-    by : (b c : Bool) → Has one (cond b (cond c (record { stream = None; bytes = packet.payload; is_lent = true; time = now; before = u } ∷ []) []) []) → ComesIn (Recv packet now) one
-    by true true (inl same) = rw same (refl, refl)
-    by true true (inr none) = absurd none
-    by b c none = absurd none
-recv-comes Tcp packet now s e one = by (is_from_server packet.transport packet.from u) refl (stream_at packet.to s) refl
-  where
-    u : State
-    u = record s { transport = Tcp }
-
-    Turns : List Input
-    Turns = recv_inputs packet.transport packet.from packet.to packet.payload now u
-
-    by : (b : Bool) → is_from_server packet.transport packet.from u ≡ b → (o : Option Stream) → stream_at packet.to s ≡ o → Has one Turns → ComesIn (Recv packet now) one
-    by false f o g there = absurd (rw f at there)
-    by true f None g there = absurd (rw (f, g) at there)
-    by true f (Some stream) g there = frames-come packet now (stream_inputs stream packet.payload now u) (stream-frames stream packet.payload now u) one (rw (f, g) at there)
+recv-frames : (packet : Transmit (List ℕ)) (now : ℕ) (s : State) (one : Input) → Has one (handled (Recv packet now) s)
+    → IsDatagram packet.payload now one ⊎ IsFrame now one
+recv-frames packet now s =
+    packet-by (λ s inputs r. (one : Input) → Has one inputs → IsDatagram packet.payload now one ⊎ IsFrame now one)
+    packet.transport packet.from packet.to packet.payload now
+    (λ s one there. elim there [ inl e ↦ inl (rw e (refl, refl, refl)) | inr none ↦ absurd none ])
+    (λ stream s e one there. inr (stream-frames now stream packet.payload s (found-stands (λ x. same_address x.local packet.to) stream s e) one there))
+    (λ s one none. absurd none) s
 
 pub turns-come : (call : Call) (s : State) (one : Input) → Has one (handled call s) → ComesIn call one
-turns-come (Recv packet now) s one there = recv-comes s.transport packet now s refl one there
-turns-come (PollRecv now) s one there = let (at, (stream, is, front)) = poll-frames now s one there in (at, rw is front)
+turns-come (Recv packet now) s one there = elim (recv-frames packet now s one there) [
+  | inl (at, none, whole) ↦ (at, rw none whole)
+  | inr frame ↦ (frame.at, rw frame.of frame.front)
+]
+turns-come (PollRecv now) s one there = let frame = poll-frames now s one there in (frame.at, rw frame.of frame.front)
 turns-come call s one none = absurd none
+
+pub turns-stand : (call : Call) (s : State) (one : Input) → Has one (handled call s) → (stream : Stream) → one.stream ≡ Some stream → Stands stream one.before
+turns-stand (Recv packet now) s one there stream is = elim (recv-frames packet now s one there) [
+  | inl (at, none, whole) ↦ cc (sym none ∙ is)
+  | inr frame ↦ frame-stands now one frame stream is
+]
+turns-stand (PollRecv now) s one there stream is = frame-stands now one (poll-frames now s one there) stream is
+turns-stand call s one none stream is = absurd none
