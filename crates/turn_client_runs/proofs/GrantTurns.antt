@@ -38,7 +38,7 @@ use Rattle.turn_client_laws.proofs.HasLemmas.{Has}
 use Rattle.turn_client_laws.proofs.StandLemmas.{Covers, covers-left}
 use Rattle.turn_client_laws.proofs.TurnBringLemmas.{IsBrought}
 use Rattle.turn_client_runs.specs.Granted.{IsGivenIn, IsOverIts}
-use Rattle.turn_client_runs.proofs.AnsweredTurns.{made-control, made-waiting, success-ends}
+use Rattle.turn_client_runs.proofs.MadeLemmas.{control-made, success-ends, waiting-made}
 
 -- ---- what is kept is the same, except that an allocation keeps only its address and its expiry
 
@@ -54,16 +54,15 @@ kept-alike was g k = absurd k
 
 -- what is granted for a purpose is granted as what it is kept as
 given-kept : (p : Purpose) (was g : Grant) (message : List ℕ) (now : ℕ) (s : State) → IsSameGrant was g → IsGivenFor p message now s was → IsGivenFor p message now s g
-given-kept p was g message now s kept given = by (kept-alike was g kept)
+given-kept p was g message now s kept given = elim (kept-alike was g kept) [
+  | inl (a, b, is, to, e, f) ↦ subst (IsGivenFor p message now s) (sym to) (same p a b e f (subst (IsGivenFor p message now s) is given))
+  | inr e ↦ subst (IsGivenFor p message now s) e given
+]
   where
     same : (q : Purpose) (a b : Relay) → a.relayed ≡ b.relayed → a.expiry ≡ b.expiry → IsGivenFor q message now s (Allocation a) → IsGivenFor q message now s (Allocation b)
     same ForAllocation a b e f h = rw (sym e, sym f) h
     same (ForRefresh family lifetime) a b e f h = rw (sym e, sym f) h
     same q a b e f h = h
-
-    by : AreAllocations was g ⊎ (was ≡ g) → IsGivenFor p message now s g
-    by (inl (a, b, is, to, e, f)) = subst (IsGivenFor p message now s) (sym to) (same p a b e f (subst (IsGivenFor p message now s) is given))
-    by (inr e) = subst (IsGivenFor p message now s) e given
 
 -- ---- what an input grants
 
@@ -104,7 +103,7 @@ module _ (one : Input) (over : IsOverControl one) (whole : is_message one.bytes 
     signed = is.signed;
     listed = is.listed;
     outstanding = is.outstanding;
-    ended = rw (made-control one over whole) (success-ends one.bytes one.time one.before judged);
+    ended = rw (control-made one over whole) (success-ends one.bytes one.time one.before judged);
     heard = heard;
   }
     where
@@ -125,11 +124,10 @@ module _ (one : Input) (over : IsOverControl one) (whole : is_message one.bytes 
       by h accepts given = record { over = over; purpose = is.purpose; accepting = accepts; given = given }
 
   control-grants : (g : Grant) → Covers (message_step one.bytes one.time one.before).1.grants g → Covers one.before.grants g ⊎ Granting g one
-  control-grants g covers = by (message-grants g one.bytes one.time one.before covers)
-    where
-      by : Covers one.before.grants g ⊎ ((judgement_of one.before one.bytes ≡ SignedSuccess) × IsGrant g one.bytes one.time one.before) → Covers one.before.grants g ⊎ Granting g one
-      by (inl there) = inl there
-      by (inr (judged, grant)) = inr (granted g judged grant)
+  control-grants g covers = elim (message-grants g one.bytes one.time one.before covers) [
+    | inl there ↦ inl there
+    | inr (judged, grant) ↦ inr (granted g judged grant)
+  ]
 
 -- ---- over a connection that waits to be bound
 
@@ -139,7 +137,7 @@ module _ (one : Input) (stream : Stream) (of : one.stream ≡ Some stream) (wait
   bind-ends b phase =
       let steps : bind_step stream.local one.bytes one.time one.before ≡ bind_answered b.c one.bytes one.time one.before = rw (phase, b.found, b.method) refl in
       let judged : IsAccepted (bind_judgement one.before b.c.local one.bytes) = rw b.judged tt in
-      rw (made-waiting one stream of waits whole, steps) (bind-ended b.c one.bytes one.time one.before judged)
+      rw (waiting-made stream.local one (rw of (waits, refl)) whole, steps) (bind-ended b.c one.bytes one.time one.before judged)
 
   bind-accepting : (b : Binds stream.local one.bytes one.before (bind_step stream.local one.bytes one.time one.before)) → one.before.phase ≡ Allocated
       → (turn : IsBindInput stream.local b.c.peer one) → IsAccepting (ForBind stream.local turn.asked turn.number) one
@@ -169,14 +167,13 @@ module _ (one : Input) (stream : Stream) (of : one.stream ≡ Some stream) (wait
 
   bind-covers : (g : Grant) → one.before.phase ≡ Allocated → Binds stream.local one.bytes one.before (bind_step stream.local one.bytes one.time one.before)
       → Covers (bind_step stream.local one.bytes one.time one.before).grants g → Covers one.before.grants g ⊎ Granting g one
-  bind-covers g phase b (is, there, kept) = by (has-mapped (deadline_set b.c.local None) is one.before.grants (subst (Has is) b.grants there))
+  bind-covers g phase b (is, there, kept) =
+      let (x, before, e) = has-mapped (deadline_set b.c.local None) is one.before.grants (subst (Has is) b.grants there) in
+      at x before (deadline-has b.c.local is x e)
     where
       at : (x : Grant) → Has x one.before.grants → (is ≡ x) ⊎ ((c : DataConnection) × (is ≡ Connection c) × (c.local ≡ b.c.local)) → Covers one.before.grants g ⊎ Granting g one
       at x before (inl same) = inl (is, rw same before, kept)
       at x before (inr (c, connection, ends)) = inr (bound-granting b phase g c ends (rw connection at kept))
-
-      by : (x : Grant) × Has x one.before.grants × (is ≡ deadline_set b.c.local None x) → Covers one.before.grants g ⊎ Granting g one
-      by (x, before, e) = at x before (deadline-has b.c.local is x e)
 
   binds-grants : (g : Grant) → Covers (bind_step stream.local one.bytes one.time one.before).grants g → Covers one.before.grants g ⊎ Granting g one
   binds-grants g = by one.before.phase refl (bind-leaves stream.local one.bytes one.time one.before)

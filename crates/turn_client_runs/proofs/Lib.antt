@@ -1,5 +1,4 @@
 pub mod AllTurnsLemmas
-pub mod AnsweredTurns
 pub mod AskedFamilies
 pub mod AskedLemmas
 pub mod AskedPeers

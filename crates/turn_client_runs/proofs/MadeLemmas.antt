@@ -1,17 +1,33 @@
--- The effect of an input that is a whole message.
-use Rattle.std.proofs.Common.{◌≡◌, ℕ, true, List, Option, Some, None, refl}
+-- The effect of an input that is a whole message, and that an accepted success ends its request.
+use Rattle.std.proofs.Common.{◌≡◌, ℕ, true, false, List, Option, Some, None, refl}
 use Rattle.std.specs.Prelude.{is_none}
 use Rattle.std.proofs.lemmas.Bool.{lt-ltb}
 use Rattle.std.specs.declared.net.socket_addr.SocketAddr.{SocketAddr}
-use Rattle.turn_stun.specs.Message.{fault_of, type_of}
+use Rattle.turn_stun.specs.Message.{fault_of, id_of, type_of}
 use Rattle.turn_stun.proofs.FaultLemmas.{no_fault-IsFaultless}
 use Rattle.turn_types.specs.Frames.{begins_message}
 use Rattle.turn_client_api.specs.Connections.{bind_step}
-use Rattle.turn_client_api.specs.Payloads.{is_message, message_step}
+use Rattle.turn_client_api.specs.Payloads.{is_message, message_step, signed_step}
+use Rattle.turn_client_api.specs.Effect.{transaction_ended}
+use Rattle.turn_client_api.specs.Judgement.{SignedSuccess, judgement_of}
+use Rattle.turn_client_api.specs.State.{State}
+use Rattle.turn_client_api.specs.declared.state.Phase.{Phase}
+use Rattle.turn_client_api.specs.declared.state.Phase.TheVariants.{Authenticating}
+use Rattle.turn_agent.specs.Agent.{is_outstanding}
+use Rattle.turn_agent.proofs.TransactionLemmas.{is_outstanding-without}
+use Rattle.turn_client_laws.proofs.NewIdMessageLemmas.{AsksNothing, granted-asks, reply-asks}
 use Rattle.turn_client_laws.specs.Handled.{Input, processed}
 use Rattle.turn_client_laws.specs.LawsHandled.{IsOverControl, IsOverWaiting}
 use Rattle.turn_client_api.specs.declared.state.Mode.TheVariants.{Control, Waiting}
 use Rattle.turn_client_api.specs.declared.state.Stream.{Stream}
+
+-- an accepted success ends its request, whatever it grants
+signed-ends : (p : Phase) (message : List ℕ) (now : ℕ) (s : State) → AsksNothing (transaction_ended (id_of message) s) (signed_step true message now (record s { phase = p })).1
+signed-ends Authenticating message now s = granted-asks message now (transaction_ended (id_of message) (record s { phase = Authenticating }))
+signed-ends p message now s = reply-asks true message now (record s { phase = p })
+
+pub success-ends : (message : List ℕ) (now : ℕ) (s : State) → judgement_of s message ≡ SignedSuccess → is_outstanding (id_of message) (message_step message now s).1.transactions ≡ false
+success-ends message now s e = rw e (rw (signed-ends s.phase message now s) (is_outstanding-without (id_of message) s.transactions))
 
 -- a whole message begins as one
 whole-begins : (bytes : List ℕ) → is_message bytes ≡ true → begins_message bytes ≡ true
