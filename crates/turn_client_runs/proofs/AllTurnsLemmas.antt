@@ -111,15 +111,13 @@ all-poll (suc n) now s h = by (find is_ready s.streams) refl (λ t p. all-poll n
 
     by : (o : Option Stream) → find is_ready s.streams ≡ o → Later → Goal
     by None e more = all-rest (suc n) now s e ∙ ap (and_then (all_turns (suc n) now)) (sym (turns-rest (max_steps s) now s e))
-    by (Some stream) e more = first (poll-first now s stream e (max_steps s) refl)
-      where
-        first : (m : ℕ) × (max_steps s ≡ suc m) × (poll_recv_step now s ≡ go_on (steps_until_payload m now) (next_frame_step stream now s)) → Goal
-        first (m, same, is) =
-            let less = turn-lighter stream now s e in
-            let most = weight-le s.streams in
-            all-first n now s stream e
-            ∙ (step m (next_frame_step stream now s) (omega (arith, less, h)) (omega (arith, less, most, same)) more
-            ∙ ap (and_then (all_turns (suc n) now)) (sym is))
+    by (Some stream) e more =
+        let (m, same, is) = poll-first now s stream e (max_steps s) refl in
+        let less = turn-lighter stream now s e in
+        let most = weight-le s.streams in
+        all-first n now s stream e
+        ∙ (step m (next_frame_step stream now s) (omega (arith, less, h)) (omega (arith, less, most, same)) more
+        ∙ ap (and_then (all_turns (suc n) now)) (sym is))
 
 -- polled more often than the streams' weight, a client takes all steps
 pub polled-all : (k n now : ℕ) (s : State) → weight s.streams < k → weight s.streams ≤ n → polled_until_none k now s ≡ all_turns n now s

@@ -13,7 +13,7 @@ use Rattle.turn_client_api.specs.declared.grant.Purpose.TheVariants.{ForAllocati
 use Rattle.turn_client_api.specs.Grants.{purposes_of}
 use Rattle.turn_client_laws.specs.Handled.{Input, handled, processed}
 use Rattle.turn_client_laws.specs.LawsGone.{GivesBack}
-use Rattle.turn_client_laws.specs.LawsHandled.{DiffersInStreams, ProcessesInputs, TakesInput, InputsLead}
+use Rattle.turn_client_laws.specs.LawsHandled.{DiffersInStreams, ProcessesInputs, InputsLead}
 use Rattle.turn_client_laws.specs.LawsRequests.{IsListedFor, IsListingOf}
 use Rattle.turn_client_api.specs.Retry.{first_or, is_allocate_or_connect, is_channel_bind, is_create_permission, is_refresh, retried}
 use Rattle.turn_client_api.specs.Steps.{state_after, state_after_all}
@@ -26,9 +26,10 @@ use Rattle.turn_client_laws.proofs.StandLemmas.{contains-has, has-contains}
 use Rattle.turn_client_laws.proofs.TurnChainLemmas.{calls-do}
 use Rattle.turn_client_laws.proofs.TwoPurposes.{purpose-with}
 use Rattle.turn_client_runs.specs.Granted.{IsAskedInCall, IsRequestedByInput, WasAsked, WasAskedBefore}
-use Rattle.turn_client_runs.proofs.CallGrants.{quiet, taking}
-use Rattle.turn_client_runs.proofs.RelistLemmas.{IsRelisted, IsRetriedFor, turn-relists}
+use Rattle.turn_client_runs.proofs.QuietLemmas.{calls-keep}
+use Rattle.turn_client_runs.proofs.RelistLemmas.{IsRetriedFor, turn-relists}
 use Rattle.turn_client_runs.proofs.TogetherLemmas.{AreTogether, IsListingHere, Together, call-together, differs-together, first-together, listing-here}
+use Rattle.turn_client_runs.proofs.TurnsOfRuns.{handled-leads}
 
 -- ---- the first in order
 
@@ -53,20 +54,8 @@ channel-first all number peer ip there = by (find is_refresh all) refl (find is_
     others = first_or (find is_create_permission all) (find is_allocate_or_connect all)
 
     by : (r : Option Purpose) → find is_refresh all ≡ r → (c : Option Purpose) → find is_channel_bind all ≡ c → first_or r (first_or c others) ≡ Some (ForPermission ip) → ⊥
-    by (Some q) e c f g = unlike (subst (λ (x : Purpose). is_refresh x ≡ true) (same g) (has-found is_refresh q all e).1)
-      where
-        same : Some q ≡ Some (ForPermission ip) → q ≡ ForPermission ip
-        same h = cc
-
-        unlike : false ≡ true → ⊥
-        unlike h = cc
-    by None e (Some q) f g = unlike (subst (λ (x : Purpose). is_channel_bind x ≡ true) (same g) (has-found is_channel_bind q all f).1)
-      where
-        same : Some q ≡ Some (ForPermission ip) → q ≡ ForPermission ip
-        same h = cc
-
-        unlike : false ≡ true → ⊥
-        unlike h = cc
+    by (Some q) e c f g = let same : q ≡ ForPermission ip = cc in cc (rw same at (has-found is_refresh q all e).1)
+    by None e (Some q) f g = let same : q ≡ ForPermission ip = cc in cc (rw same at (has-found is_channel_bind q all f).1)
     by None e None f g = found-some is_channel_bind (ForChannel number peer) all there refl f
 
 -- ---- one input
@@ -99,11 +88,10 @@ listed-for message s purpose p together wanted (inr (first, there)) =
 -- for a listing that deletes no allocation
 module _ (l : Listing) (wanted : GivesBack l.purpose → ⊥) where
   turn-asks : (one : Input) → AreTogether one.before → Has l (processed one).1.listed → Has l one.before.listed ⊎ IsRequestedByInput l.id l.purpose one
-  turn-asks one together there = by (turn-relists one l there)
-    where
-      by : Has l one.before.listed ⊎ IsRelisted one.bytes one.time one.before (processed one).1 l → Has l one.before.listed ⊎ IsRequestedByInput l.id l.purpose one
-      by (inl old) = inl old
-      by (inr (purpose, made, is, for)) = inr (purpose, listed-for one.bytes one.before purpose l.purpose together wanted for, made, is)
+  turn-asks one together there = elim (turn-relists one l there) [
+    | inl old ↦ inl old
+    | inr (purpose, made, is, for) ↦ inr (purpose, listed-for one.bytes one.before purpose l.purpose together wanted for, made, is)
+  ]
 
   -- one of these inputs made it
   abbrev AmongTurns : List Input → Type 0
@@ -119,11 +107,10 @@ module _ (l : Listing) (wanted : GivesBack l.purpose → ⊥) where
   step-asks : (one : Input) (later : List Input) (s : State) → DiffersInStreams s one.before → AreTogether s → Has l (processed one).1.listed ⊎ AmongTurns later → Has l s.listed
       ⊎ AmongTurns (one ∷ later)
   step-asks one later s differs together (inr among) = inr (later-among one later among)
-  step-asks one later s differs together (inl there) = by (turn-asks one (differs-together s one.before differs together) there)
-    where
-      by : Has l one.before.listed ⊎ IsRequestedByInput l.id l.purpose one → Has l s.listed ⊎ AmongTurns (one ∷ later)
-      by (inl old) = inl (differs-listed s one.before differs old)
-      by (inr asked) = inr (one, inl refl, asked)
+  step-asks one later s differs together (inl there) = elim (turn-asks one (differs-together s one.before differs together) there) [
+    | inl old ↦ inl (differs-listed s one.before differs old)
+    | inr asked ↦ inr (one, inl refl, asked)
+  ]
 
   lead-asks : (turns : List Input) (s t : State) → InputsLead turns s t → AreTogether s → Has l t.listed → Has l s.listed ⊎ AmongTurns turns
   lead-asks [] s t lead together there = inl (differs-listed s t lead there)
@@ -143,14 +130,16 @@ module _ (l : Listing) (wanted : GivesBack l.purpose → ⊥) where
   module _ (call : Call) (s : State) (together : AreTogether s) where
     gone-listed : ProcessesInputs call s → Has l (state_after call s).listed → Has l s.listed ⊎ AmongTurns (handled call s)
     gone-listed (inl lead) there = lead-asks (handled call s) s (state_after call s) lead together there
-    gone-listed (inr end) there = old ((gone-settles end.local s).1 l (subst (λ (t : State). Has l t.listed) end.gone there))
-      where
-        old : Has l s.listed ⊎ ⊥ → Has l s.listed ⊎ AmongTurns (handled call s)
-        old (inl h) = inl h
-        old (inr none) = absurd none
+    gone-listed (inr end) there = elim ((gone-settles end.local s).1 l (subst (λ (t : State). Has l t.listed) end.gone there)) [
+      | inl h ↦ inl h
+      | inr none ↦ absurd none
+    ]
 
     call-asks : Contains (state_after call s).listed l → Contains s.listed l ⊎ IsAskedInCall l.id l.purpose call s
-    call-asks there = by (listing-here call s)
+    call-asks there = elim (listing-here call s) [
+      | inl takes ↦ turned (gone-listed (calls-do call s takes) (contains-has l (state_after call s).listed there))
+      | inr own ↦ itself own (listings-made call s (state_after call s) l (inl refl) there)
+    ]
       where
         turned : Has l s.listed ⊎ AmongTurns (handled call s) → Contains s.listed l ⊎ IsAskedInCall l.id l.purpose call s
         turned (inl old) = inl (has-contains l s.listed old)
@@ -160,35 +149,17 @@ module _ (l : Listing) (wanted : GivesBack l.purpose → ⊥) where
         itself own (inl old) = inl old
         itself own (inr is) = inr (inl (own l is))
 
-        by : TakesInput call ⊎ ((x : Listing) → IsListingOf call s x → IsListingHere call s x) → Contains s.listed l ⊎ IsAskedInCall l.id l.purpose call s
-        by (inl takes) = turned (gone-listed (calls-do call s takes) (contains-has l (state_after call s).listed there))
-        by (inr own) = itself own (listings-made call s (state_after call s) l (inl refl) there)
-
-    -- up to an input of it
-    turn-was-asked : (front : List Input) (one : Input) (back : List Input) → handled call s ≡ front ++ one ∷ back → Has l one.before.listed → ProcessesInputs call s → Has l s.listed
-        ⊎ AmongTurns front
-    turn-was-asked front one back cut there (inl lead) =
-        front-asks front one back s (state_after call s)
-        (subst (λ (turns : List Input). InputsLead turns s (state_after call s)) cut lead)
-        together there
-    turn-was-asked front one back cut there (inr end) = absurd (filled front (sym end.nothing ∙ cut))
-      where
-        filled : (front : List Input) → [] ≡ front ++ one ∷ back → ⊥
-        filled [] e = cc
-        filled (x ∷ front) e = cc
-
   -- ---- a run
 
   run-asks : (calls : List Call) (first : State) → AreTogether first → Contains (state_after_all first calls).listed l → Contains first.listed l ⊎ WasAsked l.id l.purpose calls first
   run-asks [] first together there = inl there
   run-asks (call ∷ calls) first together there = by (run-asks calls (state_after call first) (call-together call first together) there)
     where
-      at : Contains first.listed l ⊎ IsAskedInCall l.id l.purpose call first → Contains first.listed l ⊎ WasAsked l.id l.purpose (call ∷ calls) first
-      at (inl old) = inl old
-      at (inr asked) = inr (record { earlier = []; call = call; later = calls; split = refl; asked = asked })
-
       by : Contains (state_after call first).listed l ⊎ WasAsked l.id l.purpose calls (state_after call first) → Contains first.listed l ⊎ WasAsked l.id l.purpose (call ∷ calls) first
-      by (inl there) = at (call-asks call first together there)
+      by (inl there) = elim (call-asks call first together there) [
+        | inl old ↦ inl old
+        | inr asked ↦ inr (record { earlier = []; call = call; later = calls; split = refl; asked = asked })
+      ]
       by (inr was) = inr (record {
         earlier = call ∷ was.earlier;
         call = was.call;
@@ -197,27 +168,13 @@ module _ (l : Listing) (wanted : GivesBack l.purpose → ⊥) where
         asked = was.asked;
       })
 
-run-together : (calls : List Call) (s : State) → AreTogether s → AreTogether (state_after_all s calls)
-run-together [] s h = h
-run-together (call ∷ calls) s h = run-together calls (state_after call s) (call-together call s h)
-
-takes-turns : (call : Call) (s : State) (front : List Input) (one : Input) (back : List Input) → handled call s ≡ front ++ one ∷ back → ProcessesInputs call s
-takes-turns call s front one back cut = by (taking call)
-  where
-    filled : (front : List Input) → [] ≡ front ++ one ∷ back → ⊥
-    filled [] e = cc
-    filled (x ∷ front) e = cc
-
-    by : TakesInput call ⊎ (TakesInput call → ⊥) → ProcessesInputs call s
-    by (inl takes) = calls-do call s takes
-    by (inr other) = absurd (filled front (sym (quiet call s other) ∙ cut))
-
 -- the request that an input answers was made before it
 pub was-asked : (earlier : List Call) (call : Call) (later : List Call) (first : State) → first.listed ≡ []
     → (front : List Input) (one : Input) (back : List Input) → handled call (state_after_all first earlier) ≡ front ++ one ∷ back
     → (p : Purpose) → (GivesBack p → ⊥) → Contains (purposes_of (id_of one.bytes) one.before) p
     → WasAskedBefore (id_of one.bytes) p earlier first front
-was-asked earlier call later first empty front one back cut p wanted listed = by (turn-was-asked l wanted call s together front one back cut there (takes-turns call s front one back cut))
+was-asked earlier call later first empty front one back cut p wanted listed =
+    by (front-asks l wanted front one back s (state_after call s) (handled-leads call s front back one cut) together there)
   where
     s : State
     s = state_after_all first earlier
@@ -229,15 +186,14 @@ was-asked earlier call later first empty front one back cut p wanted listed = by
     none x other here there e = absurd (subst (Has x) empty here)
 
     together : AreTogether s
-    together = run-together earlier first none
+    together = calls-keep AreTogether call-together earlier first none
 
     there : Has l one.before.listed
     there = purpose-with (id_of one.bytes) p one.before (contains-has p (purposes_of (id_of one.bytes) one.before) listed)
 
-    at : Contains first.listed l ⊎ WasAsked l.id l.purpose earlier first → WasAskedBefore (id_of one.bytes) p earlier first front
-    at (inl old) = absurd (contains-has l [] (subst (λ (ls : List Listing). Contains ls l) empty old))
-    at (inr was) = inl was
-
     by : Has l s.listed ⊎ AmongTurns l wanted front → WasAskedBefore (id_of one.bytes) p earlier first front
-    by (inl old) = at (run-asks l wanted earlier first none (has-contains l s.listed old))
+    by (inl old) = elim (run-asks l wanted earlier first none (has-contains l s.listed old)) [
+      | inl old ↦ absurd (contains-has l [] (subst (λ (ls : List Listing). Contains ls l) empty old))
+      | inr was ↦ inl was
+    ]
     by (inr (x, among, asked)) = inr (x, has-contains x front among, asked)

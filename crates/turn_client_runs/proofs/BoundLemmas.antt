@@ -12,28 +12,28 @@ use Rattle.turn_client_api.specs.Judgement.{bind_judgement, method_in}
 use Rattle.turn_client_api.specs.Connections.{bind_answered, bind_step, connection_at}
 use Rattle.turn_client_api.specs.Payloads.{is_message}
 use Rattle.turn_client_laws.specs.Handled.{Input, handled, processed}
-use Rattle.turn_client_laws.specs.LawsBound.{IsBindInput, IsBoundConnection, IsConnectedBy, IsConnecting}
-use Rattle.turn_client_laws.specs.LawsGranted.{WasActive}
+use Rattle.turn_client_laws.specs.LawsBound.{IsBindInput, IsBoundConnection, IsConnecting}
+use Rattle.turn_client_laws.specs.LawsGranted.{IsSameGrant}
 use Rattle.turn_client_laws.specs.LawsHandled.{IsBoundAt, IsDoneBy, IsOverControl, IsOverWaiting, TakesInput}
 use Rattle.turn_client_laws.specs.LawsReplies.{IsAccepted, IsNotAwaited}
 use Rattle.turn_client_api.specs.Steps.{state_after, state_after_all}
 use Rattle.turn_client_api.specs.declared.call.Call.{Call}
 use Rattle.turn_client_api.specs.declared.grant.DataConnection.{DataConnection}
-use Rattle.turn_client_api.specs.declared.grant.Grant.TheVariants.{Allocation, Permission, Channel, Connect, Offer, Connection}
-use Rattle.turn_client_api.specs.declared.grant.Progress.TheVariants.{Pending, Active, Reserved}
-use Rattle.turn_client_api.specs.declared.state.Mode.TheVariants.{Control, Waiting, Bound}
+use Rattle.turn_client_api.specs.declared.grant.Grant.TheVariants.{Connection}
+use Rattle.turn_client_api.specs.declared.state.Mode.TheVariants.{Control, Waiting}
 use Rattle.turn_client_api.specs.declared.state.Phase.{Phase}
 use Rattle.turn_client_api.specs.declared.state.Phase.TheVariants.{Allocated}
 use Rattle.turn_client_api.specs.declared.state.Stream.{Stream}
 use Rattle.turn_client_laws.proofs.AcceptedReplyLemmas.{bind-ended}
 use Rattle.turn_client_laws.proofs.BoundStreamLemmas as Streams
-use Rattle.turn_client_laws.proofs.GrantOriginCallLemmas.{Binds, BindsOrLeaves, bind-leaves}
+use Rattle.turn_client_laws.proofs.GrantOriginCallLemmas.{Binds, bind-leaves}
 use Rattle.turn_client_laws.proofs.GrantedLemmas as Grants
 use Rattle.turn_client_laws.proofs.StandLemmas as Stand
 use Rattle.turn_client_laws.proofs.StandLemmas.{Covers, contains-has, covers-has, covers-left, covers-stood}
 use Rattle.turn_client_laws.proofs.TurnBringLemmas.{IsBrought, leaves-bring}
 use Rattle.turn_client_runs.specs.Bound.{BoundConnectionsHaveSuccess, BoundStreamsHaveSuccess, HasConnectionSuccess, HasSuccess, HasTransactionEnded, IsBoundSince, StreamsAreBoundBefore}
 use Rattle.turn_client_runs.specs.Inputs.{IsAmong, handled_in}
+use Rattle.turn_client_runs.proofs.GrantTurns.{kept-alike}
 use Rattle.turn_client_runs.proofs.MadeLemmas.{waiting-made}
 use Rattle.turn_client_runs.proofs.RunLemmas.{run-did}
 use Rattle.turn_client_runs.proofs.TurnsOfRuns.{among-none, in_call, run-brings, takes-or}
@@ -58,7 +58,12 @@ bind-does local message now s = by s.phase refl (connection_at local s) refl (eq
 -- if it binds, its request is ended
 binds-ended : (local : SocketAddr) (message : List ℕ) (now : ℕ) (s : State) → Binds local message s (bind_step local message now s) → (bind_step local message now s ≡ s)
     ⊎ IsNotAwaited message (bind_step local message now s)
-binds-ended local message now s b = by (bind-does local message now s)
+binds-ended local message now s b = elim (bind-does local message now s) [
+  | inl same ↦ inl same
+  | inr (c, found, answered) ↦
+      let is : b.c ≡ c = one c (sym b.found ∙ found) in
+      inr (rw answered (subst (λ (d : DataConnection). IsNotAwaited message (bind_answered d message now s)) is (bind-ended b.c message now s accepted)))
+]
   where
     one : (c : DataConnection) → Some b.c ≡ Some c → b.c ≡ c
     one c e = cc
@@ -66,25 +71,16 @@ binds-ended local message now s b = by (bind-does local message now s)
     accepted : IsAccepted (bind_judgement s b.c.local message)
     accepted = rw b.judged tt
 
-    by : DoesOrNot local message now s → (bind_step local message now s ≡ s) ⊎ IsNotAwaited message (bind_step local message now s)
-    by (inl same) = inl same
-    by (inr (c, found, answered)) =
-        let is : b.c ≡ c = one c (sym b.found ∙ found) in
-        inr (rw answered (subst (λ (d : DataConnection). IsNotAwaited message (bind_answered d message now s)) is (bind-ended b.c message now s accepted)))
-
 -- no input is over both
 not_both : (local : SocketAddr) (one : Input) → IsOverControl one → IsOverWaiting local one → ⊥
 not_both local one control waiting = by one.stream refl
   where
-    unlike : Control ≡ Waiting → ⊥
-    unlike e = cc
-
     by : (o : Option Stream) → one.stream ≡ o → ⊥
     by None e = rw e at waiting
     by (Some stream) e =
         let c : stream.mode ≡ Control = rw e at control in
         let (w, ends) : (stream.mode ≡ Waiting) × (stream.local ≡ local) = rw e at waiting in
-        unlike (sym c ∙ w)
+        cc (sym c ∙ w)
 
 -- ---- what only an input over a waiting connection causes ends its request there
 
@@ -95,7 +91,10 @@ module _ (P : State → Type 0) (Did : Input → Type 0) (k : IsBrought P Did) (
 
   bind-ends : (one : Input) (stream : Stream) → one.stream ≡ Some stream → stream.mode ≡ Waiting → is_message one.bytes ≡ true → P (bind_step stream.local one.bytes one.time one.before)
       → P one.before ⊎ Ends one
-  bind-ends one stream of mode whole h = by (bind-leaves stream.local one.bytes one.time one.before)
+  bind-ends one stream of mode whole h = elim (bind-leaves stream.local one.bytes one.time one.before) [
+    | inl b ↦ bound (binds-ended stream.local one.bytes one.time one.before b)
+    | inr (leaves, same) ↦ inl (spares one.before t leaves same h)
+  ]
     where
       t : State
       t = bind_step stream.local one.bytes one.time one.before
@@ -110,10 +109,6 @@ module _ (P : State → Type 0) (Did : Input → Type 0) (k : IsBrought P Did) (
       bound : (t ≡ one.before) ⊎ IsNotAwaited one.bytes t → P one.before ⊎ Ends one
       bound (inl same) = inl (subst P same h)
       bound (inr ended) = did ended (k.binds one stream of mode whole h)
-
-      by : BindsOrLeaves stream.local one.bytes one.before t → P one.before ⊎ Ends one
-      by (inl b) = bound (binds-ended stream.local one.bytes one.time one.before b)
-      by (inr (leaves, same)) = inl (spares one.before t leaves same h)
 
   pub bringing-ends : IsBrought P (λ one. Did one × HasTransactionEnded one)
   bringing-ends = record {
@@ -131,23 +126,21 @@ module _ (P : State → Type 0) (Did : Input → Type 0) (k : IsBrought P Did) (
   -- what no other call causes
   module _ (others : (call : Call) (s : State) → P (state_after call s) → P s ⊎ IsDoneBy Did call s) where
     pub call-ends : (call : Call) (s : State) → P (state_after call s) → P s ⊎ IsDoneBy (λ one. Did one × HasTransactionEnded one) call s
-    call-ends call s h = by (leaves-bring P Ends bringing-ends (λ call s. ⊥) other call s (state_after call s) (inl refl) h)
+    call-ends call s h = elim (leaves-bring P Ends bringing-ends (λ call s. ⊥) other call s (state_after call s) (inl refl) h) [
+      | inl there ↦ inl there
+      | inr (inl no_other) ↦ absurd no_other
+      | inr (inr did) ↦ inr did
+    ]
       where
         none : (call : Call) (s : State) → ((u : State) → handled call u ≡ []) → P s ⊎ IsDoneBy Did call s → P s ⊎ ⊥
         none call s nothing (inl there) = inl there
         none call s nothing (inr did) = absurd (among-none Did (subst (λ (turns : List Input). IsAmong Did turns) (nothing s) did))
 
         other : (call : Call) (s : State) → (TakesInput call → ⊥) → P (state_after call s) → P s ⊎ ⊥
-        other call s no_turns there = at (takes-or call)
-          where
-            at : TakesInput call ⊎ ((u : State) → handled call u ≡ []) → P s ⊎ ⊥
-            at (inl takes) = absurd (no_turns takes)
-            at (inr nothing) = none call s nothing (others call s there)
-
-        by : P s ⊎ ⊥ ⊎ IsDoneBy Ends call s → P s ⊎ IsDoneBy Ends call s
-        by (inl there) = inl there
-        by (inr (inl no_other)) = absurd no_other
-        by (inr (inr did)) = inr did
+        other call s no_turns there = elim (takes-or call) [
+          | inl takes ↦ absurd (no_turns takes)
+          | inr nothing ↦ none call s nothing (others call s there)
+        ]
 
 -- ---- streams
 
@@ -190,14 +183,10 @@ module _ (local peer : SocketAddr) where
   -- no stream of a new client is bound
   initial-unbound : (transport : TransportType) (own remote : SocketAddr) (config : Config) (seed : List ℕ) → IsBoundTo (initial transport own remote config seed) → ⊥
   initial-unbound Udp own remote config seed (x, there, at, mode) = contains-has x [] there
-  initial-unbound Tcp own remote config seed (x, there, at, mode) = by (contains-has x (first_streams Tcp own) there)
-    where
-      unlike : Control ≡ Bound peer → ⊥
-      unlike e = cc
-
-      by : (x ≡ record { local = own; mode = Control; bytes = [] }) ⊎ ⊥ → ⊥
-      by (inl e) = unlike (sym (ap (λ (z : Stream). z.mode) e) ∙ mode)
-      by (inr none) = none
+  initial-unbound Tcp own remote config seed (x, there, at, mode) = elim (contains-has x (first_streams Tcp own) there) [
+    | inl e ↦ cc (sym (ap (λ (z : Stream). z.mode) e) ∙ mode)
+    | inr none ↦ none
+  ]
 
 pub streams-have-success : (transport : TransportType) (own remote : SocketAddr) (config : Config) (seed : List ℕ) (calls : List Call)
     → BoundStreamsHaveSuccess (initial transport own remote config seed) calls
@@ -216,29 +205,21 @@ module _ (c : DataConnection) where
   IsOpen s = Covers s.grants (Connection c)
 
   open-bound : (s : State) → IsOpen s → IsBoundConnection c s
-  open-bound s stands = by (covers-stood s (Connection c) stands)
-    where
-      by : WasActive s (Connection c) → IsBoundConnection c s
-      by (Connection d, before, (same, none)) = (subst (λ (x : DataConnection). Contains s.grants (Connection x)) same before, subst (λ (x : DataConnection). x.deadline ≡ None) same none)
-      by (Allocation a, before, k) = absurd k
-      by (Permission ip Pending, before, k) = absurd k
-      by (Permission ip (Active expiry), before, k) = absurd k
-      by (Permission ip (Reserved until), before, k) = absurd k
-      by (Channel number peer Pending, before, k) = absurd k
-      by (Channel number peer (Active expiry), before, k) = absurd k
-      by (Channel number peer (Reserved until), before, k) = absurd k
-      by (Connect peer, before, k) = absurd k
-      by (Offer offer, before, k) = absurd k
+  open-bound s stands =
+      let (was, before, kept) = covers-stood s (Connection c) stands in
+      elim (kept-alike was (Connection c) kept) [
+        | inl (a, b, is, to, e, f) ↦ cc
+        | inr e ↦ let same : IsSameGrant (Connection c) (Connection c) = rw e at kept in (subst (Contains s.grants) e before, same.1)
+      ]
 
   bound-open : (s : State) → IsBoundConnection c s → IsOpen s
   bound-open s (there, none) = covers-has s.grants (Connection c) (contains-has (Connection c) s.grants there) none
 
   connection-others : (call : Call) (s : State) → IsOpen (state_after call s) → IsOpen s ⊎ IsDoneBy (IsConnecting c) call s
-  connection-others call s stands = by (Streams.leaves-connection call s (state_after call s) c (inl refl) (open-bound (state_after call s) stands))
-    where
-      by : IsConnectedBy c call s → IsOpen s ⊎ IsDoneBy (IsConnecting c) call s
-      by (inl was) = inl (bound-open s was)
-      by (inr did) = inr did
+  connection-others call s stands = elim (Streams.leaves-connection call s (state_after call s) c (inl refl) (open-bound (state_after call s) stands)) [
+    | inl was ↦ inl (bound-open s was)
+    | inr did ↦ inr did
+  ]
 
   connection-ends : (call : Call) (s : State) → IsOpen (state_after call s) → IsOpen s ⊎ IsDoneBy (λ one. IsConnecting c one × HasTransactionEnded one) call s
   connection-ends = call-ends IsOpen (IsConnecting c) (Grants.bringing (Connection c)) (λ one did. (c.local, did.1.over))

@@ -4,7 +4,7 @@ use Rattle.std.proofs.Common.{◌≡◌, ◌⊎◌, ◌∙◌, ℕ, Bool, true, 
 use Rattle.std.specs.List.{Contains}
 use Rattle.turn_client_api.specs.State.{State}
 use Rattle.turn_client_api.specs.declared.call.Call.{Call}
-use Rattle.turn_client_api.specs.declared.call.Call.TheVariants.{Delete, Recv, PollRecv}
+use Rattle.turn_client_api.specs.declared.call.Call.TheVariants.{Delete}
 use Rattle.turn_client_api.specs.declared.grant.Grant.{Grant}
 use Rattle.turn_client_api.specs.declared.grant.Grant.TheVariants.{Allocation}
 use Rattle.turn_client_api.specs.declared.grant.Relay.{Relay}
@@ -17,7 +17,8 @@ use Rattle.turn_client_laws.proofs.GrantedLemmas.{leaves-grants}
 use Rattle.turn_client_laws.proofs.StandLemmas.{Covers, contains-has, covers-stood, has-contains, kept-stood, kept-trans}
 use Rattle.turn_client_laws.proofs.TurnBringLemmas.{leaves-bring}
 use Rattle.turn_client_runs.specs.Granted.{IsRelayed}
-use Rattle.turn_client_runs.proofs.GrantTurns.{AreAllocations, Granting, granting-brought, kept-alike}
+use Rattle.turn_client_runs.proofs.TurnsOfRuns.{takes-or}
+use Rattle.turn_client_runs.proofs.GrantTurns.{Granting, granting-brought, kept-alike}
 
 -- ---- a `delete`
 
@@ -35,27 +36,19 @@ same-allocation a b e = cc
 
 -- what is kept as the grant ended with it
 ended-kept : (call : Call) (s : State) (is g : Grant) → IsSameGrant is g → IsEndedBy call s is → IsEndedBy call s g
-ended-kept call s is g kept (a, now, what, how, ends, was) = by (kept-alike is g kept)
-  where
-    by : AreAllocations is g ⊎ (is ≡ g) → IsEndedBy call s g
-    by (inl (b, c, named, to, e, f)) =
-        let same = same-allocation a b (sym what ∙ named) in
-        let relayed : a.relayed ≡ c.relayed = ap (λ (x : Relay). x.relayed) same ∙ e in
-        let expiry : a.expiry ≡ c.expiry = ap (λ (x : Relay). x.expiry) same ∙ f in
-        (c, now, to, how, sym expiry ∙ ends, (was.0, was.1, was.2 ∙ relayed))
-    by (inr e) = (a, now, sym e ∙ what, how, ends, was)
+ended-kept call s is g kept (a, now, what, how, ends, was) = elim (kept-alike is g kept) [
+  | inl (b, c, named, to, e, f) ↦
+      let same = same-allocation a b (sym what ∙ named) in
+      let relayed : a.relayed ≡ c.relayed = ap (λ (x : Relay). x.relayed) same ∙ e in
+      let expiry : a.expiry ≡ c.expiry = ap (λ (x : Relay). x.expiry) same ∙ f in
+      (c, now, to, how, sym expiry ∙ ends, (was.0, was.1, was.2 ∙ relayed))
+  | inr e ↦ (a, now, sym e ∙ what, how, ends, was)
+]
 
 -- ---- calls that process no input
 
-pub taking : (call : Call) → TakesInput call ⊎ (TakesInput call → ⊥)
-taking (Recv packet now) = inl tt
-taking (PollRecv now) = inl tt
-taking call = inr (λ takes. takes)
-
 pub quiet : (call : Call) (s : State) → (TakesInput call → ⊥) → handled call s ≡ []
-quiet (Recv packet now) s other = absurd (other tt)
-quiet (PollRecv now) s other = absurd (other tt)
-quiet call s other = refl
+quiet call s other = elim (takes-or call) [ inl takes ↦ absurd (other takes) | inr none ↦ none s ]
 
 none-done : (Did : Input → Type 0) (call : Call) (s : State) → (TakesInput call → ⊥) → IsDoneBy Did call s → ⊥
 none-done Did call s other (one, among, did) = contains-has one [] (subst (λ (turns : List Input). Contains turns one) (quiet call s other) among)

@@ -1,12 +1,11 @@
 -- Challenges in a run.
-use Rattle.std.proofs.Common.{◌≡◌, ◌⊎◌, ◌∙◌, ◌<◌, ◌≤◌, ◌+◌, ltb, ℕ, Bool, true, false, List, [], ◌∷◌, ◌++◌, Some, inl, inr, refl, sym, subst, ap, arith}
+use Rattle.std.proofs.Common.{◌≡◌, ◌⊎◌, ◌∙◌, ◌<◌, ◌≤◌, ◌+◌, ltb, ℕ, Bool, true, false, List, [], ◌∷◌, ◌++◌, inl, inr, refl, sym, subst, ap, arith}
 use Rattle.std.proofs.lemmas.Bool.{ltb-true, ltb-false}
-use Rattle.turn_auth.specs.LongTerm.{Challenge}
 use Rattle.turn_client_api.specs.Config.{Config}
 use Rattle.turn_client_api.specs.State.{State}
 use Rattle.turn_client_api.specs.Payloads.{Outcome, is_message}
 use Rattle.turn_client_laws.specs.Handled.{Input, handled, processed}
-use Rattle.turn_client_laws.specs.LawsHandled.{ProcessesInputs, TakesInput, InputsLead}
+use Rattle.turn_client_laws.specs.LawsHandled.{ProcessesInputs, InputsLead}
 use Rattle.turn_client_laws.specs.LawsReplies.{IsReplyAccepted}
 use Rattle.turn_client_laws.specs.LawsStates.{HoldsAtFirst, StaysInCalls}
 use Rattle.turn_client_laws.specs.LawsSteps.{IsChallengeCounted, KeepsRealm}
@@ -23,22 +22,14 @@ use Rattle.turn_client_runs.specs.Holds.{Reaches}
 use Rattle.turn_client_runs.specs.Inputs.{IsAmong, handled_in}
 use Rattle.turn_client_runs.proofs.HoldLemmas.{kept-behind}
 use Rattle.turn_client_runs.proofs.MadeLemmas.{control-made}
+use Rattle.turn_client_runs.proofs.RealmLemmas.{then-realm}
 use Rattle.turn_client_runs.proofs.TurnsOfRuns.{among-first, among-later, among-left, among-none, among-right, takes-or}
 
 -- ---- what is held
 
 pub realm-stays : (s : State) (calls : List Call) (t : State) → Reaches s calls t → KeepsRealm s t
 realm-stays s [] t same = λ c held. (c, rw same held, refl, refl)
-realm-stays s (call ∷ calls) t (u, leaves, more) = λ c held. by c (realm-stays u calls t more) (first c held)
-  where
-    first : KeepsRealm s u
-    first = (leaves-keeps call s u leaves).2
-
-    by : (c : Challenge) → KeepsRealm u t → (d : Challenge) × (u.held ≡ Some d) × (d.realm ≡ c.realm) × (d.algorithm ≡ c.algorithm)
-        → (e : Challenge) × (t.held ≡ Some e) × (e.realm ≡ c.realm) × (e.algorithm ≡ c.algorithm)
-    by c rest (d, held, realm, algorithm) =
-        let (e, last, same_realm, same_algorithm) = rest d held in
-        (e, last, same_realm ∙ realm, same_algorithm ∙ algorithm)
+realm-stays s (call ∷ calls) t (u, leaves, more) = then-realm s u t (leaves-keeps call s u leaves).2 (realm-stays u calls t more)
 
 -- ---- how many are answered
 
@@ -111,15 +102,11 @@ idle-counts call s none = by (ltb (state_after call s).challenges s.challenges) 
     by false e = rw none (inl (let less = ltb-false (state_after call s).challenges s.challenges e in omega (arith, less)))
 
 call-counts : (call : Call) (s : State) → Counts s (state_after call s) (handled call s)
-call-counts call s = by (takes-or call)
+call-counts call s = elim (takes-or call) [ inl takes ↦ does (calls-do call s takes) | inr none ↦ idle-counts call s (none s) ]
   where
     does : ProcessesInputs call s → Counts s (state_after call s) (handled call s)
     does (inl lead) = lead-counts (handled call s) s (state_after call s) lead
     does (inr end) = idle-counts call s end.nothing
-
-    by : TakesInput call ⊎ ((u : State) → handled call u ≡ []) → Counts s (state_after call s) (handled call s)
-    by (inl takes) = does (calls-do call s takes)
-    by (inr none) = idle-counts call s (none s)
 
 answers-append : (turns more : List Input) → answers_in (turns ++ more) ≡ answers_in turns + answers_in more
 answers-append [] more = omega arith
@@ -149,14 +136,10 @@ pub run-configured : (s : State) (calls : List Call) → (state_after_all s call
 run-configured s calls = kept-behind (λ (t : State). t.config ≡ s.config) (λ call t u leaves same. leaves-configured call t u leaves ∙ same) s calls refl
 
 pub few-answered : (s : State) (calls : List Call) → IsWithinChallengeLimit s → (answers_in (handled_in s calls) ≤ s.config.max_stale_nonces) ⊎ IsReplyAcceptedAmong (handled_in s calls)
-few-answered s calls patient = by (run-counts s calls)
+few-answered s calls patient = elim (run-counts s calls) [ inl counts ↦ inl (omega (arith, counts, last, same)) | inr among ↦ inr among ]
   where
     last : IsWithinChallengeLimit (state_after_all s calls)
     last = kept-behind IsWithinChallengeLimit leaves-patient s calls patient
 
     same : (state_after_all s calls).config.max_stale_nonces ≡ s.config.max_stale_nonces
     same = ap (λ (c : Config). c.max_stale_nonces) (run-configured s calls)
-
-    by : Counts s (state_after_all s calls) (handled_in s calls) → (answers_in (handled_in s calls) ≤ s.config.max_stale_nonces) ⊎ IsReplyAcceptedAmong (handled_in s calls)
-    by (inl counts) = inl (omega (arith, counts, last, same))
-    by (inr among) = inr among

@@ -29,8 +29,7 @@ use Rattle.turn_client_laws.proofs.Edits.{KeepsEdits}
 use Rattle.turn_client_laws.proofs.PhaseEdits.{phase-edits}
 use Rattle.turn_client_laws.proofs.EditsOfCalls.{delete-walk, quiet-walk, tcp_socket-walk}
 use Rattle.turn_client_laws.proofs.TurnBringLemmas.{IsBrought, leaves-bring}
-use Rattle.turn_client_runs.specs.Held.{HeldFromChallenge, IsFirstAnswer, IsOfChallenge}
-use Rattle.turn_client_runs.specs.Inputs.{IsAmong, handled_in}
+use Rattle.turn_client_runs.specs.Held.{HeldFromChallenge, IsFirstAnswer}
 use Rattle.turn_client_runs.proofs.MadeLemmas.{control-made}
 use Rattle.turn_client_runs.proofs.RealmLemmas.{turns-after}
 use Rattle.turn_client_runs.proofs.TurnsOfRuns.{run-brings}
@@ -200,12 +199,11 @@ others call s other h = inl (by call other h)
     by call other = quiet-walk Back Back-KeepsEdits call s tt
 
 each : (call : Call) (s : State) → IsLate (state_after call s) → IsLate s ⊎ IsDoneBy IsFirst call s
-each call s h = by (leaves-bring IsLate IsFirst bringing (λ call s. ⊥) others call s (state_after call s) (inl refl) h)
-  where
-    by : IsLate s ⊎ ⊥ ⊎ IsDoneBy IsFirst call s → IsLate s ⊎ IsDoneBy IsFirst call s
-    by (inl late) = inl late
-    by (inr (inl none)) = absurd none
-    by (inr (inr did)) = inr did
+each call s h = elim (leaves-bring IsLate IsFirst bringing (λ call s. ⊥) others call s (state_after call s) (inl refl) h) [
+  | inl late ↦ inl late
+  | inr (inl none) ↦ absurd none
+  | inr (inr did) ↦ inr did
+]
 
 -- ---- a run
 
@@ -215,7 +213,10 @@ initial-early transport local remote config seed (inr (inl e)) = cc
 initial-early transport local remote config seed (inr (inr e)) = cc
 
 pub held-from : (transport : TransportType) (local remote : SocketAddr) (config : Config) (seed : List ℕ) (calls : List Call) → HeldFromChallenge (initial transport local remote config seed) calls
-held-from transport local remote config seed calls c e = by (run-brings IsLate IsFirst each first calls (inl (rw e refl)))
+held-from transport local remote config seed calls c e = elim (run-brings IsLate IsFirst each first calls (inl (rw e refl))) [
+  | inl late ↦ absurd (initial-early transport local remote config seed late)
+  | inr (one, among, (d, is)) ↦ let alike = same one d is.held (turns-after first calls one among d is.held) in (one, among, (d, is, alike.0, alike.1))
+]
   where
     first : State
     first = initial transport local remote config seed
@@ -223,7 +224,3 @@ held-from transport local remote config seed calls c e = by (run-brings IsLate I
     same : (one : Input) (d : Challenge) → (processed one).1.held ≡ Some d → (x : Challenge) × ((state_after_all first calls).held ≡ Some x) × (x.realm ≡ d.realm) × (x.algorithm ≡ d.algorithm)
         → (c.realm ≡ d.realm) × (c.algorithm ≡ d.algorithm)
     same one d held (x, f, realm, algorithm) = let is : c ≡ x = same_Some c x (sym e ∙ f) in rw is (realm, algorithm)
-
-    by : IsLate first ⊎ IsAmong IsFirst (handled_in first calls) → IsAmong (IsOfChallenge c) (handled_in first calls)
-    by (inl late) = absurd (initial-early transport local remote config seed late)
-    by (inr (one, among, (d, is))) = let alike = same one d is.held (turns-after first calls one among d is.held) in (one, among, (d, is, alike.0, alike.1))

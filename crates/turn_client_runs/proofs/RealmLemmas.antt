@@ -1,8 +1,7 @@
 -- Realm and algorithm stay, from input to input too.
-use Rattle.std.proofs.Common.{◌≡◌, ◌⊎◌, Bool, true, false, not, cond, List, [], ◌∷◌, Option, Some, None, refl, ap, ◌∙◌, inl, inr}
+use Rattle.std.proofs.Common.{◌⊎◌, Bool, true, false, not, cond, List, [], ◌∷◌, Option, Some, None, refl, ap, ◌∙◌, inl, inr}
 use Rattle.std.specs.List.{Contains}
 use Rattle.turn_types.specs.Frames.{begins_message}
-use Rattle.turn_auth.specs.LongTerm.{Challenge}
 use Rattle.turn_client_api.specs.State.{State}
 use Rattle.turn_client_api.specs.declared.state.Mode.{Mode}
 use Rattle.turn_client_api.specs.declared.state.Mode.TheVariants.{Control, Waiting}
@@ -11,7 +10,7 @@ use Rattle.turn_client_api.specs.declared.call.Call.{Call}
 use Rattle.turn_client_api.specs.Connections.{bind_step}
 use Rattle.turn_client_api.specs.Payloads.{Outcome, Handled, Ignored, channel_sent, is_channel_frame, is_message, message_step}
 use Rattle.turn_client_laws.specs.Handled.{Input, handled, processed}
-use Rattle.turn_client_laws.specs.LawsHandled.{DiffersInStreams, ProcessesInputs, TakesInput, InputsLead}
+use Rattle.turn_client_laws.specs.LawsHandled.{DiffersInStreams, ProcessesInputs, InputsLead}
 use Rattle.turn_client_laws.specs.LawsSteps.{KeepsRealm}
 use Rattle.turn_client_api.specs.Steps.{state_after, state_after_all}
 use Rattle.turn_client_laws.proofs.HasLemmas.{Has, has-append}
@@ -24,11 +23,8 @@ use Rattle.turn_client_runs.proofs.TurnsOfRuns.{takes-or}
 same-realm : (s : State) → KeepsRealm s s
 same-realm s = (keeps-same s).2
 
-then-realm : (s t u : State) → KeepsRealm s t → KeepsRealm t u → KeepsRealm s u
-then-realm s t u first second c e = by (first c e)
-  where
-    by : (d : Challenge) × (t.held ≡ Some d) × (d.realm ≡ c.realm) × (d.algorithm ≡ c.algorithm) → (d : Challenge) × (u.held ≡ Some d) × (d.realm ≡ c.realm) × (d.algorithm ≡ c.algorithm)
-    by (d, f, r, a) = let (d', f', r', a') = second d f in (d', f', r' ∙ r, a' ∙ a)
+pub then-realm : (s t u : State) → KeepsRealm s t → KeepsRealm t u → KeepsRealm s u
+then-realm s t u first second c e = let (d, f, r, a) = first c e in let (d', f', r', a') = second d f in (d', f', r' ∙ r, a' ∙ a)
 
 differs-realm : (s t : State) → DiffersInStreams s t → KeepsRealm s t
 differs-realm s t differs c e = (c, ap (λ (x : State). x.held) differs.others ∙ e, refl, refl)
@@ -86,15 +82,11 @@ lead-turn (other ∷ later) s t (first, lead) one (inr there) =
 -- ---- a run
 
 call-turn : (call : Call) (s : State) (one : Input) → Has one (handled call s) → Stays s (state_after call s) one
-call-turn call s one there = by (takes-or call)
+call-turn call s one there = elim (takes-or call) [ inl takes ↦ does (calls-do call s takes) | inr none ↦ absurd (rw (none s) at there) ]
   where
     does : ProcessesInputs call s → Stays s (state_after call s) one
     does (inl lead) = lead-turn (handled call s) s (state_after call s) lead one there
     does (inr end) = absurd (rw end.nothing at there)
-
-    by : TakesInput call ⊎ ((u : State) → handled call u ≡ []) → Stays s (state_after call s) one
-    by (inl takes) = does (calls-do call s takes)
-    by (inr none) = absurd (rw (none s) at there)
 
 behind-realm : (s : State) (calls : List Call) → KeepsRealm s (state_after_all s calls)
 behind-realm s [] = same-realm s

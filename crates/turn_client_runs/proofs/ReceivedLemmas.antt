@@ -1,5 +1,5 @@
 -- What the streams of a client hold was received by `recv`.
-use Rattle.std.proofs.Common.{◌≡◌, ◌⊎◌, ◌∙◌, ◌++◌, ℕ, zero, suc, Bool, true, false, cond, List, [], ◌∷◌, map, filter, Option, Some, None, refl, sym, subst, ap, inl, inr}
+use Rattle.std.proofs.Common.{◌≡◌, ◌∙◌, ◌++◌, ℕ, zero, suc, Bool, true, false, cond, List, [], ◌∷◌, map, filter, Option, Some, None, refl, sym, subst, ap, inl, inr}
 use Rattle.std.specs.Prelude.{drop, find, is_some, take}
 use Rattle.std.specs.declared.net.socket_addr.SocketAddr.{SocketAddr}
 use Rattle.turn_types.specs.Frames.{begins_no_frame, frame_len}
@@ -37,10 +37,9 @@ module _ (Known : SocketAddr → List ℕ → Type 0) (none : (a : SocketAddr) �
   all-others a xs all x there differ = all x there
 
   mapped-known : (f : Stream → Stream) (xs : List Stream) → ((x : Stream) → Has x xs → Known (f x).local (f x).bytes) → AllKnown (map f xs)
-  mapped-known f xs each y there = by (has-mapped f y xs there)
-    where
-      by : (x : Stream) × Has x xs × (y ≡ f x) → Known y.local y.bytes
-      by (x, before, e) = subst (λ (z : Stream). Known z.local z.bytes) (sym e) (each x before)
+  mapped-known f xs each y there =
+      let (x, before, e) = has-mapped f y xs there in
+      subst (λ (z : Stream). Known z.local z.bytes) (sym e) (each x before)
 
   pub bytes-known : (a : SocketAddr) (bytes : List ℕ) (s : State) → Known a bytes → OthersKnown a s.streams → AllKnown (with_bytes a bytes s).streams
   unfolding bytes_by
@@ -121,11 +120,7 @@ module _ (Known : SocketAddr → List ℕ → Type 0) (none : (a : SocketAddr) �
   one-turn one stream of is x (inr absent) other e = absurd absent
 
   joined-turns : (xs ys : List Input) → KnownTurns xs → KnownTurns ys → KnownTurns (xs ++ ys)
-  joined-turns xs ys k l one there = by (has-append one xs ys there)
-    where
-      by : Has one xs ⊎ Has one ys → KnownTurn one
-      by (inl h) = k one h
-      by (inr h) = l one h
+  joined-turns xs ys k l one there = elim (has-append one xs ys there) [ inl h ↦ k one h | inr h ↦ l one h ]
 
   len-turns : (is_lent : Bool) (stream : Stream) (now : ℕ) (t : State) → Known stream.local stream.bytes → (o : Option ℕ) → KnownTurns (taken_of_len is_lent stream now t o)
   len-turns is_lent stream now t is None = no-turns
@@ -219,9 +214,8 @@ module _ (Known : SocketAddr → List ℕ → Type 0) (none : (a : SocketAddr) �
 
   -- a data connection is opened
   pub opened-known : (a : SocketAddr) (s : State) → AllKnown s.streams → AllKnown (with_stream a s).streams
-  opened-known a s all x there = by (has-append x (without_stream a s).streams _ there)
-    where
-      by : Has x (without_stream a s).streams ⊎ Has x (record { local = a; mode = Waiting; bytes = [] } ∷ []) → Known x.local x.bytes
-      by (inl here) = filter-known _ s.streams all x here
-      by (inr (inl e)) = subst (λ (z : Stream). Known z.local z.bytes) (sym e) (none a)
-      by (inr (inr absent)) = absurd absent
+  opened-known a s all x there = elim (has-append x (without_stream a s).streams _ there) [
+    | inl here ↦ filter-known _ s.streams all x here
+    | inr (inl e) ↦ subst (λ (z : Stream). Known z.local z.bytes) (sym e) (none a)
+    | inr (inr absent) ↦ absurd absent
+  ]

@@ -139,10 +139,7 @@ module _ (all more : SocketAddr → List ℕ) where
       where
         only : (one : Input) → Has one (record { stream = None; bytes = packet.payload; is_lent = true; time = now; before = s } ∷ []) → (stream : Stream) → one.stream ≡ Some stream
             → Ends more stream.local stream.bytes
-        only one (inl e) stream of = absurd (no_stream (sym (ap (λ (x : Input). x.stream) e) ∙ of))
-          where
-            no_stream : None ≡ Some stream → ⊥
-            no_stream h = cc
+        only one (inl e) stream of = cc (sym (ap (λ (x : Input). x.stream) e) ∙ of)
         only one (inr absent) stream of = absurd absent
 
         by : (m f : Bool) → Held more (cond {A = Outcome × State} m (message_step packet.payload now s) (cond {A = Outcome × State} f (channel_sent s packet.payload, s) (Ignored, s))).1.streams

@@ -63,10 +63,9 @@ same message now s t e = still message now s t (rw e (adds-same Never s.listed))
 -- the listings of a request that is made for one purpose
 relisted : (message : List ℕ) (now : ℕ) (s t : State) (purpose : Purpose) → IsMade purpose now s t → (some : List Purpose) → ((p : Purpose) → Has p some → IsRetriedFor message s purpose p)
     → (l : Listing) → Has l (listings (fresh_id s) some) → IsRelisted message now s t l
-relisted message now s t purpose made some each l there = by (has-mapped (λ (p : Purpose). record { id = fresh_id s; purpose = p }) l some there)
-  where
-    by : (p : Purpose) × Has p some × (l ≡ record { id = fresh_id s; purpose = p }) → IsRelisted message now s t l
-    by (p, h, e) = rw e (purpose, made, refl, each p h)
+relisted message now s t purpose made some each l there =
+    let (p, h, e) = has-mapped (λ (p : Purpose). record { id = fresh_id s; purpose = p }) l some there in
+    rw e (purpose, made, refl, each p h)
 
 alone : (message : List ℕ) (s : State) (purpose p : Purpose) → Has p (purpose ∷ []) → IsRetriedFor message s purpose p
 alone message s purpose p (inl e) = inl e

@@ -15,7 +15,6 @@ use Rattle.turn_client_api.specs.Steps.{state_after, state_after_all}
 use Rattle.turn_client_api.specs.declared.call.Call.{Call}
 use Rattle.turn_client_laws.proofs.AcceptedReplyLemmas.{accepted-gone, accepted-outstanding, bind-ended, bind-outstanding}
 use Rattle.turn_client_laws.proofs.BoundLemmas.{found-local}
-use Rattle.turn_client_laws.proofs.HasLemmas.{Has}
 use Rattle.turn_client_laws.proofs.NewIdCallLemmas.{draws-IsBringing, leaves-draws}
 use Rattle.turn_client_laws.proofs.TurnBringLemmas.{IsBrought, lead-brings}
 use Rattle.turn_client_laws.proofs.TurnLemmas.{brought}
@@ -85,7 +84,7 @@ module _ (id : ℕ) where
   -- an ID that is outstanding was so before, or a call makes a request under it
   pub made-in : (s : State) (calls : List Call) → is_outstanding id (state_after_all s calls).transactions ≡ true → (is_outstanding id s.transactions ≡ true) ⊎ IsMadeIn id s calls
   made-in s [] h = inl h
-  made-in s (call ∷ calls) h = by (made-in (state_after call s) calls h)
+  made-in s (call ∷ calls) h = elim (made-in (state_after call s) calls h) [ inl out ↦ first (is_out s) refl out | inr made ↦ inr (inr made) ]
     where
       draws : is_out s ≡ false → IsDrawn call id s ⊎ (is_out s ≡ true) → IsDrawn call id s
       draws free (inl drawn) = drawn
@@ -95,26 +94,21 @@ module _ (id : ℕ) where
       first true e out = inl e
       first false e out = inr (inl (record { drawn = draws e (leaves-draws id call s (state_after call s) (inl refl) out); free = e; made = out }))
 
-      by : (is_out (state_after call s) ≡ true) ⊎ IsMadeIn id (state_after call s) calls → (is_out s ≡ true) ⊎ IsMadeIn id s (call ∷ calls)
-      by (inl out) = first (is_out s) refl out
-      by (inr made) = inr (inr made)
-
   abbrev Draws : Input → Type 0
   Draws one = (is_message one.bytes ≡ true) × (id ≡ fresh_id one.before)
 
   -- so do the inputs of a call
   lead-makes : (turns : List Input) (s t : State) → InputsLead turns s t → is_out t ≡ true → (is_out s ≡ true) ⊎ IsMadeAmong id turns
-  lead-makes turns s t lead h = by (lead-brings (λ u. is_out u ≡ true) (Anew is_out Draws drawing) (bringing-anew is_out Draws drawing) turns s t lead h)
+  lead-makes turns s t lead h = elim (lead-brings (λ u. is_out u ≡ true) (Anew is_out Draws drawing) (bringing-anew is_out Draws drawing) turns s t lead h) [
+    | inl was ↦ inl was
+    | inr (one, there, did) ↦ inr (has-among (InputMakesRequest id) turns (one, there, makes one did))
+  ]
     where
       drawing : IsBrought (λ u. is_out u ≡ true) Draws
       drawing = brought (λ u. is_out u ≡ true) (λ message now u. id ≡ fresh_id u) (draws-IsBringing id)
 
       makes : (one : Input) → Anew is_out Draws drawing one → InputMakesRequest id one
       makes one (did, free, made) = record { whole = did.0; drawn = did.1; free = free; made = made }
-
-      by : (is_out s ≡ true) ⊎ ((one : Input) × Has one turns × Anew is_out Draws drawing one) → (is_out s ≡ true) ⊎ IsMadeAmong id turns
-      by (inl was) = inl was
-      by (inr (one, there, did)) = inr (has-among (InputMakesRequest id) turns (one, there, makes one did))
 
 pub reply-again : (s : State) (call : Call) (calls : List Call) (one : Input) → IsReplyInput one → IsMadeSince s call calls one
 reply-again s call calls one reply front later e awaited = by (made-in id (state_after call s) calls awaited)
@@ -142,7 +136,10 @@ second-out one other (first, second, same) =
     subst (λ (id : ℕ). is_outstanding id other.before.transactions ≡ true) (sym same) (reply-ends other second).0
 
 pub made-between : (s : State) (call : Call) → IsMadeBetween s call
-made-between s call one other front between rest replies e = by (lead-makes id between (processed one).1 other.before lead (second-out one other replies))
+made-between s call one other front between rest replies e = elim (lead-makes id between (processed one).1 other.before lead (second-out one other replies)) [
+  | inl out ↦ absurd (unlike (sym out ∙ (reply-ends one replies.0).1))
+  | inr made ↦ made
+]
   where
     id : ℕ
     id = id_of one.bytes
@@ -153,12 +150,11 @@ made-between s call one other front between rest replies e = by (lead-makes id b
     lead : InputsLead between (processed one).1 other.before
     lead = leads-to between rest other (processed one).1 (state_after call s) (leads-from front (between ++ other ∷ rest) one s (state_after call s) all)
 
-    by : IsAwaited one.bytes (processed one).1 ⊎ IsMadeAmong id between → IsMadeAmong id between
-    by (inl out) = absurd (unlike (sym out ∙ (reply-ends one replies.0).1))
-    by (inr made) = made
-
 pub made-until : (s : State) (call : Call) (calls : List Call) (last : Call) → IsMadeUntil s call calls last
-made-until s call calls last one other front later before rest replies e f = by (lead-makes id before u other.before lead (second-out one other replies))
+made-until s call calls last one other front later before rest replies e f = elim (lead-makes id before u other.before lead (second-out one other replies)) [
+  | inl out ↦ elim (reply-again s call calls one replies.0 front later e out) [ inl made ↦ inl made | inr made ↦ inr (inl made) ]
+  | inr made ↦ inr (inr made)
+]
   where
     id : ℕ
     id = id_of one.bytes
@@ -171,11 +167,3 @@ made-until s call calls last one other front later before rest replies e f = by 
 
     Goal : Type 0
     Goal = IsMadeAmong id later ⊎ IsMadeIn id (state_after call s) calls ⊎ IsMadeAmong id before
-
-    earlier : IsMadeAmong id later ⊎ IsMadeIn id (state_after call s) calls → Goal
-    earlier (inl made) = inl made
-    earlier (inr made) = inr (inl made)
-
-    by : IsAwaited one.bytes u ⊎ IsMadeAmong id before → Goal
-    by (inl out) = earlier (reply-again s call calls one replies.0 front later e out)
-    by (inr made) = inr (inr made)

@@ -14,12 +14,12 @@ use Rattle.turn_client_api.specs.declared.grant.Grant.TheVariants.{Allocation, P
 use Rattle.turn_client_api.specs.declared.grant.Relay.{Relay}
 use Rattle.turn_client_api.specs.declared.grant.Progress.TheVariants.{Pending, Active, Reserved}
 use Rattle.turn_client_api.specs.declared.grant.Purpose.{Purpose}
-use Rattle.turn_client_api.specs.declared.grant.Purpose.TheVariants.{ForAllocation, ForRefresh, ForPermission, ForChannel, ForConnect, ForBind}
+use Rattle.turn_client_api.specs.declared.grant.Purpose.TheVariants.{ForAllocation, ForRefresh, ForPermission, ForChannel}
 use Rattle.turn_client_api.specs.Calls.{delete_step}
 use Rattle.turn_client_api.specs.Grants.{purposes_of}
 use Rattle.turn_client_laws.specs.Handled.{Input, handled}
 use Rattle.turn_client_laws.specs.LawsAllocates.{AllocatesInOrder}
-use Rattle.turn_client_laws.specs.LawsGranted.{HasChannelTo, IsSameGrant, IsActiveGrant, WasActive}
+use Rattle.turn_client_laws.specs.LawsGranted.{HasChannelTo, IsActiveGrant, WasActive}
 use Rattle.turn_client_laws.specs.LawsHandled.{IsDoneBy}
 use Rattle.turn_client_laws.specs.LawsGone.{GivesBack}
 use Rattle.turn_client_laws.specs.LawsNumbers.{HasDistinctNumbers}
@@ -28,7 +28,7 @@ use Rattle.turn_client_laws.specs.LawsStates.{HasGrantsAsked}
 use Rattle.turn_client_api.specs.Steps.{state_after, state_after_all}
 use Rattle.turn_client_laws.proofs.AllocateFamilies.{initial-AllocatesInOrder, leaves-AllocatesInOrder}
 use Rattle.turn_client_laws.proofs.DistinctNumbers.{initial-numbers, leaves-apart}
-use Rattle.turn_client_laws.proofs.HasLemmas.{Has, has-right}
+use Rattle.turn_client_laws.proofs.HasLemmas.{Has}
 use Rattle.turn_client_laws.proofs.ListedGrants.{initial-HasGrantsAsked, leaves-HasGrantsAsked}
 use Rattle.turn_client_laws.proofs.SendOrderLemmas.{initial-steady, leaves-steadies}
 use Rattle.turn_client_laws.proofs.StandLemmas.{contains-has, covers-has, covers-stood}
@@ -36,9 +36,9 @@ use Rattle.turn_client_runs.specs.Granted.{GrantsAddress, HasReply, IsAllocated,
 use Rattle.turn_client_runs.proofs.AskedFamilies.{asks-family, turns-signed}
 use Rattle.turn_client_runs.proofs.AskedLemmas.{was-asked}
 use Rattle.turn_client_runs.proofs.AskedPeers.{HasAskedPeers, turns-ask-peers}
-use Rattle.turn_client_runs.proofs.CallGrants.{IsCaused, IsEndedBy, call-causes, delete-accepted, same-allocation}
+use Rattle.turn_client_runs.proofs.CallGrants.{IsEndedBy, call-causes, delete-accepted, same-allocation}
 use Rattle.turn_client_runs.proofs.ComingLemmas.{turns-come}
-use Rattle.turn_client_runs.proofs.GrantTurns.{Granting, IsGivenAt}
+use Rattle.turn_client_runs.proofs.GrantTurns.{Granting, IsGivenAt, kept-alike}
 use Rattle.turn_client_runs.proofs.ReceivedRuns.{HoldNothing, turns-received}
 use Rattle.turn_client_runs.proofs.RunLemmas.{IsDoneLast, run-did}
 use Rattle.turn_client_runs.proofs.SignedCalls.{call-signs}
@@ -56,12 +56,7 @@ module _ (one : Input) where
   given-in (Allocation a) (ForRefresh family lifetime) stands peers h = h
   given-in (Permission other (Active expiry)) (ForPermission ip) stands peers h = h
   given-in (Channel other to (Active expiry)) (ForChannel number peer) stands peers h = (h.0, peers number peer to refl (subst (λ (n : ℕ). HasChannelTo n to one.before) h.0 h.2), h.1)
-  given-in (Connection c) ForAllocation stands peers h = h
-  given-in (Connection c) (ForRefresh family lifetime) stands peers h = h
-  given-in (Connection c) (ForPermission ip) stands peers h = h
-  given-in (Connection c) (ForChannel number peer) stands peers h = h
-  given-in (Connection c) (ForConnect peer) stands peers h = h
-  given-in (Connection c) (ForBind local peer id) stands peers h = h
+  given-in (Connection c) p stands peers h = h
   given-in (Permission other Pending) p stands peers h = absurd stands
   given-in (Permission other (Reserved until)) p stands peers h = absurd stands
   given-in (Channel other to Pending) p stands peers h = absurd stands
@@ -121,29 +116,26 @@ same-time : (n m : ℕ) → Delete n ≡ Delete m → n ≡ m
 same-time n m e = cc
 
 call-grants : (g : Grant) → IsActiveGrant g → (call : Call) (s : State) → Keeps s → WasActive (state_after call s) g → WasActive s g ⊎ Causes g call s
-call-grants g stands call s keeps stood = by (call-causes g call s stood)
+call-grants g stands call s keeps stood = elim (call-causes g call s stood) [
+  | inl was ↦ inl was
+  | inr (inl ended) ↦ let (a, now, what, how, ends, was) = ended in deleted now how ended (delete-accepted now s)
+  | inr (inr done) ↦ inr (inr (granted-in g call s stands keeps done))
+]
   where
     deleted : (now : ℕ) → call ≡ Delete now → IsEndedBy call s g → ((delete_step now s).0 ≡ Ok tt) ⊎ ((delete_step now s).1 ≡ s) → WasActive s g ⊎ Causes g call s
     deleted now how ended (inl accepted) = inr (inl (ended, λ other e. subst (λ (n : ℕ). (delete_step n s).0 ≡ Ok tt) (same-time now other (sym how ∙ e)) accepted))
     deleted now how ended (inr same) = inl (subst (λ (t : State). WasActive t g) (ap (λ (c : Call). state_after c s) how ∙ same) stood)
-
-    by : WasActive s g ⊎ IsCaused g call s → WasActive s g ⊎ Causes g call s
-    by (inl was) = inl was
-    by (inr (inl ended)) = let (a, now, what, how, ends, was) = ended in deleted now how ended (delete-accepted now s)
-    by (inr (inr done)) = inr (inr (granted-in g call s stands keeps done))
 
 -- the address of an allocation
 call-allocates : (relayed : SocketAddr) (call : Call) (s : State) → Keeps s → IsRelayed relayed (state_after call s) → IsRelayed relayed s ⊎ IsDoneFor (GrantsAddress relayed) call s
 call-allocates relayed call s keeps (a, there, e) = by (call-grants (Allocation a) tt call s keeps (Allocation a, there, (refl, refl)))
   where
     by : WasActive s (Allocation a) ⊎ Causes (Allocation a) call s → IsRelayed relayed s ⊎ IsDoneFor (GrantsAddress relayed) call s
-    by (inl (was, before, kept)) = inl (stood was before kept)
-      where
-        stood : (was : Grant) → Contains s.grants was → IsSameGrant was (Allocation a) → IsRelayed relayed s
-        stood (Allocation b) before (same, ends) = (b, before, same ∙ e)
-        stood (Permission ip Pending) before k = absurd k
-        stood (Channel number peer Pending) before k = absurd k
-        stood was before k = absurd k
+    by (inl (was, before, kept)) = elim (kept-alike was (Allocation a) kept) [
+      | inl (b, c, named, to, same, ends) ↦
+          inl (b, subst (Contains s.grants) named before, same ∙ (ap (λ (x : Relay). x.relayed) (same-allocation c a (sym to)) ∙ e))
+      | inr is ↦ inl (a, subst (Contains s.grants) is before, e)
+    ]
     by (inr (inl ((b, now, what, how, ends, (was, before, same)), accepted))) =
         inl (was, before, same ∙ (ap (λ (x : Relay). x.relayed) (same-allocation b a (sym what)) ∙ e))
     by (inr (inr (one, among, (p, is)))) = inr (one, among, (p, (a, is, e)))
@@ -153,10 +145,7 @@ call-allocates relayed call s keeps (a, there, e) = by (call-grants (Allocation 
 -- what is in a list has a place in it
 has-cut : {X : Type 0} (x : X) (xs : List X) → Has x xs → (front back : List X) × (xs ≡ front ++ x ∷ back)
 has-cut x (y ∷ xs) (inl e) = ([], xs, rw e refl)
-has-cut {X} x (y ∷ xs) (inr there) = by (has-cut x xs there)
-  where
-    by : (front back : List X) × (xs ≡ front ++ x ∷ back) → (front back : List X) × (y ∷ xs ≡ front ++ x ∷ back)
-    by (front, back, e) = (y ∷ front, back, ap (λ (l : List X). y ∷ l) e)
+has-cut {X} x (y ∷ xs) (inr there) = let (front, back, e) = has-cut x xs there in (y ∷ front, back, ap (λ (l : List X). y ∷ l) e)
 has-cut x [] none = absurd none
 
 -- it answers a request for this, which deletes nothing
@@ -166,12 +155,8 @@ AnswersFor Did = (p : Purpose) (one : Input) → Did p one → Contains (purpose
 -- what is granted is granted for a request that deletes nothing
 no-return : (one : Input) (g : Grant) (p : Purpose) → IsGivenIn one p g → GivesBack p → ⊥
 no-return one (Allocation a) (ForRefresh family lifetime) (least, same, told) back = absurd (omega (arith, least, back))
-no-return one g ForAllocation given back = back
-no-return one g (ForPermission ip) given back = back
-no-return one g (ForChannel number peer) given back = back
-no-return one g (ForConnect peer) given back = back
-no-return one g (ForBind local peer id) given back = back
 no-return one g (ForRefresh family lifetime) given back = given
+no-return one g p given back = back
 
 granting-answers : (g : Grant) → AnswersFor (IsGranting g)
 granting-answers g p one is = (is.listed, no-return one g p is.given)
@@ -181,16 +166,12 @@ address-answers relayed p one (a, is, e) = granting-answers (Allocation a) p one
 
 module _ (first : State) (unlisted : first.listed ≡ []) (hold : HoldNothing first) (calls : List Call) where
   answered-in : (Did : Purpose → Input → Type 0) → AnswersFor Did → (P : State → Type 0) → IsDoneLast (IsDoneFor Did) P calls first → IsAnsweredIn Did P calls first
-  answered-in Did answers P is = by is.did
-    where
-      s : State
-      s = state_after_all first is.earlier
-
-      among : (one : Input) (front back : List Input) → handled is.call s ≡ front ++ one ∷ back → Has one (handled is.call s)
-      among one front back e = subst (Has one) (sym e) (has-right one front (one ∷ back) (inl refl))
-
-      cut : (one : Input) (p : Purpose) → Did p one → (front back : List Input) × (handled is.call s ≡ front ++ one ∷ back) → IsAnsweredIn Did P calls first
-      cut one p did (front, back, e) = record {
+  answered-in Did answers P is =
+      let (one, there, why) = is.did in
+      let (p, did) = why in
+      let here = contains-has one (handled is.call (state_after_all first is.earlier)) there in
+      let (front, back, e) = has-cut one (handled is.call (state_after_all first is.earlier)) here in
+      record {
         earlier = is.earlier;
         call = is.call;
         later = is.later;
@@ -199,16 +180,13 @@ module _ (first : State) (unlisted : first.listed ≡ []) (hold : HoldNothing fi
         input = one;
         back = back;
         cut = e;
-        comes = turns-come is.call s one (among one front back e);
-        received = turns-received is.earlier is.call first hold one (among one front back e);
+        comes = turns-come is.call (state_after_all first is.earlier) one here;
+        received = turns-received is.earlier is.call first hold one here;
         purpose = p;
         did = did;
         asked = was-asked is.earlier is.call is.later first unlisted front one back e p (answers p one did).1 (answers p one did).0;
         holds = is.holds;
       }
-
-      by : IsDoneFor Did is.call s → IsAnsweredIn Did P calls first
-      by (one, among, (p, did)) = cut one p did (has-cut one (handled is.call s) (contains-has one (handled is.call s) among))
 
 module _ (first : State) (empty : first.grants ≡ []) (unlisted : first.listed ≡ []) (hold : HoldNothing first) (keeps : Keeps first) where
   nothing : (g : Grant) → Contains first.grants g → ⊥
@@ -253,18 +231,13 @@ module _ (first : State) (empty : first.grants ≡ []) (unlisted : first.listed 
       (covers-has (state_after_all first calls).grants g (contains-has g (state_after_all first calls).grants there) stands)))
     where
       turned : (h : Grant) (is : IsDoneLast (Causes h) (λ s. WasActive s h) calls first) → ((a : Relay) → h ≡ Allocation a → ⊥) → IsGranted h calls first
-      turned h is other = at is.did
-        where
-          at : Causes h is.call (state_after_all first is.earlier) → IsGranted h calls first
-          at (inl end) = absurd (no-end h is.call (state_after_all first is.earlier) other end)
-          at (inr done) = run-turned h calls is done
+      turned h is other = elim is.did [
+        | inl end ↦ absurd (no-end h is.call (state_after_all first is.earlier) other end)
+        | inr done ↦ run-turned h calls is done
+      ]
 
       by : (h : Grant) → IsDoneLast (Causes h) (λ s. WasActive s h) calls first → HasReply h calls first
-      by (Allocation a) is = at is.did
-        where
-          at : Causes (Allocation a) is.call (state_after_all first is.earlier) → HasReply (Allocation a) calls first
-          at (inl end) = inr (run-gave a calls is end)
-          at (inr done) = inl (run-turned (Allocation a) calls is done)
+      by (Allocation a) is = elim is.did [ inl end ↦ inr (run-gave a calls is end) | inr done ↦ inl (run-turned (Allocation a) calls is done) ]
       by h is = turned h is (λ a e. cc)
 
 pub first-hold : (transport : TransportType) (local remote : SocketAddr) (config : Config) (seed : List ℕ) → HoldNothing (initial transport local remote config seed)

@@ -41,8 +41,4 @@ module _ (P : State → Type 0) (Did : Call → State → Type 0) (Inv : State �
 
   -- if it does not hold at first
   pub run-did : (calls : List Call) (first : State) → Inv first → (P first → ⊥) → P (state_after_all first calls) → IsDoneLast Did P calls first
-  run-did calls first inv none h = by (run-does calls first inv h)
-    where
-      by : HoldsThrough P calls first ⊎ IsDoneLast Did P calls first → IsDoneLast Did P calls first
-      by (inl holds) = absurd (none (holds-first calls first holds))
-      by (inr is) = is
+  run-did calls first inv none h = elim (run-does calls first inv h) [ inl holds ↦ absurd (none (holds-first calls first holds)) | inr is ↦ is ]

@@ -1,10 +1,8 @@
 -- Once the first challenge is answered, and until the allocation, all that is outstanding is a signed
 -- ALLOCATE: calls keep that.
 use Rattle.std.proofs.Common.{◌≡◌, ◌⊎◌, ◌≤◌, ◌∙◌, ℕ, Bool, true, false, cond, ◌&&◌, [], Option, None, inl, inr, refl, sym, subst, ap, arith}
-use Rattle.std.specs.List.{Contains}
 use Rattle.std.specs.Net.Socket.{socket_ip}
 use Rattle.std.specs.declared.net.ip_addr.IpAddr.{IpAddr}
-use Rattle.std.specs.declared.net.socket_addr.SocketAddr.{SocketAddr}
 use Rattle.turn_stun.specs.declared.transport.TransportType.{TransportType}
 use Rattle.turn_stun.specs.declared.transport.TransportType.TheVariants.{Tcp}
 use Rattle.turn_agent.specs.declared.transaction.Transaction.{Transaction}
@@ -15,10 +13,9 @@ use Rattle.turn_client_api.specs.declared.call.Call.TheVariants.{RelayedAddresse
 use Rattle.turn_client_api.specs.declared.grant.Relay.{Relay}
 use Rattle.turn_client_api.specs.declared.grant.Purpose.{Purpose}
 use Rattle.turn_client_api.specs.declared.grant.Purpose.TheVariants.{ForAllocation}
-use Rattle.turn_client_api.specs.declared.poll.Socket5Tuple.{Socket5Tuple}
 use Rattle.turn_client_api.specs.declared.state.Phase.{Phase}
 use Rattle.turn_client_api.specs.declared.state.Phase.TheVariants.{New, Requesting, Authenticating, Allocated, Closed}
-use Rattle.turn_client_api.specs.Calls.{allocated_tcp_socket_step, bind_channel_step, create_permission_step, delete_step, is_allocated, is_control, tcp_connect_step}
+use Rattle.turn_client_api.specs.Calls.{is_allocated, is_control}
 use Rattle.turn_client_api.specs.Grants.{find_allocation_to, same_transport}
 use Rattle.turn_client_laws.specs.LawsAllocates.{AllocatesInOrder}
 use Rattle.turn_client_laws.specs.LawsOrder.{FitsPhase, IsUngranted}
@@ -57,24 +54,6 @@ no-allocation transport ip s e = rw e (none (same_transport transport s.config.a
 -- so that before it nothing changes
 abbrev IsIdle : Call → State → Type 0
 IsIdle call s = IsUngranted s.phase → s.grants ≡ [] → state_after call s ≡ s
-
-idle-delete : (now : ℕ) (s : State) → IsIdle (Delete now) s
-idle-delete now s u empty = let is : (delete_step now s).1 ≡ s = rw (unallocated s.phase u) refl in is
-
-idle-permission : (transport : TransportType) (ip : IpAddr) (now : ℕ) (s : State) → IsIdle (CreatePermission transport ip now) s
-idle-permission transport ip now s u empty = let is : (create_permission_step transport ip now s).1 ≡ s = rw (no-allocation transport ip s empty) refl in is
-
-idle-channel : (transport : TransportType) (peer : SocketAddr) (now : ℕ) (s : State) → IsIdle (BindChannel transport peer now) s
-idle-channel transport peer now s u empty = let is : (bind_channel_step transport peer now s).1 ≡ s = rw (no-allocation transport (socket_ip peer) s empty) refl in is
-
-idle-connect : (peer : SocketAddr) (now : ℕ) (s : State) → IsIdle (TcpConnect peer now) s
-idle-connect peer now s u empty = let is : (tcp_connect_step peer now s).1 ≡ s = rw (no-allocation Tcp (socket_ip peer) s empty) refl in is
-
-idle-socket : (id : ℕ) (tuple : Socket5Tuple) (peer : SocketAddr) (local : Option SocketAddr) (now : ℕ) (s : State) → IsIdle (AllocatedTcpSocket id tuple peer local now) s
-idle-socket id tuple peer local now s u empty =
-    let none = and-false (same_transport s.config.allocation_transport Tcp && is_control tuple s) in
-    let is : (allocated_tcp_socket_step id tuple peer local now s).1 ≡ s = rw (unallocated s.phase u, none) refl in
-    is
 
 idle-signs : (call : Call) (s : State) → IsIdle call s → FitsPhase s → Signs s → Signs (state_after call s)
 idle-signs call s idle steady h = by s.phase refl
@@ -132,11 +111,10 @@ module _ (call : Call) (s : State) (quiet : IsQuiet call) (asks : AsksSo call s)
   awaits = quiet-walk Awaits Awaits-KeepsEdits call s quiet
 
   source : (x : Transaction) → Has x t.transactions → Asks s x
-  source x there = of (requests-made call s t x (inl refl) (has-contains x t.transactions there))
-    where
-      of : Contains s.transactions x ⊎ IsRequestOf call s x → Asks s x
-      of (inl old) = inl (x, contains-has x s.transactions old, refl, refl)
-      of (inr is) = asks x is
+  source x there = elim (requests-made call s t x (inl refl) (has-contains x t.transactions there)) [
+    | inl old ↦ inl (x, contains-has x s.transactions old, refl, refl)
+    | inr is ↦ asks x is
+  ]
 
   in_phase : (p : Phase) → s.phase ≡ p → SignsIn p s.config s.held s.transactions
   in_phase p e = subst (λ (q : Phase). SignsIn q s.config s.held s.transactions) e h
@@ -200,11 +178,16 @@ asks-nothing call s x again never (inr (purpose, at, asks, made)) = absurd (neve
 pub call-signs : (call : Call) (s : State) → AllocatesInOrder s → FitsPhase s → Signs s → Signs (state_after call s)
 call-signs (Recv packet now) s order steady h = (recv-kept StaySigned StaySigned-IsKept packet.transport packet.from packet.to packet.payload now s (order, h)).1
 call-signs (PollRecv now) s order steady h = (poll_recv-kept StaySigned StaySigned-IsKept now s (order, h)).1
-call-signs (Delete now) s order steady h = idle-signs (Delete now) s (idle-delete now s) steady h
-call-signs (CreatePermission transport ip now) s order steady h = idle-signs (CreatePermission transport ip now) s (idle-permission transport ip now s) steady h
-call-signs (BindChannel transport peer now) s order steady h = idle-signs (BindChannel transport peer now) s (idle-channel transport peer now s) steady h
-call-signs (TcpConnect peer now) s order steady h = idle-signs (TcpConnect peer now) s (idle-connect peer now s) steady h
-call-signs (AllocatedTcpSocket id tuple peer local now) s order steady h = idle-signs (AllocatedTcpSocket id tuple peer local now) s (idle-socket id tuple peer local now s) steady h
+call-signs (Delete now) s order steady h = idle-signs (Delete now) s (λ u empty. rw (unallocated s.phase u, state_after) refl) steady h
+call-signs (CreatePermission transport ip now) s order steady h =
+    idle-signs (CreatePermission transport ip now) s (λ u empty. rw (no-allocation transport ip s empty, state_after) refl) steady h
+call-signs (BindChannel transport peer now) s order steady h =
+    idle-signs (BindChannel transport peer now) s (λ u empty. rw (no-allocation transport (socket_ip peer) s empty, state_after) refl) steady h
+call-signs (TcpConnect peer now) s order steady h =
+    idle-signs (TcpConnect peer now) s (λ u empty. rw (no-allocation Tcp (socket_ip peer) s empty, state_after) refl) steady h
+call-signs (AllocatedTcpSocket id tuple peer local now) s order steady h =
+    let none = and-false (same_transport s.config.allocation_transport Tcp && is_control tuple s) in
+    idle-signs (AllocatedTcpSocket id tuple peer local now) s (λ u empty. rw (unallocated s.phase u, none, state_after) refl) steady h
 call-signs (PollTransmit now) s order steady h = quiet-signs (PollTransmit now) s tt (transmit-asks now s) steady h
 call-signs RelayedAddresses s order steady h = h
 call-signs (Permissions transport relayed) s order steady h = h

@@ -24,7 +24,7 @@ use Rattle.turn_client_laws.specs.LawsRequests.{IsMadeAgain, IsMadeAs}
 use Rattle.turn_client_laws.specs.LawsSteps.{rank}
 use Rattle.turn_client_api.specs.Payloads.{challenge_step, message_step, wrong_step}
 use Rattle.turn_client_api.specs.Receive.{connection_gone}
-use Rattle.turn_client_api.specs.Requests.{first_allocate, fresh_id, request_for}
+use Rattle.turn_client_api.specs.Requests.{fresh_id, request_for}
 use Rattle.turn_client_api.specs.Retry.{phase_after, retried, state_after_retry, with_held}
 use Rattle.turn_client_laws.proofs.AllocateFamilies.{StayInOrder, StayInOrder-KeepsAllEdits, in_order-stated, stated-in_order}
 use Rattle.turn_client_laws.proofs.EditsOfMessages.{edits-IsKept, purposes-listed, retried-has}
@@ -138,14 +138,13 @@ signed-as t config held purpose id x same realm is named spelled =
 
 made-signed : (purpose : Purpose) (now : ℕ) (s t : State) (x : Transaction) → purpose ≡ ForAllocation → IsMadeAs purpose now s t x → t.phase ≡ Authenticating → IsSome t.held
     → IsSignedAllocate t.config t.held x
-made-signed purpose now s t x is (made, e) phase held = by made.spelled
+made-signed purpose now s t x is (made, e) phase held = elim made.spelled [
+  | inl text ↦ signed-as t t.config t.held purpose (fresh_id s) x refl (own-realm t.held held) is named (ap (λ (y : Transaction). y.request) e ∙ text)
+  | inr (first, begins, text) ↦ let no : Requesting ≡ Authenticating = sym begins ∙ phase in cc
+]
   where
     named : x.id ≡ fresh_id s
     named = ap (λ (y : Transaction). y.id) e
-
-    by : (made.text ≡ request_for t purpose (fresh_id s)) ⊎ ((purpose ≡ ForAllocation) × (t.phase ≡ Requesting) × (made.text ≡ first_allocate t (fresh_id s))) → IsSignedAllocate t.config t.held x
-    by (inl text) = signed-as t t.config t.held purpose (fresh_id s) x refl (own-realm t.held held) is named (ap (λ (y : Transaction). y.request) e ∙ text)
-    by (inr (first, begins, text)) = let no : Requesting ≡ Authenticating = sym begins ∙ phase in cc
 
 -- ---- messages
 
@@ -166,11 +165,7 @@ module _ (message : List ℕ) (now : ℕ) (s : State) (order : AllocatesInOrder 
           (for-allocation (id_of message) s purpose order (rw e tt) (contains-has purpose (purposes_of (id_of message) s) answers)) made phase held
 
       each : (x : Transaction) → Has x t.transactions → t.phase ≡ Authenticating → IsSome t.held → AreSigned t.config t.held s.transactions → IsSignedAllocate t.config t.held x
-      each x there phase held signed = by ((message-turns message now s).0 x there)
-        where
-          by : Has x s.transactions ⊎ IsMadeAgain message now s t x → IsSignedAllocate t.config t.held x
-          by (inl old) = signed x old
-          by (inr made) = again x made phase held
+      each x there phase held signed = elim ((message-turns message now s).0 x there) [ inl old ↦ signed x old | inr made ↦ again x made phase held ]
 
   -- the first one ends as it is made again, and then nothing else is outstanding
   retried-signs : (id : ℕ) (purpose : Purpose) (d : Challenge) (u : State) → IsOfOneId s.transactions → is_outstanding id s.transactions ≡ true → purpose ≡ ForAllocation → u.config ≡ s.config

@@ -1,5 +1,5 @@
 -- The stream at a local address, and those at others.
-use Rattle.std.proofs.Common.{◌≡◌, ◌⊎◌, ℕ, Bool, true, false, cond, List, [], ◌∷◌, map, find, Option, Some, None, refl, ap, sym, subst, ◌∙◌, inl, inr}
+use Rattle.std.proofs.Common.{◌≡◌, ℕ, Bool, true, false, cond, List, [], ◌∷◌, map, find, Option, Some, None, refl, ap, sym, subst, ◌∙◌, inl, inr}
 use Rattle.std.specs.List.{IsDistinct}
 use Rattle.std.specs.Option.{option_map}
 use Rattle.std.specs.declared.net.socket_addr.SocketAddr.{SocketAddr}
@@ -24,11 +24,7 @@ none-false p (y ∷ ys) e x there = by (p y) refl (none-false p ys)
   where
     by : (b : Bool) → p y ≡ b → (find p ys ≡ None → (x : _) → Has x ys → p x ≡ false) → p x ≡ false
     by true f later = let clash : Some y ≡ None = rw f at e in cc
-    by false f later = now there
-      where
-        now : (x ≡ y) ⊎ Has x ys → p x ≡ false
-        now (inl same) = rw same f
-        now (inr more) = later (rw f at e) x more
+    by false f later = elim there [ inl same ↦ rw same f | inr more ↦ later (rw f at e) x more ]
 
 -- a change that keeps local addresses finds the same stream, changed
 pub find-mapped : (a : SocketAddr) (f : Stream → Stream) → ((x : Stream) → (f x).local ≡ x.local) → (xs : List Stream)

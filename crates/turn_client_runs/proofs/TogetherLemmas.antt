@@ -1,18 +1,16 @@
 -- What the listings of one ID are for: one request, a channel and the permission requested with it, or
 -- allocations that are deleted.
-use Rattle.std.proofs.Common.{◌≡◌, ◌⊎◌, ◌∙◌, ℕ, true, false, eqb, List, [], ◌∷◌, Some, None, inl, inr, refl, sym, subst}
+use Rattle.std.proofs.Common.{◌≡◌, ◌⊎◌, ◌∙◌, ℕ, true, false, eqb, List, [], ◌∷◌, Some, inl, inr, refl, sym, subst}
 use Rattle.std.specs.List.{Contains, list_any}
 use Rattle.std.proofs.lemmas.Bool.{eq-eqb, or_parts}
 use Rattle.turn_stun.specs.Message.{id_of}
 use Rattle.turn_agent.specs.Agent.{is_outstanding}
 use Rattle.turn_client_api.specs.State.{State}
 use Rattle.turn_client_api.specs.declared.call.Call.{Call}
-use Rattle.turn_client_api.specs.declared.call.Call.TheVariants.{Delete, CreatePermission, BindChannel, TcpConnect, AllocatedTcpSocket, TcpClosed, SendTo, Recv, PollRecv, Poll, PollTransmit}
-use Rattle.turn_client_api.specs.declared.call.Call.TheVariants.{PollEvent, ProtocolError, RelayedAddresses, Permissions, HavePermission}
+use Rattle.turn_client_api.specs.declared.call.Call.TheVariants.{Delete, CreatePermission, BindChannel, TcpConnect, AllocatedTcpSocket, Recv, PollRecv, PollTransmit}
 use Rattle.turn_client_api.specs.declared.grant.Listing.{Listing}
 use Rattle.turn_client_api.specs.declared.grant.Purpose.{Purpose}
 use Rattle.turn_client_api.specs.declared.grant.Purpose.TheVariants.{ForRefresh, ForPermission, ForChannel}
-use Rattle.turn_client_api.specs.declared.state.Phase.TheVariants.{New, Allocated}
 use Rattle.turn_client_api.specs.Grants.{is_of_request, purposes_of}
 use Rattle.turn_client_laws.specs.Handled.{Input, handled, processed}
 use Rattle.turn_client_laws.specs.LawsGone.{GivesBack}
@@ -70,30 +68,11 @@ asks-one (BindChannel transport peer now) s p q at then (is, (number, free, e)) 
     by same = cc
 asks-one (TcpConnect peer now) s p q at then (is, e) (was, f) = inl (e ∙ sym f)
 asks-one (AllocatedTcpSocket id tuple peer (Some local) now) s p q at then (is, e) (was, f) = inl (e ∙ sym f)
-asks-one (AllocatedTcpSocket id tuple peer None now) s p q at then none asks = absurd none
 asks-one (PollTransmit now) s p q at then (is, inl (new, e)) (was, inl (also, f)) = inl (e ∙ sym f)
-asks-one (PollTransmit now) s p q at then (is, inr (there, e)) (was, inr (also, f)) = inl (by (sym e ∙ f))
-  where
-    by : Some p ≡ Some q → p ≡ q
-    by same = cc
-asks-one (PollTransmit now) s p q at then (is, inl (new, e)) (was, inr (there, f)) = absurd (unlike (sym new ∙ there))
-  where
-    unlike : New ≡ Allocated → ⊥
-    unlike same = cc
-asks-one (PollTransmit now) s p q at then (is, inr (there, e)) (was, inl (new, f)) = absurd (unlike (sym new ∙ there))
-  where
-    unlike : New ≡ Allocated → ⊥
-    unlike same = cc
-asks-one (Recv packet now) s p q at then none asks = absurd none
-asks-one (PollRecv now) s p q at then none asks = absurd none
-asks-one (TcpClosed local remote now) s p q at then none asks = absurd none
-asks-one (SendTo transport peer bytes now) s p q at then none asks = absurd none
-asks-one (Poll now) s p q at then none asks = absurd none
-asks-one PollEvent s p q at then none asks = absurd none
-asks-one RelayedAddresses s p q at then none asks = absurd none
-asks-one (Permissions transport relayed) s p q at then none asks = absurd none
-asks-one (HavePermission transport to) s p q at then none asks = absurd none
-asks-one ProtocolError s p q at then none asks = absurd none
+asks-one (PollTransmit now) s p q at then (is, inr (there, e)) (was, inr (also, f)) = inl (cc (sym e ∙ f))
+asks-one (PollTransmit now) s p q at then (is, inl (new, e)) (was, inr (there, f)) = cc (sym new ∙ there)
+asks-one (PollTransmit now) s p q at then (is, inr (there, e)) (was, inl (new, f)) = cc (sym new ∙ there)
+asks-one call s p q at then none asks = absurd none
 
 -- the call made a request of its own, which is listed so
 abbrev pub IsListingHere : Call → State → Listing → Type 0
@@ -182,19 +161,14 @@ module _ (call : Call) (s : State) where
       (λ l there. by l (listings-made call s (state_after call s) l (inl refl) (has-contains l (state_after call s).listed there))) h
     where
       with : (l other : Listing) → IsListingHere call s l → IsListingHere call s other → Together l.purpose other.purpose
-      with l other (p, at, asks, for, made) (q, then, also, too, again) = of (asks-one call s p q at then asks also)
-        where
-          of : Same p q → Together l.purpose other.purpose
-          of (inl e) = listed-with q l.purpose other.purpose (subst (λ (x : Purpose). IsListedFor x l.purpose) e for) too
-          of (inr (back, away)) = inr (inr (back-listed p l.purpose back for, back-listed q other.purpose away too))
+      with l other (p, at, asks, for, made) (q, then, also, too, again) = elim (asks-one call s p q at then asks also) [
+        | inl e ↦ listed-with q l.purpose other.purpose (subst (λ (x : Purpose). IsListedFor x l.purpose) e for) too
+        | inr (back, away) ↦ inr (inr (back-listed p l.purpose back for, back-listed q other.purpose away too))
+      ]
 
       by : (l : Listing) → Contains s.listed l ⊎ IsListingOf call s l → Has l s.listed ⊎ ((l.id ≡ fresh_id s) × IsListingHere call s l)
       by l (inl old) = inl (contains-has l s.listed old)
       by l (inr is) = let (p, at, asks, for, made) = own l is in inr (made.1, own l is)
 
   pub call-together : AreTogether s → AreTogether (state_after call s)
-  call-together h = by (listing-here call s)
-    where
-      by : TakesInput call ⊎ ((l : Listing) → IsListingOf call s l → IsListingHere call s l) → AreTogether (state_after call s)
-      by (inl takes) = does-together (calls-do call s takes) h
-      by (inr own) = here-together own h
+  call-together h = elim (listing-here call s) [ inl takes ↦ does-together (calls-do call s takes) h | inr own ↦ here-together own h ]

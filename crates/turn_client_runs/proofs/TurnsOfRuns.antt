@@ -47,15 +47,14 @@ none-front (y ∷ front) later x e = cc
 
 -- if a call processes something, its inputs lead to the state after it
 pub handled-leads : (call : Call) (s : State) (front later : List Input) (one : Input) → handled call s ≡ front ++ one ∷ later → InputsLead (front ++ one ∷ later) s (state_after call s)
-handled-leads call s front later one e = by (takes-or call)
+handled-leads call s front later one e = elim (takes-or call) [
+  | inl takes ↦ does (calls-do call s takes)
+  | inr none ↦ absurd (none-front front later one (sym (none s) ∙ e))
+]
   where
     does : ProcessesInputs call s → InputsLead (front ++ one ∷ later) s (state_after call s)
     does (inl lead) = subst (λ (turns : List Input). InputsLead turns s (state_after call s)) e lead
     does (inr end) = absurd (none-front front later one (sym end.nothing ∙ e))
-
-    by : TakesInput call ⊎ ((u : State) → handled call u ≡ []) → InputsLead (front ++ one ∷ later) s (state_after call s)
-    by (inl takes) = does (calls-do call s takes)
-    by (inr none) = absurd (none-front front later one (sym (none s) ∙ e))
 
 -- the inputs before one of them, and those after it
 pub leads-to : (front later : List Input) (one : Input) (s t : State) → InputsLead (front ++ one ∷ later) s t → InputsLead front s one.before
@@ -72,18 +71,13 @@ leads-from (other ∷ front) later one s t (first, lead) = leads-from front late
 module _ (P : State → Type 0) (Did : Input → Type 0) (each : (call : Call) (s : State) → P (state_after call s) → P s ⊎ IsDoneBy Did call s) where
   pub run-brings : (s : State) (calls : List Call) → P (state_after_all s calls) → P s ⊎ IsAmong Did (handled_in s calls)
   run-brings s [] h = inl h
-  run-brings s (call ∷ calls) h = by (run-brings (state_after call s) calls h)
+  run-brings s (call ∷ calls) h = elim (run-brings (state_after call s) calls h) [
+    | inl there ↦ elim (each call s there) [ inl there ↦ inl there | inr did ↦ inr (among-left Did (handled call s) more did) ]
+    | inr among ↦ inr (among-right Did (handled call s) more among)
+  ]
     where
       more : List Input
       more = handled_in (state_after call s) calls
-
-      first : P s ⊎ IsDoneBy Did call s → P s ⊎ IsAmong Did (handled call s ++ more)
-      first (inl there) = inl there
-      first (inr did) = inr (among-left Did (handled call s) more did)
-
-      by : P (state_after call s) ⊎ IsAmong Did more → P s ⊎ IsAmong Did (handled call s ++ more)
-      by (inl there) = first (each call s there)
-      by (inr among) = inr (among-right Did (handled call s) more among)
 
 -- ---- one input of a run
 
