@@ -14,7 +14,7 @@ use Rattle.turn_client_api.specs.Grants.{purposes_of}
 use Rattle.turn_client_laws.specs.Handled.{Input, handled, processed}
 use Rattle.turn_client_laws.specs.LawsGone.{GivesBack}
 use Rattle.turn_client_laws.specs.LawsHandled.{DiffersInStreams, ProcessesInputs, InputsLead}
-use Rattle.turn_client_laws.specs.LawsRequests.{IsListedFor, IsListingOf}
+use Rattle.turn_client_laws.specs.LawsRequests.{IsListedFor}
 use Rattle.turn_client_api.specs.Retry.{first_or, is_allocate_or_connect, is_channel_bind, is_create_permission, is_refresh, retried}
 use Rattle.turn_client_api.specs.Steps.{state_after, state_after_all}
 use Rattle.turn_client_laws.proofs.Edits.{listing}
@@ -28,7 +28,7 @@ use Rattle.turn_client_laws.proofs.TwoPurposes.{purpose-with}
 use Rattle.turn_client_runs.specs.Granted.{IsAskedInCall, IsRequestedByInput, WasAsked, WasAskedBefore}
 use Rattle.turn_client_runs.proofs.QuietLemmas.{calls-keep}
 use Rattle.turn_client_runs.proofs.RelistLemmas.{IsRetriedFor, turn-relists}
-use Rattle.turn_client_runs.proofs.TogetherLemmas.{AreTogether, IsListingHere, Together, call-together, differs-together, first-together, listing-here}
+use Rattle.turn_client_runs.proofs.TogetherLemmas.{AreTogether, Together, call-together, differs-together, first-together, listing-here}
 use Rattle.turn_client_runs.proofs.TurnsOfRuns.{handled-leads}
 
 -- ---- the first in order
@@ -138,16 +138,12 @@ module _ (l : Listing) (wanted : GivesBack l.purpose → ⊥) where
     call-asks : Contains (state_after call s).listed l → Contains s.listed l ⊎ IsAskedInCall l.id l.purpose call s
     call-asks there = elim (listing-here call s) [
       | inl takes ↦ turned (gone-listed (calls-do call s takes) (contains-has l (state_after call s).listed there))
-      | inr own ↦ itself own (listings-made call s (state_after call s) l (inl refl) there)
+      | inr own ↦ elim (listings-made call s (state_after call s) l (inl refl) there) [ inl old ↦ inl old | inr is ↦ inr (inl (own l is)) ]
     ]
       where
         turned : Has l s.listed ⊎ AmongTurns (handled call s) → Contains s.listed l ⊎ IsAskedInCall l.id l.purpose call s
         turned (inl old) = inl (has-contains l s.listed old)
         turned (inr (one, among, asked)) = inr (inr (one, has-contains one (handled call s) among, asked))
-
-        itself : ((x : Listing) → IsListingOf call s x → IsListingHere call s x) → Contains s.listed l ⊎ IsListingOf call s l → Contains s.listed l ⊎ IsAskedInCall l.id l.purpose call s
-        itself own (inl old) = inl old
-        itself own (inr is) = inr (inl (own l is))
 
   -- ---- a run
 

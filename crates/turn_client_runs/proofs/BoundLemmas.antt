@@ -102,13 +102,12 @@ module _ (P : State → Type 0) (Did : Input → Type 0) (k : IsBrought P Did) (
       made : (processed one).1 ≡ t
       made = waiting-made stream.local one (rw of (mode, refl)) whole
 
-      did : IsNotAwaited one.bytes t → P one.before ⊎ Did one → P one.before ⊎ Ends one
-      did ended (inl there) = inl there
-      did ended (inr does) = inr (does, subst (λ (u : State). IsNotAwaited one.bytes u) (sym made) ended)
-
       bound : (t ≡ one.before) ⊎ IsNotAwaited one.bytes t → P one.before ⊎ Ends one
       bound (inl same) = inl (subst P same h)
-      bound (inr ended) = did ended (k.binds one stream of mode whole h)
+      bound (inr ended) = elim (k.binds one stream of mode whole h) [
+        | inl there ↦ inl there
+        | inr does ↦ inr (does, subst (λ (u : State). IsNotAwaited one.bytes u) (sym made) ended)
+      ]
 
   pub bringing-ends : IsBrought P (λ one. Did one × HasTransactionEnded one)
   bringing-ends = record {

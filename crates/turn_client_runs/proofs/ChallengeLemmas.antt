@@ -1,11 +1,13 @@
 -- Challenges in a run.
-use Rattle.std.proofs.Common.{◌≡◌, ◌⊎◌, ◌∙◌, ◌<◌, ◌≤◌, ◌+◌, ltb, ℕ, Bool, true, false, List, [], ◌∷◌, ◌++◌, inl, inr, refl, sym, subst, ap, arith}
-use Rattle.std.proofs.lemmas.Bool.{ltb-true, ltb-false}
+use Rattle.std.proofs.Common.{◌≡◌, ◌⊎◌, ◌∙◌, ◌<◌, ◌≤◌, ◌+◌, Bool, true, false, List, [], ◌∷◌, ◌++◌, inl, inr, refl, sym, subst, ap, arith}
+use Rattle.std.proofs.lemmas.Bool.{cases_lt, ltb-true}
+use Rattle.std.proofs.lemmas.List.{length-append}
+use Rattle.std.proofs.lemmas.List.Elements.{filter-append}
 use Rattle.turn_client_api.specs.Config.{Config}
 use Rattle.turn_client_api.specs.State.{State}
 use Rattle.turn_client_api.specs.Payloads.{Outcome, is_message}
 use Rattle.turn_client_laws.specs.Handled.{Input, handled, processed}
-use Rattle.turn_client_laws.specs.LawsHandled.{ProcessesInputs, InputsLead}
+use Rattle.turn_client_laws.specs.LawsHandled.{InputsLead}
 use Rattle.turn_client_laws.specs.LawsReplies.{IsReplyAccepted}
 use Rattle.turn_client_laws.specs.LawsStates.{HoldsAtFirst, StaysInCalls}
 use Rattle.turn_client_laws.specs.LawsSteps.{IsChallengeCounted, KeepsRealm}
@@ -15,7 +17,6 @@ use Rattle.turn_client_laws.proofs.ConfiguredLemmas.{leaves-configured}
 use Rattle.turn_client_laws.proofs.CountLemmas.{bringing, leaves-heeded}
 use Rattle.turn_client_laws.proofs.PhasesGoOn.{challenge-IsCounted, leaves-keeps}
 use Rattle.turn_client_laws.proofs.TurnBringLemmas.{turn-brings}
-use Rattle.turn_client_laws.proofs.TurnChainLemmas.{calls-do}
 use Rattle.turn_client_laws.proofs.TurnLemmas.{brought}
 use Rattle.turn_client_runs.specs.Challenges.{CountsIt, IsChallengeInput, IsReplyAcceptedAmong, IsWithinChallengeLimit, answers_in, is_answer}
 use Rattle.turn_client_runs.specs.Holds.{Reaches}
@@ -23,7 +24,7 @@ use Rattle.turn_client_runs.specs.Inputs.{IsAmong, handled_in}
 use Rattle.turn_client_runs.proofs.HoldLemmas.{kept-behind}
 use Rattle.turn_client_runs.proofs.MadeLemmas.{control-made}
 use Rattle.turn_client_runs.proofs.RealmLemmas.{then-realm}
-use Rattle.turn_client_runs.proofs.TurnsOfRuns.{among-first, among-later, among-left, among-none, among-right, takes-or}
+use Rattle.turn_client_runs.proofs.TurnsOfRuns.{among-first, among-later, among-left, among-none, among-right, leads-or}
 
 -- ---- what is held
 
@@ -54,22 +55,15 @@ IsWellHeeded one = (is_message one.bytes ≡ true) × IsReplyAccepted one.bytes 
 
 -- an input makes the count no less, or is accepted
 turn-grows : (one : Input) → (one.before.challenges ≤ (processed one).1.challenges) ⊎ IsHeededIn one
-turn-grows one = by (ltb (processed one).1.challenges n) refl
-  where
-    n : ℕ
-    n = one.before.challenges
-
-    Fewer : State → Type 0
-    Fewer s = s.challenges < n
-
-    did : (processed one).1.challenges < n → Fewer one.before ⊎ IsWellHeeded one → (n ≤ (processed one).1.challenges) ⊎ IsHeededIn one
-    did fewer (inl less) = absurd (omega (arith, less))
-    did fewer (inr heeded) = inr (fewer, heeded.0, heeded.1)
-
-    by : (b : Bool) → ltb (processed one).1.challenges n ≡ b → (n ≤ (processed one).1.challenges) ⊎ IsHeededIn one
-    by true e = let fewer = ltb-true (processed one).1.challenges n e in did fewer
-        (turn-brings (λ s. s.challenges < n) IsWellHeeded (brought (λ s. s.challenges < n) IsReplyAccepted (bringing n)) one fewer)
-    by false e = inl (ltb-false (processed one).1.challenges n e)
+turn-grows one =
+    let n = one.before.challenges in
+    elim (cases_lt (processed one).1.challenges n) [
+      | inl fewer ↦ elim (turn-brings (λ s. s.challenges < n) IsWellHeeded (brought (λ s. s.challenges < n) IsReplyAccepted (bringing n)) one fewer) [
+        | inl less ↦ absurd (omega (arith, less))
+        | inr heeded ↦ inr (fewer, heeded.0, heeded.1)
+      ]
+      | inr more ↦ inl more
+    ]
 
 -- the count grows by each answer, or one of these inputs is accepted
 abbrev Counts : State → State → List Input → Type 0
@@ -94,27 +88,19 @@ lead-counts (one ∷ later) s t (first, lead) = by (lead-counts later (processed
 
 -- a call that processes nothing
 idle-counts : (call : Call) (s : State) → handled call s ≡ [] → Counts s (state_after call s) (handled call s)
-idle-counts call s none = by (ltb (state_after call s).challenges s.challenges) refl
-  where
-    by : (b : Bool) → ltb (state_after call s).challenges s.challenges ≡ b → Counts s (state_after call s) (handled call s)
-    by true e = absurd (among-none IsWellHeeded (subst (λ (turns : List Input). IsAmong IsWellHeeded turns) none
-        (leaves-heeded call s (state_after call s) (inl refl) (ltb-true (state_after call s).challenges s.challenges e))))
-    by false e = rw none (inl (let less = ltb-false (state_after call s).challenges s.challenges e in omega (arith, less)))
+idle-counts call s none = elim (cases_lt (state_after call s).challenges s.challenges) [
+  | inl less ↦ absurd (among-none IsWellHeeded (subst (IsAmong IsWellHeeded) none (leaves-heeded call s (state_after call s) (inl refl) less)))
+  | inr more ↦ rw none (inl (omega (arith, more)))
+]
 
 call-counts : (call : Call) (s : State) → Counts s (state_after call s) (handled call s)
-call-counts call s = elim (takes-or call) [ inl takes ↦ does (calls-do call s takes) | inr none ↦ idle-counts call s (none s) ]
-  where
-    does : ProcessesInputs call s → Counts s (state_after call s) (handled call s)
-    does (inl lead) = lead-counts (handled call s) s (state_after call s) lead
-    does (inr end) = idle-counts call s end.nothing
+call-counts call s = elim (leads-or call s) [
+  | inl lead ↦ lead-counts (handled call s) s (state_after call s) lead
+  | inr nothing ↦ idle-counts call s nothing
+]
 
 answers-append : (turns more : List Input) → answers_in (turns ++ more) ≡ answers_in turns + answers_in more
-answers-append [] more = omega arith
-answers-append (one ∷ turns) more = by (is_answer one) refl (answers-append turns more)
-  where
-    by : (b : Bool) → is_answer one ≡ b → answers_in (turns ++ more) ≡ answers_in turns + answers_in more → answers_in (one ∷ turns ++ more) ≡ answers_in (one ∷ turns) + answers_in more
-    by true e more_of = rw e (omega (arith, more_of))
-    by false e more_of = rw e more_of
+answers-append turns more = simp (filter-append, length-append) refl
 
 run-counts : (s : State) (calls : List Call) → Counts s (state_after_all s calls) (handled_in s calls)
 run-counts s [] = inl (omega arith)

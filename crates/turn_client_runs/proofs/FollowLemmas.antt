@@ -1,5 +1,6 @@
 -- What a frame leaves of its own stream, and what of its payload counts.
 use Rattle.std.proofs.Common.{◌≡◌, ℕ, Bool, true, false, not, cond, List, length, find, flat_map, Option, Some, None, refl, ap, sym, subst, ◌∙◌, inl, inr}
+use Rattle.std.proofs.lemmas.Bool.{cases_Bool}
 use Rattle.std.specs.Option.{option_map}
 use Rattle.std.specs.declared.net.socket_addr.SocketAddr.{SocketAddr}
 use Rattle.turn_types.specs.Frames.{begins_message, begins_no_frame, frame_len}
@@ -100,11 +101,10 @@ abbrev mode_by : SocketAddr → Mode → Stream → Stream
 mode_by local mode x = cond (same_address x.local local) (record x { mode = mode }) x
 
 mode-local : (local : SocketAddr) (mode : Mode) (x : Stream) → (mode_by local mode x).local ≡ x.local
-mode-local local mode x = by (same_address x.local local)
-  where
-    by : (b : Bool) → (cond b (record x { mode = mode }) x).local ≡ x.local
-    by true = refl
-    by false = refl
+mode-local local mode x = elim (same_address x.local local) as (λ b. (cond b (record x { mode = mode }) x).local ≡ x.local) [
+  | true ↦ refl
+  | false ↦ refl
+]
 
 rebound-there : (a : SocketAddr) (stream : Stream) (s t : State) → Rebound s t → stream_at a s ≡ Some (record stream { mode = Waiting }) → IsThere false a t
 rebound-there a stream s t (inl same) e = record {
@@ -113,17 +113,16 @@ rebound-there a stream s t (inl same) e = record {
   unbroken = λ f. cc;
   suits = tt;
 }
-rebound-there a stream s t (inr (local, peer, is)) e = by (same_address stream.local local) refl
+rebound-there a stream s t (inr (local, peer, is)) e = elim (cases_Bool (same_address stream.local local)) [
+  | inl f ↦ record { stream = record stream { mode = Bound peer }; found = mapped ∙ rw f refl; unbroken = λ g. cc; suits = tt }
+  | inr f ↦ record { stream = record stream { mode = Waiting }; found = mapped ∙ rw f refl; unbroken = λ g. cc; suits = tt }
+]
   where
     mapped : stream_at a t ≡ Some (mode_by local (Bound peer) (record stream { mode = Waiting }))
     mapped =
         ap (λ (xs : List Stream). find (λ x. same_address x.local a) xs) is
         ∙ (find-mapped a (mode_by local (Bound peer)) (mode-local local (Bound peer)) s.streams
         ∙ ap (option_map (mode_by local (Bound peer))) e)
-
-    by : (b : Bool) → same_address stream.local local ≡ b → IsThere false a t
-    by true f = record { stream = record stream { mode = Bound peer }; found = mapped ∙ rw f refl; unbroken = λ g. cc; suits = tt }
-    by false f = record { stream = record stream { mode = Waiting }; found = mapped ∙ rw f refl; unbroken = λ g. cc; suits = tt }
 
 pub waiting-framed : IsFramed false Waiting
 waiting-framed = record {

@@ -1,5 +1,5 @@
 -- What is held after a run was set by the first challenge that was answered.
-use Rattle.std.proofs.Common.{◌≡◌, ◌⊎◌, ◌∙◌, ltb, ℕ, Bool, true, false, cond, List, ◌∷◌, Option, Some, None, refl, sym, subst, ap, inl, inr}
+use Rattle.std.proofs.Common.{◌≡◌, ◌⊎◌, ◌∙◌, ltb, ℕ, Bool, true, false, cond, List, Option, Some, None, refl, sym, subst, ap, inl, inr}
 use Rattle.std.specs.Prelude.{IsSome, is_some, ⊤}
 use Rattle.std.specs.declared.net.socket_addr.SocketAddr.{SocketAddr}
 use Rattle.std.proofs.lemmas.Option.{same_Some}
@@ -8,7 +8,7 @@ use Rattle.turn_stun.specs.declared.transport.TransportType.{TransportType}
 use Rattle.turn_auth.specs.LongTerm.{Challenge}
 use Rattle.turn_client_api.specs.Config.{Config}
 use Rattle.turn_client_api.specs.State.{State, initial}
-use Rattle.turn_client_api.specs.Grants.{is_connection_from, purposes_of, without_grants}
+use Rattle.turn_client_api.specs.Grants.{purposes_of}
 use Rattle.turn_client_api.specs.Judgement.{Judgement, Unrelated, Challenged, Fatal, answers_one}
 use Rattle.turn_client_api.specs.Judgement.{challenge_in, challenged_or, judgement_of}
 use Rattle.turn_client_api.specs.Effect.{closed, transaction_ended, fail_all}
@@ -26,6 +26,7 @@ use Rattle.turn_client_api.specs.declared.grant.Purpose.{Purpose}
 use Rattle.turn_client_api.specs.declared.state.Phase.{Phase}
 use Rattle.turn_client_api.specs.declared.state.Phase.TheVariants.{Requesting, Authenticating, Allocated, Closed}
 use Rattle.turn_client_laws.proofs.Edits.{KeepsEdits}
+use Rattle.turn_client_laws.proofs.MoveLemmas.{on_test}
 use Rattle.turn_client_laws.proofs.PhaseEdits.{phase-edits}
 use Rattle.turn_client_laws.proofs.EditsOfCalls.{delete-walk, quiet-walk, tcp_socket-walk}
 use Rattle.turn_client_laws.proofs.TurnBringLemmas.{IsBrought, leaves-bring}
@@ -39,11 +40,15 @@ use Rattle.turn_client_runs.proofs.TurnsOfRuns.{run-brings}
 abbrev IsLate : State → Type 0
 IsLate s = IsSome s.held ⊎ (s.phase ≡ Authenticating) ⊎ (s.phase ≡ Allocated)
 
--- this does not hold for a client that has ended with nothing held
+-- in any other phase something is held
+late-held : (s : State) → IsLate s → (s.phase ≡ Authenticating → ⊥) → (s.phase ≡ Allocated → ⊥) → IsSome s.held
+late-held s (inl some) other further = some
+late-held s (inr (inl e)) other further = absurd (other e)
+late-held s (inr (inr e)) other further = absurd (further e)
+
+-- not so for a client that has ended with nothing held
 ended-early : (u : State) → u.held ≡ None → IsLate (closed (fail_all u)) → ⊥
-ended-early u none (inl some) = let no : is_some u.held ≡ true = some in let never : false ≡ true = rw none at no in cc
-ended-early u none (inr (inl e)) = cc
-ended-early u none (inr (inr e)) = cc
+ended-early u none h = let no : IsSome u.held = late-held (closed (fail_all u)) h (λ e. cc) (λ e. cc) in let never : false ≡ true = rw none at no in cc
 
 -- ---- a message
 
@@ -123,16 +128,10 @@ bind-late local message now s = by s.phase refl
     by p phase h = same (rw phase refl) h
 
 gone-late : (local : SocketAddr) (s : State) → IsLate (connection_gone local s) → IsLate s
-gone-late local s = by (is_some (connection_at local s))
-  where
-    by : (b : Bool) → IsLate (cond b (record (without_grants (is_connection_from local) s) { closes = local ∷ s.closes }) s) → IsLate s
-    by true h = h
-    by false h = h
+gone-late local s = on_test (λ t. IsLate t → IsLate s) (is_some (connection_at local s)) _ s (λ h. h) (λ h. h)
 
 closed-late : (s : State) → IsLate (closed s) → IsLate s
-closed-late s (inl some) = inl some
-closed-late s (inr (inl e)) = cc
-closed-late s (inr (inr e)) = cc
+closed-late s h = inl (late-held (closed s) h (λ e. cc) (λ e. cc))
 
 abbrev IsFirst : Input → Type 0
 IsFirst one = (d : Challenge) × IsFirstAnswer d one
@@ -168,14 +167,10 @@ Back : State → State → Type 0
 Back s t = IsLate t → IsLate s
 
 begins-late : (t : State) (s : State) → t.held ≡ s.held → t.phase ≡ Requesting → IsLate t → IsLate s
-begins-late t s same phase (inl some) = inl (subst (λ (o : Option Challenge). IsSome o) same some)
-begins-late t s same phase (inr (inl e)) = let no : Requesting ≡ Authenticating = sym phase ∙ e in cc
-begins-late t s same phase (inr (inr e)) = let no : Requesting ≡ Allocated = sym phase ∙ e in cc
+begins-late t s same phase h = inl (subst (λ (o : Option Challenge). IsSome o) same (late-held t h (λ e. cc (sym phase ∙ e)) (λ e. cc (sym phase ∙ e))))
 
 ends-late : (s : State) → IsLate (record s { phase = Closed }) → IsLate s
-ends-late s (inl some) = inl some
-ends-late s (inr (inl e)) = cc
-ends-late s (inr (inr e)) = cc
+ends-late s h = inl (late-held (record s { phase = Closed }) h (λ e. cc) (λ e. cc))
 
 Back-KeepsEdits : KeepsEdits Back
 unfolding Back
@@ -208,9 +203,8 @@ each call s h = elim (leaves-bring IsLate IsFirst bringing (λ call s. ⊥) othe
 -- ---- a run
 
 initial-early : (transport : TransportType) (local remote : SocketAddr) (config : Config) (seed : List ℕ) → IsLate (initial transport local remote config seed) → ⊥
-initial-early transport local remote config seed (inl some) = let no : false ≡ true = some in cc
-initial-early transport local remote config seed (inr (inl e)) = cc
-initial-early transport local remote config seed (inr (inr e)) = cc
+initial-early transport local remote config seed h =
+    let no : false ≡ true = late-held (initial transport local remote config seed) h (λ e. cc) (λ e. cc) in cc
 
 pub held-from : (transport : TransportType) (local remote : SocketAddr) (config : Config) (seed : List ℕ) (calls : List Call) → HeldFromChallenge (initial transport local remote config seed) calls
 held-from transport local remote config seed calls c e = elim (run-brings IsLate IsFirst each first calls (inl (rw e refl))) [

@@ -10,7 +10,6 @@ use Rattle.turn_types.specs.Streams as T
 use Rattle.turn_types.proofs.CutLemmas.{drained-append}
 use Rattle.turn_types.proofs.FrameLemmas.{size_in-IsPrefixCut}
 use Rattle.turn_client_api.specs.State.{State}
-use Rattle.turn_client_api.specs.declared.state.Mode.{Mode}
 use Rattle.turn_client_api.specs.declared.state.Mode.TheVariants.{Control}
 use Rattle.turn_client_api.specs.declared.state.Stream.{Stream}
 use Rattle.turn_client_api.specs.Payloads.{Payload}
@@ -24,11 +23,7 @@ use Rattle.turn_client_runs.proofs.QuietLemmas.{fed-quiet}
 
 suits-first : (o : Option Stream) → Suits (is_control_stream o) o
 suits-first None = tt
-suits-first (Some stream) = by stream.mode
-  where
-    by : (m : Mode) → SuitsMode (is_control_stream (Some (record stream { mode = m }))) m
-    by Control = tt
-    by m = tt
+suits-first (Some stream) = elim stream.mode as (λ m. SuitsMode (is_control_stream (Some (record stream { mode = m }))) m) [ Control ↦ tt | m ↦ tt ]
 
 module _ (a : SocketAddr) (now : ℕ) where
   -- the pieces return what these bytes return, where payloads count so

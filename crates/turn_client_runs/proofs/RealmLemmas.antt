@@ -1,5 +1,5 @@
 -- Realm and algorithm stay, from input to input too.
-use Rattle.std.proofs.Common.{◌⊎◌, Bool, true, false, not, cond, List, [], ◌∷◌, Option, Some, None, refl, ap, ◌∙◌, inl, inr}
+use Rattle.std.proofs.Common.{◌⊎◌, Bool, true, false, not, cond, List, [], ◌∷◌, Some, None, refl, ap, ◌∙◌, inl, inr}
 use Rattle.std.specs.List.{Contains}
 use Rattle.turn_types.specs.Frames.{begins_message}
 use Rattle.turn_client_api.specs.State.{State}
@@ -10,15 +10,14 @@ use Rattle.turn_client_api.specs.declared.call.Call.{Call}
 use Rattle.turn_client_api.specs.Connections.{bind_step}
 use Rattle.turn_client_api.specs.Payloads.{Outcome, Handled, Ignored, channel_sent, is_channel_frame, is_message, message_step}
 use Rattle.turn_client_laws.specs.Handled.{Input, handled, processed}
-use Rattle.turn_client_laws.specs.LawsHandled.{DiffersInStreams, ProcessesInputs, InputsLead}
+use Rattle.turn_client_laws.specs.LawsHandled.{DiffersInStreams, InputsLead}
 use Rattle.turn_client_laws.specs.LawsSteps.{KeepsRealm}
 use Rattle.turn_client_api.specs.Steps.{state_after, state_after_all}
 use Rattle.turn_client_laws.proofs.HasLemmas.{Has, has-append}
 use Rattle.turn_client_laws.proofs.PhasesGoOn.{bind-keeps, call-keeps, keeps-same, message-keeps}
 use Rattle.turn_client_laws.proofs.StandLemmas.{contains-has}
-use Rattle.turn_client_laws.proofs.TurnChainLemmas.{calls-do}
 use Rattle.turn_client_runs.specs.Inputs.{handled_in}
-use Rattle.turn_client_runs.proofs.TurnsOfRuns.{takes-or}
+use Rattle.turn_client_runs.proofs.TurnsOfRuns.{leads-or}
 
 same-realm : (s : State) → KeepsRealm s s
 same-realm s = (keeps-same s).2
@@ -47,17 +46,16 @@ turn_in_mode Waiting one stream = by (not (begins_message one.bytes)) (is_messag
 turn_in_mode m one stream = same-realm one.before
 
 turn-realm : (one : Input) → KeepsRealm one.before (processed one).1
-turn-realm one = by one.stream
+turn-realm one = elim one.stream as (λ o. KeepsRealm one.before (processed (record one { stream = o })).1) [
+  | None ↦ datagram (is_message one.bytes) (is_channel_frame one.bytes)
+  | Some stream ↦ turn_in_mode stream.mode one stream
+]
   where
     datagram : (b c : Bool) → KeepsRealm one.before (cond {A = Outcome × State} b (message_step one.bytes one.time one.before)
         (cond {A = Outcome × State} c (channel_sent one.before one.bytes, one.before) (Ignored, one.before))).1
     datagram true c = (message-keeps one.bytes one.time one.before).2
     datagram false true = same-realm one.before
     datagram false false = same-realm one.before
-
-    by : (o : Option Stream) → KeepsRealm one.before (processed (record one { stream = o })).1
-    by None = datagram (is_message one.bytes) (is_channel_frame one.bytes)
-    by (Some stream) = turn_in_mode stream.mode one stream
 
 -- ---- inputs in sequence
 
@@ -82,11 +80,10 @@ lead-turn (other ∷ later) s t (first, lead) one (inr there) =
 -- ---- a run
 
 call-turn : (call : Call) (s : State) (one : Input) → Has one (handled call s) → Stays s (state_after call s) one
-call-turn call s one there = elim (takes-or call) [ inl takes ↦ does (calls-do call s takes) | inr none ↦ absurd (rw (none s) at there) ]
-  where
-    does : ProcessesInputs call s → Stays s (state_after call s) one
-    does (inl lead) = lead-turn (handled call s) s (state_after call s) lead one there
-    does (inr end) = absurd (rw end.nothing at there)
+call-turn call s one there = elim (leads-or call s) [
+  | inl lead ↦ lead-turn (handled call s) s (state_after call s) lead one there
+  | inr nothing ↦ absurd (rw nothing at there)
+]
 
 behind-realm : (s : State) (calls : List Call) → KeepsRealm s (state_after_all s calls)
 behind-realm s [] = same-realm s

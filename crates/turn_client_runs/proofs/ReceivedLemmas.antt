@@ -10,7 +10,6 @@ use Rattle.turn_client_api.specs.declared.state.Mode.TheVariants.{Control, Waiti
 use Rattle.turn_client_api.specs.declared.state.Stream.{Stream}
 use Rattle.turn_client_api.specs.Calls.{with_stream}
 use Rattle.turn_client_api.specs.Connections.{connection_at}
-use Rattle.turn_client_api.specs.Grants.{is_connection_from, without_grants}
 use Rattle.turn_client_laws.specs.Handled.{Input, stream_with_piece, fed_taken, frame_taken, is_front, piece_inputs, poll_recv_inputs, stream_inputs, stream_inputs_taken, taken_first, taken_in}
 use Rattle.turn_client_laws.specs.Handled.{taken_of_len, then_taken, inputs_taken, unless_given}
 use Rattle.turn_client_api.specs.Payloads.{Payload, Outcome, Handled, Ignored, PeerData}
@@ -21,6 +20,7 @@ use Rattle.turn_client_runs.specs.Received.{unless_broken}
 use Rattle.turn_client_laws.proofs.AddressLemmas.{same_address-true}
 use Rattle.turn_client_laws.proofs.GrantOriginLemmas.{has-mapped}
 use Rattle.turn_client_laws.proofs.HasLemmas.{Has, has-append, has-filter, has-found}
+use Rattle.turn_client_laws.proofs.MoveLemmas.{by_test, on_test}
 use Rattle.turn_client_laws.proofs.StreamDrainLemmas.{broken_by, bytes_by, mode_by}
 use Rattle.turn_client_laws.proofs.StreamMessageLemmas.{Rebound, frame-rebound}
 
@@ -86,11 +86,9 @@ module _ (Known : SocketAddr → List ℕ → Type 0) (none : (a : SocketAddr) �
       (all-others stream.local u.streams (rebound-known t u (frame-rebound stream (take len stream.bytes) now t) all))
 
   front-known : (stream : Stream) (now : ℕ) (t : State) → Known stream.local stream.bytes → AllKnown t.streams → AllKnown (framed_stream_step stream now t).1.streams
-  front-known stream now t is all = by (begins_no_frame stream.bytes)
-    where
-      by : (b : Bool) → AllKnown (cond {A = Outcome × State} b (Handled, broken_at stream.local t) (framed_by stream now t (frame_len stream.bytes))).1.streams
-      by true = broken-known stream.local t all
-      by false = framed-known stream now t is all (frame_len stream.bytes)
+  front-known stream now t is all =
+      by_test (λ u. AllKnown u.streams) (begins_no_frame stream.bytes) (Handled, broken_at stream.local t) _ (broken-known stream.local t all)
+      (framed-known stream now t is all (frame_len stream.bytes))
 
   turned-known : (m : Mode) (stream : Stream) (now : ℕ) (t : State) → Known stream.local stream.bytes → AllKnown t.streams → AllKnown (detached_frame_step (record stream { mode = m }) now t).1.streams
   turned-known (Bound peer) stream now t is all = all
@@ -196,11 +194,7 @@ module _ (Known : SocketAddr → List ℕ → Type 0) (none : (a : SocketAddr) �
   piece-known Broken stream piece now s broken is others = broken-turns (same_address stream.local s.local) now s (broken refl)
 
   gone-streams : (a : SocketAddr) (s : State) → (connection_gone a s).streams ≡ s.streams
-  gone-streams a s = by (is_some (connection_at a s))
-    where
-      by : (b : Bool) → (cond b (record (without_grants (is_connection_from a) s) { closes = a ∷ s.closes }) s).streams ≡ s.streams
-      by true = refl
-      by false = refl
+  gone-streams a s = on_test (λ t. t.streams ≡ s.streams) (is_some (connection_at a s)) _ s refl refl
 
   -- the end of a stream stores nothing
   end-known : (a : SocketAddr) (s : State) → AllKnown s.streams → AllKnown (without_stream a (connection_gone a s)).streams

@@ -100,11 +100,10 @@ module _ (all more : SocketAddr → List ℕ) where
         piece a = cond (same_address packet.to a) (unless_broken stream.mode packet.payload) []
 
         no-piece : unless_broken stream.mode packet.payload ≡ [] → (a : SocketAddr) → piece a ≡ []
-        no-piece nothing a = by (same_address packet.to a)
-          where
-            by : (b : Bool) → cond b (unless_broken stream.mode packet.payload) [] ≡ []
-            by true = nothing
-            by false = refl
+        no-piece nothing a = elim (same_address packet.to a) as (λ b. cond b (unless_broken stream.mode packet.payload) [] ≡ []) [
+          | true ↦ nothing
+          | false ↦ refl
+        ]
 
         empty : packet.payload ≡ [] → Held more s.streams
         empty h = still-held s.streams piece e (no-piece (ap (unless_broken stream.mode) h ∙ unless-nothing stream.mode)) held

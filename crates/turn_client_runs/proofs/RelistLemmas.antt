@@ -237,8 +237,7 @@ datagram-relists bytes now s =
     (by_test (Relists bytes now s) (is_channel_frame bytes) (channel_sent s bytes, s) (Ignored, s) (same bytes now s s refl) (same bytes now s s refl))
 
 pub turn-relists : (one : Input) → Relists one.bytes one.time one.before (processed one).1
-turn-relists one = by one.stream
-  where
-    by : (o : Option Stream) → Relists one.bytes one.time one.before (processed (record one { stream = o })).1
-    by None = datagram-relists one.bytes one.time one.before
-    by (Some stream) = frame_in_mode stream.mode stream one.bytes one.time one.before
+turn-relists one = elim one.stream as (λ o. Relists one.bytes one.time one.before (processed (record one { stream = o })).1) [
+  | None ↦ datagram-relists one.bytes one.time one.before
+  | Some stream ↦ frame_in_mode stream.mode stream one.bytes one.time one.before
+]

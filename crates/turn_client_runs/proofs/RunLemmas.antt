@@ -24,12 +24,11 @@ module _ (P : State → Type 0) (Did : Call → State → Type 0) (Inv : State �
   run-does [] first inv h = inl h
   run-does (call ∷ calls) first inv h = by (run-does calls (state_after call first) (kept call first inv) h)
     where
-      at : HoldsThrough P calls (state_after call first) → P first ⊎ Did call first → HoldsThrough P (call ∷ calls) first ⊎ IsDoneLast Did P (call ∷ calls) first
-      at holds (inl before) = inl (before, holds)
-      at holds (inr did) = inr (record { earlier = []; call = call; later = calls; split = refl; did = did; holds = holds })
-
       by : HoldsThrough P calls (state_after call first) ⊎ IsDoneLast Did P calls (state_after call first) → HoldsThrough P (call ∷ calls) first ⊎ IsDoneLast Did P (call ∷ calls) first
-      by (inl holds) = at holds (each call first inv (holds-first calls (state_after call first) holds))
+      by (inl holds) = elim (each call first inv (holds-first calls (state_after call first) holds)) [
+        | inl before ↦ inl (before, holds)
+        | inr did ↦ inr (record { earlier = []; call = call; later = calls; split = refl; did = did; holds = holds })
+      ]
       by (inr is) = inr (record {
         earlier = call ∷ is.earlier;
         call = is.call;

@@ -1,5 +1,6 @@
 -- The stream at a local address, and those at others.
 use Rattle.std.proofs.Common.{◌≡◌, ℕ, Bool, true, false, cond, List, [], ◌∷◌, map, find, Option, Some, None, refl, ap, sym, subst, ◌∙◌, inl, inr}
+use Rattle.std.proofs.lemmas.Bool.{cases_Bool}
 use Rattle.std.specs.List.{IsDistinct}
 use Rattle.std.specs.Option.{option_map}
 use Rattle.std.specs.declared.net.socket_addr.SocketAddr.{SocketAddr}
@@ -20,24 +21,18 @@ use Rattle.turn_client_laws.proofs.StreamApartLemmas.{IsNoneOf, differ-sym, ends
 -- if none is found, none passes
 pub none-false : {X : Type 0} (p : X → Bool) (xs : List X) → find p xs ≡ None → (x : X) → Has x xs → p x ≡ false
 none-false p [] e x none = absurd none
-none-false p (y ∷ ys) e x there = by (p y) refl (none-false p ys)
-  where
-    by : (b : Bool) → p y ≡ b → (find p ys ≡ None → (x : _) → Has x ys → p x ≡ false) → p x ≡ false
-    by true f later = let clash : Some y ≡ None = rw f at e in cc
-    by false f later = elim there [ inl same ↦ rw same f | inr more ↦ later (rw f at e) x more ]
+none-false p (y ∷ ys) e x there = elim (cases_Bool (p y)) [
+  | inl f ↦ let clash : Some y ≡ None = rw f at e in cc
+  | inr f ↦ elim there [ inl same ↦ rw same f | inr more ↦ none-false p ys (rw f at e) x more ]
+]
 
 -- a change that keeps local addresses finds the same stream, changed
 pub find-mapped : (a : SocketAddr) (f : Stream → Stream) → ((x : Stream) → (f x).local ≡ x.local) → (xs : List Stream)
     → find (λ x. same_address x.local a) (map f xs) ≡ option_map f (find (λ x. same_address x.local a) xs)
 find-mapped a f keeps [] = refl
-find-mapped a f keeps (x ∷ xs) = by (same_address x.local a) refl (find-mapped a f keeps xs)
-  where
-    Same : List Stream → Type 0
-    Same ys = find (λ y. same_address y.local a) (map f ys) ≡ option_map f (find (λ y. same_address y.local a) ys)
-
-    by : (b : Bool) → same_address x.local a ≡ b → Same xs → Same (x ∷ xs)
-    by true e later = let changed : same_address (f x).local a ≡ true = ap (λ (l : SocketAddr). same_address l a) (keeps x) ∙ e in rw (changed, e) refl
-    by false e later = let changed : same_address (f x).local a ≡ false = ap (λ (l : SocketAddr). same_address l a) (keeps x) ∙ e in rw (changed, e) later
+find-mapped a f keeps (x ∷ xs) =
+    let same : same_address (f x).local a ≡ same_address x.local a = ap (λ (l : SocketAddr). same_address l a) (keeps x) in
+    elim (cases_Bool (same_address x.local a)) [ inl e ↦ rw (same, e) refl | inr e ↦ rw (same, e) (find-mapped a f keeps xs) ]
 
 -- ---- the stream that is found
 
@@ -45,21 +40,16 @@ pub found-local : (a : SocketAddr) (s : State) (stream : Stream) → stream_at a
 found-local a s stream e = same_address-true stream.local a (has-found (λ (x : Stream). same_address x.local a) stream s.streams e).1
 
 bytes-local : (a : SocketAddr) (bytes : List ℕ) (x : Stream) → (bytes_by a bytes x).local ≡ x.local
-bytes-local a bytes x = by (same_address x.local a)
-  where
-    by : (b : Bool) → (cond b (record x { bytes = bytes }) x).local ≡ x.local
-    by true = refl
-    by false = refl
+bytes-local a bytes x = elim (same_address x.local a) as (λ b. (cond b (record x { bytes = bytes }) x).local ≡ x.local) [ true ↦ refl | false ↦ refl ]
 
 abbrev broken_by : SocketAddr → Stream → Stream
 broken_by a x = cond (same_address x.local a) (record x { mode = Broken; bytes = [] }) x
 
 broken-local : (a : SocketAddr) (x : Stream) → (broken_by a x).local ≡ x.local
-broken-local a x = by (same_address x.local a)
-  where
-    by : (b : Bool) → (cond b (record x { mode = Broken; bytes = [] }) x).local ≡ x.local
-    by true = refl
-    by false = refl
+broken-local a x = elim (same_address x.local a) as (λ b. (cond b (record x { mode = Broken; bytes = [] }) x).local ≡ x.local) [
+  | true ↦ refl
+  | false ↦ refl
+]
 
 found-test : (a : SocketAddr) (s : State) (stream : Stream) → stream_at a s ≡ Some stream → same_address stream.local a ≡ true
 found-test a s stream e = (has-found (λ (x : Stream). same_address x.local a) stream s.streams e).1
@@ -78,11 +68,10 @@ broken-found a s stream e =
 
 none-set : (a : SocketAddr) (bytes : List ℕ) (xs : List Stream) → find (λ x. same_address x.local a) xs ≡ None → map (bytes_by a bytes) xs ≡ xs
 none-set a bytes [] e = refl
-none-set a bytes (x ∷ xs) e = by (same_address x.local a) refl (none-set a bytes xs)
-  where
-    by : (b : Bool) → same_address x.local a ≡ b → (find (λ x. same_address x.local a) xs ≡ None → map (bytes_by a bytes) xs ≡ xs) → map (bytes_by a bytes) (x ∷ xs) ≡ x ∷ xs
-    by true f later = let clash : Some x ≡ None = rw f at e in cc
-    by false f later = let same = later (rw f at e) in rw (f, same) refl
+none-set a bytes (x ∷ xs) e = elim (cases_Bool (same_address x.local a)) [
+  | inl f ↦ let clash : Some x ≡ None = rw f at e in cc
+  | inr f ↦ let same = none-set a bytes xs (rw f at e) in rw (f, same) refl
+]
 
 -- if there is no such stream, nothing changes
 pub none-bytes : (a : SocketAddr) (bytes : List ℕ) (s : State) → stream_at a s ≡ None → with_bytes a bytes s ≡ s
@@ -95,30 +84,21 @@ others-set a bytes (x ∷ xs) none = let same = others-set a bytes xs none.1 in 
 self-set : (a : SocketAddr) (xs : List Stream) (stream : Stream) → IsDistinct same_address (ends xs) → find (λ x. same_address x.local a) xs ≡ Some stream → map (bytes_by a stream.bytes) xs ≡ xs
 unfolding IsDistinct
 self-set a [] stream apart e = cc
-self-set a (x ∷ xs) stream apart e = by (same_address x.local a) refl (self-set a xs stream apart.1)
-  where
-    here : same_address x.local a ≡ true → map (bytes_by a x.bytes) (x ∷ xs) ≡ x ∷ xs
-    here f =
-        let same = others-set a x.bytes xs (subst (λ (l : SocketAddr). IsNoneOf l xs) (same_address-true x.local a f) apart.0) in
-        rw (f, same) refl
-
-    by : (b : Bool) → same_address x.local a ≡ b → (find (λ x. same_address x.local a) xs ≡ Some stream → map (bytes_by a stream.bytes) xs ≡ xs) → map (bytes_by a stream.bytes) (x ∷ xs) ≡ x ∷ xs
-    by true f later =
-        let found : Some x ≡ Some stream = rw f at e in
-        let is : x ≡ stream = cc in
-        subst (λ (y : Stream). map (bytes_by a y.bytes) (x ∷ xs) ≡ x ∷ xs) is (here f)
-    by false f later = let same = later (rw f at e) in rw (f, same) refl
+self-set a (x ∷ xs) stream apart e = elim (cases_Bool (same_address x.local a)) [
+  | inl f ↦
+      let found : Some x ≡ Some stream = rw f at e in
+      let is : x ≡ stream = cc in
+      let same = others-set a x.bytes xs (subst (λ (l : SocketAddr). IsNoneOf l xs) (same_address-true x.local a f) apart.0) in
+      subst (λ (y : Stream). map (bytes_by a y.bytes) (x ∷ xs) ≡ x ∷ xs) is (rw (f, same) refl)
+  | inr f ↦ let same = self-set a xs stream apart.1 (rw f at e) in rw (f, same) refl
+]
 
 -- set to what it holds, it is unchanged
 pub self-bytes : (a : SocketAddr) (s : State) (stream : Stream) → IsDistinct same_address (ends s.streams) → stream_at a s ≡ Some stream → with_bytes a stream.bytes s ≡ s
 self-bytes a s stream apart e = ap (λ (x : List Stream). record s { streams = x }) (self-set a s.streams stream apart e)
 
 broken-set : (a : SocketAddr) (x : Stream) → bytes_by a [] (broken_by a x) ≡ broken_by a x
-broken-set a x = by (same_address x.local a) refl
-  where
-    by : (b : Bool) → same_address x.local a ≡ b → bytes_by a [] (broken_by a x) ≡ broken_by a x
-    by true e = rw (e, e) refl
-    by false e = rw (e, e) refl
+broken-set a x = elim (cases_Bool (same_address x.local a)) [ inl e ↦ rw (e, e) refl | inr e ↦ rw (e, e) refl ]
 
 all-broken-set : (a : SocketAddr) (xs : List Stream) → map (bytes_by a []) (map (broken_by a) xs) ≡ map (broken_by a) xs
 all-broken-set a [] = refl
@@ -154,22 +134,18 @@ find-fed : (a : SocketAddr) (bytes : List ℕ) (xs : List Stream) (stream : Stre
     → find is_ready (map (bytes_by a bytes) xs) ≡ if_ready (record stream { bytes = bytes })
 unfolding IsDistinct
 find-fed a bytes [] stream apart waits e = cc
-find-fed a bytes (x ∷ xs) stream apart waits e = by (same_address x.local a) refl (λ f. find-fed a bytes xs stream apart.1 (λ y there. waits y (inr there)) f)
-  where
-    Goal : Stream → Type 0
-    Goal y = find is_ready (map (bytes_by a bytes) (x ∷ xs)) ≡ if_ready (record y { bytes = bytes })
-
-    here : same_address x.local a ≡ true → (b : Bool) → is_ready (record x { bytes = bytes }) ≡ b → Goal x
-    here f true g = rw (f, g) refl
-    here f false g = rw (f, g) (none-ready a bytes xs (subst (λ (l : SocketAddr). IsNoneOf l xs) (same_address-true x.local a f) apart.0) (λ y there. waits y (inr there)))
-
-    by : (b : Bool) → same_address x.local a ≡ b → (find (λ x. same_address x.local a) xs ≡ Some stream → find is_ready (map (bytes_by a bytes) xs) ≡ if_ready (record stream { bytes = bytes }))
-        → Goal stream
-    by true f later = found (rw f at e)
-      where
-        found : Some x ≡ Some stream → Goal stream
-        found g = let same : x ≡ stream = cc in subst Goal same (here f (is_ready (record x { bytes = bytes })) refl)
-    by false f later = rw (f, waits x (inl refl) f) (later (rw f at e))
+find-fed a bytes (x ∷ xs) stream apart waits e = elim (cases_Bool (same_address x.local a)) [
+  | inl f ↦
+      let found : Some x ≡ Some stream = rw f at e in
+      let is : x ≡ stream = cc in
+      subst (λ (y : Stream). find is_ready (map (bytes_by a bytes) (x ∷ xs)) ≡ if_ready (record y { bytes = bytes })) is
+      (elim (cases_Bool (is_ready (record x { bytes = bytes }))) [
+        | inl g ↦ rw (f, g) refl
+        | inr g ↦
+            rw (f, g) (none-ready a bytes xs (subst (λ (l : SocketAddr). IsNoneOf l xs) (same_address-true x.local a f) apart.0) (λ y there. waits y (inr there)))
+      ])
+  | inr f ↦ rw (f, waits x (inl refl) f) (find-fed a bytes xs stream apart.1 (λ y there. waits y (inr there)) (rw f at e))
+]
 
 pub fed-found : (a : SocketAddr) (bytes : List ℕ) (s : State) (stream : Stream) → IsAlone a s → stream_at a s ≡ Some stream
     → find is_ready (with_bytes a bytes s).streams ≡ cond (is_ready (record stream { bytes = bytes })) (Some (record stream { bytes = bytes })) None

@@ -149,12 +149,11 @@ module _ (call : Call) (s : State) where
       gone : State
       gone = without_stream end.local (connection_gone end.local s)
 
-      old : (l : Listing) → Has l s.listed ⊎ ⊥ → Has l s.listed
-      old l (inl there) = there
-      old l (inr none) = absurd none
-
       less : (l : Listing) → Has l (state_after call s).listed → Has l s.listed
-      less l there = old l ((gone-settles end.local s).1 l (subst (λ (t : State). Has l t.listed) end.gone there))
+      less l there = elim ((gone-settles end.local s).1 l (subst (λ (t : State). Has l t.listed) end.gone there)) [
+        | inl there ↦ there
+        | inr none ↦ absurd none
+      ]
 
   here-together : ((l : Listing) → IsListingOf call s l → IsListingHere call s l) → AreTogether s → AreTogether (state_after call s)
   here-together own h = together-more (IsListingHere call s) s (state_after call s) with

@@ -3,7 +3,7 @@ use Rattle.std.proofs.Common.{◌≡◌, ◌⊎◌, List, [], ◌∷◌, ◌++�
 use Rattle.std.proofs.lemmas.List.Elements.{Contains-append_left, Contains-append_right}
 use Rattle.turn_client_api.specs.State.{State}
 use Rattle.turn_client_laws.specs.Handled.{Input, handled, processed}
-use Rattle.turn_client_laws.specs.LawsHandled.{ProcessesInputs, IsDoneBy, TakesInput, InputsLead}
+use Rattle.turn_client_laws.specs.LawsHandled.{IsDoneBy, TakesInput, InputsLead}
 use Rattle.turn_client_api.specs.Steps.{state_after, state_after_all}
 use Rattle.turn_client_api.specs.declared.call.Call.{Call}
 use Rattle.turn_client_api.specs.declared.call.Call.TheVariants.{Recv, PollRecv}
@@ -45,16 +45,18 @@ pub none-front : {X : Type 0} (front later : List X) (x : X) → [] ≡ front ++
 none-front [] later x e = cc
 none-front (y ∷ front) later x e = cc
 
--- if a call processes something, its inputs lead to the state after it
-pub handled-leads : (call : Call) (s : State) (front later : List Input) (one : Input) → handled call s ≡ front ++ one ∷ later → InputsLead (front ++ one ∷ later) s (state_after call s)
-handled-leads call s front later one e = elim (takes-or call) [
-  | inl takes ↦ does (calls-do call s takes)
-  | inr none ↦ absurd (none-front front later one (sym (none s) ∙ e))
+-- its inputs lead to the state after it, or it processes nothing
+pub leads-or : (call : Call) (s : State) → InputsLead (handled call s) s (state_after call s) ⊎ (handled call s ≡ [])
+leads-or call s = elim (takes-or call) [
+  | inl takes ↦ elim (calls-do call s takes) [ inl lead ↦ inl lead | inr end ↦ inr end.nothing ]
+  | inr none ↦ inr (none s)
 ]
-  where
-    does : ProcessesInputs call s → InputsLead (front ++ one ∷ later) s (state_after call s)
-    does (inl lead) = subst (λ (turns : List Input). InputsLead turns s (state_after call s)) e lead
-    does (inr end) = absurd (none-front front later one (sym end.nothing ∙ e))
+
+pub handled-leads : (call : Call) (s : State) (front later : List Input) (one : Input) → handled call s ≡ front ++ one ∷ later → InputsLead (front ++ one ∷ later) s (state_after call s)
+handled-leads call s front later one e = elim (leads-or call s) [
+  | inl lead ↦ subst (λ (turns : List Input). InputsLead turns s (state_after call s)) e lead
+  | inr nothing ↦ absurd (none-front front later one (sym nothing ∙ e))
+]
 
 -- the inputs before one of them, and those after it
 pub leads-to : (front later : List Input) (one : Input) (s t : State) → InputsLead (front ++ one ∷ later) s t → InputsLead front s one.before
