@@ -1,6 +1,6 @@
 -- Once the first challenge is answered, and until the allocation, all that is outstanding is a signed
 -- ALLOCATE: calls keep that.
-use Rattle.std.proofs.Common.{◌≡◌, ◌⊎◌, ◌≤◌, ◌∙◌, ℕ, Bool, true, false, cond, ◌&&◌, [], Option, None, inl, inr, refl, sym, subst, ap, arith}
+use Rattle.std.proofs.Common.{◌≡◌, ◌⊎◌, ◌≤◌, ◌∙◌, ℕ, true, false, cond, ◌&&◌, [], Option, None, inl, inr, refl, sym, subst, ap, arith}
 use Rattle.std.specs.Net.Socket.{socket_ip}
 use Rattle.std.specs.declared.net.ip_addr.IpAddr.{IpAddr}
 use Rattle.turn_stun.specs.declared.transport.TransportType.{TransportType}
@@ -45,11 +45,8 @@ unallocated Closed u = absurd u
 unallocated p u = refl
 
 no-allocation : (transport : TransportType) (ip : IpAddr) (s : State) → s.grants ≡ [] → find_allocation_to transport ip s ≡ None
-no-allocation transport ip s e = rw e (none (same_transport transport s.config.allocation_transport))
-  where
-    none : (b : Bool) → cond {A = Option Relay} b None None ≡ None
-    none true = refl
-    none false = refl
+no-allocation transport ip s e =
+    rw e (elim (same_transport transport s.config.allocation_transport) as (λ b. cond {A = Option Relay} b None None ≡ None) [ true ↦ refl | false ↦ refl ])
 
 -- so that before it nothing changes
 abbrev IsIdle : Call → State → Type 0
@@ -64,12 +61,9 @@ idle-signs call s idle steady h = by s.phase refl
     same : IsUngranted s.phase → Signs t
     same u = same-signs s t (idle u (steady.3 u)) h
 
-    far : (p : Phase) → s.phase ≡ p → 3 ≤ rank p → Signs t
-    far p e three = further-signs s t (subst (λ (q : Phase). 3 ≤ rank q) (sym e) three) (call-keeps call s)
-
     by : (p : Phase) → s.phase ≡ p → Signs t
-    by Allocated e = far Allocated e (omega arith)
-    by Closed e = far Closed e (omega arith)
+    by Allocated e = further-signs Allocated s t e (omega arith) (call-keeps call s)
+    by Closed e = further-signs Closed s t e (omega arith) (call-keeps call s)
     by p e = same (rw e tt)
 
 -- ---- all other calls answer no challenge
@@ -154,9 +148,6 @@ module _ (call : Call) (s : State) (quiet : IsQuiet call) (asks : AsksSo call s)
   from-requesting e Authenticating f = let no : Requesting ≡ Authenticating = sym e ∙ awaits f in cc
   from-requesting e q f = tt
 
-  far : (p : Phase) → s.phase ≡ p → 3 ≤ rank p → Signs t
-  far p e three = further-signs s t (subst (λ (q : Phase). 3 ≤ rank q) (sym e) three) (call-keeps call s)
-
   quiet-signs : Signs t
   quiet-signs = by s.phase refl
     where
@@ -166,7 +157,7 @@ module _ (call : Call) (s : State) (quiet : IsQuiet call) (asks : AsksSo call s)
       by Authenticating e =
           later-signs s t e h (call-keeps call s) (call-configured call s)
           (λ x there phase held are. signed x are (sent Authenticating e (λ g. cc) (λ g. cc) x (source x there)))
-      by p e = far p e (omega arith)
+      by p e = further-signs p s t e (omega arith) (call-keeps call s)
 
 -- ---- all calls
 

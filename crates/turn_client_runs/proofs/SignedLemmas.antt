@@ -67,8 +67,11 @@ far-signs t far = by t.phase far
     by Closed far = tt
     by p far = absurd (omega (arith, far))
 
-pub further-signs : (s t : State) → 3 ≤ rank s.phase → Keeps s t → Signs t
-further-signs s t far keeps = let on : rank s.phase ≤ rank t.phase = keeps.3.0 in far-signs t (omega (arith, far, on))
+pub further-signs : (p : Phase) (s t : State) → s.phase ≡ p → 3 ≤ rank p → Keeps s t → Signs t
+further-signs p s t e far keeps =
+    let from : 3 ≤ rank s.phase = subst (λ (q : Phase). 3 ≤ rank q) (sym e) far in
+    let on : rank s.phase ≤ rank t.phase = keeps.3.0 in
+    far-signs t (omega (arith, from, on))
 
 pub same-signs : (s t : State) → t ≡ s → Signs s → Signs t
 same-signs s t e h = subst Signs (sym e) h
@@ -210,8 +213,7 @@ module _ (message : List ℕ) (now : ℕ) (s : State) (order : AllocatesInOrder 
       by : (b : Bool) → answers_one s message ≡ b → (o : Option Challenge) → challenge_in s message ≡ o → Signs (after message now s)
       by false f o g =
           let judged : judgement_of s message ≡ Unrelated = rw (e, f) refl in
-          let is : (message_step message now s).1 ≡ s = rw judged refl in
-          same-signs s (after message now s) is h
+          same-signs s (after message now s) (rw (judged, after) refl) h
       by true f None g =
           let judged : judgement_of s message ≡ Fatal = rw (e, f, g) refl in
           let is : (message_step message now s).1 ≡ (wrong_step message s).1 = rw judged refl in
@@ -219,12 +221,8 @@ module _ (message : List ℕ) (now : ℕ) (s : State) (order : AllocatesInOrder 
           closed-signs (fail_all (transaction_ended (id_of message) s)) (after message now s) (is ∙ ends)
       by true f (Some d) g =
           let judged : judgement_of s message ≡ Challenged d = rw (e, f, g) refl in
-          let is : (message_step message now s).1 ≡ (challenge_step message d now s).1 = rw judged refl in
-          same-signs (challenge_step message d now s).1 (after message now s) is
+          same-signs (challenge_step message d now s).1 (after message now s) (rw (judged, after) refl)
           (challenged-signs e (and_parts (is_response (class_in message)) (is_outstanding (id_of message) s.transactions) f).1 d)
-
-  far : (p : Phase) → s.phase ≡ p → 3 ≤ rank p → Signs (after message now s)
-  far p e three = further-signs s (after message now s) (subst (λ (q : Phase). 3 ≤ rank q) (sym e) three) (message-keeps message now s)
 
   message-signs : Signs (after message now s)
   message-signs = by s.phase refl
@@ -232,11 +230,10 @@ module _ (message : List ℕ) (now : ℕ) (s : State) (order : AllocatesInOrder 
       by : (p : Phase) → s.phase ≡ p → Signs (after message now s)
       by New e =
           let judged : judgement_of s message ≡ Unrelated = rw e refl in
-          let is : (message_step message now s).1 ≡ s = rw judged refl in
-          same-signs s (after message now s) is h
+          same-signs s (after message now s) (rw (judged, after) refl) h
       by Requesting e = requesting-signs e
       by Authenticating e = authenticating-signs e
-      by p e = far p e (omega arith)
+      by p e = further-signs p s (after message now s) e (omega arith) (message-keeps message now s)
 
 bind-signs : (local : SocketAddr) (message : List ℕ) (now : ℕ) (s : State) → Signs s → Signs (bind_step local message now s)
 bind-signs local message now s h = by s.phase refl
@@ -245,10 +242,7 @@ bind-signs local message now s h = by s.phase refl
     t = bind_step local message now s
 
     by : (p : Phase) → s.phase ≡ p → Signs t
-    by Allocated e = further-signs s t (subst (λ (q : Phase). 3 ≤ rank q) (sym e) three) (bind-keeps local message now s)
-      where
-        three : 3 ≤ rank Allocated
-        three = omega arith
+    by Allocated e = further-signs Allocated s t e (omega arith) (bind-keeps local message now s)
     by p e = same-signs s t (rw e refl) h
 
 -- ---- with what ALLOCATEs request
