@@ -13,6 +13,7 @@ use Rattle.turn_client_api.specs.declared.state.Stream.{Stream}
 use Rattle.turn_client_api.specs.Connections.{bind_step}
 use Rattle.turn_client_api.specs.Payloads.{Outcome, Handled, Ignored, PeerData, channel_sent, is_message, message_step}
 use Rattle.turn_client_api.specs.Streams.{control_frame_step, frame_step, framed_stream_step, ready_len, stream_at, detached_frame_step}
+use Rattle.turn_client_laws.proofs.MoveLemmas.{by_test}
 use Rattle.turn_client_laws.proofs.StreamMessageLemmas.{Rebound, Same, frame-rebound, message-same}
 use Rattle.turn_client_runs.specs.Cut.{framed_step, outcome_payloads, meant, one_by_one, part_step}
 use Rattle.turn_client_runs.proofs.StreamAtLemmas.{find-mapped}
@@ -20,13 +21,10 @@ use Rattle.turn_client_runs.proofs.StreamAtLemmas.{find-mapped}
 -- payloads of a stream in this mode count one by one, or byte by byte
 abbrev pub SuitsMode : Bool → Mode → Type 0
 SuitsMode true Control = Unit {0}
-SuitsMode true Waiting = ⊥
-SuitsMode true (Bound peer) = ⊥
-SuitsMode true Broken = Unit {0}
-SuitsMode false Control = ⊥
 SuitsMode false Waiting = Unit {0}
 SuitsMode false (Bound peer) = Unit {0}
-SuitsMode false Broken = Unit {0}
+SuitsMode c Broken = Unit {0}
+SuitsMode c m = ⊥
 
 abbrev pub Suits : Bool → Option Stream → Type 0
 Suits c None = Unit {0}
@@ -56,11 +54,9 @@ pub record IsFramed (c : Bool) (m : Mode) : Type 0 where
 -- ---- the control connection
 
 control-same : (frame : List ℕ) (now : ℕ) (t : State) → Same t (control_frame_step frame now t).1
-control-same frame now t = by (not (begins_message frame)) (is_message frame)
-  where
-    by : (b d : Bool) → Same t (cond {A = Outcome × State} b (channel_sent t frame, t) (cond {A = Outcome × State} d (message_step frame now t) (Handled, t))).1
-    by false true = message-same frame now t
-    by b d = refl
+control-same frame now t =
+    by_test (Same t) (not (begins_message frame)) (channel_sent t frame, t) _ refl
+    (by_test (Same t) (is_message frame) (message_step frame now t) (Handled, t) (message-same frame now t) refl)
 
 counted-whole : (o : Outcome) → flat_map (one_by_one true) (outcome_payloads o) ≡ outcome_payloads o
 counted-whole (PeerData payload) = refl

@@ -1,5 +1,5 @@
 -- Realm and algorithm stay, from input to input too.
-use Rattle.std.proofs.Common.{◌⊎◌, Bool, true, false, not, cond, List, [], ◌∷◌, Some, None, refl, ap, ◌∙◌, inl, inr}
+use Rattle.std.proofs.Common.{◌⊎◌, not, cond, List, [], ◌∷◌, Some, None, refl, ap, ◌∙◌, inl, inr}
 use Rattle.std.specs.List.{Contains}
 use Rattle.turn_types.specs.Frames.{begins_message}
 use Rattle.turn_client_api.specs.State.{State}
@@ -14,6 +14,7 @@ use Rattle.turn_client_laws.specs.LawsHandled.{DiffersInStreams, InputsLead}
 use Rattle.turn_client_laws.specs.LawsSteps.{KeepsRealm}
 use Rattle.turn_client_api.specs.Steps.{state_after, state_after_all}
 use Rattle.turn_client_laws.proofs.HasLemmas.{Has, has-append}
+use Rattle.turn_client_laws.proofs.MoveLemmas.{by_test}
 use Rattle.turn_client_laws.proofs.PhasesGoOn.{bind-keeps, call-keeps, keeps-same, message-keeps}
 use Rattle.turn_client_laws.proofs.StandLemmas.{contains-has}
 use Rattle.turn_client_runs.specs.Inputs.{handled_in}
@@ -30,32 +31,28 @@ differs-realm s t differs c e = (c, ap (λ (x : State). x.held) differs.others �
 
 -- ---- one input
 
+-- a whole message, or else this
+whole-realm : (one : Input) (other : Outcome × State) → KeepsRealm one.before other.1
+    → KeepsRealm one.before (cond {A = Outcome × State} (is_message one.bytes) (message_step one.bytes one.time one.before) other).1
+whole-realm one other h =
+    by_test (KeepsRealm one.before) (is_message one.bytes) (message_step one.bytes one.time one.before) other (message-keeps one.bytes one.time one.before).2 h
+
 turn_in_mode : (m : Mode) (one : Input) (stream : Stream) → KeepsRealm one.before (processed (record one { stream = Some (record stream { mode = m }) })).1
-turn_in_mode Control one stream = by (not (begins_message one.bytes)) (is_message one.bytes)
-  where
-    by : (b c : Bool) → KeepsRealm one.before (cond {A = Outcome × State} b (channel_sent one.before one.bytes, one.before)
-        (cond {A = Outcome × State} c (message_step one.bytes one.time one.before) (Handled, one.before))).1
-    by false true = (message-keeps one.bytes one.time one.before).2
-    by b c = same-realm one.before
-turn_in_mode Waiting one stream = by (not (begins_message one.bytes)) (is_message one.bytes)
-  where
-    by : (b c : Bool) → KeepsRealm one.before (cond {A = Outcome × State} b (Ignored, one.before)
-        (cond {A = Outcome × State} c (Handled, bind_step stream.local one.bytes one.time one.before) (Handled, one.before))).1
-    by false true = (bind-keeps stream.local one.bytes one.time one.before).2
-    by b c = same-realm one.before
+turn_in_mode Control one stream =
+    by_test (KeepsRealm one.before) (not (begins_message one.bytes)) (channel_sent one.before one.bytes, one.before) _ (same-realm one.before)
+    (whole-realm one (Handled, one.before) (same-realm one.before))
+turn_in_mode Waiting one stream =
+    by_test (KeepsRealm one.before) (not (begins_message one.bytes)) (Ignored, one.before) _ (same-realm one.before)
+    (by_test (KeepsRealm one.before) (is_message one.bytes) (Handled, bind_step stream.local one.bytes one.time one.before) (Handled, one.before)
+    (bind-keeps stream.local one.bytes one.time one.before).2 (same-realm one.before))
 turn_in_mode m one stream = same-realm one.before
 
 turn-realm : (one : Input) → KeepsRealm one.before (processed one).1
 turn-realm one = elim one.stream as (λ o. KeepsRealm one.before (processed (record one { stream = o })).1) [
-  | None ↦ datagram (is_message one.bytes) (is_channel_frame one.bytes)
+  | None ↦ whole-realm one _ (by_test (KeepsRealm one.before) (is_channel_frame one.bytes) (channel_sent one.before one.bytes, one.before) (Ignored, one.before)
+      (same-realm one.before) (same-realm one.before))
   | Some stream ↦ turn_in_mode stream.mode one stream
 ]
-  where
-    datagram : (b c : Bool) → KeepsRealm one.before (cond {A = Outcome × State} b (message_step one.bytes one.time one.before)
-        (cond {A = Outcome × State} c (channel_sent one.before one.bytes, one.before) (Ignored, one.before))).1
-    datagram true c = (message-keeps one.bytes one.time one.before).2
-    datagram false true = same-realm one.before
-    datagram false false = same-realm one.before
 
 -- ---- inputs in sequence
 

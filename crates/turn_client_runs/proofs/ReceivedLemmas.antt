@@ -1,5 +1,6 @@
 -- What the streams of a client hold was received by `recv`.
 use Rattle.std.proofs.Common.{◌≡◌, ◌∙◌, ◌++◌, ℕ, zero, suc, Bool, true, false, cond, List, [], ◌∷◌, map, filter, Option, Some, None, refl, sym, subst, ap, inl, inr}
+use Rattle.std.proofs.lemmas.Bool.{cases_Bool}
 use Rattle.std.specs.Prelude.{drop, find, is_some, take}
 use Rattle.std.specs.declared.net.socket_addr.SocketAddr.{SocketAddr}
 use Rattle.turn_types.specs.Frames.{begins_no_frame, frame_len}
@@ -43,30 +44,23 @@ module _ (Known : SocketAddr → List ℕ → Type 0) (none : (a : SocketAddr) �
 
   pub bytes-known : (a : SocketAddr) (bytes : List ℕ) (s : State) → Known a bytes → OthersKnown a s.streams → AllKnown (with_bytes a bytes s).streams
   unfolding bytes_by
-  bytes-known a bytes s is others = mapped-known (bytes_by a bytes) s.streams each
-    where
-      each : (x : Stream) → Has x s.streams → Known (cond (same_address x.local a) (record x { bytes = bytes }) x).local (cond (same_address x.local a) (record x { bytes = bytes }) x).bytes
-      each x there = by (same_address x.local a) refl
-        where
-          by : (b : Bool) → same_address x.local a ≡ b → Known (cond b (record x { bytes = bytes }) x).local (cond b (record x { bytes = bytes }) x).bytes
-          by true e = subst (λ (l : SocketAddr). Known l bytes) (sym (same_address-true x.local a e)) is
-          by false e = others x there e
+  bytes-known a bytes s is others = mapped-known (bytes_by a bytes) s.streams (λ x there. elim (cases_Bool (same_address x.local a)) [
+    | inl e ↦ rw e (subst (λ (l : SocketAddr). Known l bytes) (sym (same_address-true x.local a e)) is)
+    | inr e ↦ rw e (others x there e)
+  ])
 
   broken-known : (a : SocketAddr) (s : State) → AllKnown s.streams → AllKnown (broken_at a s).streams
   unfolding broken_by
-  broken-known a s all = mapped-known (broken_by a) s.streams (λ x there. by x (same_address x.local a) (all x there))
-    where
-      by : (x : Stream) (b : Bool) → Known x.local x.bytes → Known (cond b (record x { mode = Broken; bytes = [] }) x).local (cond b (record x { mode = Broken; bytes = [] }) x).bytes
-      by x true is = none x.local
-      by x false is = is
+  broken-known a s all = mapped-known (broken_by a) s.streams (λ x there.
+      elim (same_address x.local a) as (λ b. let y = cond b (record x { mode = Broken; bytes = [] }) x in Known y.local y.bytes) [
+        | true ↦ none x.local
+        | false ↦ all x there
+      ])
 
   mode-known : (a : SocketAddr) (mode : Mode) (xs : List Stream) → AllKnown xs → AllKnown (map (mode_by a mode) xs)
   unfolding mode_by
-  mode-known a mode xs all = mapped-known (mode_by a mode) xs (λ x there. by x (same_address x.local a) (all x there))
-    where
-      by : (x : Stream) (b : Bool) → Known x.local x.bytes → Known (cond b (record x { mode = mode }) x).local (cond b (record x { mode = mode }) x).bytes
-      by x true is = is
-      by x false is = is
+  mode-known a mode xs all = mapped-known (mode_by a mode) xs (λ x there.
+      elim (same_address x.local a) as (λ b. let y = cond b (record x { mode = mode }) x in Known y.local y.bytes) [ true ↦ all x there | false ↦ all x there ])
 
   rebound-known : (s t : State) → Rebound s t → AllKnown s.streams → AllKnown t.streams
   unfolding mode_by
@@ -111,10 +105,9 @@ module _ (Known : SocketAddr → List ℕ → Type 0) (none : (a : SocketAddr) �
   no-turns one there = absurd there
 
   one-turn : (one : Input) (stream : Stream) → one.stream ≡ Some stream → Known stream.local stream.bytes → KnownTurns (one ∷ [])
-  one-turn one stream of is x (inl same) other e = subst (λ (z : Stream). Known z.local z.bytes) (both (sym of ∙ (sym (ap (λ (y : Input). y.stream) same) ∙ e))) is
-    where
-      both : Some stream ≡ Some other → stream ≡ other
-      both h = cc
+  one-turn one stream of is x (inl same) other e =
+      let here : stream ≡ other = cc (sym of ∙ (sym (ap (λ (y : Input). y.stream) same) ∙ e)) in
+      subst (λ (z : Stream). Known z.local z.bytes) here is
   one-turn one stream of is x (inr absent) other e = absurd absent
 
   joined-turns : (xs ys : List Input) → KnownTurns xs → KnownTurns ys → KnownTurns (xs ++ ys)
@@ -125,11 +118,11 @@ module _ (Known : SocketAddr → List ℕ → Type 0) (none : (a : SocketAddr) �
   len-turns is_lent stream now t is (Some len) = one-turn _ stream refl is
 
   frame-turns : (is_lent : Bool) (stream : Stream) (now : ℕ) (t : State) → Known stream.local stream.bytes → KnownTurns (frame_taken is_lent stream now t)
-  frame-turns is_lent stream now t is = by (begins_no_frame stream.bytes)
-    where
-      by : (b : Bool) → KnownTurns (cond b [] (taken_of_len is_lent stream now t (frame_len stream.bytes)))
-      by true = no-turns
-      by false = len-turns is_lent stream now t is (frame_len stream.bytes)
+  frame-turns is_lent stream now t is =
+      elim (begins_no_frame stream.bytes) as (λ b. KnownTurns (cond b [] (taken_of_len is_lent stream now t (frame_len stream.bytes)))) [
+        | true ↦ no-turns
+        | false ↦ len-turns is_lent stream now t is (frame_len stream.bytes)
+      ]
 
   mode-turns : (m : Mode) (is_lent : Bool) (stream : Stream) (now : ℕ) (t : State) → Known stream.local stream.bytes → KnownTurns (taken_in is_lent (record stream { mode = m }) now t)
   mode-turns (Bound peer) is_lent stream now t is = one-turn _ (record stream { mode = Bound peer }) refl is

@@ -2,7 +2,6 @@
 use Rattle.std.proofs.Common.{◌≡◌, ◌∙◌, ◌++◌, ◌&&◌, ℕ, Bool, true, false, cond, List, [], ◌∷◌, Option, Some, None, refl, sym, subst, ap, inl, inr, append_assoc}
 use Rattle.std.specs.Prelude.{drop, take}
 use Rattle.std.proofs.lemmas.List.{append-nil, take-append-drop}
-use Rattle.std.proofs.lemmas.Bool.{false_from_ne_true}
 use Rattle.std.specs.declared.net.socket_addr.SocketAddr.{SocketAddr}
 use Rattle.turn_stun.specs.declared.transport.TransportType.{TransportType}
 use Rattle.turn_stun.specs.declared.transport.TransportType.TheVariants.{Udp, Tcp}
@@ -22,6 +21,8 @@ use Rattle.turn_client_api.specs.Steps.{state_after, state_after_all}
 use Rattle.turn_client_api.specs.Streams.{stream_at}
 use Rattle.turn_client_laws.proofs.AddressLemmas.{same_address-self, same_address-true}
 use Rattle.turn_client_laws.proofs.HasLemmas.{Has, has-found}
+use Rattle.turn_client_laws.proofs.MoveLemmas.{by_test}
+use Rattle.turn_client_laws.proofs.StreamApartLemmas.{differ-sym}
 use Rattle.turn_client_laws.proofs.StreamCallLemmas.{IsOpened, others-opened}
 use Rattle.turn_client_laws.proofs.StreamMessageLemmas.{message-same}
 use Rattle.turn_client_runs.specs.Received.{HasArrived, piece_in_call, pieces_for, unless_broken}
@@ -51,6 +52,11 @@ Steps all turns t = Goes (Ends all) (nothing-ends all) (less-ends all) turns t
 quiet-piece : (a : SocketAddr) (call : Call) (s : State) → (TakesInput call → ⊥) → piece_in_call a call s ≡ []
 quiet-piece a (Recv packet now) s other = absurd (other tt)
 quiet-piece a call s other = refl
+
+-- what is stored nowhere
+nowhere : (b : Bool) → cond {A = List ℕ} b [] [] ≡ []
+nowhere true = refl
+nowhere false = refl
 
 -- more may have been received
 module _ (all more : SocketAddr → List ℕ) where
@@ -121,30 +127,23 @@ module _ (all more : SocketAddr → List ℕ) where
         others x h differ = still-ends x.local (piece x.local) x.bytes (e x.local) (rw apart refl) (held x h)
           where
             apart : same_address packet.to x.local ≡ false
-            apart = false_from_ne_true (same_address packet.to x.local) clash
-              where
-                clash : same_address packet.to x.local ≡ true → ⊥
-                clash same =
-                    let equal : x.local ≡ stream.local = sym (same_address-true packet.to x.local same) ∙ sym local in
-                    let yes : same_address x.local stream.local ≡ true = rw equal (same_address-self stream.local) in
-                    let no : true ≡ false = sym yes ∙ differ in
-                    cc
+            apart = subst (λ (l : SocketAddr). same_address l x.local ≡ false) local (differ-sym x.local stream.local differ)
 
     -- what a client over UDP receives is stored in no stream
     datagram-steps : (b c : Bool) (s : State) → Held more s.streams
         → Steps more (cond b (cond c (record { stream = None; bytes = packet.payload; is_lent = true; time = now; before = s } ∷ []) []) [])
         (cond {A = Outcome × State} b (cond {A = Outcome × State} c (datagram_step packet.payload now s) (Ignored, s)) (Ignored, s)).1
-    datagram-steps true true s held = (only, by (is_message packet.payload) (is_channel_frame packet.payload))
+    datagram-steps true true s held = (
+      only,
+      by_test (λ t. Held more t.streams) (is_message packet.payload) (message_step packet.payload now s) _
+          (subst (Held more) (sym (message-same packet.payload now s)) held)
+          (by_test (λ t. Held more t.streams) (is_channel_frame packet.payload) (channel_sent s packet.payload, s) (Ignored, s) held held),
+    )
       where
         only : (one : Input) → Has one (record { stream = None; bytes = packet.payload; is_lent = true; time = now; before = s } ∷ []) → (stream : Stream) → one.stream ≡ Some stream
             → Ends more stream.local stream.bytes
         only one (inl e) stream of = cc (sym (ap (λ (x : Input). x.stream) e) ∙ of)
         only one (inr absent) stream of = absurd absent
-
-        by : (m f : Bool) → Held more (cond {A = Outcome × State} m (message_step packet.payload now s) (cond {A = Outcome × State} f (channel_sent s packet.payload, s) (Ignored, s))).1.streams
-        by true f = subst (Held more) (sym (message-same packet.payload now s)) held
-        by false true = held
-        by false false = held
     datagram-steps b c s held = (λ one absent. absurd absent, held)
 
     recv-steps : (carrier : TransportType) (s : State) → ((a : SocketAddr) → more a ≡ all a ++ piece_in_call a (Recv packet now) (record s { transport = carrier })) → Held all s.streams
@@ -152,14 +151,11 @@ module _ (all more : SocketAddr → List ℕ) where
         (recv_step packet.transport packet.from packet.to packet.payload now (record s { transport = carrier })).1
     recv-steps Udp s e held =
         datagram-steps (is_from_server packet.transport packet.from u) (same_address packet.to s.local) u
-        (still-held s.streams (λ a. piece_in_call a (Recv packet now) u) e (λ a. by (is_from_server packet.transport packet.from u && same_address packet.to a)) held)
+        (still-held s.streams (λ a. piece_in_call a (Recv packet now) u) e
+        (λ a. nowhere (is_from_server packet.transport packet.from u && same_address packet.to a)) held)
       where
         u : State
         u = record s { transport = Udp }
-
-        by : (b : Bool) → cond {A = List ℕ} b [] [] ≡ []
-        by true = refl
-        by false = refl
     recv-steps Tcp s e held = by (is_from_server packet.transport packet.from u) refl (stream_at packet.to s) refl
       where
         u : State
@@ -167,10 +163,6 @@ module _ (all more : SocketAddr → List ℕ) where
 
         none : ((a : SocketAddr) → piece_in_call a (Recv packet now) u ≡ []) → Steps more [] u
         none nothing = (λ one absent. absurd absent, still-held s.streams (λ a. piece_in_call a (Recv packet now) u) e nothing held)
-
-        nowhere : (b : Bool) → cond {A = List ℕ} b [] [] ≡ []
-        nowhere true = refl
-        nowhere false = refl
 
         by : (b : Bool) → is_from_server packet.transport packet.from u ≡ b → (o : Option Stream) → stream_at packet.to s ≡ o
             → Steps more (recv_inputs packet.transport packet.from packet.to packet.payload now u) (recv_step packet.transport packet.from packet.to packet.payload now u).1

@@ -165,15 +165,12 @@ message-relists message now s = by (judgement_of s message) refl
     indicated None k = same message now s s refl
     indicated (Some t) k = same message now s t k
 
-    asked : (b : Bool) → Relists message now s (cond {A = Outcome × State} b (Handled, attempt_requested message s) (Ignored, s)).1
-    asked true = same message now s (attempt_requested message s) (requested-listed message s)
-    asked false = same message now s s refl
-
     by : (j : Judgement) → judgement_of s message ≡ j → Relists message now s (message_step message now s).1
     by (Challenged d) e = rw e (challenge-relists message d now s)
     by Fatal e = rw e (wrong-relists s.phase message now s)
     by ConnectionAttempt e = rw e (indicated (attempt_indicated message s) (indicated-listed message s))
-    by SignedRequest e = rw e (asked (eqb (method_in message) connection_attempt_method))
+    by SignedRequest e = rw e (by_test (Relists message now s) (eqb (method_in message) connection_attempt_method)
+        (Handled, attempt_requested message s) (Ignored, s) (same message now s _ (requested-listed message s)) (same message now s s refl))
     by SignedSuccess e = rw e (signed-relists true s.phase message now s)
     by SignedError e = rw e (signed-relists false s.phase message now s)
     by j e = rw e (same message now s s refl)
