@@ -9,7 +9,7 @@ use Rattle.turn_client_api.specs.State.{State}
 use Rattle.turn_client_api.specs.declared.call.Call.{Call}
 use Rattle.turn_client_api.specs.declared.grant.Listing.{Listing}
 use Rattle.turn_client_api.specs.declared.grant.Purpose.{Purpose}
-use Rattle.turn_client_api.specs.declared.grant.Purpose.TheVariants.{ForAllocation, ForRefresh, ForPermission, ForChannel, ForConnect, ForBind}
+use Rattle.turn_client_api.specs.declared.grant.Purpose.TheVariants.{ForPermission, ForChannel}
 use Rattle.turn_client_api.specs.Grants.{purposes_of}
 use Rattle.turn_client_laws.specs.Handled.{Input, handled, processed}
 use Rattle.turn_client_laws.specs.LawsGone.{GivesBack}
@@ -70,18 +70,13 @@ listed-for message s purpose p together wanted (inr (first, there)) =
     all : List Purpose
     all = purposes_of (id_of message) s
 
-    brought : (q r : Purpose) → retried all ≡ Some q → Has r all → IsListedFor r q → IsListedFor q r
-    brought q r f h (inl e) = inl (sym e)
-    brought (ForPermission ip) (ForChannel number peer) f h (inr e) = absurd (channel-first all number peer ip h f)
-    brought ForAllocation (ForChannel number peer) f h (inr e) = absurd e
-    brought (ForRefresh family lifetime) (ForChannel number peer) f h (inr e) = absurd e
-    brought (ForChannel other to) (ForChannel number peer) f h (inr e) = absurd e
-    brought (ForConnect to) (ForChannel number peer) f h (inr e) = absurd e
-    brought (ForBind local to id) (ForChannel number peer) f h (inr e) = absurd e
-    brought q r f h (inr e) = absurd e
+    brought : (r q : Purpose) → retried all ≡ Some q → Has r all → IsListedFor r q → IsListedFor q r
+    brought r q f h (inl e) = inl (sym e)
+    brought (ForChannel number peer) (ForPermission ip) f h (inr e) = absurd (channel-first all number peer ip h f)
+    brought r q f h (inr e) = absurd e
 
     by : (q r : Purpose) → (GivesBack r → ⊥) → retried all ≡ Some q → Has r all → Together r q → IsListedFor q r
-    by q r needs f h (inl for) = brought q r f h for
+    by q r needs f h (inl for) = brought r q f h for
     by q r needs f h (inr (inl for)) = for
     by q r needs f h (inr (inr (back, away))) = absurd (needs back)
 

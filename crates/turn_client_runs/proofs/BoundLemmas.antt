@@ -1,5 +1,5 @@
 -- What is bound after a run was bound by an input of it.
-use Rattle.std.proofs.Common.{◌≡◌, ◌⊎◌, ◌∙◌, eqb, ℕ, Bool, true, false, List, [], ◌∷◌, ◌++◌, Option, Some, None, inl, inr, refl, sym, subst, ap}
+use Rattle.std.proofs.Common.{◌≡◌, ◌⊎◌, ◌∙◌, ℕ, true, List, [], ◌∷◌, ◌++◌, Option, Some, None, inl, inr, refl, sym, subst, ap}
 use Rattle.std.specs.Prelude.{⊤}
 use Rattle.std.specs.List.{Contains}
 use Rattle.std.specs.declared.net.socket_addr.SocketAddr.{SocketAddr}
@@ -7,9 +7,8 @@ use Rattle.turn_stun.specs.declared.transport.TransportType.{TransportType}
 use Rattle.turn_stun.specs.declared.transport.TransportType.TheVariants.{Udp, Tcp}
 use Rattle.turn_client_api.specs.Config.{Config}
 use Rattle.turn_client_api.specs.State.{State, first_streams, initial}
-use Rattle.turn_client_api.specs.Requests.{connection_bind_method}
-use Rattle.turn_client_api.specs.Judgement.{bind_judgement, method_in}
-use Rattle.turn_client_api.specs.Connections.{bind_answered, bind_step, connection_at}
+use Rattle.turn_client_api.specs.Judgement.{bind_judgement}
+use Rattle.turn_client_api.specs.Connections.{bind_answered, bind_step}
 use Rattle.turn_client_api.specs.Payloads.{is_message}
 use Rattle.turn_client_laws.specs.Handled.{Input, handled, processed}
 use Rattle.turn_client_laws.specs.LawsBound.{IsBindInput, IsBoundConnection, IsConnecting}
@@ -40,36 +39,17 @@ use Rattle.turn_client_runs.proofs.TurnsOfRuns.{among-none, in_call, run-brings,
 
 -- ---- an input that binds ends its request
 
--- a message of a connection does nothing, or is answered
-abbrev DoesOrNot : SocketAddr → List ℕ → ℕ → State → Type 0
-DoesOrNot local message now s =
-    (bind_step local message now s ≡ s)
-    ⊎ ((c : DataConnection) × (connection_at local s ≡ Some c) × (bind_step local message now s ≡ bind_answered c message now s))
-
-bind-does : (local : SocketAddr) (message : List ℕ) (now : ℕ) (s : State) → DoesOrNot local message now s
-bind-does local message now s = by s.phase refl (connection_at local s) refl (eqb (method_in message) connection_bind_method) refl
-  where
-    by : (p : Phase) → s.phase ≡ p → (o : Option DataConnection) → connection_at local s ≡ o → (b : Bool) → eqb (method_in message) connection_bind_method ≡ b → DoesOrNot local message now s
-    by Allocated e None f b g = inl (rw (e, f) refl)
-    by Allocated e (Some c) f true g = inr (c, f, rw (e, f, g) refl)
-    by Allocated e (Some c) f false g = inl (rw (e, f, g) refl)
-    by p e o f b g = inl (rw e refl)
-
 -- if it binds, its request is ended
 binds-ended : (local : SocketAddr) (message : List ℕ) (now : ℕ) (s : State) → Binds local message s (bind_step local message now s) → (bind_step local message now s ≡ s)
     ⊎ IsNotAwaited message (bind_step local message now s)
-binds-ended local message now s b = elim (bind-does local message now s) [
-  | inl same ↦ inl same
-  | inr (c, found, answered) ↦
-      let is : b.c ≡ c = one c (sym b.found ∙ found) in
-      inr (rw answered (subst (λ (d : DataConnection). IsNotAwaited message (bind_answered d message now s)) is (bind-ended b.c message now s accepted)))
-]
+binds-ended local message now s b = by s.phase refl
   where
-    one : (c : DataConnection) → Some b.c ≡ Some c → b.c ≡ c
-    one c e = cc
-
-    accepted : IsAccepted (bind_judgement s b.c.local message)
-    accepted = rw b.judged tt
+    by : (p : Phase) → s.phase ≡ p → (bind_step local message now s ≡ s) ⊎ IsNotAwaited message (bind_step local message now s)
+    by Allocated e =
+        let steps : bind_step local message now s ≡ bind_answered b.c message now s = rw (e, b.found, b.method) refl in
+        let accepted : IsAccepted (bind_judgement s b.c.local message) = rw b.judged tt in
+        inr (rw steps (bind-ended b.c message now s accepted))
+    by p e = inl (rw e refl)
 
 -- no input is over both
 not_both : (local : SocketAddr) (one : Input) → IsOverControl one → IsOverWaiting local one → ⊥

@@ -1,7 +1,7 @@
 -- What is active after a call was active before it, a `delete` ended it, or an input of the call granted
 -- it.
-use Rattle.std.proofs.Common.{◌≡◌, ◌⊎◌, ◌∙◌, ℕ, Bool, true, false, List, [], Ok, refl, subst, sym, ap, inl, inr}
-use Rattle.std.specs.List.{Contains}
+use Rattle.std.proofs.Common.{◌≡◌, ◌⊎◌, ◌∙◌, ℕ, [], Ok, refl, subst, sym, ap, inl, inr}
+use Rattle.std.proofs.lemmas.Bool.{cases_Bool}
 use Rattle.turn_client_api.specs.State.{State}
 use Rattle.turn_client_api.specs.declared.call.Call.{Call}
 use Rattle.turn_client_api.specs.declared.call.Call.TheVariants.{Delete}
@@ -9,7 +9,7 @@ use Rattle.turn_client_api.specs.declared.grant.Grant.{Grant}
 use Rattle.turn_client_api.specs.declared.grant.Grant.TheVariants.{Allocation}
 use Rattle.turn_client_api.specs.declared.grant.Relay.{Relay}
 use Rattle.turn_client_api.specs.Calls.{delete_step, is_allocated}
-use Rattle.turn_client_laws.specs.Handled.{Input, handled}
+use Rattle.turn_client_laws.specs.Handled.{handled}
 use Rattle.turn_client_laws.specs.LawsGranted.{IsEndedNow, IsGrantedIn, IsSameGrant, WasActive}
 use Rattle.turn_client_laws.specs.LawsHandled.{IsDoneBy, TakesInput}
 use Rattle.turn_client_api.specs.Steps.{state_after}
@@ -17,7 +17,8 @@ use Rattle.turn_client_laws.proofs.GrantedLemmas.{leaves-grants}
 use Rattle.turn_client_laws.proofs.StandLemmas.{Covers, contains-has, covers-stood, has-contains, kept-stood, kept-trans}
 use Rattle.turn_client_laws.proofs.TurnBringLemmas.{leaves-bring}
 use Rattle.turn_client_runs.specs.Granted.{IsRelayed}
-use Rattle.turn_client_runs.proofs.TurnsOfRuns.{takes-or}
+use Rattle.turn_client_runs.specs.Inputs.{IsAmong}
+use Rattle.turn_client_runs.proofs.TurnsOfRuns.{among-none, takes-or}
 use Rattle.turn_client_runs.proofs.GrantTurns.{Granting, granting-brought, kept-alike}
 
 -- ---- a `delete`
@@ -50,38 +51,28 @@ ended-kept call s is g kept (a, now, what, how, ends, was) = elim (kept-alike is
 pub quiet : (call : Call) (s : State) → (TakesInput call → ⊥) → handled call s ≡ []
 quiet call s other = elim (takes-or call) [ inl takes ↦ absurd (other takes) | inr none ↦ none s ]
 
-none-done : (Did : Input → Type 0) (call : Call) (s : State) → (TakesInput call → ⊥) → IsDoneBy Did call s → ⊥
-none-done Did call s other (one, among, did) = contains-has one [] (subst (λ (turns : List Input). Contains turns one) (quiet call s other) among)
-
 module _ (g : Grant) where
   quiet-grants : (call : Call) (s : State) → (TakesInput call → ⊥) → Covers (state_after call s).grants g → Covers s.grants g ⊎ IsEndedBy call s g
-  quiet-grants call s other (is, there, kept) = by (leaves-grants call s (state_after call s) is (inl refl) (has-contains is (state_after call s).grants there) (kept-stood is g kept))
-    where
-      by : WasActive s is ⊎ IsEndedNow call s is ⊎ IsDoneBy (IsGrantedIn is) call s → Covers s.grants g ⊎ IsEndedBy call s g
-      by (inl (was, before, k)) = inl (was, contains-has was s.grants before, kept-trans was is g k kept)
-      by (inr (inl ended)) = inr (ended-kept call s is g kept (ended-how call s is ended))
-      by (inr (inr done)) = absurd (none-done (IsGrantedIn is) call s other done)
+  quiet-grants call s other (is, there, kept) =
+      elim (leaves-grants call s (state_after call s) is (inl refl) (has-contains is (state_after call s).grants there) (kept-stood is g kept)) [
+        | inl (was, before, k) ↦ inl (was, contains-has was s.grants before, kept-trans was is g k kept)
+        | inr (inl ended) ↦ inr (ended-kept call s is g kept (ended-how call s is ended))
+        | inr (inr done) ↦ absurd (among-none (IsGrantedIn is) (subst (IsAmong (IsGrantedIn is)) (quiet call s other) done))
+      ]
 
   -- why it is active after a call
   abbrev pub IsCaused : Call → State → Type 0
   IsCaused call s = IsEndedBy call s g ⊎ IsDoneBy (Granting g) call s
 
-  stood-covers : (s : State) → WasActive s g → Covers s.grants g
-  stood-covers s (was, there, kept) = (was, contains-has was s.grants there, kept)
-
   pub call-causes : (call : Call) (s : State) → WasActive (state_after call s) g → WasActive s g ⊎ IsCaused call s
-  call-causes call s stood =
-      by (leaves-bring (λ u. Covers u.grants g) (Granting g) (granting-brought g) (λ call s. IsEndedBy call s g) quiet-grants call s (state_after call s) (inl refl)
-      (stood-covers (state_after call s) stood))
-    where
-      by : Covers s.grants g ⊎ IsEndedBy call s g ⊎ IsDoneBy (Granting g) call s → WasActive s g ⊎ IsCaused call s
-      by (inl covers) = inl (covers-stood s g covers)
-      by (inr cause) = inr cause
+  call-causes call s (was, there, kept) =
+      let covers : Covers (state_after call s).grants g = (was, contains-has was (state_after call s).grants there, kept) in
+      let brought = leaves-bring (λ u. Covers u.grants g) (Granting g) (granting-brought g) (λ call s. IsEndedBy call s g) quiet-grants in
+      elim (brought call s (state_after call s) (inl refl) covers) [
+        | inl covers ↦ inl (covers-stood s g covers)
+        | inr cause ↦ inr cause
+      ]
 
 -- a `delete` that is refused changes nothing
 pub delete-accepted : (now : ℕ) (s : State) → ((delete_step now s).0 ≡ Ok tt) ⊎ ((delete_step now s).1 ≡ s)
-delete-accepted now s = by (is_allocated s.phase) refl
-  where
-    by : (b : Bool) → is_allocated s.phase ≡ b → ((delete_step now s).0 ≡ Ok tt) ⊎ ((delete_step now s).1 ≡ s)
-    by true e = inl (rw e refl)
-    by false e = inr (rw e refl)
+delete-accepted now s = elim (cases_Bool (is_allocated s.phase)) [ inl e ↦ inl (rw e refl) | inr e ↦ inr (rw e refl) ]

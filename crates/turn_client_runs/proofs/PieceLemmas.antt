@@ -29,23 +29,12 @@ use Rattle.turn_client_runs.proofs.WholeLemmas.{broken-whole, none-whole, whole-
 -- ---- input
 
 -- a piece of this stream is received over TCP from the server
-recv-tcp : (a : SocketAddr) (piece : List ℕ) (now : ℕ) (s : State) (stream : Stream) → stream_at a s ≡ Some stream
-    → recv_step Tcp s.remote a piece now (record s { transport = Tcp }) ≡ stream_step stream piece now (record s { transport = Tcp })
-recv-tcp a piece now s stream e = rw (same_address-self s.remote, e) refl
-
-recv-nothing : (a : SocketAddr) (piece : List ℕ) (now : ℕ) (s : State) → stream_at a s ≡ None
-    → recv_step Tcp s.remote a piece now (record s { transport = Tcp }) ≡ (Ignored, record s { transport = Tcp })
-recv-nothing a piece now s e = rw (same_address-self s.remote, e) refl
-
-over-tcp : (s : State) → s.transport ≡ Tcp → record s { transport = Tcp } ≡ s
-over-tcp s e = ap (λ x. record s { transport = x }) (sym e)
-
 recv-found : (a : SocketAddr) (piece : List ℕ) (now : ℕ) (s : State) (stream : Stream) → s.transport ≡ Tcp → stream_at a s ≡ Some stream
     → recv_step Tcp s.remote a piece now s ≡ stream_step stream piece now s
-recv-found a piece now s stream tcp e = subst (λ (v : State). recv_step Tcp s.remote a piece now v ≡ stream_step stream piece now v) (over-tcp s tcp) (recv-tcp a piece now s stream e)
+recv-found a piece now s stream tcp e = rw (tcp, same_address-self s.remote, e) refl
 
 recv-none : (a : SocketAddr) (piece : List ℕ) (now : ℕ) (s : State) → s.transport ≡ Tcp → stream_at a s ≡ None → recv_step Tcp s.remote a piece now s ≡ (Ignored, s)
-recv-none a piece now s tcp e = subst (λ (v : State). recv_step Tcp s.remote a piece now v ≡ (Ignored, v)) (over-tcp s tcp) (recv-nothing a piece now s e)
+recv-none a piece now s tcp e = rw (tcp, same_address-self s.remote, e) refl
 
 -- the place of a payload does not count
 placed : (waited : List ℕ) (o : Outcome) → outcome_payloads (place_kept waited o) ≡ outcome_payloads o

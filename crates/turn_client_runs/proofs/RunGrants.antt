@@ -223,16 +223,13 @@ module _ (first : State) (empty : first.grants ≡ []) (unlisted : first.listed 
       same : a ≡ b
       same = same-allocation a b what
 
-  no-end : (g : Grant) (call : Call) (s : State) → ((a : Relay) → g ≡ Allocation a → ⊥) → IsAcceptedEnd g call s → ⊥
-  no-end g call s other ((a, now, what, how, ends, was), accepted) = other a what
-
   run-grants : (calls : List Call) (g : Grant) → IsActiveGrant g → Contains (state_after_all first calls).grants g → HasReply g calls first
   run-grants calls g stands there = by g (run-caused g stands calls (covers-stood (state_after_all first calls) g
       (covers-has (state_after_all first calls).grants g (contains-has g (state_after_all first calls).grants there) stands)))
     where
       turned : (h : Grant) (is : IsDoneLast (Causes h) (λ s. WasActive s h) calls first) → ((a : Relay) → h ≡ Allocation a → ⊥) → IsGranted h calls first
       turned h is other = elim is.did [
-        | inl end ↦ absurd (no-end h is.call (state_after_all first is.earlier) other end)
+        | inl (ended, accepted) ↦ absurd (other ended.0 ended.2)
         | inr done ↦ run-turned h calls is done
       ]
 

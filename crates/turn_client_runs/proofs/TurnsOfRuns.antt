@@ -86,8 +86,6 @@ module _ (P : State → Type 0) (Did : Input → Type 0) (each : (call : Call) (
 -- what holds when an input is processed did so before its call, or an earlier input caused it
 module _ (P : State → Type 0) (Did : Input → Type 0) (k : IsBrought P Did) (each : (call : Call) (s : State) → P (state_after call s) → P s ⊎ IsDoneBy Did call s) where
   pub in_call : (call : Call) (s : State) (earlier later : List Input) (one : Input) → handled call s ≡ earlier ++ one ∷ later → P one.before → P s ⊎ IsAmong Did earlier
-  in_call call s earlier later one e h = by (lead-brings P Did k earlier s one.before (leads-to earlier later one s (state_after call s) (handled-leads call s earlier later one e)) h)
-    where
-      by : P s ⊎ ((other : Input) × Has other earlier × Did other) → P s ⊎ IsAmong Did earlier
-      by (inl there) = inl there
-      by (inr did) = inr (has-among Did earlier did)
+  in_call call s earlier later one e h =
+      let lead = leads-to earlier later one s (state_after call s) (handled-leads call s earlier later one e) in
+      elim (lead-brings P Did k earlier s one.before lead h) [ inl there ↦ inl there | inr did ↦ inr (has-among Did earlier did) ]
