@@ -165,26 +165,15 @@ pub was-asked : (earlier : List Call) (call : Call) (later : List Call) (first :
     → (p : Purpose) → (GivesBack p → ⊥) → Contains (purposes_of (id_of one.bytes) one.before) p
     → WasAskedBefore (id_of one.bytes) p earlier first front
 was-asked earlier call later first empty front one back cut p wanted listed =
-    by (front-asks l wanted front one back s (state_after call s) (handled-leads call s front back one cut) together there)
-  where
-    s : State
-    s = state_after_all first earlier
-
-    l : Listing
-    l = listing (id_of one.bytes) p
-
-    none : AreTogether first
-    none x other here there e = absurd (subst (Has x) empty here)
-
-    together : AreTogether s
-    together = calls-keep AreTogether call-together earlier first none
-
-    there : Has l one.before.listed
-    there = purpose-with (id_of one.bytes) p one.before (contains-has p (purposes_of (id_of one.bytes) one.before) listed)
-
-    by : Has l s.listed ⊎ AmongTurns l wanted front → WasAskedBefore (id_of one.bytes) p earlier first front
-    by (inl old) = elim (run-asks l wanted earlier first none (has-contains l s.listed old)) [
-      | inl old ↦ absurd (contains-has l [] (subst (λ (ls : List Listing). Contains ls l) empty old))
-      | inr was ↦ inl was
+    let s = state_after_all first earlier in
+    let l = listing (id_of one.bytes) p in
+    let none : AreTogether first = λ x other here there e. absurd (subst (Has x) empty here) in
+    let together = calls-keep AreTogether call-together earlier first none in
+    let there : Has l one.before.listed = purpose-with (id_of one.bytes) p one.before (contains-has p (purposes_of (id_of one.bytes) one.before) listed) in
+    elim (front-asks l wanted front one back s (state_after call s) (handled-leads call s front back one cut) together there) [
+      | inl old ↦ elim (run-asks l wanted earlier first none (has-contains l s.listed old)) [
+        | inl at_first ↦ absurd (contains-has l [] (subst (λ (ls : List Listing). Contains ls l) empty at_first))
+        | inr was ↦ inl was
+      ]
+      | inr (x, among, asked) ↦ inr (x, has-contains x front among, asked)
     ]
-    by (inr (x, among, asked)) = inr (x, has-contains x front among, asked)

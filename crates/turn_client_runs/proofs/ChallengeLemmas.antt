@@ -104,28 +104,24 @@ answers-append turns more = simp (filter-append, length-append) refl
 
 run-counts : (s : State) (calls : List Call) → Counts s (state_after_all s calls) (handled_in s calls)
 run-counts s [] = inl (omega arith)
-run-counts s (call ∷ calls) = by (call-counts call s) (run-counts (state_after call s) calls)
-  where
-    turns : List Input
-    turns = handled call s
-
-    more : List Input
-    more = handled_in (state_after call s) calls
-
-    by : Counts s (state_after call s) turns → Counts (state_after call s) (state_after_all (state_after call s) calls) more → Counts s (state_after_all s (call ∷ calls)) (turns ++ more)
-    by (inl first) (inl rest) = inl (let sum = answers-append turns more in omega (arith, first, rest, sum))
-    by (inr among) rest = inr (among-left IsHeededIn turns more among)
-    by (inl first) (inr among) = inr (among-right IsHeededIn turns more among)
+run-counts s (call ∷ calls) =
+    let turns = handled call s in
+    let more = handled_in (state_after call s) calls in
+    elim (call-counts call s) [
+      | inl first ↦ elim (run-counts (state_after call s) calls) [
+        | inl rest ↦ inl (let sum = answers-append turns more in omega (arith, first, rest, sum))
+        | inr among ↦ inr (among-right IsHeededIn turns more among)
+      ]
+      | inr among ↦ inr (among-left IsHeededIn turns more among)
+    ]
 
 -- what the client was made with stays
 pub run-configured : (s : State) (calls : List Call) → (state_after_all s calls).config ≡ s.config
 run-configured s calls = kept-behind (λ (t : State). t.config ≡ s.config) (λ call t u leaves same. leaves-configured call t u leaves ∙ same) s calls refl
 
 pub few-answered : (s : State) (calls : List Call) → IsWithinChallengeLimit s → (answers_in (handled_in s calls) ≤ s.config.max_stale_nonces) ⊎ IsReplyAcceptedAmong (handled_in s calls)
-few-answered s calls patient = elim (run-counts s calls) [ inl counts ↦ inl (omega (arith, counts, last, same)) | inr among ↦ inr among ]
-  where
-    last : IsWithinChallengeLimit (state_after_all s calls)
-    last = kept-behind IsWithinChallengeLimit leaves-patient s calls patient
-
-    same : (state_after_all s calls).config.max_stale_nonces ≡ s.config.max_stale_nonces
-    same = ap (λ (c : Config). c.max_stale_nonces) (run-configured s calls)
+few-answered s calls patient =
+    let last : IsWithinChallengeLimit (state_after_all s calls) = kept-behind IsWithinChallengeLimit leaves-patient s calls patient in
+    let same : (state_after_all s calls).config.max_stale_nonces ≡ s.config.max_stale_nonces =
+    ap (λ (c : Config). c.max_stale_nonces) (run-configured s calls) in
+    elim (run-counts s calls) [ inl counts ↦ inl (omega (arith, counts, last, same)) | inr among ↦ inr among ]

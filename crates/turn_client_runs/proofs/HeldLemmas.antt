@@ -16,8 +16,8 @@ use Rattle.turn_client_api.specs.Retry.{retried, state_after_retry}
 use Rattle.turn_client_api.specs.Connections.{bind_step, connection_at}
 use Rattle.turn_client_api.specs.Payloads.{Outcome, Handled, Ignored, is_message, message_step}
 use Rattle.turn_client_api.specs.Receive.{connection_gone}
-use Rattle.turn_client_laws.specs.Handled.{Input, processed}
-use Rattle.turn_client_api.specs.Steps.{state_after, state_after_all}
+use Rattle.turn_client_laws.specs.Handled.{Input}
+use Rattle.turn_client_api.specs.Steps.{state_after}
 use Rattle.turn_client_api.specs.Transmit.{sent}
 use Rattle.turn_client_laws.specs.LawsHandled.{IsDoneBy, IsOverControl, TakesInput}
 use Rattle.turn_client_api.specs.declared.call.Call.{Call}
@@ -146,20 +146,12 @@ bringing = record {
 }
   where
     control : (one : Input) → IsOverControl one → is_message one.bytes ≡ true → IsLate (message_step one.bytes one.time one.before).1 → IsLate one.before ⊎ IsFirst one
-    control one over whole h = by (message-late one.bytes one.time one.before h)
-      where
-        by : IsLate one.before ⊎ Answers one.bytes one.time one.before → IsLate one.before ⊎ IsFirst one
-        by (inl late) = inl late
-        by (inr (d, none, judged, held)) = inr (
-          d,
-          record {
-            over = over;
-            whole = whole;
-            none = none;
-            judged = judged;
-            held = ap (λ (p : Outcome × State). p.1.held) (control-made one over whole) ∙ held;
-          },
-        )
+    control one over whole h = elim (message-late one.bytes one.time one.before h) [
+      | inl late ↦ inl late
+      | inr (d, none, judged, held) ↦
+          let after = ap (λ (p : Outcome × State). p.1.held) (control-made one over whole) ∙ held in
+          inr (d, record { over = over; whole = whole; none = none; judged = judged; held = after })
+    ]
 
 -- ---- a call
 
@@ -207,14 +199,13 @@ initial-early transport local remote config seed h =
     let no : false ≡ true = late-held (initial transport local remote config seed) h (λ e. cc) (λ e. cc) in cc
 
 pub held-from : (transport : TransportType) (local remote : SocketAddr) (config : Config) (seed : List ℕ) (calls : List Call) → HeldFromChallenge (initial transport local remote config seed) calls
-held-from transport local remote config seed calls c e = elim (run-brings IsLate IsFirst each first calls (inl (rw e refl))) [
-  | inl late ↦ absurd (initial-early transport local remote config seed late)
-  | inr (one, among, (d, is)) ↦ let alike = same one d is.held (turns-after first calls one among d is.held) in (one, among, (d, is, alike.0, alike.1))
-]
-  where
-    first : State
-    first = initial transport local remote config seed
-
-    same : (one : Input) (d : Challenge) → (processed one).1.held ≡ Some d → (x : Challenge) × ((state_after_all first calls).held ≡ Some x) × (x.realm ≡ d.realm) × (x.algorithm ≡ d.algorithm)
-        → (c.realm ≡ d.realm) × (c.algorithm ≡ d.algorithm)
-    same one d held (x, f, realm, algorithm) = let is : c ≡ x = same_Some c x (sym e ∙ f) in rw is (realm, algorithm)
+held-from transport local remote config seed calls c e =
+    let first = initial transport local remote config seed in
+    elim (run-brings IsLate IsFirst each first calls (inl (rw e refl))) [
+      | inl late ↦ absurd (initial-early transport local remote config seed late)
+      | inr (one, among, (d, is)) ↦
+          let (x, f, realm, algorithm) = turns-after first calls one among d is.held in
+          let same : c ≡ x = same_Some c x (sym e ∙ f) in
+          let alike : (c.realm ≡ d.realm) × (c.algorithm ≡ d.algorithm) = rw same (realm, algorithm) in
+          (one, among, (d, is, alike.0, alike.1))
+    ]

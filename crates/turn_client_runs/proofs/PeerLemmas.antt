@@ -1,5 +1,5 @@
 -- The senders of the payloads of a run.
-use Rattle.std.proofs.Common.{◌≡◌, ◌⊎◌, Bool, true, false, cond, List, [], ◌∷◌, Option, Some, None, refl, subst, ap, inl, inr}
+use Rattle.std.proofs.Common.{◌≡◌, Bool, true, false, cond, List, [], ◌∷◌, Option, Some, None, refl, subst, ap, inl, inr}
 use Rattle.std.proofs.lemmas.List.Elements.{Contains-append_cases}
 use Rattle.std.specs.List.{Contains}
 use Rattle.std.specs.declared.net.socket_addr.SocketAddr.{SocketAddr}
@@ -93,15 +93,12 @@ module _ (payload : Payload) where
 
   pub received : (s : State) (calls : List Call) → Contains (payloads_in s calls) payload → IsDeliveredIn payload s calls
   received s [] there = absurd (contains-has payload [] there)
-  received s (call ∷ calls) there = by (received (state_after call s) calls) (Contains-append_cases (payloads_by call s) (payloads_in (state_after call s) calls) payload there)
-    where
-      more : List Input
-      more = handled_in (state_after call s) calls
-
-      by : (Contains (payloads_in (state_after call s) calls) payload → IsDeliveredIn payload (state_after call s) calls) → Contains (payloads_by call s) payload
-          ⊎ Contains (payloads_in (state_after call s) calls) payload → IsDeliveredIn payload s (call ∷ calls)
-      by rest (inl here) = among-left (InputDelivers payload) (handled call s) more (by-call call s here)
-      by rest (inr later) = among-right (InputDelivers payload) (handled call s) more (rest later)
+  received s (call ∷ calls) there =
+      let more = handled_in (state_after call s) calls in
+      elim (Contains-append_cases (payloads_by call s) (payloads_in (state_after call s) calls) payload there) [
+        | inl here ↦ among-left (InputDelivers payload) (handled call s) more (by-call call s here)
+        | inr later ↦ among-right (InputDelivers payload) (handled call s) more (received (state_after call s) calls later)
+      ]
 
 -- ---- what the calls return
 

@@ -1,5 +1,5 @@
 -- Realm and algorithm stay, from input to input too.
-use Rattle.std.proofs.Common.{◌⊎◌, not, cond, List, [], ◌∷◌, Some, None, refl, ap, ◌∙◌, inl, inr}
+use Rattle.std.proofs.Common.{not, cond, List, [], ◌∷◌, Some, None, refl, ap, ◌∙◌, inl, inr}
 use Rattle.std.specs.List.{Contains}
 use Rattle.turn_types.specs.Frames.{begins_message}
 use Rattle.turn_client_api.specs.State.{State}
@@ -88,14 +88,12 @@ behind-realm s (call ∷ calls) = then-realm s (state_after call s) (state_after
 
 run-turn : (s : State) (calls : List Call) (one : Input) → Has one (handled_in s calls) → Stays s (state_after_all s calls) one
 run-turn s [] one there = absurd there
-run-turn s (call ∷ calls) one there = by (λ later. run-turn (state_after call s) calls one later) (has-append one (handled call s) (handled_in (state_after call s) calls) there)
-  where
-    t : State
-    t = state_after call s
-
-    by : (Has one (handled_in t calls) → Stays t (state_after_all t calls) one) → Has one (handled call s) ⊎ Has one (handled_in t calls) → Stays s (state_after_all t calls) one
-    by more (inl here) = let now = call-turn call s one here in (now.0, then-realm (processed one).1 t (state_after_all t calls) now.1 (behind-realm t calls))
-    by more (inr later) = let rest = more later in (then-realm s t one.before (call-keeps call s).2 rest.0, rest.1)
+run-turn s (call ∷ calls) one there =
+    let t = state_after call s in
+    elim (has-append one (handled call s) (handled_in t calls) there) [
+      | inl here ↦ let now = call-turn call s one here in (now.0, then-realm (processed one).1 t (state_after_all t calls) now.1 (behind-realm t calls))
+      | inr later ↦ let rest = run-turn t calls one later in (then-realm s t one.before (call-keeps call s).2 rest.0, rest.1)
+    ]
 
 pub turns-realm : (s : State) (calls : List Call) (one : Input) → Contains (handled_in s calls) one → KeepsRealm s one.before × KeepsRealm one.before (state_after_all s calls)
 turns-realm s calls one there =

@@ -150,12 +150,10 @@ module _ (all more : SocketAddr → List ℕ) where
         → Steps more (recv_inputs packet.transport packet.from packet.to packet.payload now (record s { transport = carrier }))
         (recv_step packet.transport packet.from packet.to packet.payload now (record s { transport = carrier })).1
     recv-steps Udp s e held =
+        let u = record s { transport = Udp } in
         datagram-steps (is_from_server packet.transport packet.from u) (same_address packet.to s.local) u
         (still-held s.streams (λ a. piece_in_call a (Recv packet now) u) e
         (λ a. nowhere (is_from_server packet.transport packet.from u && same_address packet.to a)) held)
-      where
-        u : State
-        u = record s { transport = Udp }
     recv-steps Tcp s e held = by (is_from_server packet.transport packet.from u) refl (stream_at packet.to s) refl
       where
         u : State

@@ -10,7 +10,7 @@ use Rattle.turn_client_api.specs.Connections.{bind_answered, bind_step}
 use Rattle.turn_client_api.specs.Payloads.{Outcome, is_message, message_step}
 use Rattle.turn_client_laws.specs.Handled.{Input, processed}
 use Rattle.turn_client_laws.specs.LawsHandled.{InputsLead}
-use Rattle.turn_client_laws.specs.LawsReplies.{IsAccepted, IsAwaited, IsDrawn, IsNotAwaited}
+use Rattle.turn_client_laws.specs.LawsReplies.{IsAccepted, IsDrawn, IsNotAwaited}
 use Rattle.turn_client_api.specs.Steps.{state_after, state_after_all}
 use Rattle.turn_client_api.specs.declared.call.Call.{Call}
 use Rattle.turn_client_laws.proofs.AcceptedReplyLemmas.{accepted-gone, accepted-outstanding, bind-ended, bind-outstanding}
@@ -24,22 +24,15 @@ use Rattle.turn_client_runs.proofs.TurnsOfRuns.{handled-leads, has-among, leads-
 
 -- ---- one input
 
-unlike : true ≡ false → ⊥
-unlike e = cc
-
 -- on a connection that waits it is awaited no longer
 pub bind-reply-ended : (one : Input) → IsBindReply one → IsNotAwaited one.bytes (processed one).1
 bind-reply-ended one b =
+    let made : (processed one).1 ≡ bind_step b.local one.bytes one.time one.before = waiting-made b.local one b.over b.whole in
+    let answered : bind_step b.local one.bytes one.time one.before ≡ bind_answered b.connection one.bytes one.time one.before =
+    rw (b.phase, b.found, b.method) refl in
+    let accepted : IsAccepted (bind_judgement one.before b.connection.local one.bytes) =
+    subst (λ (local : SocketAddr). IsAccepted (bind_judgement one.before local one.bytes)) (sym (found-local b.local b.connection _ b.found)) b.accepted in
     subst (λ (t : State). IsNotAwaited one.bytes t) (sym (made ∙ answered)) (bind-ended b.connection one.bytes one.time one.before accepted)
-  where
-    made : (processed one).1 ≡ bind_step b.local one.bytes one.time one.before
-    made = waiting-made b.local one b.over b.whole
-
-    answered : bind_step b.local one.bytes one.time one.before ≡ bind_answered b.connection one.bytes one.time one.before
-    answered = rw (b.phase, b.found, b.method) refl
-
-    accepted : IsAccepted (bind_judgement one.before b.connection.local one.bytes)
-    accepted = subst (λ (local : SocketAddr). IsAccepted (bind_judgement one.before local one.bytes)) (sym (found-local b.local b.connection _ b.found)) b.accepted
 
 pub reply-ends : (one : Input) → IsReplyInput one → EndsItsRequest one
 reply-ends one (inl c) = (
@@ -88,7 +81,7 @@ module _ (id : ℕ) where
     where
       draws : is_out s ≡ false → IsDrawn call id s ⊎ (is_out s ≡ true) → IsDrawn call id s
       draws free (inl drawn) = drawn
-      draws free (inr was) = absurd (unlike (sym was ∙ free))
+      draws free (inr was) = cc (sym was ∙ free)
 
       first : (b : Bool) → is_out s ≡ b → is_out (state_after call s) ≡ true → (is_out s ≡ true) ⊎ IsMadeIn id s (call ∷ calls)
       first true e out = inl e
@@ -111,22 +104,14 @@ module _ (id : ℕ) where
       makes one (did, free, made) = record { whole = did.0; drawn = did.1; free = free; made = made }
 
 pub reply-again : (s : State) (call : Call) (calls : List Call) (one : Input) → IsReplyInput one → IsMadeSince s call calls one
-reply-again s call calls one reply front later e awaited = by (made-in id (state_after call s) calls awaited)
-  where
-    id : ℕ
-    id = id_of one.bytes
-
-    Goal : Type 0
-    Goal = IsMadeAmong id later ⊎ IsMadeIn id (state_after call s) calls
-
-    at_turn : IsAwaited one.bytes (processed one).1 ⊎ IsMadeAmong id later → Goal
-    at_turn (inl out) = absurd (unlike (sym out ∙ (reply-ends one reply).1))
-    at_turn (inr made) = inl made
-
-    by : IsAwaited one.bytes (state_after call s) ⊎ IsMadeIn id (state_after call s) calls → Goal
-    by (inl out) =
-        at_turn (lead-makes id later (processed one).1 (state_after call s) (leads-from front later one s (state_after call s) (handled-leads call s front later one e)) out)
-    by (inr made) = inr made
+reply-again s call calls one reply front later e awaited =
+    let id = id_of one.bytes in
+    let t = state_after call s in
+    let lead = leads-from front later one s t (handled-leads call s front later one e) in
+    elim (made-in id t calls awaited) [
+      | inl out ↦ elim (lead-makes id later (processed one).1 t lead out) [ inl out ↦ cc (sym out ∙ (reply-ends one reply).1) | inr made ↦ inl made ]
+      | inr made ↦ inr made
+    ]
 
 -- ---- two replies with one ID
 
@@ -136,34 +121,22 @@ second-out one other (first, second, same) =
     subst (λ (id : ℕ). is_outstanding id other.before.transactions ≡ true) (sym same) (reply-ends other second).0
 
 pub made-between : (s : State) (call : Call) → IsMadeBetween s call
-made-between s call one other front between rest replies e = elim (lead-makes id between (processed one).1 other.before lead (second-out one other replies)) [
-  | inl out ↦ absurd (unlike (sym out ∙ (reply-ends one replies.0).1))
-  | inr made ↦ made
-]
-  where
-    id : ℕ
-    id = id_of one.bytes
-
-    all : InputsLead (front ++ one ∷ (between ++ other ∷ rest)) s (state_after call s)
-    all = handled-leads call s front (between ++ other ∷ rest) one e
-
-    lead : InputsLead between (processed one).1 other.before
-    lead = leads-to between rest other (processed one).1 (state_after call s) (leads-from front (between ++ other ∷ rest) one s (state_after call s) all)
+made-between s call one other front between rest replies e =
+    let id = id_of one.bytes in
+    let all : InputsLead (front ++ one ∷ (between ++ other ∷ rest)) s (state_after call s) = handled-leads call s front (between ++ other ∷ rest) one e in
+    let lead : InputsLead between (processed one).1 other.before =
+    leads-to between rest other (processed one).1 (state_after call s) (leads-from front (between ++ other ∷ rest) one s (state_after call s) all) in
+    elim (lead-makes id between (processed one).1 other.before lead (second-out one other replies)) [
+      | inl out ↦ cc (sym out ∙ (reply-ends one replies.0).1)
+      | inr made ↦ made
+    ]
 
 pub made-until : (s : State) (call : Call) (calls : List Call) (last : Call) → IsMadeUntil s call calls last
-made-until s call calls last one other front later before rest replies e f = elim (lead-makes id before u other.before lead (second-out one other replies)) [
-  | inl out ↦ elim (reply-again s call calls one replies.0 front later e out) [ inl made ↦ inl made | inr made ↦ inr (inl made) ]
-  | inr made ↦ inr (inr made)
-]
-  where
-    id : ℕ
-    id = id_of one.bytes
-
-    u : State
-    u = state_after_all (state_after call s) calls
-
-    lead : InputsLead before u other.before
-    lead = leads-to before rest other u (state_after last u) (handled-leads last u before rest other f)
-
-    Goal : Type 0
-    Goal = IsMadeAmong id later ⊎ IsMadeIn id (state_after call s) calls ⊎ IsMadeAmong id before
+made-until s call calls last one other front later before rest replies e f =
+    let id = id_of one.bytes in
+    let u = state_after_all (state_after call s) calls in
+    let lead = leads-to before rest other u (state_after last u) (handled-leads last u before rest other f) in
+    elim (lead-makes id before u other.before lead (second-out one other replies)) [
+      | inl out ↦ elim (reply-again s call calls one replies.0 front later e out) [ inl made ↦ inl made | inr made ↦ inr (inl made) ]
+      | inr made ↦ inr (inr made)
+    ]

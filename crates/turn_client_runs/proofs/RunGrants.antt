@@ -209,19 +209,18 @@ module _ (first : State) (empty : first.grants ≡ []) (unlisted : first.listed 
 
   run-gave : (a : Relay) (calls : List Call) (is : IsDoneLast (Causes (Allocation a)) (λ s. WasActive s (Allocation a)) calls first)
       → IsAcceptedEnd (Allocation a) is.call (state_after_all first is.earlier) → IsDeletedBy a calls first
-  run-gave a calls is ((b, now, what, how, ends, was), accepted) = record {
-    earlier = is.earlier;
-    now = now;
-    later = is.later;
-    split = is.split ∙ ap (λ (c : Call). is.earlier ++ c ∷ is.later) how;
-    accepted = accepted now how;
-    ends = ap (λ (x : Relay). x.expiry) same ∙ ends;
-    allocated = run-allocates a.relayed is.earlier (subst (λ (x : Relay). IsRelayed x.relayed (state_after_all first is.earlier)) (sym same) was);
-    stands = subst (λ (c : Call). HoldsThrough (λ s. WasActive s (Allocation a)) is.later (state_after c (state_after_all first is.earlier))) how is.holds;
-  }
-    where
-      same : a ≡ b
-      same = same-allocation a b what
+  run-gave a calls is ((b, now, what, how, ends, was), accepted) =
+      let same : a ≡ b = same-allocation a b what in
+      record {
+        earlier = is.earlier;
+        now = now;
+        later = is.later;
+        split = is.split ∙ ap (λ (c : Call). is.earlier ++ c ∷ is.later) how;
+        accepted = accepted now how;
+        ends = ap (λ (x : Relay). x.expiry) same ∙ ends;
+        allocated = run-allocates a.relayed is.earlier (subst (λ (x : Relay). IsRelayed x.relayed (state_after_all first is.earlier)) (sym same) was);
+        stands = subst (λ (c : Call). HoldsThrough (λ s. WasActive s (Allocation a)) is.later (state_after c (state_after_all first is.earlier))) how is.holds;
+      }
 
   run-grants : (calls : List Call) (g : Grant) → IsActiveGrant g → Contains (state_after_all first calls).grants g → HasReply g calls first
   run-grants calls g stands there = by g (run-caused g stands calls (covers-stood (state_after_all first calls) g

@@ -11,7 +11,7 @@ use Rattle.turn_client_api.specs.Streams.{poll_recv_step}
 use Rattle.turn_client_api.specs.declared.call.Call.{Call}
 use Rattle.turn_client_api.specs.declared.call.Call.TheVariants.{PollRecv}
 use Rattle.turn_client_api.specs.declared.state.Mode.{Mode}
-use Rattle.turn_client_api.specs.declared.state.Mode.TheVariants.{Bound, Broken}
+use Rattle.turn_client_api.specs.declared.state.Mode.TheVariants.{Broken}
 use Rattle.turn_client_laws.proofs.StandLemmas.{contains-has}
 use Rattle.turn_client_laws.proofs.StreamCallLemmas.{call-apart, initial-apart}
 use Rattle.turn_client_laws.proofs.StreamDrainLemmas.{poll_recv-drained}
@@ -52,5 +52,4 @@ streams-short transport local remote config seed calls earlier now later e none 
 
     by : (m : Mode) → stream.mode ≡ m → length stream.bytes < 65555
     by Broken m = let nothing : stream.bytes ≡ [] = All-contains IsEmptyIfBroken t.streams stream apart.1 there m in rw nothing (omega arith)
-    by (Bound peer) m = drained-short stream drained (λ is. let no : Bound peer ≡ Broken = sym m ∙ is in cc) held
-    by x m = drained-short stream drained (λ is. let no : x ≡ Broken = sym m ∙ is in cc) held
+    by x m = drained-short stream drained (λ is. cc (sym m ∙ is)) held

@@ -141,13 +141,12 @@ signed-as t config held purpose id x same realm is named spelled =
 
 made-signed : (purpose : Purpose) (now : ℕ) (s t : State) (x : Transaction) → purpose ≡ ForAllocation → IsMadeAs purpose now s t x → t.phase ≡ Authenticating → IsSome t.held
     → IsSignedAllocate t.config t.held x
-made-signed purpose now s t x is (made, e) phase held = elim made.spelled [
-  | inl text ↦ signed-as t t.config t.held purpose (fresh_id s) x refl (own-realm t.held held) is named (ap (λ (y : Transaction). y.request) e ∙ text)
-  | inr (first, begins, text) ↦ let no : Requesting ≡ Authenticating = sym begins ∙ phase in cc
-]
-  where
-    named : x.id ≡ fresh_id s
-    named = ap (λ (y : Transaction). y.id) e
+made-signed purpose now s t x is (made, e) phase held =
+    let named : x.id ≡ fresh_id s = ap (λ (y : Transaction). y.id) e in
+    elim made.spelled [
+      | inl text ↦ signed-as t t.config t.held purpose (fresh_id s) x refl (own-realm t.held held) is named (ap (λ (y : Transaction). y.request) e ∙ text)
+      | inr (first, begins, text) ↦ let no : Requesting ≡ Authenticating = sym begins ∙ phase in cc
+    ]
 
 -- ---- messages
 

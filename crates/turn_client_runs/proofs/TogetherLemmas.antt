@@ -16,10 +16,8 @@ use Rattle.turn_client_laws.specs.Handled.{Input, handled, processed}
 use Rattle.turn_client_laws.specs.LawsGone.{GivesBack}
 use Rattle.turn_client_laws.specs.LawsHandled.{DiffersInStreams, ProcessesInputs, TakesInput, InputsLead}
 use Rattle.turn_client_laws.specs.LawsRequests.{AsksFor, IsListedAgain, IsListedAs, IsListedFor, IsListingOf}
-use Rattle.turn_client_api.specs.Receive.{connection_gone}
 use Rattle.turn_client_api.specs.Requests.{fresh_id}
 use Rattle.turn_client_api.specs.Steps.{state_after}
-use Rattle.turn_client_api.specs.Streams.{without_stream}
 use Rattle.turn_client_laws.proofs.Edits.{listing}
 use Rattle.turn_client_laws.proofs.HasLemmas.{Has}
 use Rattle.turn_client_laws.proofs.InAllocationLemmas.{has-any}
@@ -146,9 +144,6 @@ module _ (call : Call) (s : State) where
   does-together (inl lead) h = lead-together (handled call s) s (state_after call s) lead h
   does-together (inr end) h = together-less s (state_after call s) less h
     where
-      gone : State
-      gone = without_stream end.local (connection_gone end.local s)
-
       less : (l : Listing) → Has l (state_after call s).listed → Has l s.listed
       less l there = elim ((gone-settles end.local s).1 l (subst (λ (t : State). Has l t.listed) end.gone there)) [
         | inl there ↦ there

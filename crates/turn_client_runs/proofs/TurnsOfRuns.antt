@@ -73,13 +73,12 @@ leads-from (other ∷ front) later one s t (first, lead) = leads-from front late
 module _ (P : State → Type 0) (Did : Input → Type 0) (each : (call : Call) (s : State) → P (state_after call s) → P s ⊎ IsDoneBy Did call s) where
   pub run-brings : (s : State) (calls : List Call) → P (state_after_all s calls) → P s ⊎ IsAmong Did (handled_in s calls)
   run-brings s [] h = inl h
-  run-brings s (call ∷ calls) h = elim (run-brings (state_after call s) calls h) [
-    | inl there ↦ elim (each call s there) [ inl there ↦ inl there | inr did ↦ inr (among-left Did (handled call s) more did) ]
-    | inr among ↦ inr (among-right Did (handled call s) more among)
-  ]
-    where
-      more : List Input
-      more = handled_in (state_after call s) calls
+  run-brings s (call ∷ calls) h =
+      let more = handled_in (state_after call s) calls in
+      elim (run-brings (state_after call s) calls h) [
+        | inl there ↦ elim (each call s there) [ inl there ↦ inl there | inr did ↦ inr (among-left Did (handled call s) more did) ]
+        | inr among ↦ inr (among-right Did (handled call s) more among)
+      ]
 
 -- ---- one input of a run
 
