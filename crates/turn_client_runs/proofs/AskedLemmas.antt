@@ -132,32 +132,30 @@ module _ (l : Listing) (wanted : GivesBack l.purpose → ⊥) where
 
     call-asks : Contains (state_after call s).listed l → Contains s.listed l ⊎ IsAskedInCall l.id l.purpose call s
     call-asks there = elim (listing-here call s) [
-      | inl takes ↦ turned (gone-listed (calls-do call s takes) (contains-has l (state_after call s).listed there))
+      | inl takes ↦ elim (gone-listed (calls-do call s takes) (contains-has l (state_after call s).listed there)) [
+        | inl old ↦ inl (has-contains l s.listed old)
+        | inr (one, among, asked) ↦ inr (inr (one, has-contains one (handled call s) among, asked))
+      ]
       | inr own ↦ elim (listings-made call s (state_after call s) l (inl refl) there) [ inl old ↦ inl old | inr is ↦ inr (inl (own l is)) ]
     ]
-      where
-        turned : Has l s.listed ⊎ AmongTurns (handled call s) → Contains s.listed l ⊎ IsAskedInCall l.id l.purpose call s
-        turned (inl old) = inl (has-contains l s.listed old)
-        turned (inr (one, among, asked)) = inr (inr (one, has-contains one (handled call s) among, asked))
 
   -- ---- a run
 
   run-asks : (calls : List Call) (first : State) → AreTogether first → Contains (state_after_all first calls).listed l → Contains first.listed l ⊎ WasAsked l.id l.purpose calls first
   run-asks [] first together there = inl there
-  run-asks (call ∷ calls) first together there = by (run-asks calls (state_after call first) (call-together call first together) there)
-    where
-      by : Contains (state_after call first).listed l ⊎ WasAsked l.id l.purpose calls (state_after call first) → Contains first.listed l ⊎ WasAsked l.id l.purpose (call ∷ calls) first
-      by (inl there) = elim (call-asks call first together there) [
-        | inl old ↦ inl old
-        | inr asked ↦ inr (record { earlier = []; call = call; later = calls; split = refl; asked = asked })
-      ]
-      by (inr was) = inr (record {
-        earlier = call ∷ was.earlier;
-        call = was.call;
-        later = was.later;
-        split = ap (λ (l : List Call). call ∷ l) was.split;
-        asked = was.asked;
-      })
+  run-asks (call ∷ calls) first together there = elim (run-asks calls (state_after call first) (call-together call first together) there) [
+    | inl there ↦ elim (call-asks call first together there) [
+      | inl old ↦ inl old
+      | inr asked ↦ inr (record { earlier = []; call = call; later = calls; split = refl; asked = asked })
+    ]
+    | inr was ↦ inr (record {
+      earlier = call ∷ was.earlier;
+      call = was.call;
+      later = was.later;
+      split = ap (λ (l : List Call). call ∷ l) was.split;
+      asked = was.asked;
+    })
+  ]
 
 -- the request that an input answers was made before it
 pub was-asked : (earlier : List Call) (call : Call) (later : List Call) (first : State) → first.listed ≡ []

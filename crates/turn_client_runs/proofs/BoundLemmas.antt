@@ -111,14 +111,13 @@ module _ (P : State → Type 0) (Did : Input → Type 0) (k : IsBrought P Did) (
       | inr (inr did) ↦ inr did
     ]
       where
-        none : (call : Call) (s : State) → ((u : State) → handled call u ≡ []) → P s ⊎ IsDoneBy Did call s → P s ⊎ ⊥
-        none call s nothing (inl there) = inl there
-        none call s nothing (inr did) = absurd (among-none Did (subst (λ (turns : List Input). IsAmong Did turns) (nothing s) did))
-
         other : (call : Call) (s : State) → (TakesInput call → ⊥) → P (state_after call s) → P s ⊎ ⊥
         other call s no_turns there = elim (takes-or call) [
           | inl takes ↦ absurd (no_turns takes)
-          | inr nothing ↦ none call s nothing (others call s there)
+          | inr nothing ↦ elim (others call s there) [
+            | inl before ↦ inl before
+            | inr did ↦ absurd (among-none Did (subst (IsAmong Did) (nothing s) did))
+          ]
         ]
 
 -- ---- streams

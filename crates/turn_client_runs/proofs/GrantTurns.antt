@@ -169,11 +169,10 @@ module _ (one : Input) (stream : Stream) (of : one.stream ≡ Some stream) (wait
       → Covers (bind_step stream.local one.bytes one.time one.before).grants g → Covers one.before.grants g ⊎ Granting g one
   bind-covers g phase b (is, there, kept) =
       let (x, before, e) = has-mapped (deadline_set b.c.local None) is one.before.grants (subst (Has is) b.grants there) in
-      at x before (deadline-has b.c.local is x e)
-    where
-      at : (x : Grant) → Has x one.before.grants → (is ≡ x) ⊎ ((c : DataConnection) × (is ≡ Connection c) × (c.local ≡ b.c.local)) → Covers one.before.grants g ⊎ Granting g one
-      at x before (inl same) = inl (is, rw same before, kept)
-      at x before (inr (c, connection, ends)) = inr (bound-granting b phase g c ends (rw connection at kept))
+      elim (deadline-has b.c.local is x e) [
+        | inl same ↦ inl (is, rw same before, kept)
+        | inr (c, connection, ends) ↦ inr (bound-granting b phase g c ends (rw connection at kept))
+      ]
 
   binds-grants : (g : Grant) → Covers (bind_step stream.local one.bytes one.time one.before).grants g → Covers one.before.grants g ⊎ Granting g one
   binds-grants g = by one.before.phase refl (bind-leaves stream.local one.bytes one.time one.before)

@@ -124,10 +124,10 @@ module _ (all more : SocketAddr → List ℕ) where
         is = longer-ends stream.local (unless_broken stream.mode packet.payload) stream.bytes (e stream.local ∙ rw here refl) (held stream there.0)
 
         others : (x : Stream) → Has x s.streams → same_address x.local stream.local ≡ false → Ends more x.local x.bytes
-        others x h differ = still-ends x.local (piece x.local) x.bytes (e x.local) (rw apart refl) (held x h)
-          where
-            apart : same_address packet.to x.local ≡ false
-            apart = subst (λ (l : SocketAddr). same_address l x.local ≡ false) local (differ-sym x.local stream.local differ)
+        others x h differ =
+            let apart : same_address packet.to x.local ≡ false =
+            subst (λ (l : SocketAddr). same_address l x.local ≡ false) local (differ-sym x.local stream.local differ) in
+            still-ends x.local (piece x.local) x.bytes (e x.local) (rw apart refl) (held x h)
 
     -- what a client over UDP receives is stored in no stream
     datagram-steps : (b c : Bool) (s : State) → Held more s.streams

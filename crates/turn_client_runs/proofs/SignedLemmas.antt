@@ -1,6 +1,6 @@
 -- Once the first challenge is answered, and until the allocation, all that is outstanding is a signed
 -- ALLOCATE: messages keep that.
-use Rattle.std.proofs.Common.{◌≡◌, ◌⊎◌, ◌≤◌, ◌∙◌, ◌+◌, ℕ, Bool, true, false, not, eqb, ltb, List, [], ◌∷◌, ◌++◌, Option, Some, None, inl, inr, refl, sym, subst, ap, arith}
+use Rattle.std.proofs.Common.{◌≡◌, ◌≤◌, ◌∙◌, ◌+◌, ℕ, Bool, true, false, not, eqb, ltb, List, [], ◌∷◌, ◌++◌, Option, Some, None, inl, inr, refl, sym, subst, ap, arith}
 use Rattle.std.specs.Prelude.{IsSome, is_some, ⊤}
 use Rattle.std.proofs.lemmas.Bool.{and_parts, eq-eqb, eqb-true}
 use Rattle.std.specs.declared.net.socket_addr.SocketAddr.{SocketAddr}
@@ -20,7 +20,7 @@ use Rattle.turn_client_api.specs.Grants.{purposes_of}
 use Rattle.turn_client_api.specs.Judgement.{Challenged, Fatal, Unrelated, answers_one, challenge_in, class_in, judgement_of}
 use Rattle.turn_client_laws.specs.LawsAllocates.{AllocatesInOrder}
 use Rattle.turn_client_laws.specs.LawsOrder.{IsUngranted}
-use Rattle.turn_client_laws.specs.LawsRequests.{IsMadeAgain, IsMadeAs}
+use Rattle.turn_client_laws.specs.LawsRequests.{IsMadeAs}
 use Rattle.turn_client_laws.specs.LawsSteps.{rank}
 use Rattle.turn_client_api.specs.Payloads.{challenge_step, message_step, wrong_step}
 use Rattle.turn_client_api.specs.Receive.{connection_gone}
@@ -30,6 +30,7 @@ use Rattle.turn_client_laws.proofs.AllocateFamilies.{StayInOrder, StayInOrder-Ke
 use Rattle.turn_client_laws.proofs.EditsOfMessages.{edits-IsKept, purposes-listed, retried-has}
 use Rattle.turn_client_laws.proofs.HasLemmas.{Has, has-append, has-filter}
 use Rattle.turn_client_laws.proofs.InAllocationLemmas.{any-has, not-both}
+use Rattle.turn_client_laws.proofs.MoveLemmas.{on_test}
 use Rattle.turn_client_laws.proofs.MoveMessageLemmas.{message-turns}
 use Rattle.turn_client_laws.proofs.PhasesGoOn.{Keeps, bind-keeps, message-keeps}
 use Rattle.turn_client_laws.proofs.RunKeepLemmas.{IsKept}
@@ -156,35 +157,30 @@ after message now s = (message_step message now s).1
 module _ (message : List ℕ) (now : ℕ) (s : State) (order : AllocatesInOrder s) (h : Signs s) where
   -- a challenge is answered
   authenticating-signs : s.phase ≡ Authenticating → Signs (after message now s)
-  authenticating-signs e = later-signs s t e h (message-keeps message now s) (message-configured message now s) each
-    where
-      t : State
-      t = after message now s
-
-      again : (x : Transaction) → IsMadeAgain message now s t x → t.phase ≡ Authenticating → IsSome t.held → IsSignedAllocate t.config t.held x
-      again x (purpose, answers, made) phase held =
-          made-signed purpose now s t x
-          (for-allocation (id_of message) s purpose order (rw e tt) (contains-has purpose (purposes_of (id_of message) s) answers)) made phase held
-
-      each : (x : Transaction) → Has x t.transactions → t.phase ≡ Authenticating → IsSome t.held → AreSigned t.config t.held s.transactions → IsSignedAllocate t.config t.held x
-      each x there phase held signed = elim ((message-turns message now s).0 x there) [ inl old ↦ signed x old | inr made ↦ again x made phase held ]
+  authenticating-signs e =
+      let t = after message now s in
+      later-signs s t e h (message-keeps message now s) (message-configured message now s)
+      (λ x there phase held signed. elim ((message-turns message now s).0 x there) [
+        | inl old ↦ signed x old
+        | inr (purpose, answers, made) ↦
+            let is = for-allocation (id_of message) s purpose order (rw e tt) (contains-has purpose (purposes_of (id_of message) s) answers) in
+            made-signed purpose now s t x is made phase held
+      ])
 
   -- the first one ends as it is made again, and then nothing else is outstanding
   retried-signs : (id : ℕ) (purpose : Purpose) (d : Challenge) (u : State) → IsOfOneId s.transactions → is_outstanding id s.transactions ≡ true → purpose ≡ ForAllocation → u.config ≡ s.config
       → u.held ≡ Some d
       → AreSigned s.config (Some d) (without_transaction id s.transactions ++ first_sent (fresh_id s) s.remote now (request_for u purpose (fresh_id s)) ∷ [])
-  retried-signs id purpose d u one outstanding is same held x there = by (has-append x (without_transaction id s.transactions) _ there)
-    where
-      old : Has x (without_transaction id s.transactions) → ⊥
-      old left =
-          let (before, other) = has-filter (λ (z : Transaction). not (eqb z.id id)) x s.transactions left in
-          let (y, here, same) = any-has (λ (z : Transaction). eqb z.id id) s.transactions outstanding in
-          not-both (eqb x.id id) (eq-eqb x.id id (one x y before here ∙ eqb-true y.id id same)) other
-
-      by : Has x (without_transaction id s.transactions) ⊎ Has x (first_sent (fresh_id s) s.remote now (request_for u purpose (fresh_id s)) ∷ []) → IsSignedAllocate s.config (Some d) x
-      by (inl left) = absurd (old left)
-      by (inr (inl e)) = signed-as u s.config (Some d) purpose (fresh_id s) x same (d, d, held, refl, refl, refl) is (ap (λ (z : Transaction). z.id) e) (ap (λ (z : Transaction). z.request) e)
-      by (inr (inr none)) = absurd none
+  retried-signs id purpose d u one outstanding is same held x there = elim (has-append x (without_transaction id s.transactions) _ there) [
+    | inl left ↦
+        let (before, other) = has-filter (λ (z : Transaction). not (eqb z.id id)) x s.transactions left in
+        let (y, here, same) = any-has (λ (z : Transaction). eqb z.id id) s.transactions outstanding in
+        absurd (not-both (eqb x.id id) (eq-eqb x.id id (one x y before here ∙ eqb-true y.id id same)) other)
+    | inr (inl e) ↦
+        signed-as u s.config (Some d) purpose (fresh_id s) x same (d, d, held, refl, refl, refl) is
+        (ap (λ (z : Transaction). z.id) e) (ap (λ (z : Transaction). z.request) e)
+    | inr (inr none) ↦ absurd none
+  ]
 
   -- the first challenge is answered, or the client ends
   challenged-signs : s.phase ≡ Requesting → is_outstanding (id_of message) s.transactions ≡ true → (d : Challenge) → Signs (challenge_step message d now s).1
@@ -263,8 +259,4 @@ StaySigned-IsKept = record {
     order = edits-IsKept StayInOrder StayInOrder-KeepsAllEdits (λ s streams h. h)
 
     gone : (local : SocketAddr) (s : State) → Signs s → Signs (connection_gone local s)
-    gone local s h = by (is_some (connection_at local s)) refl
-      where
-        by : (b : Bool) → is_some (connection_at local s) ≡ b → Signs (connection_gone local s)
-        by true e = rw e h
-        by false e = rw e h
+    gone local s h = on_test Signs (is_some (connection_at local s)) _ s h h

@@ -1,7 +1,7 @@
 -- What the listings of one ID are for: one request, a channel and the permission requested with it, or
 -- allocations that are deleted.
 use Rattle.std.proofs.Common.{◌≡◌, ◌⊎◌, ◌∙◌, ℕ, true, false, eqb, List, [], ◌∷◌, Some, inl, inr, refl, sym, subst}
-use Rattle.std.specs.List.{Contains, list_any}
+use Rattle.std.specs.List.{list_any}
 use Rattle.std.proofs.lemmas.Bool.{eq-eqb, or_parts}
 use Rattle.turn_stun.specs.Message.{id_of}
 use Rattle.turn_agent.specs.Agent.{is_outstanding}
@@ -142,27 +142,21 @@ lead-together (one ∷ later) s t (first, lead) h = lead-together later (process
 module _ (call : Call) (s : State) where
   does-together : ProcessesInputs call s → AreTogether s → AreTogether (state_after call s)
   does-together (inl lead) h = lead-together (handled call s) s (state_after call s) lead h
-  does-together (inr end) h = together-less s (state_after call s) less h
-    where
-      less : (l : Listing) → Has l (state_after call s).listed → Has l s.listed
-      less l there = elim ((gone-settles end.local s).1 l (subst (λ (t : State). Has l t.listed) end.gone there)) [
-        | inl there ↦ there
-        | inr none ↦ absurd none
-      ]
+  does-together (inr end) h = together-less s (state_after call s) (λ l there.
+      elim ((gone-settles end.local s).1 l (subst (λ (t : State). Has l t.listed) end.gone there)) [ inl old ↦ old | inr none ↦ absurd none ]) h
 
   here-together : ((l : Listing) → IsListingOf call s l → IsListingHere call s l) → AreTogether s → AreTogether (state_after call s)
   here-together own h = together-more (IsListingHere call s) s (state_after call s) with
-      (λ l there. by l (listings-made call s (state_after call s) l (inl refl) (has-contains l (state_after call s).listed there))) h
+      (λ l there. elim (listings-made call s (state_after call s) l (inl refl) (has-contains l (state_after call s).listed there)) [
+        | inl old ↦ inl (contains-has l s.listed old)
+        | inr is ↦ let (p, at, asks, for, made) = own l is in inr (made.1, own l is)
+      ]) h
     where
       with : (l other : Listing) → IsListingHere call s l → IsListingHere call s other → Together l.purpose other.purpose
       with l other (p, at, asks, for, made) (q, then, also, too, again) = elim (asks-one call s p q at then asks also) [
         | inl e ↦ listed-with q l.purpose other.purpose (subst (λ (x : Purpose). IsListedFor x l.purpose) e for) too
         | inr (back, away) ↦ inr (inr (back-listed p l.purpose back for, back-listed q other.purpose away too))
       ]
-
-      by : (l : Listing) → Contains s.listed l ⊎ IsListingOf call s l → Has l s.listed ⊎ ((l.id ≡ fresh_id s) × IsListingHere call s l)
-      by l (inl old) = inl (contains-has l s.listed old)
-      by l (inr is) = let (p, at, asks, for, made) = own l is in inr (made.1, own l is)
 
   pub call-together : AreTogether s → AreTogether (state_after call s)
   call-together h = elim (listing-here call s) [ inl takes ↦ does-together (calls-do call s takes) h | inr own ↦ here-together own h ]

@@ -41,21 +41,17 @@ module _ (a : SocketAddr) (now : ℕ) (s : State) where
   -- bytes of a broken or missing stream are dropped
   pub whole-unmeant : mode_at a s ≡ T.Broken → ((b : ℕ) → part_at_step a now s (b ∷ []) ≡ (s, [])) → (bytes : List ℕ) → whole a now s bytes ≡ left s []
   whole-unmeant e part [] = whole-waits [] (rw e refl)
-  whole-unmeant e part (b ∷ bytes) = whole-byte other b bytes (s, []) (part b) ∙ ap (λ (d : Drained State Payload). behind [] d) (whole-unmeant e part bytes)
-    where
-      other : T.Framed ≡ mode_at a s → ⊥
-      other f = let clash : T.Framed ≡ T.Broken = f ∙ e in cc
+  whole-unmeant e part (b ∷ bytes) =
+      whole-byte (λ f. cc (f ∙ e)) b bytes (s, []) (part b)
+      ∙ ap (λ (d : Drained State Payload). behind [] d) (whole-unmeant e part bytes)
 
   -- a bound stream returns its bytes
   pub whole-bound : (peer : SocketAddr) → mode_at a s ≡ T.Bound → ((b : ℕ) → part_at_step a now s (b ∷ []) ≡ (s, sent_by peer (b ∷ []) None ∷ [])) → (bytes : List ℕ)
       → whole a now s bytes ≡ record { state = s; given = map (λ b. sent_by peer (b ∷ []) None) bytes; rest = [] }
   whole-bound peer e part [] = whole-waits [] (rw e refl)
   whole-bound peer e part (b ∷ bytes) =
-      whole-byte other b bytes (s, sent_by peer (b ∷ []) None ∷ []) (part b)
+      whole-byte (λ f. cc (f ∙ e)) b bytes (s, sent_by peer (b ∷ []) None ∷ []) (part b)
       ∙ ap (λ (d : Drained State Payload). behind (sent_by peer (b ∷ []) None ∷ []) d) (whole-bound peer e part bytes)
-    where
-      other : T.Framed ≡ mode_at a s → ⊥
-      other f = let clash : T.Framed ≡ T.Bound = f ∙ e in cc
 
   pub none-whole : stream_at a s ≡ None → (bytes : List ℕ) → whole a now s bytes ≡ left s []
   none-whole e bytes = whole-unmeant (rw e refl) (λ b. rw e refl) bytes
