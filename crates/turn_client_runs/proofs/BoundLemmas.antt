@@ -71,22 +71,18 @@ module _ (P : State → Type 0) (Did : Input → Type 0) (k : IsBrought P Did) (
 
   bind-ends : (one : Input) (stream : Stream) → one.stream ≡ Some stream → stream.mode ≡ Waiting → is_message one.bytes ≡ true → P (bind_step stream.local one.bytes one.time one.before)
       → P one.before ⊎ Ends one
-  bind-ends one stream of mode whole h = elim (bind-leaves stream.local one.bytes one.time one.before) [
-    | inl b ↦ bound (binds-ended stream.local one.bytes one.time one.before b)
-    | inr (leaves, same) ↦ inl (spares one.before t leaves same h)
-  ]
-    where
-      t : State
-      t = bind_step stream.local one.bytes one.time one.before
-
-      made : (processed one).1 ≡ t
-      made = waiting-made stream.local one (rw of (mode, refl)) whole
-
-      bound : (t ≡ one.before) ⊎ IsNotAwaited one.bytes t → P one.before ⊎ Ends one
-      bound (inl same) = inl (subst P same h)
-      bound (inr ended) = elim (k.binds one stream of mode whole h) [
-        | inl there ↦ inl there
-        | inr does ↦ inr (does, subst (λ (u : State). IsNotAwaited one.bytes u) (sym made) ended)
+  bind-ends one stream of mode whole h =
+      let t = bind_step stream.local one.bytes one.time one.before in
+      let made : (processed one).1 ≡ t = waiting-made stream.local one (rw of (mode, refl)) whole in
+      elim (bind-leaves stream.local one.bytes one.time one.before) [
+        | inl b ↦ elim (binds-ended stream.local one.bytes one.time one.before b) [
+          | inl same ↦ inl (subst P same h)
+          | inr ended ↦ elim (k.binds one stream of mode whole h) [
+            | inl there ↦ inl there
+            | inr does ↦ inr (does, subst (λ (u : State). IsNotAwaited one.bytes u) (sym made) ended)
+          ]
+        ]
+        | inr (leaves, same) ↦ inl (spares one.before t leaves same h)
       ]
 
   pub bringing-ends : IsBrought P (λ one. Did one × HasTransactionEnded one)
@@ -135,12 +131,11 @@ module _ (local peer : SocketAddr) where
   spares : (s t : State) → Stand.Leaves s t → t.streams ≡ s.streams → IsBoundTo t → IsBoundTo s
   spares s t leaves same (x, there, at, mode) = (x, subst (λ (xs : List Stream). Contains xs x) same there, at, mode)
 
-  others : (call : Call) (s : State) → IsBoundTo (state_after call s) → IsBoundTo s ⊎ IsDoneBy BindsIt call s
-  others call s h = Streams.leaves-bound local peer call s (state_after call s) (inl refl) h
-
   -- a call binds a stream by such an input
   stream-ends : (call : Call) (s : State) → IsBoundTo (state_after call s) → IsBoundTo s ⊎ IsDoneBy (λ one. BindsIt one × HasTransactionEnded one) call s
-  stream-ends = call-ends IsBoundTo BindsIt (Streams.bringing local peer) waits spares others
+  stream-ends =
+      call-ends IsBoundTo BindsIt (Streams.bringing local peer) waits spares
+      (λ call s h. Streams.leaves-bound local peer call s (state_after call s) (inl refl) h)
 
   streams-since : (s : State) (calls : List Call) → (IsBoundTo s → ⊥) → IsBoundTo (state_after_all s calls) → IsBoundSince local peer calls s
   streams-since s calls none h =

@@ -72,10 +72,9 @@ module _ (transport : TransportType) (local remote : SocketAddr) (config : Confi
   run-replies = (λ one there is. reply-ends one is, λ earlier middle later e. once (state_after_all first earlier) middle)
 
   pub run-few : FewAreAnswered first calls
-  run-few earlier middle later e = (run-configured first earlier, patient, few-answered (state_after_all first earlier) middle patient, λ one there. challenge-counts one)
-    where
-      patient : IsWithinChallengeLimit (state_after_all first earlier)
-      patient = holds-found IsWithinChallengeLimit leaves-patient initial-patient transport local remote config seed earlier
+  run-few earlier middle later e =
+      let patient = holds-found IsWithinChallengeLimit leaves-patient initial-patient transport local remote config seed earlier in
+      (run-configured first earlier, patient, few-answered (state_after_all first earlier) middle patient, λ one there. challenge-counts one)
 
   pub run-realm : RealmStays first calls
   run-realm earlier middle later e = (

@@ -23,7 +23,7 @@ use Rattle.turn_client_laws.proofs.AddressLemmas.{same_address-self, same_addres
 use Rattle.turn_client_laws.proofs.HasLemmas.{Has, has-found}
 use Rattle.turn_client_laws.proofs.MoveLemmas.{by_test}
 use Rattle.turn_client_laws.proofs.StreamApartLemmas.{differ-sym}
-use Rattle.turn_client_laws.proofs.StreamCallLemmas.{IsOpened, others-opened}
+use Rattle.turn_client_laws.proofs.StreamCallLemmas.{others-opened}
 use Rattle.turn_client_laws.proofs.StreamMessageLemmas.{message-same}
 use Rattle.turn_client_runs.specs.Received.{HasArrived, piece_in_call, pieces_for, unless_broken}
 use Rattle.turn_client_runs.proofs.CallGrants.{quiet}
@@ -71,17 +71,14 @@ module _ (all more : SocketAddr → List ℕ) where
 
   quiet-steps : (call : Call) (s : State) → (TakesInput call → ⊥) → ((a : SocketAddr) → more a ≡ all a ++ piece_in_call a call s) → Held all s.streams
       → Steps more (handled call s) (state_after call s)
-  quiet-steps call s other e held = (none, by (others-opened call s other))
-    where
-      before : Held more s.streams
-      before = still-held s.streams (λ a. piece_in_call a call s) e (λ a. quiet-piece a call s other) held
-
-      none : (one : Input) → Has one (handled call s) → (stream : Stream) → one.stream ≡ Some stream → Ends more stream.local stream.bytes
-      none one there = absurd (subst (Has one) (quiet call s other) there)
-
-      by : IsOpened s (state_after call s) → Held more (state_after call s).streams
-      by (inl same) = subst (Held more) (sym same) before
-      by (inr (local, opened)) = subst (Held more) (sym opened) (opened-known (Ends more) (nothing-ends more) (less-ends more) local s before)
+  quiet-steps call s other e held =
+      let before : Held more s.streams = still-held s.streams (λ a. piece_in_call a call s) e (λ a. quiet-piece a call s other) held in (
+        λ one there. absurd (subst (Has one) (quiet call s other) there),
+        elim (others-opened call s other) [
+          | inl same ↦ subst (Held more) (sym same) before
+          | inr (local, opened) ↦ subst (Held more) (sym opened) (opened-known (Ends more) (nothing-ends more) (less-ends more) local s before)
+        ],
+      )
 
   -- ---- a piece that is received
 
