@@ -1,15 +1,15 @@
 -- The calls of an agent, by the place of the transaction that each is for.
 use Rattle.std.proofs.Common.{◌≡◌, ℕ, suc, add-one, drop-cons, ◌+◌, ◌-◌, ◌<◌, ◌≤◌, ◌^◌, Bool, true, false, eqb, leb, ltb, ◌&&◌, List, [], ◌∷◌, length, drop, get_or, set, map, find, fold, min, Option}
-use Rattle.std.proofs.Common.{Some, None, refl, sym, ◌∙◌, arith}
+use Rattle.std.proofs.Common.{Some, None, refl, sym, ◌∙◌, inl, inr, arith}
 use Rattle.std.specs.Prelude.{slice_get, IsSome}
 use Rattle.std.specs.List.{list_any, position, position_or_len}
 use Rattle.std.proofs.Math.Nat.{min-le_left, min-le_right, min-eq_left, le-min}
-use Rattle.std.proofs.lemmas.Bool.{or_parts, ltb-true, ltb-false, eqb-true, ne_eqb, and_parts, and_right, lt-leb, leb-false}
+use Rattle.std.proofs.lemmas.Bool.{cases_Bool, or_parts, ltb-true, ltb-false, eqb-true, ne_eqb, and_parts, and_right, lt-leb, leb-false}
 use Rattle.std.proofs.lemmas.List.Folds.{find_at}
 use Rattle.std.proofs.lemmas.Option.{cond_some, slice_get-get_or, slice_get_past, none-some, same_Some}
 use Rattle.std.specs.declared.net.socket_addr.SocketAddr.{SocketAddr}
 use Rattle.turn_stun.specs.declared.message.header.MessageClass.{MessageClass}
-use Rattle.turn_stun.specs.declared.message.header.MessageClass.TheVariants.{Request, Indication, Success, Error}
+use Rattle.turn_stun.specs.declared.message.header.MessageClass.TheVariants.{Success, Error}
 use Rattle.turn_stun.specs.declared.transport.TransportType.{TransportType}
 use Rattle.turn_stun.specs.declared.transport.Transmit.{Transmit}
 use Rattle.turn_stun.specs.Message.{type_of, id_of}
@@ -42,20 +42,18 @@ position-found p xs i x at taken =
     first.found x ∙ (sym (slice_get-get_or xs i x first.within) ∙ taken)
 
 pub position-none : {X : Type 0} (p : X → Bool) (xs : List X) → position p xs ≡ None → find p xs ≡ None
-position-none p xs none = by (ltb (position_or_len p xs) (length xs)) refl
-  where
-    by : (b : Bool) → ltb (position_or_len p xs) (length xs) ≡ b → find p xs ≡ None
-    by true within = absurd (none-some _ (sym (rw within at none)))
-    by false past = rw (find_at p xs) (slice_get_past xs (position_or_len p xs) (ltb-false _ _ past))
+position-none p xs none = elim (cases_Bool (ltb (position_or_len p xs) (length xs))) [
+  | inl within ↦ absurd (none-some _ (sym (rw within at none)))
+  | inr past ↦ rw (find_at p xs) (slice_get_past xs (position_or_len p xs) (ltb-false _ _ past))
+]
 
 -- what is found passes
 pub find-passes : {X : Type 0} (p : X → Bool) (xs : List X) (x : X) → find p xs ≡ Some x → p x ≡ true
 find-passes p [] x found = absurd (none-some x found)
-find-passes p (y ∷ xs) x found = by (find-passes p xs x) (p y) refl
-  where
-    by : (find p xs ≡ Some x → p x ≡ true) → (b : Bool) → p y ≡ b → p x ≡ true
-    by later true passes = rw (← same_Some y x (rw passes at found)) passes
-    by later false fails = later (rw fails at found)
+find-passes p (y ∷ xs) x found = elim (cases_Bool (p y)) [
+  | inl passes ↦ rw (← same_Some y x (rw passes at found)) passes
+  | inr fails ↦ find-passes p xs x (rw fails at found)
+]
 
 -- the first test fails where the second one passes and both do not
 and_false_left : (x y : Bool) → y ≡ true → (x && y) ≡ false → x ≡ false
@@ -65,19 +63,15 @@ and_false_left false y passes fails = refl
 -- if one is found, at least one passes
 pub list_any-some : {X : Type 0} (p : X → Bool) (xs : List X) (x : X) → find p xs ≡ Some x → list_any p xs ≡ true
 list_any-some p [] x found = absurd (none-some x found)
-list_any-some p (y ∷ xs) x found = by (list_any-some p xs x) (p y) refl
-  where
-    by : (find p xs ≡ Some x → list_any p xs ≡ true) → (b : Bool) → p y ≡ b → list_any p (y ∷ xs) ≡ true
-    by later true passes = rw passes refl
-    by later false fails = rw fails (later (rw fails at found))
+list_any-some p (y ∷ xs) x found =
+    elim (cases_Bool (p y)) [ inl passes ↦ rw passes refl | inr fails ↦ rw fails (list_any-some p xs x (rw fails at found)) ]
 
 pub list_any-none : {X : Type 0} (p : X → Bool) (xs : List X) → find p xs ≡ None → list_any p xs ≡ false
 list_any-none p [] none = refl
-list_any-none p (y ∷ xs) none = by (list_any-none p xs) (p y) refl
-  where
-    by : (find p xs ≡ None → list_any p xs ≡ false) → (b : Bool) → p y ≡ b → list_any p (y ∷ xs) ≡ false
-    by later true passes = absurd (none-some y (sym (rw passes at none)))
-    by later false fails = rw fails (later (rw fails at none))
+list_any-none p (y ∷ xs) none = elim (cases_Bool (p y)) [
+  | inl passes ↦ absurd (none-some y (sym (rw passes at none)))
+  | inr fails ↦ rw fails (list_any-none p xs (rw fails at none))
+]
 
 -- if none passes, there is no first one
 pub position-unpassed : {X : Type 0} (p : X → Bool) (xs : List X) → list_any p xs ≡ false → position p xs ≡ None
@@ -86,10 +80,7 @@ position-unpassed p (x ∷ xs) none = by (position p (x ∷ xs)) refl
   where
     by : (found : Option ℕ) → position p (x ∷ xs) ≡ found → position p (x ∷ xs) ≡ None
     by None at = at
-    by (Some i) at =
-        let passes = list_any-some p (x ∷ xs) _ ((position-IsFirst p (x ∷ xs) i at).found x) in
-        let both : false ≡ true = sym none ∙ passes in
-        absurd (cc both)
+    by (Some i) at = cc (sym none ∙ list_any-some p (x ∷ xs) _ ((position-IsFirst p (x ∷ xs) i at).found x))
 
 -- ---- messages
 
@@ -102,10 +93,9 @@ unanswered id from (t ∷ ts) none =
 
 -- a class answers a request
 IsResponse-true : (class : MessageClass) → IsResponse class → is_response class ≡ true
-IsResponse-true Request is = absurd is
-IsResponse-true Indication is = absurd is
 IsResponse-true Success is = refl
 IsResponse-true Error is = refl
+IsResponse-true class is = absurd is
 
 -- a response that answers no transaction
 pub handle_step-stray : (a : Agent) (message : List ℕ) (from : SocketAddr) → IsResponse (class_of (type_of message)) → position (answers (id_of message) from) a.transactions ≡ None
@@ -184,29 +174,27 @@ IsSilentAt-before a time before =
 -- what is neither due nor timed out waits further
 waits_on : (timers : Timers) (transport : TransportType) (now : ℕ) (t : Transaction) → is_due timers transport now t ≡ false → is_timed_out timers transport now t ≡ false
     → now < transaction_timeout timers transport t
-waits_on timers transport now t not_due not_over = by (leb (transaction_timeout timers transport t) now) refl
-  where
-    by : (b : Bool) → leb (transaction_timeout timers transport t) now ≡ b → now < transaction_timeout timers transport t
-    by false later = leb-false (transaction_timeout timers transport t) now later
-    by true past =
-        let more : ltb t.resends (resends_of timers transport) ≡ false = and_false_left _ _ past not_due in
-        let last : leb (resends_of timers transport) t.resends ≡ false = and_false_left _ _ past not_over in
-        absurd (omega (arith, ltb-false _ _ more, leb-false _ _ last))
+waits_on timers transport now t not_due not_over = elim (cases_Bool (leb (transaction_timeout timers transport t) now)) [
+  | inl past ↦
+      let more : ltb t.resends (resends_of timers transport) ≡ false = and_false_left _ _ past not_due in
+      let last : leb (resends_of timers transport) t.resends ≡ false = and_false_left _ _ past not_over in
+      absurd (omega (arith, ltb-false _ _ more, leb-false _ _ last))
+  | inr later ↦ leb-false (transaction_timeout timers transport t) now later
+]
 
 -- if a wait has ended and nothing times out, a request is due
 pub some_due : (timers : Timers) (transport : TransportType) (now start : ℕ) (ts : List Transaction) → find (is_timed_out timers transport now) ts ≡ None → now < start
     → fold min start (map (transaction_timeout timers transport) ts) ≤ now → IsSome (find (is_due timers transport now) ts)
 some_due timers transport now start [] none below past = absurd (omega arith)
-some_due timers transport now start (t ∷ ts) none below past =
-    by (some_due timers transport now (min start (transaction_timeout timers transport t)) ts) (is_timed_out timers transport now t) refl (is_due timers transport now t) refl
-  where
-    by : (find (is_timed_out timers transport now) ts ≡ None → now < min start (transaction_timeout timers transport t)
-        → fold min (min start (transaction_timeout timers transport t)) (map (transaction_timeout timers transport) ts) ≤ now → IsSome (find (is_due timers transport now) ts)) → (over : Bool)
-        → is_timed_out timers transport now t ≡ over → (is : Bool) → is_due timers transport now t ≡ is → IsSome (find (is_due timers transport now) (t ∷ ts))
-    by later true over b is = absurd (none-some t (sym (rw over at none)))
-    by later false over true is = rw is refl
-    by later false over false is =
-        rw is (later (rw over at none) (le-min {k = suc now} below (waits_on timers transport now t is over)) past)
+some_due timers transport now start (t ∷ ts) none below past = elim (cases_Bool (is_due timers transport now t)) [
+  | inl is ↦ rw is refl
+  | inr is ↦ elim (cases_Bool (is_timed_out timers transport now t)) [
+    | inl over ↦ absurd (none-some t (sym (rw over at none)))
+    | inr waits ↦
+        let later = le-min {k = suc now} below (waits_on timers transport now t is waits) in
+        rw is (some_due timers transport now (min start (transaction_timeout timers transport t)) ts (rw waits at none) later past)
+  ]
+]
 
 -- ---- poll_transmit
 

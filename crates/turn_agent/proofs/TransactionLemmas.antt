@@ -1,6 +1,6 @@
 -- Transactions by their IDs.
-use Rattle.std.proofs.Common.{◌≡◌, ℕ, zero, suc, ◌<◌, Bool, true, false, cond, eqb, List, [], ◌∷◌, ◌++◌, ◌||◌, length, take, drop, get_or, set, refl, sym, ◌∙◌, arith}
-use Rattle.std.proofs.lemmas.Bool.{or_parts, eq-eqb, eqb-true, ne_eqb, eqb-false}
+use Rattle.std.proofs.Common.{◌≡◌, ℕ, zero, suc, ◌<◌, Bool, true, false, cond, eqb, List, [], ◌∷◌, ◌++◌, ◌||◌, length, take, drop, get_or, set, refl, sym, ◌∙◌, inl, inr, arith}
+use Rattle.std.proofs.lemmas.Bool.{cases_Bool, or_parts, eq-eqb, eqb-true, ne_eqb, eqb-false}
 use Rattle.std.proofs.lemmas.List.Folds.{list_any-append}
 use Rattle.turn_agent.specs.Agent.{is_outstanding, AreDistinct, AreIdsOf, without_transaction, resent, sent_again}
 use Rattle.turn_agent.specs.declared.transaction.Transaction.{Transaction}
@@ -28,30 +28,27 @@ without-none id (t ∷ ts) none =
 -- the ID that was left out is not outstanding
 pub is_outstanding-without : (id : ℕ) (ts : List Transaction) → is_outstanding id (without_transaction id ts) ≡ false
 is_outstanding-without id [] = refl
-is_outstanding-without id (t ∷ ts) = by (is_outstanding-without id ts) (eqb t.id id) refl
-  where
-    by : is_outstanding id (without_transaction id ts) ≡ false → (b : Bool) → eqb t.id id ≡ b → is_outstanding id (without_transaction id (t ∷ ts)) ≡ false
-    by others true same = rw same others
-    by others false other = rw other (rw other others)
+is_outstanding-without id (t ∷ ts) = elim (cases_Bool (eqb t.id id)) [
+  | inl same ↦ rw same (is_outstanding-without id ts)
+  | inr other ↦ rw other (rw other (is_outstanding-without id ts))
+]
 
 -- nor is one that was not before
 is_outstanding-without_other : (id other : ℕ) (ts : List Transaction) → is_outstanding other ts ≡ false → is_outstanding other (without_transaction id ts) ≡ false
 is_outstanding-without_other id other [] none = refl
 is_outstanding-without_other id other (t ∷ ts) none =
     let parts = or_parts (eqb t.id other) (is_outstanding other ts) none in
-    by (is_outstanding-without_other id other ts parts.1) parts.0 (eqb t.id id) refl
-  where
-    by : is_outstanding other (without_transaction id ts) ≡ false → eqb t.id other ≡ false → (b : Bool) → eqb t.id id ≡ b → is_outstanding other (without_transaction id (t ∷ ts)) ≡ false
-    by others here true same = rw same others
-    by others here false differ = rw differ (rw here others)
+    elim (cases_Bool (eqb t.id id)) [
+      | inl same ↦ rw same (is_outstanding-without_other id other ts parts.1)
+      | inr differ ↦ rw differ (rw parts.0 (is_outstanding-without_other id other ts parts.1))
+    ]
 
 pub AreDistinct-without : (id : ℕ) (ts : List Transaction) → AreDistinct ts → AreDistinct (without_transaction id ts)
 AreDistinct-without id [] distinct = tt
-AreDistinct-without id (t ∷ ts) distinct = by (AreDistinct-without id ts distinct.1) (eqb t.id id) refl
-  where
-    by : AreDistinct (without_transaction id ts) → (b : Bool) → eqb t.id id ≡ b → AreDistinct (without_transaction id (t ∷ ts))
-    by others true same = rw same others
-    by others false differ = rw differ (is_outstanding-without_other id t.id ts distinct.0, others)
+AreDistinct-without id (t ∷ ts) distinct = elim (cases_Bool (eqb t.id id)) [
+  | inl same ↦ rw same (AreDistinct-without id ts distinct.1)
+  | inr differ ↦ rw differ (is_outstanding-without_other id t.id ts distinct.0, AreDistinct-without id ts distinct.1)
+]
 
 -- the transaction at a place has another ID than one that is not outstanding
 other_id_at : (id : ℕ) (ts : List Transaction) (i : ℕ) (d : Transaction) → is_outstanding id ts ≡ false → i < length ts → eqb (get_or ts i d).id id ≡ false
@@ -88,19 +85,17 @@ set-resent now (t ∷ ts) (suc i) d distinct within =
 -- a request that is retransmitted keeps its ID
 is_outstanding-resent : (id other now : ℕ) (ts : List Transaction) → is_outstanding other (resent id now ts) ≡ is_outstanding other ts
 is_outstanding-resent id other now [] = refl
-is_outstanding-resent id other now (t ∷ ts) = by (is_outstanding-resent id other now ts) (eqb t.id id) refl
-  where
-    by : is_outstanding other (resent id now ts) ≡ is_outstanding other ts → (b : Bool) → eqb t.id id ≡ b → is_outstanding other (resent id now (t ∷ ts)) ≡ is_outstanding other (t ∷ ts)
-    by others true same = rw (same, others) refl
-    by others false differ = rw (differ, others) refl
+is_outstanding-resent id other now (t ∷ ts) = elim (cases_Bool (eqb t.id id)) [
+  | inl same ↦ rw (same, is_outstanding-resent id other now ts) refl
+  | inr differ ↦ rw (differ, is_outstanding-resent id other now ts) refl
+]
 
 pub AreDistinct-resent : (id now : ℕ) (ts : List Transaction) → AreDistinct ts → AreDistinct (resent id now ts)
 AreDistinct-resent id now [] distinct = tt
-AreDistinct-resent id now (t ∷ ts) distinct = by (AreDistinct-resent id now ts distinct.1) (eqb t.id id) refl
-  where
-    by : AreDistinct (resent id now ts) → (b : Bool) → eqb t.id id ≡ b → AreDistinct (resent id now (t ∷ ts))
-    by others true same = rw same (rw (is_outstanding-resent id t.id now ts) distinct.0, others)
-    by others false differ = rw differ (rw (is_outstanding-resent id t.id now ts) distinct.0, others)
+AreDistinct-resent id now (t ∷ ts) distinct =
+    let here : is_outstanding t.id (resent id now ts) ≡ false = rw (is_outstanding-resent id t.id now ts) distinct.0 in
+    let others = AreDistinct-resent id now ts distinct.1 in
+    elim (cases_Bool (eqb t.id id)) [ inl same ↦ rw same (here, others) | inr differ ↦ rw differ (here, others) ]
 
 -- ---- the set of the IDs
 
@@ -118,19 +113,17 @@ AreIdsOf-push ts t had has were inserted = λ q.
 -- another ID is outstanding as before
 is_outstanding-others : (id q : ℕ) (ts : List Transaction) → eqb id q ≡ false → is_outstanding q (without_transaction id ts) ≡ is_outstanding q ts
 is_outstanding-others id q [] differ = refl
-is_outstanding-others id q (t ∷ ts) differ = by (is_outstanding-others id q ts differ) (eqb t.id id) refl
-  where
-    by : is_outstanding q (without_transaction id ts) ≡ is_outstanding q ts → (b : Bool) → eqb t.id id ≡ b → is_outstanding q (without_transaction id (t ∷ ts)) ≡ is_outstanding q (t ∷ ts)
-    by others true same = rw (same, eqb-true t.id id same, differ) others
-    by others false other = rw (other, others) refl
+is_outstanding-others id q (t ∷ ts) differ = elim (cases_Bool (eqb t.id id)) [
+  | inl same ↦ rw (same, eqb-true t.id id same, differ) (is_outstanding-others id q ts differ)
+  | inr other ↦ rw (other, is_outstanding-others id q ts differ) refl
+]
 
 -- the ID that was left out was removed
 pub AreIdsOf-without : (id : ℕ) (ts : List Transaction) (had has : ℕ → Bool) → AreIdsOf ts had → ((q : ℕ) → has q ≡ cond (eqb id q) false (had q)) → AreIdsOf (without_transaction id ts) has
-AreIdsOf-without id ts had has were removed = λ q. removed q ∙ by q (eqb id q) refl
-  where
-    by : (q : ℕ) → (b : Bool) → eqb id q ≡ b → cond (eqb id q) false (had q) ≡ is_outstanding q (without_transaction id ts)
-    by q true same = rw (same, ← eqb-true id q same) (sym (is_outstanding-without id ts))
-    by q false differ = rw differ (were q ∙ sym (is_outstanding-others id q ts differ))
+AreIdsOf-without id ts had has were removed = λ q. removed q ∙ elim (cases_Bool (eqb id q)) [
+  | inl same ↦ rw (same, ← eqb-true id q same) (sym (is_outstanding-without id ts))
+  | inr differ ↦ rw differ (were q ∙ sym (is_outstanding-others id q ts differ))
+]
 
 -- a request that is retransmitted keeps its ID
 pub AreIdsOf-resent : (id now : ℕ) (ts : List Transaction) (has : ℕ → Bool) → AreIdsOf ts has → AreIdsOf (resent id now ts) has
