@@ -331,7 +331,7 @@ bind_in_phase Allocated local message now s = by (connection_at local s) refl
         rw e (on_test Claim (eqb (method_in message) connection_bind_method) (bind_answered c message now u) u (about c (same_address-true c.local local found.1)) (turns-same _ message now u))
 bind_in_phase p local message now s = turns-same _ message now (record s { phase = p })
 
-bind-turns : (local : SocketAddr) (message : List ℕ) (now : ℕ) (s : State) → Turns (λ g. is_connection_from local g ≡ true) message now s (bind_step local message now s)
+pub bind-turns : (local : SocketAddr) (message : List ℕ) (now : ℕ) (s : State) → Turns (λ g. is_connection_from local g ≡ true) message now s (bind_step local message now s)
 bind-turns local message now s = bind_in_phase s.phase local message now s
 
 -- ---- datagrams and frames

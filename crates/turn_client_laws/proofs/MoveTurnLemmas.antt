@@ -109,7 +109,7 @@ module _ (turns : List Input) (s t : State) (lead : InputsLead turns s t) where
 -- ---- the law
 
 -- a call leaves this
-abbrev Obeys : Call → State → Type 0
+abbrev pub Obeys : Call → State → Type 0
 Obeys call s = Moves (IsRequestOf call s) (IsListingOf call s) (IsTakenBy call s) s (state_after call s)
 
 -- one of them is among the inputs of the call
@@ -171,7 +171,7 @@ poll_recv-obeys now s =
       λ g h. or-done (IsRemovedByInput g) call s (lead-grants (handled call s) s t lead g h),
     )
 
-all-obey : (call : Call) (s : State) → Obeys call s
+pub all-obey : (call : Call) (s : State) → Obeys call s
 all-obey (Delete now) s = delete-does now s
 all-obey (CreatePermission transport ip now) s = permission-does transport ip now s
 all-obey (BindChannel transport peer now) s = channel-does transport peer now s
