@@ -51,6 +51,7 @@ pub mod NewIdCallLemmas
 pub mod NewIdLemmas
 pub mod NewIdMessageLemmas
 pub mod NumberLemmas
+pub mod OneInputLemmas
 pub mod OtherStreamLemmas
 pub mod OverLemmas
 pub mod PacketLemmas

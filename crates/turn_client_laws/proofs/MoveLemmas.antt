@@ -147,7 +147,7 @@ pub by_test : {A : Type 0} (P : State → Type 0) (b : Bool) (x y : A × State) 
 by_test P true x y k l = k
 by_test P false x y k l = l
 
--- a state by a test
-pub on_test : (P : State → Type 0) (b : Bool) (s t : State) → P s → P t → P (cond b s t)
-on_test P true s t k l = k
-on_test P false s t k l = l
+-- a value by a test
+pub on_test : {A : Type 0} (P : A → Type 0) (b : Bool) (x y : A) → P x → P y → P (cond b x y)
+on_test P true x y k l = k
+on_test P false x y k l = l

@@ -1,6 +1,6 @@
 -- What messages request, and what they remove.
 use Rattle.std.proofs.Common.{◌≡◌, ◌⊎◌, ℕ, eqb, ltb, leb, Bool, true, false, not, cond, ◌&&◌, List, [], ◌∷◌, ◌++◌, filter, length, Option, Some, None, refl, subst, inl, inr}
-use Rattle.std.specs.Prelude.{filter_map, find, is_some, IfSome}
+use Rattle.std.specs.Prelude.{find, is_some, IfSome}
 use Rattle.std.specs.List.{list_any}
 use Rattle.std.specs.Option.{option_map_or}
 use Rattle.std.proofs.lemmas.Bool.{and_parts}
@@ -10,7 +10,6 @@ use Rattle.turn_client_api.specs.declared.event.TurnEvent.TheVariants.{Allocatio
 use Rattle.std.specs.declared.net.socket_addr.SocketAddr.{SocketAddr}
 use Rattle.turn_stun.specs.Message.{id_of}
 use Rattle.turn_stun.specs.declared.transport.TransportType.TheVariants.{Tcp}
-use Rattle.turn_types.specs.Frames.{begins_message}
 use Rattle.turn_auth.specs.LongTerm.{Challenge}
 use Rattle.turn_agent.specs.Agent as A
 use Rattle.turn_agent.specs.Agent.{first_sent, is_response, same_address}
@@ -20,34 +19,30 @@ use Rattle.turn_client_api.specs.declared.grant.Grant.{Grant}
 use Rattle.turn_client_api.specs.declared.grant.Grant.TheVariants.{Connection}
 use Rattle.turn_client_api.specs.declared.grant.DataConnection.{DataConnection}
 use Rattle.turn_client_api.specs.declared.grant.Listing.{Listing}
-use Rattle.turn_client_api.specs.declared.state.Mode.{Mode}
-use Rattle.turn_client_api.specs.declared.state.Mode.TheVariants.{Control, Waiting}
-use Rattle.turn_client_api.specs.declared.state.Stream.{Stream}
 use Rattle.turn_client_api.specs.declared.grant.Purpose.{Purpose}
 use Rattle.turn_client_api.specs.State.{later_by}
 use Rattle.turn_client_api.specs.declared.grant.Purpose.TheVariants.{ForAllocation}
 use Rattle.turn_client_api.specs.declared.state.Phase.{Phase}
-use Rattle.turn_client_api.specs.declared.state.Phase.TheVariants.{Requesting, Authenticating, Allocated}
+use Rattle.turn_client_api.specs.declared.state.Phase.TheVariants.{Requesting, Authenticating}
 use Rattle.turn_client_laws.specs.Handled.{Input, processed}
-use Rattle.turn_client_api.specs.Grants.{find_allocation_to, as_connection, is_connection_from, is_for, is_for_allocation, purposes_of, unlisted, wait}
-use Rattle.turn_client_api.specs.Requests.{connection_attempt_method, connection_bind_method, fresh_id, listings, request_for, requested}
+use Rattle.turn_client_api.specs.Grants.{find_allocation_to, is_connection_from, is_for, is_for_allocation, purposes_of, unlisted, wait}
+use Rattle.turn_client_api.specs.Requests.{connection_attempt_method, fresh_id, listings, request_for, requested}
 use Rattle.turn_client_api.specs.Judgement.{Judgement, Unrelated, Challenged, Fatal, ConnectionAttempt, SignedRequest, SignedSuccess, SignedError, answers_allocate}
 use Rattle.turn_client_api.specs.Judgement.{authenticating_judgement, bind_judgement, class_in, connection_id_in, is_bind_of, judgement_of, lifetime_in, method_in, peer_in}
 use Rattle.turn_client_api.specs.Effect.{allocate_denied, allocate_granted, transaction_ended, family_not_supported, has_code, in_phase}
 use Rattle.turn_client_api.specs.Retry.{bind_time, retried, state_after_retry, with_held}
-use Rattle.turn_client_api.specs.Connections.{attempt_indicated, attempt_requested, bind_again, bind_answered, bind_step, connection_at, deadline_set, is_connected, accepts_attempt, bound, not_bound}
+use Rattle.turn_client_api.specs.Connections.{attempt_indicated, attempt_requested, bind_again, bind_answered, bind_step, deadline_set, is_connected, accepts_attempt, bound, not_bound}
 use Rattle.turn_client_api.specs.Connections.{with_deadline}
-use Rattle.turn_client_api.specs.Payloads.{Outcome, Handled, Ignored, challenge_step, channel_sent, datagram_step, is_channel_frame, is_message, message_step, response_step, signed_step, wrong_step}
-use Rattle.turn_client_api.specs.Streams.{frame_step}
+use Rattle.turn_client_api.specs.Payloads.{Outcome, Handled, Ignored, challenge_step, message_step, response_step, signed_step, wrong_step}
 use Rattle.turn_client_laws.specs.LawsReplies.{IsAccepted}
 use Rattle.turn_client_laws.specs.LawsRequests.{IsAnswer, IsListedAgain, IsMade, IsMadeAgain}
-use Rattle.turn_client_laws.specs.LawsGone.{GivesBack, IsOverItself, IsTakenByReply, IsRemovedByInput, grant_identity}
-use Rattle.turn_client_laws.proofs.AddressLemmas.{same_address-true}
+use Rattle.turn_client_laws.specs.LawsGone.{GivesBack, IsTakenByReply, IsRemovedByInput, grant_identity}
 use Rattle.turn_client_laws.proofs.EditsOfMessages.{found-has, retried-has}
-use Rattle.turn_client_laws.proofs.HasLemmas.{Has, has-found, has-right}
-use Rattle.turn_client_laws.proofs.MoveLemmas.{Moves, Never, Settles, adds-filter, adds-more, adds-one, adds-same, by_test, loses-filter, loses-map, loses-more, loses-same, loses-wider, on_test}
+use Rattle.turn_client_laws.proofs.HasLemmas.{Has, has-right}
+use Rattle.turn_client_laws.proofs.MoveLemmas.{Moves, Never, Settles, adds-filter, adds-more, adds-one, adds-same, loses-filter, loses-map, loses-more, loses-same, loses-wider, on_test}
 use Rattle.turn_client_laws.proofs.MoveLemmas.{settles-moves, settles-same, settles-wider}
 use Rattle.turn_client_laws.proofs.MoveReplyLemmas.{IsFor, response-fits}
+use Rattle.turn_client_laws.proofs.OneInputLemmas.{bind-by, input-by}
 use Rattle.turn_client_laws.proofs.GrantOriginLemmas.{has-mapped}
 use Rattle.turn_client_laws.proofs.StandLemmas.{has-contains}
 
@@ -311,87 +306,25 @@ answered-turns c message now s = by (bind_judgement s c.local message) refl
         (adds-filter Never _ s.transactions, adds-filter Never _ s.listed, loses-filter Taken (is_connection_from c.local) s.grants (λ g e. e)))
     by j e = rw e unbound
 
-bind_in_phase : (p : Phase) (local : SocketAddr) (message : List ℕ) (now : ℕ) (s : State)
-    → Turns (λ g. is_connection_from local g ≡ true) message now (record s { phase = p }) (bind_step local message now (record s { phase = p }))
-bind_in_phase Allocated local message now s = by (connection_at local s) refl
-  where
-    u : State
-    u = record s { phase = Allocated }
-
-    Claim : State → Type 0
-    Claim t = Turns (λ g. is_connection_from local g ≡ true) message now u t
-
-    about : (c : DataConnection) → c.local ≡ local → Claim (bind_answered c message now u)
-    about c e = subst (λ a. Turns (λ g. is_connection_from a g ≡ true) message now u (bind_answered c message now u)) e (answered-turns c message now u)
-
-    by : (o : Option DataConnection) → connection_at local s ≡ o → Claim (bind_step local message now u)
-    by None e = rw e (turns-same _ message now u)
-    by (Some c) e =
-        let found = has-found (λ (d : DataConnection). same_address d.local local) c (filter_map as_connection s.grants) e in
-        rw e (on_test Claim (eqb (method_in message) connection_bind_method) (bind_answered c message now u) u (about c (same_address-true c.local local found.1)) (turns-same _ message now u))
-bind_in_phase p local message now s = turns-same _ message now (record s { phase = p })
-
 pub bind-turns : (local : SocketAddr) (message : List ℕ) (now : ℕ) (s : State) → Turns (λ g. is_connection_from local g ≡ true) message now s (bind_step local message now s)
-bind-turns local message now s = bind_in_phase s.phase local message now s
+bind-turns local message now s =
+    let Taken = λ (a : SocketAddr) (g : Grant). is_connection_from a g ≡ true in
+    bind-by (Turns (Taken local) message now s) local message now s (turns-same (Taken local) message now s)
+    (λ c e. subst (λ a. Turns (Taken a) message now s (bind_answered c message now s)) e (answered-turns c message now s))
 
 -- ---- datagrams and frames
 
 turns-wider : (Taken Other : Grant → Type 0) (message : List ℕ) (now : ℕ) (s t : State) → ((g : Grant) → Taken g → Other g) → Turns Taken message now s t → Turns Other message now s t
 turns-wider Taken Other message now s t wider (made, listed, lost) = (made, listed, loses-wider Taken Other s.grants t.grants wider lost)
 
--- by the message, or since it was received over the connection itself
-abbrev TakenBy : Option Stream → List ℕ → State → Grant → Type 0
-TakenBy o bytes s g = IsTakenByReply bytes s g ⊎ IsOverItself o g
-
-whole-turns : (o : Option Stream) (bytes : List ℕ) (now : ℕ) (s : State) → Turns (TakenBy o bytes s) bytes now s (message_step bytes now s).1
-whole-turns o bytes now s = turns-wider (IsTakenByReply bytes s) (TakenBy o bytes s) bytes now s (message_step bytes now s).1 (λ g h. inl h) (message-turns bytes now s)
-
-datagram-turns : (bytes : List ℕ) (now : ℕ) (s : State) → Turns (TakenBy None bytes s) bytes now s (datagram_step bytes now s).1
-datagram-turns bytes now s =
-    by_test Claim (is_message bytes) (message_step bytes now s) _ (whole-turns None bytes now s)
-    (by_test Claim (is_channel_frame bytes) (channel_sent s bytes, s) (Ignored, s) same same)
-  where
-    Claim : State → Type 0
-    Claim t = Turns (TakenBy None bytes s) bytes now s t
-
-    same : Claim s
-    same = turns-same (TakenBy None bytes s) bytes now s
-
-frame_in_mode : (m : Mode) (stream : Stream) (bytes : List ℕ) (now : ℕ) (s : State)
-    → Turns (TakenBy (Some (record stream { mode = m })) bytes s) bytes now s (frame_step (record stream { mode = m }) bytes now s).1
-frame_in_mode Control stream bytes now s =
-    by_test Claim (not (begins_message bytes)) (channel_sent s bytes, s) _ same
-    (by_test Claim (is_message bytes) (message_step bytes now s) (Handled, s) (whole-turns o bytes now s) same)
-  where
-    o : Option Stream
-    o = Some (record stream { mode = Control })
-
-    Claim : State → Type 0
-    Claim t = Turns (TakenBy o bytes s) bytes now s t
-
-    same : Claim s
-    same = turns-same (TakenBy o bytes s) bytes now s
-frame_in_mode Waiting stream bytes now s =
-    by_test Claim (not (begins_message bytes)) (Ignored, s) _ same
-    (by_test Claim (is_message bytes) (Handled, bind_step stream.local bytes now s) (Handled, s) bind same)
-  where
-    o : Option Stream
-    o = Some (record stream { mode = Waiting })
-
-    Claim : State → Type 0
-    Claim t = Turns (TakenBy o bytes s) bytes now s t
-
-    same : Claim s
-    same = turns-same (TakenBy o bytes s) bytes now s
-
-    bind : Claim (bind_step stream.local bytes now s)
-    bind = turns-wider (λ g. is_connection_from stream.local g ≡ true) (TakenBy o bytes s) bytes now s (bind_step stream.local bytes now s) (λ g h. inr (refl, h)) (bind-turns stream.local bytes now s)
-frame_in_mode m stream bytes now s = turns-same _ bytes now s
-
--- an input that is processed requests this, and removes grants so
+-- an input that is processed requests this, and removes grants by its message, or since it was received over
+-- the connection itself
 pub turn-turns : (one : Input) → Turns (λ g. IsRemovedByInput g one) one.bytes one.time one.before (processed one).1
-turn-turns one = by one.stream
+turn-turns one =
+    input-by (Turns Taken one.bytes one.time one.before) one (turns-same Taken one.bytes one.time one.before)
+    (λ over whole. turns-wider (IsTakenByReply one.bytes one.before) Taken one.bytes one.time one.before _ (λ g h. inl h) (message-turns one.bytes one.time one.before))
+    (λ stream of waits whole. turns-wider (λ g. is_connection_from stream.local g ≡ true) Taken one.bytes one.time one.before _ (λ g h. inr (rw of (waits, h)))
+    (bind-turns stream.local one.bytes one.time one.before))
   where
-    by : (o : Option Stream) → Turns (λ g. IsRemovedByInput g (record one { stream = o })) one.bytes one.time one.before (processed (record one { stream = o })).1
-    by None = datagram-turns one.bytes one.time one.before
-    by (Some stream) = frame_in_mode stream.mode stream one.bytes one.time one.before
+    Taken : Grant → Type 0
+    Taken g = IsRemovedByInput g one

@@ -20,6 +20,7 @@ use Rattle.turn_client_api.specs.Streams.{steps_until_payload, with_bytes}
 use Rattle.turn_client_api.specs.Receive.{first_frame_step, piece_step, then_all}
 use Rattle.turn_client_laws.specs.LawsPeers.{HasNoPeer}
 use Rattle.turn_client_laws.specs.LawsStreams.{HasNoFrame, NeedsMoreBytes}
+use Rattle.turn_client_laws.proofs.MoveLemmas.{on_test}
 use Rattle.turn_client_laws.proofs.StreamMessageLemmas.{Rebound, frame-rebound}
 use Rattle.turn_client_laws.proofs.StreamWeightLemmas.{KeepsHeld, Sets, kept-Sets, later-Sets, weight, weight-le, weight-less}
 
@@ -48,41 +49,25 @@ mode_by local mode x = cond (same_address x.local local) (record x { mode = mode
 pub bytes_by-Sets : (local : SocketAddr) (bytes : List ℕ) → Sets local bytes (bytes_by local bytes)
 unfolding bytes_by
 bytes_by-Sets local bytes = record {
-  keeps = λ x. by (same_address x.local local) x;
+  keeps = λ x. on_test (λ y. y.local ≡ x.local) (same_address x.local local) (record x { bytes = bytes }) x refl refl;
   at = λ x e. rw e refl;
   others = λ x e. rw e refl;
 }
-  where
-    by : (b : Bool) (x : Stream) → (cond b (record x { bytes = bytes }) x).local ≡ x.local
-    by true x = refl
-    by false x = refl
 
 pub broken_by-Sets : (local : SocketAddr) → Sets local [] (broken_by local)
 unfolding broken_by
 broken_by-Sets local = record {
-  keeps = λ x. by (same_address x.local local) x;
+  keeps = λ x. on_test (λ y. y.local ≡ x.local) (same_address x.local local) (record x { mode = Broken; bytes = [] }) x refl refl;
   at = λ x e. rw e refl;
   others = λ x e. rw e refl;
 }
-  where
-    by : (b : Bool) (x : Stream) → (cond b (record x { mode = Broken; bytes = [] }) x).local ≡ x.local
-    by true x = refl
-    by false x = refl
 
 pub mode_by-KeepsHeld : (local : SocketAddr) (mode : Mode) → KeepsHeld (mode_by local mode)
 unfolding mode_by
 mode_by-KeepsHeld local mode = record {
-  local = λ x. ends (same_address x.local local) x;
-  bytes = λ x. held (same_address x.local local) x;
+  local = λ x. on_test (λ y. y.local ≡ x.local) (same_address x.local local) (record x { mode = mode }) x refl refl;
+  bytes = λ x. on_test (λ y. y.bytes ≡ x.bytes) (same_address x.local local) (record x { mode = mode }) x refl refl;
 }
-  where
-    ends : (b : Bool) (x : Stream) → (cond b (record x { mode = mode }) x).local ≡ x.local
-    ends true x = refl
-    ends false x = refl
-
-    held : (b : Bool) (x : Stream) → (cond b (record x { mode = mode }) x).bytes ≡ x.bytes
-    held true x = refl
-    held false x = refl
 
 pub map-map : (f g : Stream → Stream) (xs : List Stream) → map (λ x. g (f x)) xs ≡ map g (map f xs)
 map-map f g [] = refl

@@ -1,14 +1,12 @@
 -- What the inputs of a call cause, the call causes.
-use Rattle.std.proofs.Common.{◌≡◌, ◌⊎◌, Bool, true, false, not, cond, List, [], ◌∷◌, ◌++◌, Option, Some, None, refl, sym, subst, inl, inr}
+use Rattle.std.proofs.Common.{◌≡◌, ◌⊎◌, true, List, [], ◌∷◌, ◌++◌, Some, refl, sym, subst, inl, inr}
 use Rattle.std.specs.declared.net.socket_addr.SocketAddr.{SocketAddr}
-use Rattle.turn_types.specs.Frames.{begins_message}
 use Rattle.turn_client_api.specs.State.{State}
-use Rattle.turn_client_api.specs.declared.state.Mode.{Mode}
-use Rattle.turn_client_api.specs.declared.state.Mode.TheVariants.{Control, Waiting}
+use Rattle.turn_client_api.specs.declared.state.Mode.TheVariants.{Waiting}
 use Rattle.turn_client_api.specs.declared.state.Stream.{Stream}
 use Rattle.turn_client_api.specs.Effect.{closed}
 use Rattle.turn_client_api.specs.Connections.{bind_step}
-use Rattle.turn_client_api.specs.Payloads.{Outcome, Handled, Ignored, channel_sent, is_channel_frame, is_message, message_step}
+use Rattle.turn_client_api.specs.Payloads.{is_message, message_step}
 use Rattle.turn_client_api.specs.Receive.{connection_gone}
 use Rattle.turn_client_api.specs.Streams.{without_stream}
 use Rattle.turn_client_laws.specs.Handled.{Input, handled, processed}
@@ -18,6 +16,7 @@ use Rattle.turn_client_api.specs.declared.call.Call.TheVariants.{SendTo, Recv, P
 use Rattle.turn_client_api.specs.declared.call.Call.TheVariants.{PollTransmit, PollEvent, RelayedAddresses, Permissions, HavePermission, ProtocolError}
 use Rattle.turn_client_laws.specs.LawsHandled.{DiffersInStreams, ProcessesInputs, EndsAmidInputs, IsDoneBy, IsOverControl, TakesInput, InputsLead}
 use Rattle.turn_client_laws.proofs.HasLemmas.{Has, has-left}
+use Rattle.turn_client_laws.proofs.OneInputLemmas.{input-by}
 use Rattle.turn_client_laws.proofs.StandLemmas.{has-contains}
 use Rattle.turn_client_laws.proofs.TurnChainLemmas.{calls-do, dropped-differs}
 use Rattle.turn_client_laws.proofs.TurnEndLemmas.{calls-end}
@@ -40,42 +39,9 @@ module _ (P : State → Type 0) (Did : Input → Type 0) (k : IsBrought P Did) w
 
   -- ---- one input
 
-  datagram-brings : (one : Input) → one.stream ≡ None → P (processed (record one { stream = None })).1 → Brings one
-  datagram-brings one of = by (is_message one.bytes) refl (is_channel_frame one.bytes)
-    where
-      by : (b : Bool) → is_message one.bytes ≡ b → (c : Bool) → P (cond {A = Outcome × State} b (message_step one.bytes one.time one.before)
-          (cond {A = Outcome × State} c (channel_sent one.before one.bytes, one.before) (Ignored, one.before))).1 → Brings one
-      by true e c h = k.message one (rw of tt) e h
-      by false e true h = inl h
-      by false e false h = inl h
-
-  control-brings : (one : Input) (stream : Stream) → one.stream ≡ Some stream → stream.mode ≡ Control → P (processed (record one { stream = Some (record stream { mode = Control }) })).1 → Brings one
-  control-brings one stream of mode = by (not (begins_message one.bytes)) (is_message one.bytes) refl
-    where
-      by : (b c : Bool) → is_message one.bytes ≡ c → P (cond {A = Outcome × State} b (channel_sent one.before one.bytes, one.before)
-          (cond {A = Outcome × State} c (message_step one.bytes one.time one.before) (Handled, one.before))).1 → Brings one
-      by false true e h = k.message one (rw of mode) e h
-      by b c e h = inl h
-
-  waiting-brings : (one : Input) (stream : Stream) → one.stream ≡ Some stream → stream.mode ≡ Waiting → P (processed (record one { stream = Some (record stream { mode = Waiting }) })).1 → Brings one
-  waiting-brings one stream of mode = by (not (begins_message one.bytes)) (is_message one.bytes) refl
-    where
-      by : (b c : Bool) → is_message one.bytes ≡ c → P (cond {A = Outcome × State} b (Ignored, one.before)
-          (cond {A = Outcome × State} c (Handled, bind_step stream.local one.bytes one.time one.before) (Handled, one.before))).1 → Brings one
-      by false true e h = k.binds one stream of mode e h
-      by b c e h = inl h
-
-  turn_in_mode : (m : Mode) (one : Input) (stream : Stream) → one.stream ≡ Some stream → stream.mode ≡ m → P (processed (record one { stream = Some (record stream { mode = m }) })).1 → Brings one
-  turn_in_mode Control one stream of mode h = control-brings one stream of mode h
-  turn_in_mode Waiting one stream of mode h = waiting-brings one stream of mode h
-  turn_in_mode m one stream of mode h = inl h
-
   pub turn-brings : (one : Input) → P (processed one).1 → Brings one
-  turn-brings one = by one.stream refl
-    where
-      by : (o : Option Stream) → one.stream ≡ o → P (processed (record one { stream = o })).1 → Brings one
-      by None of h = datagram-brings one of h
-      by (Some stream) of h = turn_in_mode stream.mode one stream of refl h
+  turn-brings one =
+      input-by (λ t. P t → Brings one) one (λ h. inl h) (λ over whole h. k.message one over whole h) (λ stream of waits whole h. k.binds one stream of waits whole h)
 
   -- ---- inputs in sequence
 

@@ -1,36 +1,25 @@
 -- What messages keep, the inputs of a call keep, up to each of them.
-use Rattle.std.proofs.Common.{List, [], ◌∷◌, Option, Some, None, inl, inr, sym, subst}
+use Rattle.std.proofs.Common.{List, [], ◌∷◌, inl, inr, sym, subst}
 use Rattle.std.specs.List.{Contains}
 use Rattle.turn_client_api.specs.State.{State}
-use Rattle.turn_client_api.specs.declared.state.Stream.{Stream}
 use Rattle.turn_client_laws.specs.Handled.{Input, handled, processed}
 use Rattle.turn_client_api.specs.Steps.{state_after}
 use Rattle.turn_client_api.specs.declared.call.Call.{Call}
 use Rattle.turn_client_api.specs.declared.call.Call.TheVariants.{Recv, PollRecv}
-use Rattle.turn_client_laws.specs.LawsHandled.{DiffersInStreams, ProcessesInputs, InputsLead}
+use Rattle.turn_client_laws.specs.LawsHandled.{ProcessesInputs, InputsLead}
 use Rattle.turn_client_laws.proofs.HasLemmas.{Has}
-use Rattle.turn_client_laws.proofs.RunKeepLemmas.{IsKept, datagram-kept, frame-kept}
+use Rattle.turn_client_laws.proofs.RunKeepLemmas.{IsKept, differs-kept, input-kept}
 use Rattle.turn_client_laws.proofs.StandLemmas.{contains-has}
 use Rattle.turn_client_laws.proofs.TurnChainLemmas.{calls-do}
 
 module _ (R : State → State → Type 0) (k : IsKept R) where
-  made-kept : (one : Input) → R one.before (processed one).1
-  made-kept one = by one.stream
-    where
-      by : (o : Option Stream) → R one.before (processed (record one { stream = o })).1
-      by None = datagram-kept R k one.bytes one.time one.before
-      by (Some stream) = frame-kept R k stream one.bytes one.time one.before
-
-  differs-kept : (s t : State) → DiffersInStreams s t → R s t
-  differs-kept s t differs = subst (R s) (sym differs.others) (k.streams s t.streams)
-
   -- up to the input
   lead-kept : (turns : List Input) (s t : State) → InputsLead turns s t → (one : Input) → Has one turns → R s one.before
   lead-kept [] s t lead one none = absurd none
-  lead-kept (x ∷ later) s t (first, lead) one (inl e) = subst (λ (y : Input). R s y.before) (sym e) (differs-kept s x.before first)
+  lead-kept (x ∷ later) s t (first, lead) one (inl e) = subst (λ (y : Input). R s y.before) (sym e) (differs-kept R k s x.before first)
   lead-kept (x ∷ later) s t (first, lead) one (inr there) =
-      k.trans s x.before one.before (differs-kept s x.before first)
-      (k.trans x.before (processed x).1 one.before (made-kept x) (lead-kept later (processed x).1 t lead one there))
+      k.trans s x.before one.before (differs-kept R k s x.before first)
+      (k.trans x.before (processed x).1 one.before (input-kept R k x) (lead-kept later (processed x).1 t lead one there))
 
   does-kept : (call : Call) (s : State) → ProcessesInputs call s → (one : Input) → Has one (handled call s) → R s one.before
   does-kept call s (inl lead) one there = lead-kept (handled call s) s (state_after call s) lead one there

@@ -1,0 +1,80 @@
+-- What one input leaves: the state as it was, or what its message leaves.
+use Rattle.std.proofs.Common.{◌≡◌, ℕ, eqb, Bool, true, false, not, cond, List, Option, Some, None, refl}
+use Rattle.std.specs.Prelude.{filter_map}
+use Rattle.std.specs.declared.net.socket_addr.SocketAddr.{SocketAddr}
+use Rattle.turn_types.specs.Frames.{begins_message}
+use Rattle.turn_agent.specs.Agent.{same_address}
+use Rattle.turn_client_api.specs.State.{State}
+use Rattle.turn_client_api.specs.declared.state.Mode.{Mode}
+use Rattle.turn_client_api.specs.declared.state.Mode.TheVariants.{Control, Waiting}
+use Rattle.turn_client_api.specs.declared.state.Stream.{Stream}
+use Rattle.turn_client_api.specs.declared.state.Phase.{Phase}
+use Rattle.turn_client_api.specs.declared.state.Phase.TheVariants.{Allocated}
+use Rattle.turn_client_api.specs.declared.grant.DataConnection.{DataConnection}
+use Rattle.turn_client_api.specs.Grants.{as_connection}
+use Rattle.turn_client_api.specs.Requests.{connection_bind_method}
+use Rattle.turn_client_api.specs.Judgement.{method_in}
+use Rattle.turn_client_api.specs.Connections.{bind_answered, bind_step, connection_at}
+use Rattle.turn_client_api.specs.Payloads.{Outcome, Handled, Ignored, channel_sent, datagram_step, is_channel_frame, is_message, message_step}
+use Rattle.turn_client_api.specs.Streams.{frame_step}
+use Rattle.turn_client_laws.specs.Handled.{Input, processed}
+use Rattle.turn_client_laws.specs.LawsHandled.{IsOverControl}
+use Rattle.turn_client_laws.proofs.AddressLemmas.{same_address-true}
+use Rattle.turn_client_laws.proofs.HasLemmas.{has-found}
+use Rattle.turn_client_laws.proofs.MoveLemmas.{on_test}
+
+module _ (P : State → Type 0) (bytes : List ℕ) (now : ℕ) (s : State) (same : P s) where
+  pub datagram-by : (is_message bytes ≡ true → P (message_step bytes now s).1) → P (datagram_step bytes now s).1
+  datagram-by message = by (is_message bytes) refl (is_channel_frame bytes)
+    where
+      by : (b : Bool) → is_message bytes ≡ b → (c : Bool) → P (cond {A = Outcome × State} b (message_step bytes now s) (cond {A = Outcome × State} c (channel_sent s bytes, s) (Ignored, s))).1
+      by true e c = message e
+      by false e true = same
+      by false e false = same
+
+  frame_in_mode-by : (m : Mode) (stream : Stream) → (m ≡ Control → is_message bytes ≡ true → P (message_step bytes now s).1)
+      → (m ≡ Waiting → is_message bytes ≡ true → P (bind_step stream.local bytes now s)) → P (frame_step (record stream { mode = m }) bytes now s).1
+  frame_in_mode-by Control stream message bind = by (not (begins_message bytes)) (is_message bytes) refl
+    where
+      by : (b c : Bool) → is_message bytes ≡ c → P (cond {A = Outcome × State} b (channel_sent s bytes, s) (cond {A = Outcome × State} c (message_step bytes now s) (Handled, s))).1
+      by false true e = message refl e
+      by false false e = same
+      by true c e = same
+  frame_in_mode-by Waiting stream message bind = by (not (begins_message bytes)) (is_message bytes) refl
+    where
+      by : (b c : Bool) → is_message bytes ≡ c → P (cond {A = Outcome × State} b (Ignored, s) (cond {A = Outcome × State} c (Handled, bind_step stream.local bytes now s) (Handled, s))).1
+      by false true e = bind refl e
+      by false false e = same
+      by true c e = same
+  frame_in_mode-by m stream message bind = same
+
+  pub frame-by : (stream : Stream) → (stream.mode ≡ Control → is_message bytes ≡ true → P (message_step bytes now s).1)
+      → (stream.mode ≡ Waiting → is_message bytes ≡ true → P (bind_step stream.local bytes now s)) → P (frame_step stream bytes now s).1
+  frame-by stream = frame_in_mode-by stream.mode stream
+
+bind_in_phase-by : (P : State → Type 0) (p : Phase) (local : SocketAddr) (bytes : List ℕ) (now : ℕ) (s : State) → P (record s { phase = p })
+    → ((c : DataConnection) → c.local ≡ local → P (bind_answered c bytes now (record s { phase = p }))) → P (bind_step local bytes now (record s { phase = p }))
+bind_in_phase-by P Allocated local bytes now s same answered = by (connection_at local s) refl
+  where
+    u : State
+    u = record s { phase = Allocated }
+
+    by : (o : Option DataConnection) → connection_at local s ≡ o → P (bind_step local bytes now u)
+    by None e = rw e same
+    by (Some c) e =
+        let found = has-found (λ (d : DataConnection). same_address d.local local) c (filter_map as_connection s.grants) e in
+        rw e (on_test P (eqb (method_in bytes) connection_bind_method) (bind_answered c bytes now u) u (answered c (same_address-true c.local local found.1)) same)
+bind_in_phase-by P p local bytes now s same answered = same
+
+-- a message of a connection that waits to be bound
+pub bind-by : (P : State → Type 0) (local : SocketAddr) (bytes : List ℕ) (now : ℕ) (s : State) → P s → ((c : DataConnection) → c.local ≡ local → P (bind_answered c bytes now s))
+    → P (bind_step local bytes now s)
+bind-by P local bytes now s = bind_in_phase-by P s.phase local bytes now s
+
+pub input-by : (P : State → Type 0) (one : Input) → P one.before → (IsOverControl one → is_message one.bytes ≡ true → P (message_step one.bytes one.time one.before).1)
+    → ((stream : Stream) → one.stream ≡ Some stream → stream.mode ≡ Waiting → is_message one.bytes ≡ true → P (bind_step stream.local one.bytes one.time one.before)) → P (processed one).1
+input-by P one same message bind = by one.stream refl
+  where
+    by : (o : Option Stream) → one.stream ≡ o → P (processed (record one { stream = o })).1
+    by None of = datagram-by P one.bytes one.time one.before same (message (rw of tt))
+    by (Some stream) of = frame-by P one.bytes one.time one.before same stream (λ mode. message (rw of mode)) (bind stream of)
