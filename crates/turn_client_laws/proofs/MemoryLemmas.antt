@@ -18,6 +18,7 @@ use Rattle.turn_client_api.specs.declared.call.Call.{Call}
 use Rattle.turn_client_api.specs.declared.call.Call.TheVariants.{SendTo, Recv, PollRecv, Poll, PollTransmit}
 use Rattle.turn_client_api.specs.declared.call.Call.TheVariants.{PollEvent, RelayedAddresses}
 use Rattle.turn_client_api.specs.declared.call.Call.TheVariants.{Permissions, HavePermission, ProtocolError}
+use Rattle.turn_client_laws.specs.LawsHandled.{TakesInput}
 use Rattle.turn_client_laws.proofs.RunKeepLemmas.{IsKept, first_frame_step-kept, turns-kept}
 
 -- ---- before all streams are processed
@@ -60,6 +61,20 @@ before-IsBehind to piece now s u e = by (stream_at to s) refl
 
 -- ---- what is kept
 
+-- without memory nothing changes, the client ends, or a call that processes inputs ends amid them
+pub memory-ends : (call : Call) (s t : State) → EndsWithoutMemory call s t → (t ≡ s) ⊎ (t ≡ closed s) ⊎ (TakesInput call × EndsWithoutMemory call s t)
+memory-ends (Recv packet now) s t end = inr (inr (tt, end))
+memory-ends (PollRecv now) s t end = inr (inr (tt, end))
+memory-ends (SendTo transport peer bytes now) s t none = absurd none
+memory-ends (Poll now) s t e = inr (inl e)
+memory-ends (PollTransmit now) s t e = inr (inl e)
+memory-ends PollEvent s t none = absurd none
+memory-ends RelayedAddresses s t none = absurd none
+memory-ends (Permissions transport relayed) s t none = absurd none
+memory-ends (HavePermission transport to) s t none = absurd none
+memory-ends ProtocolError s t e = inr (inl e)
+memory-ends call s t e = inl e
+
 module _ (R : State → State → Type 0) (k : IsKept R) (ends : (s : State) → R s (closed s)) where
   closed-kept : (s t u : State) → R s t → u ≡ closed t → R s u
   closed-kept s t u kept e = subst (λ (x : State). R s x) (sym e) (k.trans s t (closed t) kept (ends t))
@@ -88,22 +103,18 @@ module _ (R : State → State → Type 0) (k : IsKept R) (ends : (s : State) →
       by None e none = absurd none
       by (Some u) e h = k.trans s u t (before-kept to piece now s u (before-IsBehind to piece now s u e)) (turns_end-kept now u t h)
 
-  -- nothing changes
-  same-kept : (s t : State) → t ≡ s → R s t
-  same-kept s t e = subst (λ (x : State). R s x) (sym e) (k.same s)
+  amid-kept : (call : Call) (s t : State) → TakesInput call → EndsWithoutMemory call s t → R s t
+  amid-kept (Recv packet now) s t takes (asks, end) = recv_end-kept packet.to packet.payload now s t end
+  amid-kept (PollRecv now) s t takes end = turns_end-kept now s t end
+  amid-kept call s t takes end = absurd takes
 
   memory-kept : (call : Call) (s t : State) → EndsWithoutMemory call s t → R s t
-  memory-kept (SendTo transport peer bytes now) s t none = absurd none
-  memory-kept (Recv packet now) s t (asks, end) = recv_end-kept packet.to packet.payload now s t end
-  memory-kept (PollRecv now) s t h = turns_end-kept now s t h
-  memory-kept (Poll now) s t e = closed-kept s s t (k.same s) e
-  memory-kept (PollTransmit now) s t e = closed-kept s s t (k.same s) e
-  memory-kept PollEvent s t none = absurd none
-  memory-kept RelayedAddresses s t none = absurd none
-  memory-kept (Permissions transport relayed) s t none = absurd none
-  memory-kept (HavePermission transport to) s t none = absurd none
-  memory-kept ProtocolError s t e = closed-kept s s t (k.same s) e
-  memory-kept call s t e = same-kept s t e
+  memory-kept call s t end = by (memory-ends call s t end)
+    where
+      by : (t ≡ s) ⊎ (t ≡ closed s) ⊎ (TakesInput call × EndsWithoutMemory call s t) → R s t
+      by (inl e) = subst (λ (x : State). R s x) (sym e) (k.same s)
+      by (inr (inl e)) = closed-kept s s t (k.same s) e
+      by (inr (inr (takes, end))) = amid-kept call s t takes end
 
   -- what each call keeps without an allocation failure, each call keeps with one
   pub leaves-kept : ((call : Call) (s : State) → R s (state_after call s)) → (call : Call) (s t : State) → Leaves call s t → R s t

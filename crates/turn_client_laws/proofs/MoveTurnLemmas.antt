@@ -1,6 +1,7 @@
 -- What all calls request and remove, including those that process inputs.
-use Rattle.std.proofs.Common.{◌≡◌, ◌⊎◌, ℕ, List, [], ◌∷◌, ◌++◌, Option, Some, None, true, refl, sym, subst, ◌∙◌, inl, inr}
+use Rattle.std.proofs.Common.{◌≡◌, ◌⊎◌, ℕ, List, [], ◌∷◌, Option, Some, None, true, refl, sym, subst, ◌∙◌, inl, inr}
 use Rattle.std.specs.List.{Contains}
+use Rattle.turn_stun.specs.declared.transport.Transmit.{Transmit}
 use Rattle.turn_agent.specs.declared.transaction.Transaction.{Transaction}
 use Rattle.turn_client_api.specs.State.{State}
 use Rattle.turn_client_api.specs.declared.grant.Grant.{Grant}
@@ -14,43 +15,24 @@ use Rattle.turn_client_api.specs.Effect.{closed}
 use Rattle.turn_client_api.specs.Steps.{EndsWithoutMemory, Leaves, state_after}
 use Rattle.turn_client_api.specs.declared.call.Call.{Call}
 use Rattle.turn_client_api.specs.declared.call.Call.TheVariants.{Delete, CreatePermission, BindChannel, TcpConnect, AllocatedTcpSocket, TcpClosed, SendTo, Recv, PollRecv, Poll}
-use Rattle.turn_client_api.specs.declared.call.Call.TheVariants.{PollTransmit, PollEvent, RelayedAddresses, Permissions, HavePermission, ProtocolError}
+use Rattle.turn_client_api.specs.declared.call.Call.TheVariants.{PollTransmit, PollEvent, ProtocolError}
 use Rattle.turn_client_laws.specs.LawsHandled.{DiffersInStreams, ProcessesInputs, EndsAmidInputs, IsDoneBy, IsStreamEnd, TakesInput, InputsLead}
 use Rattle.turn_client_laws.specs.LawsRequests.{IsListedByInput, IsListingOf, IsMadeByInput, IsRequestOf}
 use Rattle.turn_client_laws.specs.LawsGone.{IsOverItself, IsStillThere, IsTakenBy, IsRemovedByInput}
-use Rattle.turn_client_laws.proofs.HasLemmas.{Has, has-filter, has-left}
+use Rattle.turn_client_laws.proofs.HasLemmas.{Has, has-filter}
 use Rattle.turn_client_laws.proofs.MoveCallLemmas.{channel-does, connect-does, does-same, does-settled, permission-does}
-use Rattle.turn_client_laws.proofs.MoveLemmas.{IsOfBare, Moves, Remains, Settles, adds-filter, adds-same, loses-same, loses-wider, moves-same, remains-here, settles-same}
+use Rattle.turn_client_laws.proofs.MoveLemmas.{IsOfBare, Moves, Remains, Settles, adds-filter, adds-same, loses-same, loses-wider, moves-same, remains-here, settles-moves, settles-same, settles-wider}
 use Rattle.turn_client_laws.proofs.MoveMessageLemmas.{turn-turns}
 use Rattle.turn_client_laws.proofs.MovePollLemmas.{poll-does, transmit-does}
 use Rattle.turn_client_laws.proofs.MoveReplyLemmas.{is_for-whole}
 use Rattle.turn_client_laws.proofs.MoveSocketLemmas.{closed-does, delete-does, error-does, gone-settles, send-does, taken-does}
 use Rattle.turn_client_laws.proofs.StandLemmas.{contains-has, has-contains}
+use Rattle.turn_client_laws.proofs.MemoryLemmas.{memory-ends}
+use Rattle.turn_client_laws.proofs.TurnBringLemmas.{Among, among-done, front-done, later-among, leads-back}
 use Rattle.turn_client_laws.proofs.TurnChainLemmas.{calls-do, turns-lead}
 use Rattle.turn_client_laws.proofs.TurnEndLemmas.{calls-end}
 
 -- ---- inputs in sequence
-
--- one of these inputs did it
-abbrev Among : (Input → Type 0) → List Input → Type 0
-Among Did turns = (one : Input) × Has one turns × Did one
-
-later-among : (Did : Input → Type 0) (one : Input) (turns : List Input) → Among Did turns → Among Did (one ∷ turns)
-later-among Did one turns (x, there, did) = (x, inr there, did)
-
--- what holds after the inputs held before them, or one of them caused it
-leads-back : (P : State → Type 0) (Did : Input → Type 0) → ((s t : State) → DiffersInStreams s t → P t → P s) → ((one : Input) → P (processed one).1 → P one.before ⊎ Did one)
-    → (turns : List Input) (s t : State) → InputsLead turns s t → P t → P s ⊎ Among Did turns
-leads-back P Did alike step [] s t differs h = inl (alike s t differs h)
-leads-back P Did alike step (one ∷ turns) s t (differs, lead) h = by (leads-back P Did alike step turns (processed one).1 t lead h)
-  where
-    at : P one.before ⊎ Did one → P s ⊎ Among Did (one ∷ turns)
-    at (inl before) = inl (alike s one.before differs before)
-    at (inr did) = inr (one, inl refl, did)
-
-    by : P (processed one).1 ⊎ Among Did turns → P s ⊎ Among Did (one ∷ turns)
-    by (inl here) = at (step one here)
-    by (inr among) = inr (later-among Did one turns among)
 
 -- what held before the inputs holds after them, or one of them ended it
 leads-on : (P : State → Type 0) (Did : Input → Type 0) → ((s t : State) → DiffersInStreams s t → P s → P t) → ((one : Input) → P one.before → P (processed one).1 ⊎ Did one)
@@ -109,67 +91,49 @@ module _ (turns : List Input) (s t : State) (lead : InputsLead turns s t) where
 -- ---- the law
 
 -- a call leaves this
+abbrev ObeysTo : Call → State → State → Type 0
+ObeysTo call s t = Moves (IsRequestOf call s) (IsListingOf call s) (IsTakenBy call s) s t
+
 abbrev pub Obeys : Call → State → Type 0
-Obeys call s = Moves (IsRequestOf call s) (IsListingOf call s) (IsTakenBy call s) s (state_after call s)
+Obeys call s = ObeysTo call s (state_after call s)
 
--- one of them is among the inputs of the call
-among-done : (Did : Input → Type 0) (call : Call) (s : State) → Among Did (handled call s) → (one : Input) × Contains (handled call s) one × Did one
-among-done Did call s (one, there, did) = (one, has-contains one (handled call s) there, did)
-
--- the same, or by an input
-or-done : {X : Type 0} (Did : Input → Type 0) (call : Call) (s : State) → X ⊎ Among Did (handled call s) → X ⊎ ((one : Input) × Contains (handled call s) one × Did one)
-or-done Did call s (inl x) = inl x
-or-done Did call s (inr among) = inr (among-done Did call s among)
+-- what the inputs do, the call does
+lead-obeys : (call : Call) (s t : State) (turns : List Input) → InputsLead turns s t → ((Did : Input → Type 0) → Among Did turns → IsDoneBy Did call s)
+    → Moves (λ x. IsDoneBy (IsMadeByInput x) call s) (λ l. IsDoneBy (IsListedByInput l) call s) (λ g. IsDoneBy (IsRemovedByInput g) call s) s t
+lead-obeys call s t turns lead done = (
+  λ x h. by (IsMadeByInput x) (lead-transactions turns s t lead x h),
+  λ l h. by (IsListedByInput l) (lead-listed turns s t lead l h),
+  λ g h. by (IsRemovedByInput g) (lead-grants turns s t lead g h),
+)
+  where
+    by : {X : Type 0} (Did : Input → Type 0) → X ⊎ Among Did turns → X ⊎ IsDoneBy Did call s
+    by Did (inl x) = inl x
+    by Did (inr among) = inr (done Did among)
 
 -- the end of a stream removes its connection
 end-settles : (call : Call) (s t : State) (end : IsStreamEnd call s t) → Settles (λ g. is_connection_from end.local g ≡ true) s t
 end-settles call s t end = subst (λ u. Settles (λ g. is_connection_from end.local g ≡ true) s u) (sym end.gone) (gone-settles end.local s)
 
-recv-obeys : (call : Call) (s : State) → TakesInput call → (Other : Grant → Type 0) → ((end : IsStreamEnd call s (state_after call s)) (g : Grant) → is_connection_from end.local g ≡ true → Other g)
-    → Moves (λ x. (one : Input) × Contains (handled call s) one × IsMadeByInput x one) (λ l. (one : Input) × Contains (handled call s) one × IsListedByInput l one)
-    (λ g. ((one : Input) × Contains (handled call s) one × IsRemovedByInput g one) ⊎ Other g) s (state_after call s)
-recv-obeys call s takes Other ends = by (calls-do call s takes)
+-- of the inputs of a packet, or as the stream ends
+packet-obeys : (packet : Transmit (List ℕ)) (now : ℕ) (s t : State) → Moves (λ x. IsDoneBy (IsMadeByInput x) (Recv packet now) s) (λ l. IsDoneBy (IsListedByInput l) (Recv packet now) s)
+    (λ g. IsDoneBy (IsRemovedByInput g) (Recv packet now) s) s t → ObeysTo (Recv packet now) s t
+packet-obeys packet now s t (made, listed, lost) =
+    (made, listed, loses-wider (λ g. IsDoneBy (IsRemovedByInput g) (Recv packet now) s) (IsTakenBy (Recv packet now) s) s.grants t.grants (λ g h. inl h) lost)
+
+recv-obeys : (packet : Transmit (List ℕ)) (now : ℕ) (s : State) → Obeys (Recv packet now) s
+recv-obeys packet now s = by (calls-do call s tt)
   where
+    call : Call
+    call = Recv packet now
+
     t : State
     t = state_after call s
 
-    gone : (end : IsStreamEnd call s t) → Settles (λ g. is_connection_from end.local g ≡ true) s t
-    gone end = end-settles call s t end
-
-    by : ProcessesInputs call s → Moves (λ x. (one : Input) × Contains (handled call s) one × IsMadeByInput x one) (λ l. (one : Input) × Contains (handled call s) one × IsListedByInput l one)
-        (λ g. ((one : Input) × Contains (handled call s) one × IsRemovedByInput g one) ⊎ Other g) s t
-    by (inl lead) = (
-      λ x h. or-done (IsMadeByInput x) call s (lead-transactions (handled call s) s t lead x h),
-      λ l h. or-done (IsListedByInput l) call s (lead-listed (handled call s) s t lead l h),
-      λ g h. left g (lead-grants (handled call s) s t lead g h),
-    )
-      where
-        left : (g : Grant) → Remains g t.grants ⊎ Among (IsRemovedByInput g) (handled call s) → Remains g t.grants ⊎ ((one : Input) × Contains (handled call s) one × IsRemovedByInput g one) ⊎ Other g
-        left g (inl remains) = inl remains
-        left g (inr among) = inr (inl (among-done (IsRemovedByInput g) call s among))
-    by (inr end) = (
-      λ x h. never s.transactions x ((gone end).0 x h),
-      λ l h. never s.listed l ((gone end).1 l h),
-      λ g h. taken g ((gone end).2 g h),
-    )
-      where
-        never : {X Y : Type 0} (xs : List X) (x : X) → Has x xs ⊎ ⊥ → Has x xs ⊎ Y
-        never xs x (inl there) = inl there
-        never xs x (inr none) = absurd none
-
-        taken : (g : Grant) → Remains g t.grants ⊎ (is_connection_from end.local g ≡ true) → Remains g t.grants ⊎ ((one : Input) × Contains (handled call s) one × IsRemovedByInput g one) ⊎ Other g
-        taken g (inl remains) = inl remains
-        taken g (inr is) = inr (inr (ends end g is))
-
-poll_recv-obeys : (now : ℕ) (s : State) → Obeys (PollRecv now) s
-poll_recv-obeys now s =
-    let call = PollRecv now in
-    let t = state_after call s in
-    let lead = turns-lead (max_steps s) now s in (
-      λ x h. or-done (IsMadeByInput x) call s (lead-transactions (handled call s) s t lead x h),
-      λ l h. or-done (IsListedByInput l) call s (lead-listed (handled call s) s t lead l h),
-      λ g h. or-done (IsRemovedByInput g) call s (lead-grants (handled call s) s t lead g h),
-    )
+    by : ProcessesInputs call s → Obeys call s
+    by (inl lead) = packet-obeys packet now s t (lead-obeys call s t (handled call s) lead (λ Did. among-done Did call s))
+    by (inr end) =
+        settles-moves (IsRequestOf call s) (IsListingOf call s) (IsTakenBy call s) s t
+        (settles-wider (λ g. is_connection_from end.local g ≡ true) (IsTakenBy call s) s t (λ g is. inr (end, is)) (end-settles call s t end))
 
 pub all-obey : (call : Call) (s : State) → Obeys call s
 all-obey (Delete now) s = delete-does now s
@@ -179,8 +143,9 @@ all-obey (TcpConnect peer now) s = connect-does peer now s
 all-obey (AllocatedTcpSocket id tuple peer local now) s = taken-does id tuple peer now s local
 all-obey (TcpClosed local remote now) s = closed-does local remote now s
 all-obey (SendTo transport peer bytes now) s = send-does transport peer bytes now s
-all-obey (Recv packet now) s = recv-obeys (Recv packet now) s tt _ (λ end g is. (end, is))
-all-obey (PollRecv now) s = poll_recv-obeys now s
+all-obey (Recv packet now) s = recv-obeys packet now s
+all-obey (PollRecv now) s =
+    lead-obeys (PollRecv now) s _ (handled (PollRecv now) s) (turns-lead (max_steps s) now s) (λ Did. among-done Did (PollRecv now) s)
 all-obey (Poll now) s = poll-does now s
 all-obey (PollTransmit now) s = transmit-does now s
 all-obey PollEvent s = does-settled PollEvent s (state_after PollEvent s) (settles-same (IsTakenBy PollEvent s) s)
@@ -189,47 +154,25 @@ all-obey call s = does-same call s
 
 -- ---- allocation failure
 
--- the inputs that were processed are among those of the call
-front-among : (Did : Input → Type 0) (call : Call) (s : State) (front later : List Input) → handled call s ≡ front ++ later → Among Did front → Among Did (handled call s)
-front-among Did call s front later all (one, there, did) = (one, subst (Has one) (sym all) (has-left one front later there), did)
-
 end-obeys : (call : Call) (s t : State) → EndsAmidInputs call s t → Moves (λ x. IsDoneBy (IsMadeByInput x) call s) (λ l. IsDoneBy (IsListedByInput l) call s)
     (λ g. IsDoneBy (IsRemovedByInput g) call s) s t
-end-obeys call s t end = subst (λ (u : State). Moves (λ x. IsDoneBy (IsMadeByInput x) call s) (λ l. IsDoneBy (IsListedByInput l) call s) (λ g. IsDoneBy (IsRemovedByInput g) call s) s u)
-    (sym end.ended) (
-      λ x h. done (IsMadeByInput x) (lead-transactions end.front s end.last end.lead x h),
-      λ l h. done (IsListedByInput l) (lead-listed end.front s end.last end.lead l (has-filter _ l end.last.listed h).0),
-      λ g h. done (IsRemovedByInput g) (lead-grants end.front s end.last end.lead g h),
-    )
-  where
-    done : {X : Type 0} (Did : Input → Type 0) → X ⊎ Among Did end.front → X ⊎ IsDoneBy Did call s
-    done Did (inl x) = inl x
-    done Did (inr among) = inr (among-done Did call s (front-among Did call s end.front end.later end.all among))
+end-obeys call s t end =
+    let (made, listed, lost) = lead-obeys call s end.last end.front end.lead (λ Did. front-done Did call s end.front end.later end.all) in
+    subst (λ (u : State). Moves (λ x. IsDoneBy (IsMadeByInput x) call s) (λ l. IsDoneBy (IsListedByInput l) call s) (λ g. IsDoneBy (IsRemovedByInput g) call s) s u)
+    (sym end.ended) (made, λ l h. listed l (has-filter _ l end.last.listed h).0, lost)
 
--- a call that leaves this
-abbrev ObeysTo : Call → State → State → Type 0
-ObeysTo call s t = Moves (IsRequestOf call s) (IsListingOf call s) (IsTakenBy call s) s t
-
-same-obeys : (call : Call) (s t : State) → t ≡ s → ObeysTo call s t
-same-obeys call s t e = subst (ObeysTo call s) (sym e) (moves-same (IsRequestOf call s) (IsListingOf call s) (IsTakenBy call s) s)
-
-closed-obeys : (call : Call) (s t : State) → t ≡ closed s → ObeysTo call s t
-closed-obeys call s t e = subst (ObeysTo call s) (sym e) (adds-same (IsRequestOf call s) s.transactions, adds-filter (IsListingOf call s) _ s.listed, loses-same (IsTakenBy call s) s.grants)
+amid-obeys : (call : Call) (s t : State) → TakesInput call → EndsAmidInputs call s t → ObeysTo call s t
+amid-obeys (Recv packet now) s t takes end = packet-obeys packet now s t (end-obeys (Recv packet now) s t end)
+amid-obeys (PollRecv now) s t takes end = end-obeys (PollRecv now) s t end
+amid-obeys call s t takes end = absurd takes
 
 none-obeys : (call : Call) (s t : State) → EndsWithoutMemory call s t → ObeysTo call s t
-none-obeys (Recv packet now) s t end =
-    let (made, listed, lost) = end-obeys (Recv packet now) s t (calls-end (Recv packet now) s t tt end) in
-    (made, listed, loses-wider (λ g. IsDoneBy (IsRemovedByInput g) (Recv packet now) s) (IsTakenBy (Recv packet now) s) s.grants t.grants (λ g h. inl h) lost)
-none-obeys (PollRecv now) s t end = end-obeys (PollRecv now) s t (calls-end (PollRecv now) s t tt end)
-none-obeys (SendTo transport peer bytes now) s t none = absurd none
-none-obeys (Poll now) s t e = closed-obeys (Poll now) s t e
-none-obeys (PollTransmit now) s t e = closed-obeys (PollTransmit now) s t e
-none-obeys PollEvent s t none = absurd none
-none-obeys RelayedAddresses s t none = absurd none
-none-obeys (Permissions transport relayed) s t none = absurd none
-none-obeys (HavePermission transport to) s t none = absurd none
-none-obeys ProtocolError s t e = closed-obeys ProtocolError s t e
-none-obeys call s t e = same-obeys call s t e
+none-obeys call s t end = by (memory-ends call s t end)
+  where
+    by : (t ≡ s) ⊎ (t ≡ closed s) ⊎ (TakesInput call × EndsWithoutMemory call s t) → ObeysTo call s t
+    by (inl e) = subst (ObeysTo call s) (sym e) (moves-same (IsRequestOf call s) (IsListingOf call s) (IsTakenBy call s) s)
+    by (inr (inl e)) = subst (ObeysTo call s) (sym e) (adds-same (IsRequestOf call s) s.transactions, adds-filter (IsListingOf call s) _ s.listed, loses-same (IsTakenBy call s) s.grants)
+    by (inr (inr (takes, end))) = amid-obeys call s t takes (calls-end call s t takes end)
 
 -- even if memory allocation fails
 leaves-obeys : (call : Call) (s t : State) → Leaves call s t → ObeysTo call s t

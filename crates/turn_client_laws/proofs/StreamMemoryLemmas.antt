@@ -1,5 +1,5 @@
 -- The streams keep distinct local addresses, even if memory allocation fails.
-use Rattle.std.proofs.Common.{◌≡◌, ◌≢◌, ℕ, List, Option, Some, None, refl, subst, sym, inl, inr}
+use Rattle.std.proofs.Common.{◌≡◌, ◌≢◌, ◌⊎◌, ℕ, List, Option, Some, None, refl, subst, sym, inl, inr}
 use Rattle.std.specs.Prelude.{IsSomeAnd, find}
 use Rattle.std.specs.declared.net.socket_addr.SocketAddr.{SocketAddr}
 use Rattle.turn_agent.specs.Agent.{same_address}
@@ -13,11 +13,10 @@ use Rattle.turn_client_api.specs.Streams.{broken_at, is_ready}
 use Rattle.turn_client_api.specs.Answers.{EndsAfterSteps, RecvEnds, before_others}
 use Rattle.turn_client_api.specs.Steps.{EndsWithoutMemory, Leaves, state_after}
 use Rattle.turn_client_api.specs.declared.call.Call.{Call}
-use Rattle.turn_client_api.specs.declared.call.Call.TheVariants.{SendTo, Recv, PollRecv, Poll, PollTransmit}
-use Rattle.turn_client_api.specs.declared.call.Call.TheVariants.{PollEvent, RelayedAddresses}
-use Rattle.turn_client_api.specs.declared.call.Call.TheVariants.{Permissions, HavePermission, ProtocolError}
+use Rattle.turn_client_api.specs.declared.call.Call.TheVariants.{Recv, PollRecv}
+use Rattle.turn_client_laws.specs.LawsHandled.{TakesInput}
 use Rattle.turn_client_laws.specs.LawsStreams.{AreApart}
-use Rattle.turn_client_laws.proofs.MemoryLemmas.{IsBehind, before-IsBehind}
+use Rattle.turn_client_laws.proofs.MemoryLemmas.{IsBehind, before-IsBehind, memory-ends}
 use Rattle.turn_client_laws.proofs.StreamApartLemmas.{broken-apart, found-NotBroken}
 use Rattle.turn_client_laws.proofs.StreamCallLemmas.{call-apart}
 use Rattle.turn_client_laws.proofs.StreamDrainLemmas.{broken_by}
@@ -58,18 +57,18 @@ recv_end-apart to piece now s t (inr (over, some, later)) h = by (before_others 
     by None e none = absurd none
     by (Some u) e end = turns_end-apart now u t end (before-apart to piece now s u (before-IsBehind to piece now s u e) h)
 
+amid-apart : (call : Call) (s t : State) → TakesInput call → EndsWithoutMemory call s t → StayApart s t
+amid-apart (Recv packet now) s t takes (asks, end) = recv_end-apart packet.to packet.payload now s t end
+amid-apart (PollRecv now) s t takes end = turns_end-apart now s t end
+amid-apart call s t takes end = absurd takes
+
 memory-apart : (call : Call) (s t : State) → EndsWithoutMemory call s t → StayApart s t
-memory-apart (SendTo transport peer bytes now) s t none = absurd none
-memory-apart (Recv packet now) s t (asks, end) = recv_end-apart packet.to packet.payload now s t end
-memory-apart (PollRecv now) s t h = turns_end-apart now s t h
-memory-apart (Poll now) s t e = equal-apart s _ t e (λ h. h)
-memory-apart (PollTransmit now) s t e = equal-apart s _ t e (λ h. h)
-memory-apart PollEvent s t none = absurd none
-memory-apart RelayedAddresses s t none = absurd none
-memory-apart (Permissions transport relayed) s t none = absurd none
-memory-apart (HavePermission transport to) s t none = absurd none
-memory-apart ProtocolError s t e = equal-apart s _ t e (λ h. h)
-memory-apart call s t e = equal-apart s s t e (λ h. h)
+memory-apart call s t end = by (memory-ends call s t end)
+  where
+    by : (t ≡ s) ⊎ (t ≡ closed s) ⊎ (TakesInput call × EndsWithoutMemory call s t) → StayApart s t
+    by (inl e) = equal-apart s s t e (λ h. h)
+    by (inr (inl e)) = equal-apart s (closed s) t e (λ h. h)
+    by (inr (inr (takes, end))) = amid-apart call s t takes end
 
 pub leaves-apart : (call : Call) (s t : State) → Leaves call s t → StayApart s t
 leaves-apart call s t (inl e) = equal-apart s (state_after call s) t e (call-apart call s)

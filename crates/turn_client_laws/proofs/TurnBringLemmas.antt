@@ -12,10 +12,10 @@ use Rattle.turn_client_api.specs.Streams.{without_stream}
 use Rattle.turn_client_laws.specs.Handled.{Input, handled, processed}
 use Rattle.turn_client_api.specs.Steps.{EndsWithoutMemory, Leaves, state_after}
 use Rattle.turn_client_api.specs.declared.call.Call.{Call}
-use Rattle.turn_client_api.specs.declared.call.Call.TheVariants.{SendTo, Recv, PollRecv, Poll}
-use Rattle.turn_client_api.specs.declared.call.Call.TheVariants.{PollTransmit, PollEvent, RelayedAddresses, Permissions, HavePermission, ProtocolError}
+use Rattle.turn_client_api.specs.declared.call.Call.TheVariants.{Recv, PollRecv}
 use Rattle.turn_client_laws.specs.LawsHandled.{DiffersInStreams, ProcessesInputs, EndsAmidInputs, IsDoneBy, IsOverControl, TakesInput, InputsLead}
 use Rattle.turn_client_laws.proofs.HasLemmas.{Has, has-left}
+use Rattle.turn_client_laws.proofs.MemoryLemmas.{memory-ends}
 use Rattle.turn_client_laws.proofs.OneInputLemmas.{input-by}
 use Rattle.turn_client_laws.proofs.StandLemmas.{has-contains}
 use Rattle.turn_client_laws.proofs.TurnChainLemmas.{calls-do, dropped-differs}
@@ -32,54 +32,59 @@ pub record IsBrought (P : State → Type 0) (Did : Input → Type 0) : Type 0 wh
   pub gone : (local : SocketAddr) (s : State) → P (connection_gone local s) → P s
   pub ended : (s : State) → P (closed s) → P s
 
+-- ---- inputs in sequence
+
+-- one of these inputs did it
+abbrev pub Among : (Input → Type 0) → List Input → Type 0
+Among Did turns = (one : Input) × Has one turns × Did one
+
+pub later-among : (Did : Input → Type 0) (one : Input) (turns : List Input) → Among Did turns → Among Did (one ∷ turns)
+later-among Did one turns (x, there, did) = (x, inr there, did)
+
+pub among-done : (Did : Input → Type 0) (call : Call) (s : State) → Among Did (handled call s) → IsDoneBy Did call s
+among-done Did call s (one, there, did) = (one, has-contains one (handled call s) there, did)
+
+-- the first inputs of the call are among all of them
+pub front-done : (Did : Input → Type 0) (call : Call) (s : State) (front later : List Input) → handled call s ≡ front ++ later → Among Did front → IsDoneBy Did call s
+front-done Did call s front later all (one, there, did) = among-done Did call s (one, subst (Has one) (sym all) (has-left one front later there), did)
+
+-- what holds after the inputs held before them, or one of them caused it
+pub leads-back : (P : State → Type 0) (Did : Input → Type 0) → ((s t : State) → DiffersInStreams s t → P t → P s) → ((one : Input) → P (processed one).1 → P one.before ⊎ Did one)
+    → (turns : List Input) (s t : State) → InputsLead turns s t → P t → P s ⊎ Among Did turns
+leads-back P Did alike step [] s t differs h = inl (alike s t differs h)
+leads-back P Did alike step (one ∷ turns) s t (differs, lead) h = by (leads-back P Did alike step turns (processed one).1 t lead h)
+  where
+    by : P (processed one).1 ⊎ Among Did turns → P s ⊎ Among Did (one ∷ turns)
+    by (inl here) = elim (step one here) [ inl before ↦ inl (alike s one.before differs before) | inr did ↦ inr (one, inl refl, did) ]
+    by (inr among) = inr (later-among Did one turns among)
+
+-- ---- what is brought
+
 module _ (P : State → Type 0) (Did : Input → Type 0) (k : IsBrought P Did) where
   -- it held before, or the input did it
   abbrev Brings : Input → Type 0
   Brings one = P one.before ⊎ Did one
 
-  -- ---- one input
-
   pub turn-brings : (one : Input) → P (processed one).1 → Brings one
   turn-brings one =
       input-by (λ t. P t → Brings one) one (λ h. inl h) (λ over whole h. k.message one over whole h) (λ stream of waits whole h. k.binds one stream of waits whole h)
 
-  -- ---- inputs in sequence
-
-  -- one of these inputs did it
-  abbrev Among : List Input → Type 0
-  Among turns = (one : Input) × Has one turns × Did one
-
-  pub lead-brings : (turns : List Input) (s t : State) → InputsLead turns s t → P t → P s ⊎ Among turns
-  lead-brings [] s t lead h = inl (k.differs s t lead h)
-  lead-brings (one ∷ later) s t (first, lead) h = by (lead-brings later (processed one).1 t lead h)
-    where
-      now : Brings one → P s ⊎ Among (one ∷ later)
-      now (inl there) = inl (k.differs s one.before first there)
-      now (inr did) = inr (one, inl refl, did)
-
-      by : P (processed one).1 ⊎ Among later → P s ⊎ Among (one ∷ later)
-      by (inl there) = now (turn-brings one there)
-      by (inr (other, there, did)) = inr (other, inr there, did)
-
-  done : (call : Call) (s : State) (front later : List Input) → handled call s ≡ front ++ later → Among front → IsDoneBy Did call s
-  done call s front later all (one, there, did) = (one, has-contains one (handled call s) (subst (Has one) (sym all) (has-left one front later there)), did)
+  pub lead-brings : (turns : List Input) (s t : State) → InputsLead turns s t → P t → P s ⊎ Among Did turns
+  lead-brings = leads-back P Did k.differs turn-brings
 
   does-brings : (call : Call) (s : State) → ProcessesInputs call s → P (state_after call s) → P s ⊎ IsDoneBy Did call s
-  does-brings call s (inl lead) h = by (lead-brings (handled call s) s (state_after call s) lead h)
-    where
-      by : P s ⊎ Among (handled call s) → P s ⊎ IsDoneBy Did call s
-      by (inl there) = inl there
-      by (inr (one, there, did)) = inr (one, has-contains one (handled call s) there, did)
+  does-brings call s (inl lead) h =
+      elim (lead-brings (handled call s) s (state_after call s) lead h) [ inl there ↦ inl there | inr among ↦ inr (among-done Did call s among) ]
   does-brings call s (inr end) h =
       let t = connection_gone end.local s in
       inl (k.gone end.local s (k.differs t (without_stream end.local t) (dropped-differs end.local t) (subst P end.gone h)))
 
   end-brings : (call : Call) (s t : State) → EndsAmidInputs call s t → P t → P s ⊎ IsDoneBy Did call s
-  end-brings call s t end h = by (lead-brings end.front s end.last end.lead (k.ended end.last (subst P end.ended h)))
-    where
-      by : P s ⊎ Among end.front → P s ⊎ IsDoneBy Did call s
-      by (inl there) = inl there
-      by (inr among) = inr (done call s end.front end.later end.all among)
+  end-brings call s t end h =
+      elim (lead-brings end.front s end.last end.lead (k.ended end.last (subst P end.ended h))) [
+        | inl there ↦ inl there
+        | inr among ↦ inr (front-done Did call s end.front end.later end.all among)
+      ]
 
   -- ---- a call
 
@@ -88,34 +93,21 @@ module _ (P : State → Type 0) (Did : Input → Type 0) (k : IsBrought P Did) w
     Brought call s = P s ⊎ Other call s ⊎ IsDoneBy Did call s
 
     by-turn : (call : Call) (s : State) → P s ⊎ IsDoneBy Did call s → Brought call s
-    by-turn call s (inl there) = inl there
-    by-turn call s (inr did) = inr (inr did)
-
-    by-other : (call : Call) (s : State) → P s ⊎ Other call s → Brought call s
-    by-other call s (inl there) = inl there
-    by-other call s (inr did) = inr (inl did)
+    by-turn call s h = elim h [ inl there ↦ inl there | inr did ↦ inr (inr did) ]
 
     found-brings : (call : Call) (s : State) → P (state_after call s) → Brought call s
     found-brings (Recv packet now) s h = by-turn (Recv packet now) s (does-brings (Recv packet now) s (calls-do (Recv packet now) s tt) h)
     found-brings (PollRecv now) s h = by-turn (PollRecv now) s (does-brings (PollRecv now) s (calls-do (PollRecv now) s tt) h)
-    found-brings call s h = by-other call s (others call s (λ is. is) h)
-
-    ended-brings : (s t : State) → t ≡ closed s → P t → P s
-    ended-brings s t e h = k.ended s (subst P e h)
+    found-brings call s h = elim (others call s (λ is. is) h) [ inl there ↦ inl there | inr did ↦ inr (inl did) ]
 
     -- memory allocation fails
     none-brings : (call : Call) (s t : State) → EndsWithoutMemory call s t → P t → Brought call s
-    none-brings (Recv packet now) s t end h = by-turn (Recv packet now) s (end-brings (Recv packet now) s t (calls-end (Recv packet now) s t tt end) h)
-    none-brings (PollRecv now) s t end h = by-turn (PollRecv now) s (end-brings (PollRecv now) s t (calls-end (PollRecv now) s t tt end) h)
-    none-brings (SendTo transport peer bytes now) s t none h = absurd none
-    none-brings (Poll now) s t e h = inl (ended-brings s t e h)
-    none-brings (PollTransmit now) s t e h = inl (ended-brings s t e h)
-    none-brings PollEvent s t none h = absurd none
-    none-brings RelayedAddresses s t none h = absurd none
-    none-brings (Permissions transport relayed) s t none h = absurd none
-    none-brings (HavePermission transport to) s t none h = absurd none
-    none-brings ProtocolError s t e h = inl (ended-brings s t e h)
-    none-brings call s t e h = inl (subst P e h)
+    none-brings call s t end h = by (memory-ends call s t end)
+      where
+        by : (t ≡ s) ⊎ (t ≡ closed s) ⊎ (TakesInput call × EndsWithoutMemory call s t) → Brought call s
+        by (inl e) = inl (subst P e h)
+        by (inr (inl e)) = inl (k.ended s (subst P e h))
+        by (inr (inr (takes, end))) = by-turn call s (end-brings call s t (calls-end call s t takes end) h)
 
     pub leaves-bring : (call : Call) (s t : State) → Leaves call s t → P t → Brought call s
     leaves-bring call s t (inl e) h = found-brings call s (subst P e h)

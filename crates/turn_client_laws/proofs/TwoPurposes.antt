@@ -1,10 +1,9 @@
 -- A request is listed for two purposes at most.
-use Rattle.std.proofs.Common.{◌≡◌, ◌⊎◌, ℕ, Bool, true, false, not, eqb, List, [], ◌∷◌, filter, Option, Some, None, inl, inr, refl, sym, subst, ◌∙◌}
+use Rattle.std.proofs.Common.{◌≡◌, ◌⊎◌, ℕ, Bool, true, false, not, eqb, List, filter, Option, Some, inl, inr, refl, sym, subst, ◌∙◌}
 use Rattle.std.specs.Prelude.{flat_map, slice_get, unwrap_or}
 use Rattle.std.specs.List.{Contains, list_any}
 use Rattle.std.specs.Net.Socket.{socket_ip}
 use Rattle.std.proofs.lemmas.Bool.{eq-eqb, eqb-true, or_parts}
-use Rattle.std.specs.declared.net.ip_addr.IpAddr.{IpAddr}
 use Rattle.std.specs.declared.net.socket_addr.SocketAddr.{SocketAddr}
 use Rattle.turn_stun.specs.Message.{id_of}
 use Rattle.turn_stun.specs.declared.transport.TransportType.{TransportType}
@@ -24,27 +23,24 @@ use Rattle.turn_client_api.specs.Effect.{closed}
 use Rattle.turn_client_api.specs.Calls.{free_number}
 use Rattle.turn_client_api.specs.Transmit.{refreshes_in}
 use Rattle.turn_client_api.specs.Receive.{connection_gone}
-use Rattle.turn_client_api.specs.Streams.{without_stream}
-use Rattle.turn_client_laws.specs.Handled.{Input, handled, processed}
-use Rattle.turn_client_api.specs.declared.poll.Socket5Tuple.{Socket5Tuple}
-use Rattle.turn_client_api.specs.Steps.{EndsWithoutMemory, Leaves, state_after}
+use Rattle.turn_client_api.specs.Steps.{Leaves, state_after}
 use Rattle.turn_client_api.specs.declared.call.Call.{Call}
-use Rattle.turn_client_api.specs.declared.call.Call.TheVariants.{Delete, CreatePermission, BindChannel, TcpConnect, AllocatedTcpSocket, SendTo, Recv, PollRecv, Poll}
-use Rattle.turn_client_api.specs.declared.call.Call.TheVariants.{PollTransmit, PollEvent, RelayedAddresses, Permissions, HavePermission, ProtocolError}
-use Rattle.turn_client_laws.specs.LawsHandled.{DiffersInStreams, ProcessesInputs, EndsAmidInputs, InputsLead}
+use Rattle.turn_client_api.specs.declared.call.Call.TheVariants.{Delete, CreatePermission, BindChannel, TcpConnect, AllocatedTcpSocket, Recv, PollRecv}
+use Rattle.turn_client_api.specs.declared.call.Call.TheVariants.{PollTransmit}
 use Rattle.turn_client_laws.specs.LawsPurposes.{HasTwoPurposes}
 use Rattle.turn_client_laws.specs.LawsRequests.{AsksFor, IsListedAgain, IsListedAs, IsListedFor}
 use Rattle.turn_client_laws.proofs.Edits.{listing}
 use Rattle.turn_client_laws.proofs.HasLemmas.{Has, filter-has, has-filter, map-has}
 use Rattle.turn_client_laws.proofs.InAllocationLemmas.{has-any}
+use Rattle.turn_client_laws.proofs.MemoryLemmas.{leaves-kept}
+use Rattle.turn_client_laws.proofs.MoveLemmas.{Adds}
+use Rattle.turn_client_laws.proofs.RunKeepLemmas.{IsKept, poll_recv-kept, recv-kept}
 use Rattle.turn_client_laws.proofs.GrantOriginLemmas.{has-mapped}
-use Rattle.turn_client_laws.proofs.MoveMessageLemmas.{turn-turns}
+use Rattle.turn_client_laws.proofs.MoveMessageLemmas.{bind-turns, message-turns}
 use Rattle.turn_client_laws.proofs.MoveSocketLemmas.{gone-settles}
 use Rattle.turn_client_laws.proofs.MoveTurnLemmas.{listings-made}
 use Rattle.turn_client_laws.proofs.NewIdLemmas.{fresh-free}
 use Rattle.turn_client_laws.proofs.StandLemmas.{contains-has, has-contains}
-use Rattle.turn_client_laws.proofs.TurnChainLemmas.{calls-do}
-use Rattle.turn_client_laws.proofs.TurnEndLemmas.{calls-end}
 
 -- ---- what is listed under an ID
 
@@ -54,6 +50,9 @@ AmongTwo id ls = (one other : Purpose) × ((p : Purpose) → Has (listing id p) 
 
 abbrev AllAmongTwo : State → Type 0
 AllAmongTwo s = (id : ℕ) → AmongTwo id s.listed
+
+abbrev StayTwo : State → State → Type 0
+StayTwo s t = AllAmongTwo s → AllAmongTwo t
 
 with-purpose : (id : ℕ) (p : Purpose) (s : State) → Has (listing id p) s.listed → Has p (purposes_of id s)
 with-purpose id p s there = map-has (λ (l : Listing). l.purpose) (listing id p) (filter (λ (l : Listing). eqb l.id id) s.listed)
@@ -121,10 +120,6 @@ with-partner q p (inl e) = inl e
 with-partner (ForChannel number peer) (ForPermission ip) (inr e) = inr (rw e refl)
 with-partner q p (inr none) = absurd none
 
--- for one purpose
-named-partner : (q purpose p : Purpose) → purpose ≡ q → IsListedFor purpose p → (p ≡ q) ⊎ (p ≡ partner q)
-named-partner q purpose p e listed = with-partner q p (subst (λ (x : Purpose). IsListedFor x p) e listed)
-
 refresh-either : (family : AddressFamily) (p : Purpose) → IsListedFor (ForRefresh family 0) p → (p ≡ ForRefresh IPV4 0) ⊎ (p ≡ ForRefresh IPV6 0)
 refresh-either IPV4 p (inl e) = inl e
 refresh-either IPV6 p (inl e) = inr e
@@ -137,44 +132,9 @@ Lists call s p = (purpose : Purpose) × (at : ℕ) × AsksFor call s purpose at 
 abbrev OfTwo : (Purpose → Type 0) → Type 0
 OfTwo Came = (one other : Purpose) × ((p : Purpose) → Came p → (p ≡ one) ⊎ (p ≡ other))
 
-delete-two : (now : ℕ) (s : State) → OfTwo (Lists (Delete now) s)
-delete-two now s = (ForRefresh IPV4 0, ForRefresh IPV6 0, of)
-  where
-    of : (p : Purpose) → Lists (Delete now) s p → (p ≡ ForRefresh IPV4 0) ⊎ (p ≡ ForRefresh IPV6 0)
-    of p (purpose, at, (is, (family, asks)), listed) = refresh-either family p (subst (λ (x : Purpose). IsListedFor x p) asks listed)
-
-permission-two : (transport : TransportType) (ip : IpAddr) (now : ℕ) (s : State) → OfTwo (Lists (CreatePermission transport ip now) s)
-permission-two transport ip now s = (ForPermission ip, partner (ForPermission ip), of)
-  where
-    of : (p : Purpose) → Lists (CreatePermission transport ip now) s p → (p ≡ ForPermission ip) ⊎ (p ≡ partner (ForPermission ip))
-    of p (purpose, at, (is, asks), listed) = named-partner (ForPermission ip) purpose p asks listed
-
-channel-two : (transport : TransportType) (peer : SocketAddr) (now : ℕ) (s : State) → OfTwo (Lists (BindChannel transport peer now) s)
-channel-two transport peer now s = (q, partner q, of)
-  where
-    q : Purpose
-    q = ForChannel (unwrap_or (free_number s) 0) peer
-
-    of : (p : Purpose) → Lists (BindChannel transport peer now) s p → (p ≡ q) ⊎ (p ≡ partner q)
-    of p (purpose, at, (is, (number, free, asks)), listed) =
-        let same : ForChannel number peer ≡ q = rw free refl in
-        named-partner q purpose p (asks ∙ same) listed
-
-connect-two : (peer : SocketAddr) (now : ℕ) (s : State) → OfTwo (Lists (TcpConnect peer now) s)
-connect-two peer now s = (ForConnect peer, partner (ForConnect peer), of)
-  where
-    of : (p : Purpose) → Lists (TcpConnect peer now) s p → (p ≡ ForConnect peer) ⊎ (p ≡ partner (ForConnect peer))
-    of p (purpose, at, (is, asks), listed) = named-partner (ForConnect peer) purpose p asks listed
-
-socket-two : (id : ℕ) (tuple : Socket5Tuple) (peer : SocketAddr) (local : Option SocketAddr) (now : ℕ) (s : State) → OfTwo (Lists (AllocatedTcpSocket id tuple peer local now) s)
-socket-two id tuple peer (Some local) now s = (ForBind local peer id, partner (ForBind local peer id), of)
-  where
-    of : (p : Purpose) → Lists (AllocatedTcpSocket id tuple peer (Some local) now) s p → (p ≡ ForBind local peer id) ⊎ (p ≡ partner (ForBind local peer id))
-    of p (purpose, at, (is, asks), listed) = named-partner (ForBind local peer id) purpose p asks listed
-socket-two id tuple peer None now s = (ForAllocation, ForAllocation, of)
-  where
-    of : (p : Purpose) → Lists (AllocatedTcpSocket id tuple peer None now) s p → (p ≡ ForAllocation) ⊎ (p ≡ ForAllocation)
-    of p (purpose, at, none, listed) = absurd none
+-- with its partner, if the call asks for one purpose
+one-two : (call : Call) (s : State) (q : Purpose) → ((purpose : Purpose) (at : ℕ) → AsksFor call s purpose at → purpose ≡ q) → OfTwo (Lists call s)
+one-two call s q asks = (q, partner q, λ p l. with-partner q p (subst (λ (x : Purpose). IsListedFor x p) (asks l.0 l.1 l.2) l.3))
 
 -- what is sent next for a purpose: the first ALLOCATE, or a refresh
 next-purpose : Phase → Option Purpose → Purpose
@@ -189,129 +149,69 @@ next-refresh : (phase : Phase) (wanted : Option Purpose) (p : Purpose) → phase
 unfolding next-purpose
 next-refresh phase wanted p e f = rw (e, f) refl
 
-transmit-two : (now : ℕ) (s : State) → OfTwo (Lists (PollTransmit now) s)
-transmit-two now s = (q, partner q, of)
+lists-two : (call : Call) (s : State) → OfTwo (Lists call s)
+lists-two (Delete now) s = (ForRefresh IPV4 0, ForRefresh IPV6 0, λ p l. refresh-either l.2.1.0 p (subst (λ (x : Purpose). IsListedFor x p) l.2.1.1 l.3))
+lists-two (CreatePermission transport ip now) s = one-two (CreatePermission transport ip now) s (ForPermission ip) (λ purpose at asks. asks.1)
+lists-two (BindChannel transport peer now) s =
+    one-two (BindChannel transport peer now) s (ForChannel (unwrap_or (free_number s) 0) peer) (λ purpose at asks. asks.1.2 ∙ rw asks.1.1 refl)
+lists-two (TcpConnect peer now) s = one-two (TcpConnect peer now) s (ForConnect peer) (λ purpose at asks. asks.1)
+lists-two (AllocatedTcpSocket id tuple peer (Some local) now) s = one-two (AllocatedTcpSocket id tuple peer (Some local) now) s (ForBind local peer id) (λ purpose at asks. asks.1)
+lists-two (PollTransmit now) s = one-two (PollTransmit now) s (next-purpose s.phase wanted) by
   where
     wanted : Option Purpose
     wanted = slice_get (flat_map (refreshes_in now s) (allocations s)) 0
 
-    q : Purpose
-    q = next-purpose s.phase wanted
-
-    of : (p : Purpose) → Lists (PollTransmit now) s p → (p ≡ q) ⊎ (p ≡ partner q)
-    of p (purpose, at, (is, inl (first, asks)), listed) =
-        named-partner q purpose p (asks ∙ next-first s.phase wanted first) listed
-    of p (purpose, at, (is, inr (there, asks)), listed) =
-        named-partner q purpose p (next-refresh s.phase wanted purpose there asks) listed
-
--- the calls that request nothing
-none-two : (Came : Purpose → Type 0) → ((p : Purpose) → Came p → ⊥) → OfTwo Came
-none-two Came none = (ForAllocation, ForAllocation, λ p came. absurd (none p came))
+    by : (purpose : Purpose) (at : ℕ) → AsksFor (PollTransmit now) s purpose at → purpose ≡ next-purpose s.phase wanted
+    by purpose at (is, inl (first, asks)) = asks ∙ next-first s.phase wanted first
+    by purpose at (is, inr (there, asks)) = next-refresh s.phase wanted purpose there asks
+lists-two call s = (ForAllocation, ForAllocation, λ p l. absurd l.2)
 
 -- ---- calls that process no input
 
-module _ (call : Call) (s : State) where
-  quiet-two : OfTwo (Lists call s) → ((l : Listing) → Contains (state_after call s).listed l → Contains s.listed l ⊎ (Lists call s l.purpose × (l.id ≡ fresh_id s))) → AllAmongTwo s
-      → AllAmongTwo (state_after call s)
-  quiet-two of_two came = two-more (Lists call s) s (state_after call s) of_two (λ l there. by l (came l (has-contains l (state_after call s).listed there)))
-    where
-      by : (l : Listing) → Contains s.listed l ⊎ (Lists call s l.purpose × (l.id ≡ fresh_id s)) → Has l s.listed ⊎ ((l.id ≡ fresh_id s) × Lists call s l.purpose)
-      by l (inl old) = inl (contains-has l s.listed old)
-      by l (inr (lists, is)) = inr (is, lists)
+-- what holds for each listing that is added
+abbrev IsListingHere : Call → State → Listing → Type 0
+IsListingHere call s l = (purpose : Purpose) × (at : ℕ) × AsksFor call s purpose at × IsListedFor purpose l.purpose × IsListedAs purpose at s (state_after call s) l
 
-  -- what holds for each listing that is added
-  abbrev IsListingHere : Listing → Type 0
-  IsListingHere l = (purpose : Purpose) × (at : ℕ) × AsksFor call s purpose at × IsListedFor purpose l.purpose × IsListedAs purpose at s (state_after call s) l
+quiet-two : (call : Call) (s : State) → ((l : Listing) → Contains (state_after call s).listed l → Contains s.listed l ⊎ IsListingHere call s l) → StayTwo s (state_after call s)
+quiet-two call s came =
+    two-more (Lists call s) s (state_after call s) (lists-two call s) (λ l there. by l (came l (has-contains l (state_after call s).listed there)))
+  where
+    by : (l : Listing) → Contains s.listed l ⊎ IsListingHere call s l → Has l s.listed ⊎ ((l.id ≡ fresh_id s) × Lists call s l.purpose)
+    by l (inl old) = inl (contains-has l s.listed old)
+    by l (inr (purpose, at, asks, for, (made, is))) = inr (is, (purpose, at, asks, for))
 
-  here-two : OfTwo (Lists call s) → ((l : Listing) → Contains (state_after call s).listed l → Contains s.listed l ⊎ IsListingHere l) → AllAmongTwo s → AllAmongTwo (state_after call s)
-  here-two of_two came = quiet-two of_two (λ l there. by l (came l there))
-    where
-      by : (l : Listing) → Contains s.listed l ⊎ IsListingHere l → Contains s.listed l ⊎ (Lists call s l.purpose × (l.id ≡ fresh_id s))
-      by l (inl old) = inl old
-      by l (inr (purpose, at, asks, for, (made, is))) = inr ((purpose, at, asks, for), is)
-
-  -- it requests nothing
-  idle-two : ((p : Purpose) → Lists call s p → ⊥) → ((l : Listing) → Contains (state_after call s).listed l → Contains s.listed l ⊎ IsListingHere l) → AllAmongTwo s → AllAmongTwo (state_after call s)
-  idle-two none came = here-two (none-two (Lists call s) none) came
-
--- ---- inputs
+-- ---- messages
 
 -- a request is made again for what it was made for
-turn-two : (one : Input) → AllAmongTwo one.before → AllAmongTwo (processed one).1
-turn-two one h =
-    two-more (λ p. Has (listing (id_of one.bytes) p) one.before.listed) one.before (processed one).1 (h (id_of one.bytes)) (λ l there. by l ((turn-turns one).1 l there)) h
+again-two : (message : List ℕ) (now : ℕ) (s t : State) → Adds (IsListedAgain message now s t) s.listed t.listed → StayTwo s t
+again-two message now s t adds h = two-more (λ p. Has (listing (id_of message) p) s.listed) s t (h (id_of message)) (λ l there. by l (adds l there)) h
   where
-    by : (l : Listing) → Has l one.before.listed ⊎ IsListedAgain one.bytes one.time one.before (processed one).1 l → Has l one.before.listed
-        ⊎ ((l.id ≡ fresh_id one.before) × Has (listing (id_of one.bytes) l.purpose) one.before.listed)
+    by : (l : Listing) → Has l s.listed ⊎ IsListedAgain message now s t l → Has l s.listed ⊎ ((l.id ≡ fresh_id s) × Has (listing (id_of message) l.purpose) s.listed)
     by l (inl old) = inl old
-    by l (inr (purpose, asked, answers, (made, is))) = inr (is, purpose-with (id_of one.bytes) l.purpose one.before (contains-has l.purpose (purposes_of (id_of one.bytes) one.before) answers))
+    by l (inr (purpose, asked, answers, (made, is))) = inr (is, purpose-with (id_of message) l.purpose s (contains-has l.purpose (purposes_of (id_of message) s) answers))
 
-differs-two : (s t : State) → DiffersInStreams s t → AllAmongTwo s → AllAmongTwo t
-differs-two s t differs h = subst AllAmongTwo (sym differs.others) h
-
-lead-two : (turns : List Input) (s t : State) → InputsLead turns s t → AllAmongTwo s → AllAmongTwo t
-lead-two [] s t lead h = differs-two s t lead h
-lead-two (one ∷ later) s t (first, lead) h =
-    lead-two later (processed one).1 t lead (turn-two one (differs-two s one.before first h))
-
-closed-two : (s : State) → AllAmongTwo s → AllAmongTwo (closed s)
-closed-two s = two-less s (closed s) (λ l there. (has-filter (λ (l : Listing). not (is_for_allocation l.purpose)) l s.listed there).0)
-
-gone-two : (local : SocketAddr) (s : State) → AllAmongTwo s → AllAmongTwo (without_stream local (connection_gone local s))
-gone-two local s = two-less s (without_stream local (connection_gone local s)) (λ l there. old l ((gone-settles local s).1 l there))
-  where
-    old : (l : Listing) → Has l s.listed ⊎ ⊥ → Has l s.listed
-    old l (inl there) = there
-    old l (inr none) = absurd none
-
-module _ (call : Call) (s : State) where
-  turns-two : ProcessesInputs call s → AllAmongTwo s → AllAmongTwo (state_after call s)
-  turns-two (inl lead) h = lead-two (handled call s) s (state_after call s) lead h
-  turns-two (inr end) h = subst AllAmongTwo (sym end.gone) (gone-two end.local s h)
-
-  ends-two : (t : State) → EndsAmidInputs call s t → AllAmongTwo s → AllAmongTwo t
-  ends-two t end h =
-      subst AllAmongTwo (sym end.ended) (closed-two end.last (lead-two end.front s end.last end.lead h))
+StayTwo-IsKept : IsKept StayTwo
+StayTwo-IsKept = record {
+  same = λ s h. h;
+  trans = λ s t u first later h. later (first h);
+  streams = λ s streams h. h;
+  message = λ message now s. again-two message now s _ (message-turns message now s).1;
+  binds = λ local message now s. again-two message now s _ (bind-turns local message now s).1;
+  gone = λ local s. two-less s (connection_gone local s) (λ l there. elim ((gone-settles local s).1 l there) [ inl old ↦ old | inr none ↦ absurd none ]);
+}
 
 -- ---- all calls
 
-call-two : (call : Call) (s : State) → AllAmongTwo s → AllAmongTwo (state_after call s)
-call-two (Recv packet now) s h = turns-two (Recv packet now) s (calls-do (Recv packet now) s tt) h
-call-two (PollRecv now) s h = turns-two (PollRecv now) s (calls-do (PollRecv now) s tt) h
-call-two (Delete now) s h = here-two (Delete now) s (delete-two now s) (λ l. listings-made (Delete now) s (state_after (Delete now) s) l (inl refl)) h
-call-two (CreatePermission transport ip now) s h = here-two (CreatePermission transport ip now) s (permission-two transport ip now s)
-    (λ l. listings-made (CreatePermission transport ip now) s (state_after (CreatePermission transport ip now) s) l (inl refl)) h
-call-two (BindChannel transport peer now) s h = here-two (BindChannel transport peer now) s (channel-two transport peer now s)
-    (λ l. listings-made (BindChannel transport peer now) s (state_after (BindChannel transport peer now) s) l (inl refl)) h
-call-two (TcpConnect peer now) s h = here-two (TcpConnect peer now) s (connect-two peer now s) (λ l. listings-made (TcpConnect peer now) s (state_after (TcpConnect peer now) s) l (inl refl)) h
-call-two (AllocatedTcpSocket id tuple peer local now) s h = here-two (AllocatedTcpSocket id tuple peer local now) s (socket-two id tuple peer local now s)
-    (λ l. listings-made (AllocatedTcpSocket id tuple peer local now) s (state_after (AllocatedTcpSocket id tuple peer local now) s) l (inl refl)) h
-call-two (PollTransmit now) s h = here-two (PollTransmit now) s (transmit-two now s) (λ l. listings-made (PollTransmit now) s (state_after (PollTransmit now) s) l (inl refl)) h
-call-two RelayedAddresses s h = h
-call-two (Permissions transport relayed) s h = h
-call-two (HavePermission transport to) s h = h
-call-two call s h = idle-two call s (λ p lists. lists.2) (λ l. listings-made call s (state_after call s) l (inl refl)) h
+call-two : (call : Call) (s : State) → StayTwo s (state_after call s)
+call-two (Recv packet now) s = recv-kept StayTwo StayTwo-IsKept packet.transport packet.from packet.to packet.payload now s
+call-two (PollRecv now) s = poll_recv-kept StayTwo StayTwo-IsKept now s
+call-two call s = quiet-two call s (λ l. listings-made call s (state_after call s) l (inl refl))
 
--- memory allocation fails
-none-ends : (call : Call) (s t : State) → EndsWithoutMemory call s t → AllAmongTwo s → AllAmongTwo t
-none-ends (Recv packet now) s t end h = ends-two (Recv packet now) s t (calls-end (Recv packet now) s t tt end) h
-none-ends (PollRecv now) s t end h = ends-two (PollRecv now) s t (calls-end (PollRecv now) s t tt end) h
-none-ends (SendTo transport peer bytes now) s t none h = absurd none
-none-ends (Poll now) s t e h = subst AllAmongTwo (sym e) (closed-two s h)
-none-ends (PollTransmit now) s t e h = subst AllAmongTwo (sym e) (closed-two s h)
-none-ends PollEvent s t none h = absurd none
-none-ends RelayedAddresses s t none h = absurd none
-none-ends (Permissions transport relayed) s t none h = absurd none
-none-ends (HavePermission transport to) s t none h = absurd none
-none-ends ProtocolError s t e h = subst AllAmongTwo (sym e) (closed-two s h)
-none-ends call s t e h = subst AllAmongTwo (sym e) h
+closed-two : (s : State) → StayTwo s (closed s)
+closed-two s = two-less s (closed s) (λ l there. (has-filter (λ (l : Listing). not (is_for_allocation l.purpose)) l s.listed there).0)
 
 pub initial-HasTwoPurposes : (transport : TransportType) (local remote : SocketAddr) (config : Config) (seed : List ℕ) → HasTwoPurposes (initial transport local remote config seed)
 initial-HasTwoPurposes transport local remote config seed = two-stated (initial transport local remote config seed) (λ id. (ForAllocation, ForAllocation, λ p none. absurd none))
 
 pub leaves-two : (call : Call) (s t : State) → Leaves call s t → HasTwoPurposes s → HasTwoPurposes t
-leaves-two call s t leaves h = two-stated t (by leaves)
-  where
-    by : Leaves call s t → AllAmongTwo t
-    by (inl e) = subst AllAmongTwo (sym e) (call-two call s (stated-two s h))
-    by (inr end) = none-ends call s t end (stated-two s h)
+leaves-two call s t leaves h = two-stated t (leaves-kept StayTwo StayTwo-IsKept closed-two call-two call s t leaves (stated-two s h))
