@@ -1,5 +1,6 @@
 -- How requests, listings and grants are added and removed.
-use Rattle.std.proofs.Common.{◌≡◌, ◌⊎◌, Bool, true, false, not, cond, List, [], ◌∷◌, ◌++◌, map, filter, refl, sym, subst, ◌∙◌, inl, inr}
+use Rattle.std.proofs.Common.{◌≡◌, ◌⊎◌, Bool, true, false, not, cond, List, [], ◌∷◌, ◌++◌, map, filter, Option, Some, None, refl, sym, subst, ◌∙◌, inl, inr}
+use Rattle.std.proofs.lemmas.Bool.{cases_Bool}
 use Rattle.turn_agent.specs.declared.transaction.Transaction.{Transaction}
 use Rattle.turn_client_api.specs.State.{State}
 use Rattle.turn_client_api.specs.declared.grant.Grant.{Grant}
@@ -25,22 +26,14 @@ pub adds-same : {X : Type 0} (Came : X → Type 0) (xs : List X) → Adds Came x
 adds-same Came xs x h = inl h
 
 pub adds-then : {X : Type 0} (Came : X → Type 0) (xs ys zs : List X) → Adds Came xs ys → Adds Came ys zs → Adds Came xs zs
-adds-then {X = X} Came xs ys zs first later x h = by (later x h)
-  where
-    by : Has x ys ⊎ Came x → Has x xs ⊎ Came x
-    by (inl there) = first x there
-    by (inr came) = inr came
+adds-then {X = X} Came xs ys zs first later x h = elim (later x h) [ inl there ↦ first x there | inr came ↦ inr came ]
 
 pub adds-filter : {X : Type 0} (Came : X → Type 0) (p : X → Bool) (xs : List X) → Adds Came xs (filter p xs)
 adds-filter Came p xs x h = inl (has-filter p x xs h).0
 
 -- more is added after
 pub adds-more : {X : Type 0} (Came : X → Type 0) (xs ys more : List X) → Adds Came xs ys → ((x : X) → Has x more → Came x) → Adds Came xs (ys ++ more)
-adds-more {X = X} Came xs ys more first came x h = by (has-append x ys more h)
-  where
-    by : Has x ys ⊎ Has x more → Has x xs ⊎ Came x
-    by (inl there) = first x there
-    by (inr new) = inr (came x new)
+adds-more {X = X} Came xs ys more first came x h = elim (has-append x ys more h) [ inl there ↦ first x there | inr new ↦ inr (came x new) ]
 
 pub adds-one : {X : Type 0} (Came : X → Type 0) (xs ys : List X) (one : X) → Adds Came xs ys → Came one → Adds Came xs (ys ++ one ∷ [])
 adds-one {X = X} Came xs ys one first came = adds-more Came xs ys (one ∷ []) first by
@@ -51,11 +44,7 @@ adds-one {X = X} Came xs ys one first came = adds-more Came xs ys (one ∷ []) f
 
 -- what is added by the one is added by the other
 pub adds-wider : {X : Type 0} (Came Other : X → Type 0) (xs ys : List X) → ((x : X) → Came x → Other x) → Adds Came xs ys → Adds Other xs ys
-adds-wider {X = X} Came Other xs ys wider adds x h = by (adds x h)
-  where
-    by : Has x xs ⊎ Came x → Has x xs ⊎ Other x
-    by (inl there) = inl there
-    by (inr came) = inr (wider x came)
+adds-wider {X = X} Came Other xs ys wider adds x h = elim (adds x h) [ inl there ↦ inl there | inr came ↦ inr (wider x came) ]
 
 -- ---- grants
 
@@ -70,39 +59,24 @@ abbrev pub IsOfBare : (Grant → Type 0) → Type 0
 IsOfBare Taken = (g is : Grant) → grant_identity g ≡ grant_identity is → Taken is → Taken g
 
 pub loses-then : (Taken : Grant → Type 0) → IsOfBare Taken → (gs hs is : List Grant) → Loses Taken gs hs → Loses Taken hs is → Loses Taken gs is
-loses-then Taken whole gs hs later first second g h = by (first g h)
+loses-then Taken whole gs hs later first second g h = elim (first g h) [ inl (k, there, same) ↦ at k same (second k there) | inr taken ↦ inr taken ]
   where
     at : (k : Grant) → grant_identity g ≡ grant_identity k → Remains k later ⊎ Taken k → Remains g later ⊎ Taken g
     at k same (inl (is, there, e)) = inl (is, there, same ∙ e)
     at k same (inr taken) = inr (whole g k same taken)
 
-    by : Remains g hs ⊎ Taken g → Remains g later ⊎ Taken g
-    by (inl (k, there, same)) = at k same (second k there)
-    by (inr taken) = inr taken
-
 pub loses-filter : (Taken : Grant → Type 0) (which : Grant → Bool) (gs : List Grant) → ((g : Grant) → which g ≡ true → Taken g) → Loses Taken gs (filter (λ g. not (which g)) gs)
-loses-filter Taken which gs takes g h = by (which g) refl
-  where
-    by : (b : Bool) → which g ≡ b → Remains g (filter (λ x. not (which x)) gs) ⊎ Taken g
-    by true e = inr (takes g e)
-    by false e = inl (remains-here g _ (filter-has (λ x. not (which x)) g gs h (rw e refl)))
+loses-filter Taken which gs takes g h =
+    elim (cases_Bool (which g)) [ inl e ↦ inr (takes g e) | inr e ↦ inl (remains-here g _ (filter-has (λ x. not (which x)) g gs h (rw e refl))) ]
 
 pub loses-more : (Taken : Grant → Type 0) (gs hs more : List Grant) → Loses Taken gs hs → Loses Taken gs (hs ++ more)
-loses-more Taken gs hs more first g h = by (first g h)
-  where
-    by : Remains g hs ⊎ Taken g → Remains g (hs ++ more) ⊎ Taken g
-    by (inl (k, there, same)) = inl (k, has-left k hs more there, same)
-    by (inr taken) = inr taken
+loses-more Taken gs hs more first g h = elim (first g h) [ inl (k, there, same) ↦ inl (k, has-left k hs more there, same) | inr taken ↦ inr taken ]
 
 pub loses-map : (Taken : Grant → Type 0) (f : Grant → Grant) (gs : List Grant) → ((g : Grant) → grant_identity g ≡ grant_identity (f g)) → Loses Taken gs (map f gs)
 loses-map Taken f gs same g h = inl (f g, map-has f g gs h, same g)
 
 pub loses-wider : (Taken Other : Grant → Type 0) (gs hs : List Grant) → ((g : Grant) → Taken g → Other g) → Loses Taken gs hs → Loses Other gs hs
-loses-wider Taken Other gs hs wider loses g h = by (loses g h)
-  where
-    by : Remains g hs ⊎ Taken g → Remains g hs ⊎ Other g
-    by (inl remains) = inl remains
-    by (inr taken) = inr (wider g taken)
+loses-wider Taken Other gs hs wider loses g h = elim (loses g h) [ inl remains ↦ inl remains | inr taken ↦ inr (wider g taken) ]
 
 -- ---- states
 
@@ -151,3 +125,7 @@ by_test P false x y k l = l
 pub on_test : {A : Type 0} (P : A → Type 0) (b : Bool) (x y : A) → P x → P y → P (cond b x y)
 on_test P true x y k l = k
 on_test P false x y k l = l
+
+pub cases_Option : {A : Type 0} (o : Option A) → (o ≡ None) ⊎ ((x : A) × (o ≡ Some x))
+cases_Option None = inl refl
+cases_Option (Some x) = inr (x, refl)

@@ -1,7 +1,7 @@
 -- What signed replies remove: grants that their requests were made for.
 use Rattle.std.proofs.Common.{◌≡◌, ◌⊎◌, ℕ, eqb, leb, Bool, true, false, cond, ◌||◌, List, [], ◌∷◌, ◌++◌, filter, fold, Option, Some, None, refl, sym, ap, ◌∙◌, inl, inr}
 use Rattle.std.specs.Option.{option_map_or}
-use Rattle.std.proofs.lemmas.Bool.{and_parts, eqb-true}
+use Rattle.std.proofs.lemmas.Bool.{and_parts, eqb-true, cases_Bool}
 use Rattle.std.specs.declared.net.ip_addr.IpAddr.{IpAddr}
 use Rattle.std.specs.declared.net.socket_addr.SocketAddr.{SocketAddr}
 use Rattle.turn_stun.specs.Message.{id_of}
@@ -73,11 +73,8 @@ lasting-grant_identity expiry (Channel number peer (Active was)) = refl
 lasting-grant_identity expiry g = refl
 
 renewed-grant_identity : (which : Grant → Bool) (expiry : ℕ) (g : Grant) → grant_identity g ≡ grant_identity (lasting_if which expiry g)
-renewed-grant_identity which expiry g = by (which g)
-  where
-    by : (b : Bool) → grant_identity g ≡ grant_identity (cond b (lasting expiry g) g)
-    by true = lasting-grant_identity expiry g
-    by false = refl
+renewed-grant_identity which expiry g =
+    elim (which g) as (λ b. grant_identity g ≡ grant_identity (cond b (lasting expiry g) g)) [ true ↦ lasting-grant_identity expiry g | false ↦ refl ]
 
 prolonged-grant_identity : (which : Relay → Bool) (lasts : ℕ) (g : Grant) → grant_identity g ≡ grant_identity (changed_allocation which (λ a. record a { expiry = lasts }) g)
 prolonged-grant_identity which lasts (Allocation a) = by (which a)
@@ -150,11 +147,8 @@ module _ (all : List Purpose) where
   -- what is for any of some is for one of them
   any-IsFor : (some : List Purpose) (g : Grant) → ((p : Purpose) → Has p some → Has p all) → is_for_any some g ≡ true → IsFor all g
   any-IsFor [] g each e = cc
-  any-IsFor (p ∷ some) g each e = by (is_for p g) refl e (any-IsFor some g (λ q h. each q (inr h)))
-    where
-      by : (b : Bool) → is_for p g ≡ b → is_for_any (p ∷ some) g ≡ true → (is_for_any some g ≡ true → IsFor all g) → IsFor all g
-      by true f k later = (p, each p (inl refl), inl f)
-      by false f k later = later (rw f at k)
+  any-IsFor (p ∷ some) g each e =
+      elim (cases_Bool (is_for p g)) [ inl f ↦ (p, each p (inl refl), inl f) | inr f ↦ any-IsFor some g (λ q h. each q (inr h)) (rw f at e) ]
 
   pending_channel-fits : (number : ℕ) (peer to : SocketAddr) (id : ℕ) (is_granted : Bool) (now : ℕ) (s : State) → Has (ForChannel number peer) all → AreOf id s
       → Fits s (pending_channel_answered number to id is_granted now s)

@@ -82,11 +82,8 @@ module _ (turns : List Input) (s t : State) (lead : InputsLead turns s t) where
       step turns s t lead (remains-here g s.grants h)
     where
       step : (one : Input) → Remains g one.before.grants → Remains g (processed one).1.grants ⊎ IsRemovedByInput g one
-      step one (is, there, same) = by ((turn-turns one).2 is there)
-        where
-          by : Remains is (processed one).1.grants ⊎ IsRemovedByInput is one → Remains g (processed one).1.grants ⊎ IsRemovedByInput g one
-          by (inl (last, here, e)) = inl (last, here, same ∙ e)
-          by (inr taken) = inr (taken-whole one g is same taken)
+      step one (is, there, same) =
+          elim ((turn-turns one).2 is there) [ inl (last, here, e) ↦ inl (last, here, same ∙ e) | inr taken ↦ inr (taken-whole one g is same taken) ]
 
 -- ---- the law
 
@@ -187,11 +184,8 @@ requests-made call s t x leaves there = by ((leaves-obeys call s t leaves).0 x (
     by (inr is) = inr is
 
 pub listings-made : (call : Call) (s t : State) (l : Listing) → Leaves call s t → Contains t.listed l → Contains s.listed l ⊎ IsListingOf call s l
-listings-made call s t l leaves there = by ((leaves-obeys call s t leaves).1 l (contains-has l t.listed there))
-  where
-    by : Has l s.listed ⊎ IsListingOf call s l → Contains s.listed l ⊎ IsListingOf call s l
-    by (inl h) = inl (has-contains l s.listed h)
-    by (inr is) = inr is
+listings-made call s t l leaves there =
+    elim ((leaves-obeys call s t leaves).1 l (contains-has l t.listed there)) [ inl h ↦ inl (has-contains l s.listed h) | inr is ↦ inr is ]
 
 pub grants-taken : (call : Call) (s t : State) (g : Grant) → Leaves call s t → Contains s.grants g → IsStillThere t g ⊎ IsTakenBy call s g
 grants-taken call s t g leaves there = by ((leaves-obeys call s t leaves).2 g (contains-has g s.grants there))

@@ -1,6 +1,6 @@
 -- Of more IDs than are taken one is free.
 use Rattle.std.proofs.Common.{◌≡◌, ℕ, zero, suc, ◌+◌, ◌/◌, ◌%◌, ◌<◌, ◌≤◌, ◌^◌, Bool, true, false, not, eqb, leb, ltb, List, [], ◌∷◌, ◌++◌, map, filter_map, find, length, Option, Some, None, refl, sym}
-use Rattle.std.proofs.Common.{◌∙◌, arith}
+use Rattle.std.proofs.Common.{◌∙◌, arith, inl, inr}
 use Rattle.std.specs.List.{list_any, range_with_len, IsDistinct, AllByRecursion}
 use Rattle.std.specs.Prelude.{option_and_then}
 use Rattle.std.specs.Set.{is_member}
@@ -22,6 +22,7 @@ use Rattle.turn_client_api.specs.declared.grant.Origin.{Origin}
 use Rattle.turn_client_api.specs.declared.grant.Origin.TheVariants.{ServerRequest}
 use Rattle.turn_client_api.specs.Grants.{is_of_request, as_offer}
 use Rattle.turn_client_api.specs.Requests.{counted_up, fresh_id, is_taken, max_ids_taken}
+use Rattle.turn_client_laws.proofs.MoveLemmas.{cases_Option}
 
 -- ---- candidates
 
@@ -120,11 +121,8 @@ any-taken q s =
 
 length-filter_map : {X Y : Type 0} (f : X → Option Y) (xs : List X) → length (filter_map f xs) ≤ length xs
 length-filter_map f [] = omega arith
-length-filter_map {Y = Y} f (x ∷ xs) = by (f x) refl (length-filter_map f xs)
-  where
-    by : (o : Option Y) → f x ≡ o → length (filter_map f xs) ≤ length xs → length (filter_map f (x ∷ xs)) ≤ length (x ∷ xs)
-    by None e later = rw e (omega (arith, later))
-    by (Some y) e later = rw e (omega (arith, later))
+length-filter_map {Y = Y} f (x ∷ xs) =
+    elim (cases_Option (f x)) [ inl e ↦ rw e (omega (arith, length-filter_map f xs)) | inr (y, e) ↦ rw e (omega (arith, length-filter_map f xs)) ]
 
 length-taken : (s : State) → length (taken_ids s) ≤ max_ids_taken s
 unfolding taken_ids

@@ -24,6 +24,7 @@ use Rattle.turn_client_api.specs.Effect.{min_lifetime, permission_answered, perm
 use Rattle.turn_client_api.specs.Payloads.{answered_purposes, response_step, signed_step}
 use Rattle.turn_client_laws.proofs.HasLemmas.{Has, has-append}
 use Rattle.turn_client_laws.proofs.InAllocationLemmas.{any-has, has-any}
+use Rattle.turn_client_laws.proofs.MoveLemmas.{cases_Option}
 
 -- ---- effects request nothing
 
@@ -91,11 +92,7 @@ reply-asks is_granted message now s =
     asks-fold (effect (id_of message) is_granted message now) (effect-asks (id_of message) is_granted message now) (answered_purposes message s) (transaction_ended (id_of message) s)
 
 pub granted-asks : (message : List ℕ) (now : ℕ) (s : State) → AsksNothing s (allocate_granted message now s)
-granted-asks message now s = by (lifetime_in message) refl
-  where
-    by : (o : Option ℕ) → lifetime_in message ≡ o → AsksNothing s (allocate_granted message now s)
-    by None e = rw e refl
-    by (Some lifetime) e = rw e refl
+granted-asks message now s = elim (cases_Option (lifetime_in message)) [ inl e ↦ rw e refl | inr (lifetime, e) ↦ rw e refl ]
 
 -- ---- signed replies
 

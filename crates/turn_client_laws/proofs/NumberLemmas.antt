@@ -1,7 +1,7 @@
 -- Channels keep numbers of their own when grants are added and removed, and so in all calls.
-use Rattle.std.proofs.Common.{◌≡◌, ℕ, Bool, true, false, not, cond, eqb, List, [], ◌∷◌, ◌++◌, filter, filter_map, Option, Some, None, refl}
+use Rattle.std.proofs.Common.{◌≡◌, ℕ, Bool, true, false, not, cond, eqb, List, [], ◌∷◌, ◌++◌, filter, filter_map, Option, Some, None, refl, inl, inr}
 use Rattle.std.specs.List.{list_any, IsDistinct, AllByRecursion}
-use Rattle.std.proofs.lemmas.Bool.{or_parts}
+use Rattle.std.proofs.lemmas.Bool.{or_parts, cases_Bool}
 use Rattle.std.proofs.lemmas.List.{append-nil}
 use Rattle.std.proofs.lemmas.List.Elements.{filter_map-append}
 use Rattle.std.specs.declared.net.socket_addr.SocketAddr.{SocketAddr}
@@ -68,11 +68,7 @@ apart-channel n gs hs free one h =
 -- what was removed is not in the list
 pub none-filter : {X : Type 0} (p : X → Bool) (xs : List X) → list_any p (filter (λ x. not (p x)) xs) ≡ false
 none-filter p [] = refl
-none-filter p (x ∷ xs) = by (p x) refl (none-filter p xs)
-  where
-    by : (b : Bool) → p x ≡ b → list_any p (filter (λ y. not (p y)) xs) ≡ false → list_any p (filter (λ y. not (p y)) (x ∷ xs)) ≡ false
-    by true e later = rw e later
-    by false e later = rw (e, e) later
+none-filter p (x ∷ xs) = elim (cases_Bool (p x)) [ inl e ↦ rw e (none-filter p xs) | inr e ↦ rw (e, e) (none-filter p xs) ]
 
 -- an offer is removed
 pub numbers-without_first : (id : ℕ) (peer : SocketAddr) (gs : List Grant) → numbers (without_first (is_offer_of id peer) gs) ≡ numbers gs

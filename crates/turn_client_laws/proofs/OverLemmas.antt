@@ -337,11 +337,8 @@ module _ (now : ℕ) (s : State) (apart : HasDistinctNumbers s) where
   spares-same g there = inl (remains-here g s.grants there)
 
   traces-spare : (gs : List Grant) → s.phase ≡ Allocated → Traces gs → Spares gs
-  traces-spare gs phase t g there = by (t.left g there)
-    where
-      by : ((is : Grant) × Has is gs × Ages g is) ⊎ Over g → Remains g gs ⊎ IsOver now s g
-      by (inl (is, here, ages)) = inl (is, here, ages-grant_identity g is ages)
-      by (inr over) = inr (phase, over)
+  traces-spare gs phase t g there =
+      elim (t.left g there) [ inl (is, here, ages) ↦ inl (is, here, ages-grant_identity g is ages) | inr over ↦ inr (phase, over) ]
 
   answer-grants : (given : Option ℕ) (t : State) → (answer_step given now t).1.grants ≡ t.grants
   answer-grants given t = by t.closes t.phase (allocations t)
@@ -382,11 +379,7 @@ module _ (now : ℕ) (s : State) (apart : HasDistinctNumbers s) where
       by_test (λ t. Spares t.grants) (has_event s || has_reply s) _ _ spares-same (offered (next_offer s))
     where
       told : (offer : DataOffer) → Spares (offer_step offer s).1.grants
-      told offer g there = by (told-loses Never (family_of offer.peer) s.grants g there)
-        where
-          by : Remains g (offer_step offer s).1.grants ⊎ ⊥ → Remains g (offer_step offer s).1.grants ⊎ IsOver now s g
-          by (inl remains) = inl remains
-          by (inr never) = absurd never
+      told offer g there = elim (told-loses Never (family_of offer.peer) s.grants g there) [ inl remains ↦ inl remains | inr never ↦ absurd never ]
 
       offered : (o : Option DataOffer) → Spares (option_map_or (λ offer. offer_step offer s) o (timed_out_step now s)).1.grants
       offered None = timed-spares (timed_out_transaction (agent_of s) now) refl
@@ -394,7 +387,7 @@ module _ (now : ℕ) (s : State) (apart : HasDistinctNumbers s) where
 
 -- even if memory allocation fails
 pub poll-over : (now : ℕ) (s t : State) (g : Grant) → Leaves (Poll now) s t → HasDistinctNumbers s → Contains s.grants g → IsStillThere t g ⊎ IsOver now s g
-poll-over now s t g leaves apart there = by (of leaves)
+poll-over now s t g leaves apart there = elim (of leaves) [ inl (is, h, same) ↦ inl (is, has-contains is t.grants h, same) | inr over ↦ inr over ]
   where
     here : Has g s.grants
     here = contains-has g s.grants there
@@ -402,7 +395,3 @@ poll-over now s t g leaves apart there = by (of leaves)
     of : Leaves (Poll now) s t → Remains g t.grants ⊎ IsOver now s g
     of (inl e) = subst (λ (u : State). Remains g u.grants ⊎ IsOver now s g) (sym e) (poll-spares now s apart g here)
     of (inr e) = subst (λ (u : State). Remains g u.grants ⊎ IsOver now s g) (sym e) (inl (remains-here g s.grants here))
-
-    by : Remains g t.grants ⊎ IsOver now s g → IsStillThere t g ⊎ IsOver now s g
-    by (inl (is, h, same)) = inl (is, has-contains is t.grants h, same)
-    by (inr over) = inr over

@@ -113,11 +113,7 @@ handled-if false t u = tt
 
 outcome_for-nobodys : (message : List ℕ) (purposes : List Purpose) → HasNoPeer (outcome_for message purposes)
 outcome_for-nobodys message (purpose ∷ others) = tt
-outcome_for-nobodys message [] = by (eqb (method_in message) refresh_method)
-  where
-    by : (b : Bool) → HasNoPeer (cond b Handled Ignored)
-    by true = tt
-    by false = tt
+outcome_for-nobodys message [] = elim (eqb (method_in message) refresh_method) as (λ b. HasNoPeer (cond b Handled Ignored)) [ true ↦ tt | false ↦ tt ]
 
 signed_step-nobodys : (is_granted : Bool) (message : List ℕ) (now : ℕ) (s : State) → HasNoPeer (signed_step is_granted message now s).0
 signed_step-nobodys is_granted message now s = by s.phase refl is_granted

@@ -6,7 +6,7 @@ use Rattle.std.specs.List.{list_any}
 use Rattle.std.specs.Option.{option_map_or}
 use Rattle.std.proofs.Math.Nat.{max-le, le-min, le-max_left, le-max_right}
 use Rattle.std.proofs.lemmas.Option.{none-some, same_Some}
-use Rattle.std.proofs.lemmas.Bool.{not-true, false_from_ne_true, leb-true, lt-ltb, le-leb, ltb-true, ltb-false, and_right, lt-leb, leb-false}
+use Rattle.std.proofs.lemmas.Bool.{not-true, false_from_ne_true, leb-true, lt-ltb, le-leb, ltb-true, ltb-false, and_right, lt-leb, leb-false, cases_Bool}
 use Rattle.turn_agent.specs.Agent.{Agent, timed_out_transaction, due, is_due, is_timed_out, transaction_timeout}
 use Rattle.turn_agent.specs.declared.transaction.Transaction.{Transaction}
 use Rattle.turn_stun.specs.declared.transport.TransportType.{TransportType}
@@ -35,6 +35,7 @@ use Rattle.turn_client_api.specs.Transmit.{reply_step, transmit_step, without_fi
 use Rattle.turn_client_api.specs.Alarm.{IsIdleUntil, Lasts}
 use Rattle.turn_client_laws.proofs.HasLemmas.{Has, has-append, has-left, has-right, map-has, flat_map-has, has-flat_map, has-found, filter-has, filter_map-has, has-filter_map, find-none, filter-none}
 use Rattle.turn_client_laws.proofs.HasLemmas.{least-le, all-has}
+use Rattle.turn_client_laws.proofs.MoveLemmas.{cases_Option}
 
 -- the grant has not expired by now, if its expiry is one to wait for
 abbrev pub Alive : ℕ → Grant → Type 0
@@ -99,11 +100,8 @@ not_over now m t before =
 -- with no reply in the queue none is sent, and with no request either it is empty
 no_replies : (qs : List Queued) → list_any (λ q. not q.is_request) qs ≡ false → filter_map reply_in qs ≡ []
 no_replies [] none = refl
-no_replies (q ∷ qs) none = by q.is_request refl (no_replies qs)
-  where
-    by : (b : Bool) → q.is_request ≡ b → (list_any (λ q. not q.is_request) qs ≡ false → filter_map reply_in qs ≡ []) → filter_map reply_in (q ∷ qs) ≡ []
-    by true is later = rw is (later (rw is at none))
-    by false is later = let h : true ≡ false = rw is at none in cc
+no_replies (q ∷ qs) none =
+    elim (cases_Bool q.is_request) [ inl is ↦ rw is (no_replies qs (rw is at none)) | inr is ↦ let h : true ≡ false = rw is at none in cc ]
 
 empty : (qs : List Queued) → list_any (λ q. not q.is_request) qs ≡ false → list_any (λ q. q.is_request) qs ≡ false → qs ≡ []
 empty [] no_reply no_request = refl
@@ -135,14 +133,10 @@ not_refreshed now m t before idle g h = by (refresh_time t g) refl
 -- ---- an idle client
 
 no_refreshes : (now m : ℕ) (t : State) → m < least_due now t → is_paused m t ≡ false → (a : Relay) → refreshes_in m t a ≡ []
-no_refreshes now m t before idle a = by (leb m a.expiry) refl
+no_refreshes now m t before idle a = elim (cases_Bool (leb m a.expiry)) [ inl e ↦ rw (e, none 0, none 1, none 2) refl | inr e ↦ rw e refl ]
   where
     none : (rank : ℕ) → filter (is_due_in rank (family_of a.relayed) m t) t.grants ≡ []
     none rank = filter-none _ t.grants (λ g h. and_right _ _ (not_refreshed now m t before idle g h))
-
-    by : (b : Bool) → leb m a.expiry ≡ b → refreshes_in m t a ≡ []
-    by true e = rw (e, none 0, none 1, none 2) refl
-    by false e = rw e refl
 
 flat_map-none : {X Y : Type 0} (f : X → List Y) (xs : List X) → ((x : X) → f x ≡ []) → flat_map f xs ≡ []
 flat_map-none f [] none = refl
@@ -197,11 +191,8 @@ lasts now m t ready until g h = by g h (ready.alive g h)
     by (Allocation a) h alive = λ used. due_end (Allocation a) h a.expiry (rw (lt-ltb now a.expiry (alive used)) (inl refl))
     by (Permission ip (Active expiry)) h alive = due_end (Permission ip (Active expiry)) h expiry (inl refl)
     by (Channel number peer (Active expiry)) h alive = due_end (Channel number peer (Active expiry)) h expiry (inl refl)
-    by (Connection c) h alive = of c.deadline refl
-      where
-        of : (d : Option ℕ) → c.deadline ≡ d → IfSome c.deadline (λ deadline. m ≤ deadline)
-        of None e = rw e tt
-        of (Some deadline) e = rw e (due_end (Connection c) h deadline (rw e (inl refl)))
+    by (Connection c) h alive =
+        elim (cases_Option c.deadline) [ inl e ↦ rw e tt | inr (deadline, e) ↦ rw e (due_end (Connection c) h deadline (rw e (inl refl))) ]
     by g h alive = tt
 
 -- a client that is ready is idle before the earliest of the times at which something is due
@@ -411,11 +402,8 @@ refresh-later now m t g pause h = by (refresh_time t g) refl
 
 -- what is due of a grant that is active is later than now, except a refresh whose time has come
 grant-later : (now m : ℕ) (t : State) (g : Grant) → Alive now g → (is_refresh_due now t g ≡ true → now < pause_end t) → Has m (grant_part now t g) → now < m
-grant-later now m t g alive pause h = parts (has-append m (end_of now g) (refresh_of t g) h)
-  where
-    parts : Has m (end_of now g) ⊎ Has m (refresh_of t g) → now < m
-    parts (inl end) = end-later now m g alive end
-    parts (inr again) = refresh-later now m t g pause again
+grant-later now m t g alive pause h =
+    elim (has-append m (end_of now g) (refresh_of t g) h) [ inl end ↦ end-later now m g alive end | inr again ↦ refresh-later now m t g pause again ]
 
 -- ---- a client that is ready and has something due has something to send
 
@@ -497,11 +485,7 @@ reply-busy now t waits = again (due (agent_of t) now) refl
   where
     replies : (qs : List Queued) → list_any (λ q. not q.is_request) qs ≡ true → IsSome (slice_get (filter_map reply_in qs) 0)
     replies [] e = let wrong : false ≡ true = e in cc
-    replies (q ∷ qs) e = by q.is_request refl (replies qs)
-      where
-        by : (b : Bool) → q.is_request ≡ b → (list_any (λ q. not q.is_request) qs ≡ true → IsSome (slice_get (filter_map reply_in qs) 0)) → IsSome (slice_get (filter_map reply_in (q ∷ qs)) 0)
-        by true is later = rw is (later (rw is at e))
-        by false is later = rw is refl
+    replies (q ∷ qs) e = elim (cases_Bool q.is_request) [ inl is ↦ rw is (replies qs (rw is at e)) | inr is ↦ rw is refl ]
 
     front : (qs : List Queued) → t.queue ≡ qs → list_any (λ q. not q.is_request) qs ≡ true → IsSome (queue_step now t).0
     front [] e wrong = let impossible : false ≡ true = wrong in cc

@@ -1,5 +1,5 @@
 -- What is active in a list of grants, and what a change of the list leaves of it.
-use Rattle.std.proofs.Common.{◌≡◌, ℕ, zero, suc, Bool, true, false, cond, List, [], ◌∷◌, ◌++◌, map, filter, ◌⊎◌, inl, inr, refl, sym, ◌∙◌, arith}
+use Rattle.std.proofs.Common.{◌≡◌, ℕ, zero, suc, Bool, true, false, cond, List, [], ◌∷◌, ◌++◌, map, filter, inl, inr, refl, sym, ◌∙◌, arith}
 use Rattle.std.specs.List.{Contains}
 use Rattle.std.specs.declared.net.ip_addr.IpAddr.{IpAddr}
 use Rattle.std.specs.declared.net.socket_addr.SocketAddr.{SocketAddr}
@@ -102,11 +102,8 @@ abbrev pub IsIdle : List Grant → Type 0
 IsIdle grants = (g : Grant) → Has g grants → IsActiveGrant g → ⊥
 
 pub left-append : (grants more : List Grant) → IsIdle more → Left grants (grants ++ more)
-left-append grants more idle g there stands = by (has-append g grants more there)
-  where
-    by : Has g grants ⊎ Has g more → Covers grants g
-    by (inl here) = covers-has grants g here stands
-    by (inr behind) = absurd (idle g behind stands)
+left-append grants more idle g there stands =
+    elim (has-append g grants more there) [ inl here ↦ covers-has grants g here stands | inr behind ↦ absurd (idle g behind stands) ]
 
 -- one more that is not active
 pub left-one : (grants : List Grant) (one : Grant) → (IsActiveGrant one → ⊥) → Left grants (grants ++ one ∷ [])

@@ -1,9 +1,9 @@
 -- Streams keep distinct local addresses when their bytes and modes change and when they are added and
 -- removed.
-use Rattle.std.proofs.Common.{◌≡◌, ◌≢◌, ℕ, Bool, true, false, not, cond, List, [], ◌∷◌, ◌++◌, map, filter, Some, refl, sym, ◌∙◌}
+use Rattle.std.proofs.Common.{◌≡◌, ◌≢◌, ℕ, Bool, true, false, not, cond, List, [], ◌∷◌, ◌++◌, map, filter, Some, refl, sym, ◌∙◌, inl, inr}
 use Rattle.std.specs.Prelude.{All, find}
 use Rattle.std.specs.List.{IsDistinct, AllByRecursion}
-use Rattle.std.proofs.lemmas.Bool.{false_from_ne_true}
+use Rattle.std.proofs.lemmas.Bool.{false_from_ne_true, cases_Bool}
 use Rattle.std.proofs.lemmas.List.Elements.{All-nil, All-cons, All-head, All-tail, All-push}
 use Rattle.std.specs.declared.net.socket_addr.SocketAddr.{SocketAddr}
 use Rattle.turn_agent.specs.Agent.{same_address}
@@ -169,11 +169,8 @@ bound-apart local peer xs h = (
 
 ends-all-filter : (P : SocketAddr → Type 0) (p : Stream → Bool) (xs : List Stream) → AllByRecursion P (ends xs) → AllByRecursion P (ends (filter p xs))
 ends-all-filter P p [] h = h
-ends-all-filter P p (x ∷ xs) h = by (p x) refl (ends-all-filter P p xs h.1)
-  where
-    by : (b : Bool) → p x ≡ b → AllByRecursion P (ends (filter p xs)) → AllByRecursion P (ends (filter p (x ∷ xs)))
-    by true e later = rw e (h.0, later)
-    by false e later = rw e later
+ends-all-filter P p (x ∷ xs) h =
+    elim (cases_Bool (p x)) [ inl e ↦ rw e (h.0, ends-all-filter P p xs h.1) | inr e ↦ rw e (ends-all-filter P p xs h.1) ]
 
 pub filter-apart : (p : Stream → Bool) (xs : List Stream) → Apart xs → Apart (filter p xs)
 unfolding IsDistinct
@@ -190,11 +187,8 @@ is_other local x = not (same_address x.local local)
 others-differ : (local : SocketAddr) (xs : List Stream) → AreOthers local (filter (is_other local) xs)
 unfolding is_other
 others-differ local [] = tt
-others-differ local (x ∷ xs) = by (same_address x.local local) refl (others-differ local xs)
-  where
-    by : (b : Bool) → same_address x.local local ≡ b → AreOthers local (filter (is_other local) xs) → AreOthers local (filter (is_other local) (x ∷ xs))
-    by true e later = rw e later
-    by false e later = rw (e, e) (refl, later)
+others-differ local (x ∷ xs) =
+    elim (cases_Bool (same_address x.local local)) [ inl e ↦ rw e (others-differ local xs) | inr e ↦ rw (e, e) (refl, others-differ local xs) ]
 
 all-last : (P : SocketAddr → Type 0) (a : SocketAddr) (xs : List Stream) (x : Stream) → P x.local → AllByRecursion P (ends xs) → AllByRecursion P (ends (xs ++ x ∷ []))
 all-last P a [] x last h = (last, tt)

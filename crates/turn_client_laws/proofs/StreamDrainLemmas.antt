@@ -3,9 +3,9 @@ use Rattle.std.proofs.Common.{◌≡◌, ℕ, zero, suc, ◌<◌, ◌≤◌, Boo
 use Rattle.std.specs.Prelude.{All, find, is_some}
 use Rattle.std.proofs.lemmas.List.{length-drop}
 use Rattle.std.proofs.lemmas.List.Elements.{All-nil, All-cons}
-use Rattle.std.specs.Option.{option_map_or}
 use Rattle.std.proofs.lemmas.Option.{same_Some}
 use Rattle.std.specs.declared.net.socket_addr.SocketAddr.{SocketAddr}
+use Rattle.std.proofs.lemmas.Bool.{cases_Bool}
 use Rattle.turn_types.specs.Frames.{IsFrame, begins_no_frame, frame_len}
 use Rattle.turn_types.proofs.FrameLemmas.{frame_len-IsWhole}
 use Rattle.turn_types.proofs.SplitLemmas.{IsFrame-frame_len}
@@ -20,7 +20,7 @@ use Rattle.turn_client_api.specs.Streams.{steps_until_payload, with_bytes}
 use Rattle.turn_client_api.specs.Receive.{first_frame_step, piece_step, then_all}
 use Rattle.turn_client_laws.specs.LawsPeers.{HasNoPeer}
 use Rattle.turn_client_laws.specs.LawsStreams.{HasNoFrame, NeedsMoreBytes}
-use Rattle.turn_client_laws.proofs.MoveLemmas.{on_test}
+use Rattle.turn_client_laws.proofs.MoveLemmas.{on_test, cases_Option}
 use Rattle.turn_client_laws.proofs.StreamMessageLemmas.{Rebound, frame-rebound}
 use Rattle.turn_client_laws.proofs.StreamWeightLemmas.{KeepsHeld, Sets, kept-Sets, later-Sets, weight, weight-le, weight-less}
 
@@ -76,11 +76,8 @@ map-map f g (x ∷ xs) = ap (λ ys. g (f x) ∷ ys) (map-map f g xs)
 -- the first stream that is ready has bytes for a step
 pub found-ready : (xs : List Stream) (stream : Stream) → find is_ready xs ≡ Some stream → is_ready stream ≡ true
 found-ready [] stream e = cc
-found-ready (x ∷ xs) stream e = by (is_ready x) refl (found-ready xs stream) e
-  where
-    by : (b : Bool) → is_ready x ≡ b → (find is_ready xs ≡ Some stream → is_ready stream ≡ true) → cond b (Some x) (find is_ready xs) ≡ Some stream → is_ready stream ≡ true
-    by true f later g = let same : x ≡ stream = same_Some _ _ g in rw (← same) f
-    by false f later g = later g
+found-ready (x ∷ xs) stream e =
+    elim (cases_Bool (is_ready x)) [ inl f ↦ let same : x ≡ stream = same_Some _ _ (rw f at e) in rw (← same) f | inr f ↦ found-ready xs stream (rw f at e) ]
 
 -- Of the first stream that is ready: it is taken out, and holds less after its step.
 module _ (stream : Stream) (s : State) (found : find is_ready s.streams ≡ Some stream) where
@@ -237,11 +234,11 @@ drained-in mode stream e = framed-HasNoFrame stream.bytes e
 
 all-drained : (xs : List Stream) → find is_ready xs ≡ None → All NeedsMoreBytes xs
 all-drained [] e = All-nil NeedsMoreBytes
-all-drained (x ∷ xs) e = by (ready_len x) refl (all-drained xs) e
-  where
-    by : (o : Option ℕ) → ready_len x ≡ o → (find is_ready xs ≡ None → All NeedsMoreBytes xs) → cond (is_some o) (Some x) (find is_ready xs) ≡ None → All NeedsMoreBytes (x ∷ xs)
-    by None f later g = All-cons NeedsMoreBytes x xs (drained-in x.mode x f) (later g)
-    by (Some len) f later g = cc
+all-drained (x ∷ xs) e =
+    elim (cases_Option (ready_len x)) [
+      | inl f ↦ All-cons NeedsMoreBytes x xs (drained-in x.mode x f) (all-drained xs (rw f at e))
+      | inr (len, f) ↦ let wrong : Some x ≡ None = rw f at e in cc
+    ]
 
 pub poll_recv-drained : (now : ℕ) (s : State) → (poll_recv_step now s).0 ≡ None → All NeedsMoreBytes (poll_recv_step now s).1.streams
 poll_recv-drained now s none =
@@ -250,16 +247,8 @@ poll_recv-drained now s none =
 -- ---- a piece of the control stream
 
 then_all-drained : (now : ℕ) (p : Outcome × State) → HasNoPeer (then_all now p).0 → All NeedsMoreBytes (then_all now p).1.streams
-then_all-drained now (Handled, t) h = by (poll_recv_step now t).0 refl h
-  where
-    by : (o : Option Payload) → (poll_recv_step now t).0 ≡ o → HasNoPeer (option_map_or PeerData o Handled) → All NeedsMoreBytes (poll_recv_step now t).1.streams
-    by None e k = poll_recv-drained now t e
-    by (Some payload) e k = absurd k
-then_all-drained now (Ignored, t) h = by (poll_recv_step now t).0 refl h
-  where
-    by : (o : Option Payload) → (poll_recv_step now t).0 ≡ o → HasNoPeer (option_map_or PeerData o Ignored) → All NeedsMoreBytes (poll_recv_step now t).1.streams
-    by None e k = poll_recv-drained now t e
-    by (Some payload) e k = absurd k
+then_all-drained now (Handled, t) h = elim (cases_Option (poll_recv_step now t).0) [ inl e ↦ poll_recv-drained now t e | inr (payload, e) ↦ absurd (rw e at h) ]
+then_all-drained now (Ignored, t) h = elim (cases_Option (poll_recv_step now t).0) [ inl e ↦ poll_recv-drained now t e | inr (payload, e) ↦ absurd (rw e at h) ]
 then_all-drained now (_, t) h = absurd h
 
 piece_in : (mode : Mode) (stream : Stream) (piece : List ℕ) (now : ℕ) (s : State) → mode ≡ Control → HasNoPeer (piece_step (record stream { mode = mode }) piece now s).0

@@ -1,5 +1,5 @@
 -- Messages leave the streams unchanged, except that a stream may be bound.
-use Rattle.std.proofs.Common.{◌≡◌, ◌⊎◌, ℕ, Bool, true, false, cond, List, Option, Some, None, refl, sym, inl, inr}
+use Rattle.std.proofs.Common.{◌≡◌, ◌⊎◌, ℕ, Bool, true, false, cond, List, refl, sym, inl, inr}
 use Rattle.std.specs.Prelude.{find, ⊤}
 use Rattle.std.specs.declared.net.socket_addr.SocketAddr.{SocketAddr}
 use Rattle.turn_stun.specs.Message.{id_of}
@@ -8,7 +8,6 @@ use Rattle.turn_client_api.specs.State.{State}
 use Rattle.turn_client_api.specs.declared.state.Mode.TheVariants.{Bound}
 use Rattle.turn_client_api.specs.declared.state.Stream.{Stream}
 use Rattle.turn_client_api.specs.declared.grant.DataConnection.{DataConnection}
-use Rattle.turn_client_api.specs.declared.grant.Purpose.{Purpose}
 use Rattle.turn_client_api.specs.Grants.{purposes_of}
 use Rattle.turn_client_api.specs.Judgement.{Judgement, Challenged, SignedSuccess, bind_judgement}
 use Rattle.turn_client_api.specs.Judgement.{is_bind_of}
@@ -19,6 +18,7 @@ use Rattle.turn_client_laws.proofs.Edits.{KeepsEdits}
 use Rattle.turn_client_laws.proofs.EditsOfMessages.{message-walk}
 use Rattle.turn_client_laws.proofs.FixedFields.{fixed-all-edits, fixed-edits}
 use Rattle.turn_client_laws.proofs.OneInputLemmas.{bind-by, frame-by}
+use Rattle.turn_client_laws.proofs.MoveLemmas.{cases_Option}
 
 -- the streams stay unchanged
 abbrev pub Same : State → State → Type 0
@@ -46,11 +46,7 @@ abbrev pub ReboundAt : SocketAddr → State → State → Type 0
 ReboundAt local s t = Same s t ⊎ ((peer : SocketAddr) × (t.streams ≡ (with_mode local (Bound peer) s).streams))
 
 again-same : (c : DataConnection) (id : ℕ) (d : Challenge) (now : ℕ) (s : State) → Same s (bind_again c id d now s)
-again-same c id d now s = by (find (is_bind_of c.local) (purposes_of id s)) refl
-  where
-    by : (o : Option Purpose) → find (is_bind_of c.local) (purposes_of id s) ≡ o → Same s (bind_again c id d now s)
-    by None f = rw f refl
-    by (Some purpose) f = rw f refl
+again-same c id d now s = elim (cases_Option (find (is_bind_of c.local) (purposes_of id s))) [ inl f ↦ rw f refl | inr (purpose, f) ↦ rw f refl ]
 
 answered-rebound : (c : DataConnection) (message : List ℕ) (now : ℕ) (s : State) → ReboundAt c.local s (bind_answered c message now s)
 answered-rebound c message now s = by (bind_judgement s c.local message) refl

@@ -1,6 +1,7 @@
 -- What remains when an offer is removed.
-use Rattle.std.proofs.Common.{◌≡◌, ℕ, Bool, true, false, List, [], ◌∷◌, ◌⊎◌, inl, inr, refl}
+use Rattle.std.proofs.Common.{◌≡◌, ℕ, Bool, true, false, List, [], ◌∷◌, inl, inr, refl}
 use Rattle.std.specs.declared.net.socket_addr.SocketAddr.{SocketAddr}
+use Rattle.std.proofs.lemmas.Bool.{cases_Bool}
 use Rattle.turn_client_api.specs.declared.grant.Grant.{Grant}
 use Rattle.turn_client_api.specs.declared.grant.Grant.TheVariants.{Allocation, Permission, Channel, Connect, Offer, Connection}
 use Rattle.turn_client_api.specs.declared.grant.Purpose.{Purpose}
@@ -15,20 +16,13 @@ was-first which g (x ∷ xs) there = by (which x) refl (was-first which g xs)
   where
     by : (b : Bool) → which x ≡ b → (Has g (without_first which xs) → Has g xs) → Has g (x ∷ xs)
     by true e later = inr (rw e at there)
-    by false e later = of (rw e at there)
-      where
-        of : (g ≡ x) ⊎ Has g (without_first which xs) → Has g (x ∷ xs)
-        of (inl same) = inl same
-        of (inr more) = inr (later more)
+    by false e later = elim (rw e at there) [ inl same ↦ inl same | inr more ↦ inr (later more) ]
 
 pub stays-first : (which : Grant → Bool) (g : Grant) (gs : List Grant) → Has g gs → which g ≡ false → Has g (without_first which gs)
 stays-first which g [] none kept = absurd none
 stays-first which g (x ∷ xs) (inl e) kept = rw (rw e at kept) (inl e)
-stays-first which g (x ∷ xs) (inr there) kept = by (which x) refl (stays-first which g xs there kept)
-  where
-    by : (b : Bool) → which x ≡ b → Has g (without_first which xs) → Has g (without_first which (x ∷ xs))
-    by true e later = rw e there
-    by false e later = rw e (inr later)
+stays-first which g (x ∷ xs) (inr there) kept =
+    elim (cases_Bool (which x)) [ inl e ↦ rw e there | inr e ↦ rw e (inr (stays-first which g xs there kept)) ]
 
 -- no request is for an offer
 pub no-offer : (id : ℕ) (peer : SocketAddr) (p : Purpose) (g : Grant) → is_for p g ≡ true → is_offer_of id peer g ≡ false

@@ -3,7 +3,7 @@ use Rattle.std.proofs.Common.{◌≡◌, ◌≢◌, ℕ, ◌^◌, ◌<◌, ◌�
 use Rattle.std.specs.Prelude.{if◌then◌else◌, is_some}
 use Rattle.std.specs.Option.{option_map_or}
 use Rattle.std.proofs.Math.Nat.{max-le, le-max_right}
-use Rattle.std.proofs.lemmas.Bool.{ltb-true, ltb-false, eq-eqb}
+use Rattle.std.proofs.lemmas.Bool.{ltb-true, ltb-false, eq-eqb, cases_Bool}
 use Rattle.std.specs.declared.net.socket_addr.SocketAddr.{SocketAddr}
 use Rattle.turn_agent.specs.Agent.{timed_out_transaction, is_timed_out, is_outstanding}
 use Rattle.turn_agent.specs.Agent as A
@@ -129,19 +129,11 @@ answer-timely now was given t settled = by t.closes t.phase (allocations t) refl
 found-outstanding : (p : Transaction → Bool) (x : Transaction) (xs : List Transaction) → Has x xs → is_outstanding x.id xs ≡ true
 found-outstanding p x [] h = absurd h
 found-outstanding p x (y ∷ ys) (inl e) = rw (subst (λ z. eqb z.id x.id ≡ true) e (eq-eqb x.id x.id refl)) refl
-found-outstanding p x (y ∷ ys) (inr h) = by (eqb y.id x.id) refl (found-outstanding p x ys h)
-  where
-    by : (b : Bool) → eqb y.id x.id ≡ b → is_outstanding x.id ys ≡ true → is_outstanding x.id (y ∷ ys) ≡ true
-    by true e later = rw e refl
-    by false e later = rw e later
+found-outstanding p x (y ∷ ys) (inr h) = elim (cases_Bool (eqb y.id x.id)) [ inl e ↦ rw e refl | inr e ↦ rw e (found-outstanding p x ys h) ]
 
 without-ended : (id : ℕ) (xs : List Transaction) → is_outstanding id (A.without_transaction id xs) ≡ false
 without-ended id [] = refl
-without-ended id (y ∷ ys) = by (eqb y.id id) refl (without-ended id ys)
-  where
-    by : (b : Bool) → eqb y.id id ≡ b → is_outstanding id (A.without_transaction id ys) ≡ false → is_outstanding id (A.without_transaction id (y ∷ ys)) ≡ false
-    by true e later = rw e later
-    by false e later = rw e (rw e later)
+without-ended id (y ∷ ys) = elim (cases_Bool (eqb y.id id)) [ inl e ↦ rw e (without-ended id ys) | inr e ↦ rw e (rw e (without-ended id ys)) ]
 
 -- ---- the phases
 

@@ -2,6 +2,7 @@
 use Rattle.std.proofs.Common.{◌≡◌, ℕ, Bool, true, false, cond, List, [], ◌∷◌, map, drop, Option, Some, None, refl, ap, sym, inl, inr}
 use Rattle.std.proofs.lemmas.List.{append-nil, take-append-drop}
 use Rattle.std.specs.declared.net.socket_addr.SocketAddr.{SocketAddr}
+use Rattle.std.proofs.lemmas.Bool.{cases_Bool}
 use Rattle.turn_types.specs.Frames.{begins_no_frame, frame_len}
 use Rattle.turn_agent.specs.Agent.{same_address}
 use Rattle.turn_client_api.specs.State.{State}
@@ -15,11 +16,7 @@ use Rattle.turn_client_laws.specs.LawsHandled.{IsInputOf}
 use Rattle.turn_client_laws.proofs.FrameRestLemmas.{bytes_by}
 
 once : (a : SocketAddr) (first later : List ℕ) (x : Stream) → bytes_by a later (bytes_by a first x) ≡ bytes_by a later x
-once a first later x = by (same_address x.local a) refl
-  where
-    by : (b : Bool) → same_address x.local a ≡ b → bytes_by a later (bytes_by a first x) ≡ bytes_by a later x
-    by true e = rw (e, e) refl
-    by false e = rw (e, e) refl
+once a first later x = elim (cases_Bool (same_address x.local a)) [ inl e ↦ rw (e, e) refl | inr e ↦ rw (e, e) refl ]
 
 twice : (a : SocketAddr) (first later : List ℕ) (xs : List Stream) → map (bytes_by a later) (map (bytes_by a first) xs) ≡ map (bytes_by a later) xs
 twice a first later [] = refl
@@ -33,11 +30,7 @@ abbrev broken_by : SocketAddr → Stream → Stream
 broken_by a stream = cond (same_address stream.local a) (record stream { mode = Broken; bytes = [] }) stream
 
 broken-once : (a : SocketAddr) (first : List ℕ) (x : Stream) → broken_by a (bytes_by a first x) ≡ broken_by a x
-broken-once a first x = by (same_address x.local a) refl
-  where
-    by : (b : Bool) → same_address x.local a ≡ b → broken_by a (bytes_by a first x) ≡ broken_by a x
-    by true e = rw (e, e) refl
-    by false e = rw (e, e) refl
+broken-once a first x = elim (cases_Bool (same_address x.local a)) [ inl e ↦ rw (e, e) refl | inr e ↦ rw (e, e) refl ]
 
 broken-all : (a : SocketAddr) (first : List ℕ) (xs : List Stream) → map (broken_by a) (map (bytes_by a first) xs) ≡ map (broken_by a) xs
 broken-all a first [] = refl

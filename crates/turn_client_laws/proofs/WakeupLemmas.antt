@@ -1,5 +1,5 @@
 -- When a caller is to call again.
-use Rattle.std.proofs.Common.{◌≡◌, ◌⊎◌, ℕ, ◌+◌, ◌<◌, ◌≤◌, Bool, true, false, cond, ltb, length, ◌||◌, List, [], ◌∷◌, fold, min, max, refl, ap, ◌∙◌, inl, inr, arith}
+use Rattle.std.proofs.Common.{◌≡◌, ◌⊎◌, ℕ, ◌+◌, ◌≤◌, Bool, true, false, cond, ltb, length, ◌||◌, List, [], ◌∷◌, fold, min, max, refl, ap, ◌∙◌, inl, inr, arith}
 use Rattle.std.specs.Prelude.{◌≢◌, All}
 use Rattle.std.specs.List.{Contains}
 use Rattle.std.proofs.Math.Nat.{min-le_left, min-le_right, min-eq_left}
@@ -21,11 +21,7 @@ pub record IsFolded (first least : ℕ) (times : List ℕ) : Type 0 where
   pub one : (least ≡ first) ⊎ Contains times least
 
 min-one : (a b : ℕ) → (min a b ≡ a) ⊎ (min a b ≡ b)
-min-one a b = by (cases_lt a b)
-  where
-    by : (a < b) ⊎ (b ≤ a) → (min a b ≡ a) ⊎ (min a b ≡ b)
-    by (inl h) = inl (min-eq_left (omega (arith, h)))
-    by (inr h) = inr (omega (arith, h))
+min-one a b = elim (cases_lt a b) [ inl h ↦ inl (min-eq_left (omega (arith, h))) | inr h ↦ inr (omega (arith, h)) ]
 
 fold-IsFolded : (first : ℕ) (times : List ℕ) → IsFolded first (fold min first times) times
 fold-IsFolded first [] = record { below = omega arith; below_all = All-nil _; one = inl refl }
@@ -36,11 +32,7 @@ fold-IsFolded first (m ∷ times) = by (fold-IsFolded (min first m) times)
 
     which : (least ≡ min first m) ⊎ Contains times least → (least ≡ first) ⊎ Contains (m ∷ times) least
     which (inr there) = inr (Contains-later least m times there)
-    which (inl is) = pick (min-one first m)
-      where
-        pick : (min first m ≡ first) ⊎ (min first m ≡ m) → (least ≡ first) ⊎ Contains (m ∷ times) least
-        pick (inl e) = inl (is ∙ e)
-        pick (inr e) = inr (rw (is ∙ e) (Contains-here m times))
+    which (inl is) = elim (min-one first m) [ inl e ↦ inl (is ∙ e) | inr e ↦ inr (rw (is ∙ e) (Contains-here m times)) ]
 
     by : IsFolded (min first m) least times → IsFolded first least (m ∷ times)
     by f = record {
