@@ -1,5 +1,5 @@
 -- What each call requests, and what it removes.
-use Rattle.std.proofs.Common.{◌≡◌, ◌⊎◌, ℕ, Bool, true, false, not, cond, ◌||◌, List, [], ◌∷◌, ◌++◌, map, Option, Some, None, Result, Err, refl, inl, inr}
+use Rattle.std.proofs.Common.{◌≡◌, ◌⊎◌, ℕ, Bool, true, false, not, cond, ◌||◌, List, [], ◌∷◌, map, Option, Some, None, Result, Err, refl, inl, inr}
 use Rattle.std.specs.Prelude.{filter_map, is_some, is_none}
 use Rattle.std.specs.List.{list_any}
 use Rattle.std.specs.Net.Socket.{socket_ip}
@@ -28,11 +28,10 @@ use Rattle.turn_client_api.specs.declared.call.Call.{Call}
 use Rattle.turn_client_api.specs.declared.call.Call.TheVariants.{CreatePermission, BindChannel, TcpConnect}
 use Rattle.turn_client_laws.specs.LawsRequests.{AsksFor, IsListedAs, IsListedFor, IsMade, IsMadeAs, IsSentAgain}
 use Rattle.turn_client_laws.specs.LawsGone.{IsTakenBy, grant_identity}
-use Rattle.turn_client_laws.proofs.HasLemmas.{Has, has-right}
-use Rattle.turn_client_laws.proofs.MoveLemmas.{Moves, Never, Settles, adds-more, adds-one, adds-same, adds-wider, by_test, loses-map, loses-more, loses-same, settles-moves, settles-same}
-use Rattle.turn_client_laws.proofs.MoveMessageLemmas.{request_made, requested-made}
+use Rattle.turn_client_laws.proofs.HasLemmas.{Has}
+use Rattle.turn_client_laws.proofs.MoveLemmas.{Moves, Never, Settles, adds-more, adds-one, adds-never, adds-same, by_test, on_test, loses-map, loses-more, loses-same, settles-moves, settles-same}
+use Rattle.turn_client_laws.proofs.MoveMessageLemmas.{made-of, request_made, requested-made}
 use Rattle.turn_client_laws.proofs.GrantOriginLemmas.{has-mapped}
-use Rattle.turn_client_laws.proofs.StandLemmas.{has-contains}
 
 -- what the call makes, if it leaves this state
 abbrev pub MadeAt : Call → State → State → Transaction → Type 0
@@ -54,9 +53,9 @@ does-same call s = does-settled call s s (settles-same (IsTakenBy call s) s)
 -- one request is made, in a state that differs from the first by what the call removes
 pub does-requested : (call : Call) (purpose : Purpose) (now : ℕ) (s u : State) → AsksFor call s purpose now → Settles (IsTakenBy call s) s u → Does call s (requested (fresh_id s) purpose now u)
 does-requested call purpose now s u asks (made, listed, lost) = (
-  adds-one (MadeAt call s t) s.transactions u.transactions (request_made purpose now s u) (adds-wider Never (MadeAt call s t) s.transactions u.transactions (λ x never. absurd never) made)
+  adds-one (MadeAt call s t) s.transactions u.transactions (request_made purpose now s u) (adds-never (MadeAt call s t) s.transactions u.transactions made)
       (inr (purpose, now, asks, (requested-made purpose now s u, refl))),
-  adds-one (ListedAt call s t) s.listed u.listed _ (adds-wider Never (ListedAt call s t) s.listed u.listed (λ l never. absurd never) listed)
+  adds-one (ListedAt call s t) s.listed u.listed _ (adds-never (ListedAt call s t) s.listed u.listed listed)
       (purpose, now, asks, inl refl, (requested-made purpose now s u, refl)),
   lost,
 )
@@ -67,11 +66,8 @@ does-requested call purpose now s u asks (made, listed, lost) = (
 -- ---- calls that need an allocation
 
 expired-grant_identity : (family : AddressFamily) (g : Grant) → grant_identity g ≡ grant_identity (changed_allocation (λ a. is_of_family family a.relayed) (λ a. record a { is_expired = true }) g)
-expired-grant_identity family (Allocation a) = by (is_of_family family a.relayed)
-  where
-    by : (b : Bool) → grant_identity (Allocation a) ≡ grant_identity (cond b (Allocation (record a { is_expired = true })) (Allocation a))
-    by true = refl
-    by false = refl
+expired-grant_identity family (Allocation a) =
+    on_test (λ g. grant_identity (Allocation a) ≡ grant_identity g) (is_of_family family a.relayed) (Allocation (record a { is_expired = true })) (Allocation a) refl refl
 expired-grant_identity family g = refl
 
 does-in : {E : Type 0} (call : Call) (o : Option Relay) (ip : IpAddr) (now : ℕ) (refusal : E) (s : State) (otherwise : Result Unit E × State) → Does call s otherwise.1
@@ -146,11 +142,7 @@ module _ (transport : TransportType) (peer : SocketAddr) (now : ℕ) (s : State)
       x = first_sent (fresh_id s) s.remote now (request_for s purpose (fresh_id s))
 
       made : IsMade purpose now s t
-      made = record {
-        text = request_for s purpose (fresh_id s);
-        spelled = inl refl;
-        outstanding = has-contains x (s.transactions ++ x ∷ []) (has-right x s.transactions (x ∷ []) (inl refl));
-      }
+      made = made-of purpose now s t (request_for s purpose (fresh_id s)) (inl refl) s.transactions refl
 
       listed : (l : Listing) → Has l (listings (fresh_id s) (purpose ∷ map ForPermission (missing_permission peer s))) → ListedAt binding s t l
       listed l there = by (has-mapped (λ (p : Purpose). record { id = fresh_id s; purpose = p }) l (purpose ∷ map ForPermission (missing_permission peer s)) there)

@@ -1,5 +1,5 @@
 -- How requests, listings and grants are added and removed.
-use Rattle.std.proofs.Common.{◌≡◌, ◌⊎◌, Bool, true, false, not, cond, List, [], ◌∷◌, ◌++◌, map, filter, Option, Some, None, refl, sym, subst, ◌∙◌, inl, inr}
+use Rattle.std.proofs.Common.{◌≡◌, ◌⊎◌, Bool, true, false, not, cond, List, [], ◌∷◌, ◌++◌, map, filter, find, Option, Some, None, refl, sym, subst, ◌∙◌, inl, inr}
 use Rattle.std.proofs.lemmas.Bool.{cases_Bool}
 use Rattle.turn_agent.specs.declared.transaction.Transaction.{Transaction}
 use Rattle.turn_client_api.specs.State.{State}
@@ -46,6 +46,21 @@ adds-one {X = X} Came xs ys one first came = adds-more Came xs ys (one ∷ []) f
 pub adds-wider : {X : Type 0} (Came Other : X → Type 0) (xs ys : List X) → ((x : X) → Came x → Other x) → Adds Came xs ys → Adds Other xs ys
 adds-wider {X = X} Came Other xs ys wider adds x h = elim (adds x h) [ inl there ↦ inl there | inr came ↦ inr (wider x came) ]
 
+abbrev pub Never : {X : Type 0} → X → Type 0
+Never x = ⊥
+
+-- if nothing is added, nothing is added in any way
+pub adds-never : {X : Type 0} (Came : X → Type 0) (xs ys : List X) → Adds Never xs ys → Adds Came xs ys
+adds-never Came xs ys = adds-wider Never Came xs ys (λ x never. absurd never)
+
+-- where none is found, none passes
+pub none-found : {X : Type 0} (p : X → Bool) (x : X) (xs : List X) → find p xs ≡ None → Has x xs → p x ≡ false
+none-found p x [] none h = absurd h
+none-found p x (y ∷ xs) none h = elim (cases_Bool (p y)) [
+  | inl e ↦ let no : Some y ≡ None = rw e at none in cc
+  | inr e ↦ elim h [ inl is ↦ rw is e | inr there ↦ none-found p x xs (rw e at none) there ]
+]
+
 -- ---- grants
 
 pub remains-here : (g : Grant) (gs : List Grant) → Has g gs → Remains g gs
@@ -85,9 +100,6 @@ abbrev pub Moves : (Transaction → Type 0) → (Listing → Type 0) → (Grant 
 Moves Made Listed Taken s t =
     Adds Made s.transactions t.transactions × Adds Listed s.listed t.listed × Loses Taken s.grants t.grants
 
-abbrev pub Never : {X : Type 0} → X → Type 0
-Never x = ⊥
-
 -- nothing is requested, and grants are removed so
 abbrev pub Settles : (Grant → Type 0) → State → State → Type 0
 Settles Taken s t = Moves Never Never Taken s t
@@ -105,13 +117,9 @@ settles-then Taken whole s t u first later = (
 pub moves-same : (Made : Transaction → Type 0) (Listed : Listing → Type 0) (Taken : Grant → Type 0) (s : State) → Moves Made Listed Taken s s
 moves-same Made Listed Taken s = (adds-same Made s.transactions, adds-same Listed s.listed, loses-same Taken s.grants)
 
--- if nothing is requested, nothing is added in any way
 pub settles-moves : (Made : Transaction → Type 0) (Listed : Listing → Type 0) (Taken : Grant → Type 0) (s t : State) → Settles Taken s t → Moves Made Listed Taken s t
-settles-moves Made Listed Taken s t (made, listed, lost) = (
-  adds-wider Never Made s.transactions t.transactions (λ x never. absurd never) made,
-  adds-wider Never Listed s.listed t.listed (λ x never. absurd never) listed,
-  lost,
-)
+settles-moves Made Listed Taken s t (made, listed, lost) =
+    (adds-never Made s.transactions t.transactions made, adds-never Listed s.listed t.listed listed, lost)
 
 pub settles-wider : (Taken Other : Grant → Type 0) (s t : State) → ((g : Grant) → Taken g → Other g) → Settles Taken s t → Settles Other s t
 settles-wider Taken Other s t wider (made, listed, lost) = (made, listed, loses-wider Taken Other s.grants t.grants wider lost)

@@ -35,7 +35,7 @@ use Rattle.turn_client_api.specs.Connections.{attempt_indicated, attempt_request
 use Rattle.turn_client_api.specs.Connections.{with_deadline}
 use Rattle.turn_client_api.specs.Payloads.{Outcome, Handled, Ignored, challenge_step, message_step, response_step, signed_step, wrong_step}
 use Rattle.turn_client_laws.specs.LawsReplies.{IsAccepted}
-use Rattle.turn_client_laws.specs.LawsRequests.{IsAnswer, IsListedAgain, IsMade, IsMadeAgain}
+use Rattle.turn_client_laws.specs.LawsRequests.{IsAnswer, IsListedAgain, IsMade, IsMadeAgain, Spells}
 use Rattle.turn_client_laws.specs.LawsGone.{GivesBack, IsTakenByReply, IsRemovedByInput, grant_identity}
 use Rattle.turn_client_laws.proofs.EditsOfMessages.{found-has, retried-has}
 use Rattle.turn_client_laws.proofs.HasLemmas.{Has, has-right}
@@ -76,14 +76,18 @@ module _ (message : List ℕ) (now : ℕ) (s t : State) (purpose : Purpose) (ans
 abbrev pub request_made : Purpose → ℕ → State → State → Transaction
 request_made purpose now s u = first_sent (fresh_id s) u.remote now (request_for u purpose (fresh_id s))
 
+-- these bytes request it, if they are outstanding after the others
+abbrev pub made-of : (purpose : Purpose) (now : ℕ) (s t : State) (text : List ℕ) → Spells purpose (fresh_id s) text t → (ts : List Transaction)
+    → t.transactions ≡ ts ++ first_sent (fresh_id s) t.remote now text ∷ [] → IsMade purpose now s t
+made-of purpose now s t text spelled ts e = record {
+  text = text;
+  spelled = spelled;
+  outstanding = rw e (has-contains _ _ (has-right (first_sent (fresh_id s) t.remote now text) ts _ (inl refl)));
+}
+
 -- whatever the state was in which it is requested
 abbrev pub requested-made : (purpose : Purpose) (now : ℕ) (s u : State) → IsMade purpose now s (requested (fresh_id s) purpose now u)
-requested-made purpose now s u = record {
-  text = request_for u purpose (fresh_id s);
-  spelled = inl refl;
-  outstanding = has-contains (request_made purpose now s u) (u.transactions ++ request_made purpose now s u ∷ [])
-      (has-right (request_made purpose now s u) u.transactions (request_made purpose now s u ∷ []) (inl refl));
-}
+requested-made purpose now s u = made-of purpose now s (requested (fresh_id s) purpose now u) (request_for u purpose (fresh_id s)) (inl refl) u.transactions refl
 
 -- ---- over the control connection
 
@@ -98,15 +102,8 @@ retry-turns Taken message purpose d now s answers = (
     t : State
     t = state_after_retry s (id_of message) purpose d now
 
-    x : Transaction
-    x = first_sent (fresh_id s) t.remote now (request_for t purpose (fresh_id s))
-
     made : IsMade purpose now s t
-    made = record {
-      text = request_for t purpose (fresh_id s);
-      spelled = inl refl;
-      outstanding = has-contains x t.transactions (has-right x (A.without_transaction (id_of message) s.transactions) (x ∷ []) (inl refl));
-    }
+    made = made-of purpose now s t (request_for t purpose (fresh_id s)) (inl refl) (A.without_transaction (id_of message) s.transactions) refl
 
 challenge-turns : (Taken : Grant → Type 0) (message : List ℕ) (d : Challenge) (now : ℕ) (s : State) → Turns Taken message now s (challenge_step message d now s).1
 challenge-turns Taken message d now s = by (ltb s.challenges s.config.max_stale_nonces) refl (retried (purposes_of (id_of message) s)) refl

@@ -1,5 +1,5 @@
 -- What time removes, and what is requested as it passes.
-use Rattle.std.proofs.Common.{◌≡◌, ◌⊎◌, ℕ, ◌<◌, ◌≤◌, eqb, leb, Bool, true, false, cond, ◌&&◌, ◌||◌, List, [], ◌∷◌, ◌++◌, fold, Option, Some, None, refl, sym, subst, inl, inr}
+use Rattle.std.proofs.Common.{◌≡◌, ◌⊎◌, ℕ, ◌<◌, ◌≤◌, eqb, leb, Bool, true, false, cond, ◌&&◌, ◌||◌, List, [], ◌∷◌, fold, Option, Some, None, refl, sym, subst, inl, inr}
 use Rattle.std.specs.Prelude.{All, IsSome, drop, find, flat_map, is_some, reverse, slice_get}
 use Rattle.std.specs.List.{Contains}
 use Rattle.std.proofs.lemmas.Bool.{leb-false, leb-true}
@@ -33,11 +33,12 @@ use Rattle.turn_client_laws.specs.LawsBodies.{expiry_times}
 use Rattle.turn_client_laws.specs.LawsRequests.{AsksFor, IsMade}
 use Rattle.turn_client_laws.specs.LawsGone.{IsTakenBy, IsTimeUp, grant_identity}
 use Rattle.turn_client_laws.proofs.EarlyLapseLemmas.{lapsed-none}
-use Rattle.turn_client_laws.proofs.HasLemmas.{Has, all-has, has-found, has-right}
+use Rattle.turn_client_laws.proofs.HasLemmas.{Has, all-has, has-found}
 use Rattle.turn_client_laws.proofs.LapseLemmas.{lapsed-shrinks}
 use Rattle.turn_client_laws.proofs.MoveCallLemmas.{Does, ListedAt, MadeAt, does-same, does-settled}
-use Rattle.turn_client_laws.proofs.MoveLemmas.{Adds, Loses, Never, Remains, Settles, adds-filter, adds-one, adds-same, adds-then, by_test, loses-same, on_test, settles-same}
+use Rattle.turn_client_laws.proofs.MoveLemmas.{Adds, Loses, Never, Remains, Settles, adds-filter, adds-never, adds-one, adds-same, adds-then, by_test, loses-same, none-found, on_test, settles-same}
 use Rattle.turn_client_laws.proofs.GrantOriginLemmas.{has-mapped}
+use Rattle.turn_client_laws.proofs.MoveMessageLemmas.{made-of}
 use Rattle.turn_client_laws.proofs.MoveSocketLemmas.{by_found}
 use Rattle.turn_client_laws.proofs.StandLemmas.{has-contains}
 use Rattle.turn_client_laws.proofs.LapseSteps.{lapsed_in-does}
@@ -88,16 +89,7 @@ early-or : (now : ℕ) (ms : List ℕ) → All (λ m. now < m) ms ⊎ ((m : ℕ)
 early-or now ms = by (find (λ m. leb m now) ms) refl
   where
     by : (o : Option ℕ) → find (λ m. leb m now) ms ≡ o → All (λ m. now < m) ms ⊎ ((m : ℕ) × Contains ms m × (m ≤ now))
-    by None e = inl (all-has (λ m. now < m) ms (λ m h. leb-false m now (fails m ms e h)))
-      where
-        fails : (m : ℕ) (xs : List ℕ) → find (λ m. leb m now) xs ≡ None → Has m xs → leb m now ≡ false
-        fails m [] none h = absurd h
-        fails m (x ∷ xs) none h = at (leb x now) refl h (fails m xs)
-          where
-            at : (b : Bool) → leb x now ≡ b → Has m (x ∷ xs) → (find (λ m. leb m now) xs ≡ None → Has m xs → leb m now ≡ false) → leb m now ≡ false
-            at true f k later = let no : Some x ≡ None = rw f at none in cc
-            at false f (inl is) later = rw is f
-            at false f (inr there) later = later (rw f at none) there
+    by None e = inl (all-has (λ m. now < m) ms (λ m h. leb-false m now (none-found (λ m. leb m now) m ms e h)))
     by (Some m) e = let (there, le) = has-found (λ m. leb m now) m ms e in inr (m, has-contains m ms there, leb-true m now le)
 
 module _ (now : ℕ) (s : State) where
@@ -222,17 +214,13 @@ module _ (now : ℕ) (s : State) where
       → (made : IsMade purpose now s (sent_at_once text purpose now u).1) → (first_sent (fresh_id u) u.remote now text ≡ first_sent (fresh_id s) u.remote now made.text) → fresh_id u ≡ fresh_id s
       → Does sending s (sent_at_once text purpose now u).1
   at_once-does text purpose u asks settles made spelled fresh = (
-    adds-one (MadeAt sending s t) s.transactions u.transactions (first_sent (fresh_id u) u.remote now text) (λ y h. wider (settles.0 y h)) (inr (purpose, now, asks, (made, spelled))),
-    adds-one (ListedAt sending s t) s.listed u.listed (record { id = fresh_id u; purpose = purpose }) (λ l h. wider (settles.1 l h)) (purpose, now, asks, inl refl, (made, fresh)),
+    adds-one (MadeAt sending s t) s.transactions u.transactions (first_sent (fresh_id u) u.remote now text) (adds-never _ s.transactions u.transactions settles.0) (inr (purpose, now, asks, (made, spelled))),
+    adds-one (ListedAt sending s t) s.listed u.listed (record { id = fresh_id u; purpose = purpose }) (adds-never _ s.listed u.listed settles.1) (purpose, now, asks, inl refl, (made, fresh)),
     settles.2,
   )
     where
       t : State
       t = (sent_at_once text purpose now u).1
-
-      wider : {Y X : Type 0} → Y ⊎ ⊥ → Y ⊎ X
-      wider (inl h) = inl h
-      wider (inr never) = absurd never
 
 idle-does : (p : Phase) (now : ℕ) (s : State) → Does (PollTransmit now) (record s { phase = p }) (idle_step p now (record s { phase = p })).1
 idle-does New now s =
@@ -247,11 +235,8 @@ idle-does New now s =
     text : List ℕ
     text = first_allocate u (fresh_id u)
 
-    x : Transaction
-    x = first_sent (fresh_id u) u.remote now text
-
     made : IsMade ForAllocation now was (sent_at_once text ForAllocation now u).1
-    made = record { text = text; spelled = inr (refl, refl, refl); outstanding = has-contains x (s.transactions ++ x ∷ []) (has-right x s.transactions (x ∷ []) (inl refl)) }
+    made = made-of ForAllocation now was _ text (inr (refl, refl, refl)) s.transactions refl
 idle-does Allocated now s =
     by_found (Does (PollTransmit now) u) (λ purpose. sent_at_once (request_for u purpose (fresh_id u)) purpose now u)
     (slice_get (flat_map (refreshes_in now u) (allocations u)) 0) (None, u) refreshed (does-same (PollTransmit now) u)
@@ -262,15 +247,8 @@ idle-does Allocated now s =
     refreshed : (purpose : Purpose) → slice_get (flat_map (refreshes_in now u) (allocations u)) 0 ≡ Some purpose
         → Does (PollTransmit now) u (sent_at_once (request_for u purpose (fresh_id u)) purpose now u).1
     refreshed purpose e =
-        at_once-does now u (request_for u purpose (fresh_id u)) purpose u (refl, inr (refl, e)) (settles-same (IsTakenBy (PollTransmit now) u) u) (made purpose) refl refl
-      where
-        made : (purpose : Purpose) → IsMade purpose now u (sent_at_once (request_for u purpose (fresh_id u)) purpose now u).1
-        made purpose = record {
-          text = request_for u purpose (fresh_id u);
-          spelled = inl refl;
-          outstanding = has-contains (first_sent (fresh_id u) u.remote now (request_for u purpose (fresh_id u)))
-              (s.transactions ++ first_sent (fresh_id u) u.remote now (request_for u purpose (fresh_id u)) ∷ []) (has-right _ s.transactions _ (inl refl));
-        }
+        at_once-does now u (request_for u purpose (fresh_id u)) purpose u (refl, inr (refl, e)) (settles-same (IsTakenBy (PollTransmit now) u) u)
+        (made-of purpose now u _ (request_for u purpose (fresh_id u)) (inl refl) s.transactions refl) refl refl
 idle-does p now s = does-same (PollTransmit now) (record s { phase = p })
 
 pub transmit-does : (now : ℕ) (s : State) → Does (PollTransmit now) s (transmit_step now s).1

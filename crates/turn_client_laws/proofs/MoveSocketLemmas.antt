@@ -35,13 +35,12 @@ use Rattle.turn_client_api.specs.declared.call.Call.{Call}
 use Rattle.turn_client_api.specs.declared.call.Call.TheVariants.{Delete, AllocatedTcpSocket, TcpClosed, SendTo, ProtocolError}
 use Rattle.turn_client_laws.specs.LawsRequests.{IsMade}
 use Rattle.turn_client_laws.specs.LawsGone.{IsTakenBy, grant_identity}
-use Rattle.turn_client_laws.proofs.HasLemmas.{Has, has-right}
-use Rattle.turn_client_laws.proofs.MoveLemmas.{Loses, Never, Remains, Settles, adds-filter, adds-more, adds-one, adds-same, by_test, loses-filter, loses-map, loses-more, loses-same, on_test}
-use Rattle.turn_client_laws.proofs.MoveLemmas.{remains-here, settles-same}
+use Rattle.turn_client_laws.proofs.HasLemmas.{Has, map-has}
+use Rattle.turn_client_laws.proofs.MoveLemmas.{Loses, Never, Remains, Settles, adds-filter, adds-more, adds-one, adds-same, by_test, loses-filter, loses-more, loses-same, on_test}
+use Rattle.turn_client_laws.proofs.MoveLemmas.{remains-here, settles-same, adds-never}
 use Rattle.turn_client_laws.proofs.MoveCallLemmas.{Does, ListedAt, MadeAt, does-same, does-settled}
-use Rattle.turn_client_laws.proofs.MoveMessageLemmas.{request_made, requested-made}
+use Rattle.turn_client_laws.proofs.MoveMessageLemmas.{made-of, request_made}
 use Rattle.turn_client_laws.proofs.GrantOriginLemmas.{has-mapped}
-use Rattle.turn_client_laws.proofs.StandLemmas.{has-contains}
 
 -- a pair by the result of a look-up
 pub by_found : {A X : Type 0} (P : State → Type 0) (f : X → A × State) (o : Option X) (y : A × State) → ((x : X) → o ≡ Some x → P (f x).1) → P y.1 → P (option_map_or f o y).1
@@ -58,11 +57,10 @@ gone-does call local s takes =
 
 -- the same, with its stream
 pub gone-settles : (local : SocketAddr) (s : State) → Settles (λ g. is_connection_from local g ≡ true) s (without_stream local (connection_gone local s))
-gone-settles local s = by (is_some (connection_at local s)) refl
-  where
-    by : (b : Bool) → is_some (connection_at local s) ≡ b → Settles (λ g. is_connection_from local g ≡ true) s (without_stream local (connection_gone local s))
-    by true e = rw e (adds-same Never s.transactions, adds-filter Never _ s.listed, loses-filter (λ g. is_connection_from local g ≡ true) (is_connection_from local) s.grants (λ g is. is))
-    by false e = rw e (settles-same (λ g. is_connection_from local g ≡ true) s)
+gone-settles local s =
+    on_test (Settles (λ g. is_connection_from local g ≡ true) s) (is_some (connection_at local s)) _ s
+    (adds-same Never s.transactions, adds-filter Never _ s.listed, loses-filter (λ g. is_connection_from local g ≡ true) (is_connection_from local) s.grants (λ g is. is))
+    (settles-same (λ g. is_connection_from local g ≡ true) s)
 
 pub closed-does : (local remote : SocketAddr) (now : ℕ) (s : State) → Does (TcpClosed local remote now) s (tcp_closed_step local remote s)
 closed-does local remote now s =
@@ -116,22 +114,15 @@ module _ (id : ℕ) (tuple : Socket5Tuple) (peer : SocketAddr) (now : ℕ) (s : 
 
       -- in whatever state it is requested
       asked : (u : State) → Settles (IsTakenBy call s) s u → Does call s (with_stream local (requested (fresh_id s) purpose now u))
-      asked u settles =
+      asked u (made, listed, lost) =
           let t = with_stream local (requested (fresh_id s) purpose now u) in
-          let made : IsMade purpose now s t = record { text = request_for u purpose (fresh_id s); spelled = inl refl; outstanding = (requested-made purpose now s u).outstanding } in
-          let x = request_made purpose now s u in (
-            adds-one (MadeAt call s t) s.transactions u.transactions x (λ y h. wider y (settles.0 y h)) (inr (purpose, now, (refl, refl), (made, refl))),
-            adds-one (ListedAt call s t) s.listed u.listed (record { id = fresh_id s; purpose = purpose }) (λ l h. further l (settles.1 l h)) (purpose, now, (refl, refl), inl refl, (made, refl)),
-            settles.2,
+          let is : IsMade purpose now s t = made-of purpose now s t (request_for u purpose (fresh_id s)) (inl refl) u.transactions refl in (
+            adds-one (MadeAt call s t) s.transactions u.transactions (request_made purpose now s u) (adds-never _ s.transactions u.transactions made)
+                (inr (purpose, now, (refl, refl), (is, refl))),
+            adds-one (ListedAt call s t) s.listed u.listed (record { id = fresh_id s; purpose = purpose }) (adds-never _ s.listed u.listed listed)
+                (purpose, now, (refl, refl), inl refl, (is, refl)),
+            lost,
           )
-        where
-          wider : {X : Type 0} (y : Transaction) → Has y s.transactions ⊎ ⊥ → Has y s.transactions ⊎ X
-          wider y (inl h) = inl h
-          wider y (inr never) = absurd never
-
-          further : {X : Type 0} (l : Listing) → Has l s.listed ⊎ ⊥ → Has l s.listed ⊎ X
-          further l (inl h) = inl h
-          further l (inr never) = absurd never
 
       by : (origin : Origin) → Does call s (socket_opened id peer local origin now s)
       by (ServerRequest request) =
@@ -165,13 +156,11 @@ module _ (now : ℕ) (s : State) where
   unfolding left
   expired-loses g h = by (loses-filter (IsTakenBy (Delete now) s) is_granted_in s.grants (λ g e. e) g h)
     where
-      by : Remains g left ⊎ (is_granted_in g ≡ true) → Remains g (map (changed_allocation (λ a. true) (λ a. record a { expiry = now; is_expired = true })) left) ⊎ (is_granted_in g ≡ true)
-      by (inl (is, there, same)) = inl (further (loses-map Never (changed_allocation (λ a. true) (λ a. record a { expiry = now; is_expired = true })) left (all-grant_identity now) is there))
-        where
-          further : Remains is (map (changed_allocation (λ a. true) (λ a. record a { expiry = now; is_expired = true })) left) ⊎ ⊥
-              → Remains g (map (changed_allocation (λ a. true) (λ a. record a { expiry = now; is_expired = true })) left)
-          further (inl (last, here, e)) = (last, here, same ∙ e)
-          further (inr never) = absurd never
+      change : Grant → Grant
+      change = changed_allocation (λ a. true) (λ a. record a { expiry = now; is_expired = true })
+
+      by : Remains g left ⊎ (is_granted_in g ≡ true) → Remains g (map change left) ⊎ (is_granted_in g ≡ true)
+      by (inl (is, there, same)) = inl (change is, map-has change is left there, same ∙ all-grant_identity now is)
       by (inr taken) = inr taken
 
   deleted-does : Does (Delete now) s (deleted now s)
@@ -189,11 +178,7 @@ module _ (now : ℕ) (s : State) where
       x = first_sent (fresh_id s) s.remote now (delete_text s)
 
       made : (family : AddressFamily) → IsMade (ForRefresh family 0) now s t
-      made family = record {
-        text = delete_text s;
-        spelled = inl refl;
-        outstanding = has-contains x (s.transactions ++ x ∷ []) (has-right x s.transactions (x ∷ []) (inl refl));
-      }
+      made family = made-of (ForRefresh family 0) now s t (delete_text s) (inl refl) s.transactions refl
 
       refresh_of : Relay → Purpose
       refresh_of a = ForRefresh (family_of a.relayed) 0

@@ -1,5 +1,5 @@
 -- When a client with nothing pending is idle, and when it has something to send.
-use Rattle.std.proofs.Common.{◌≡◌, ◌≢◌, ℕ, suc, ◌+◌, ◌*◌, ◌-◌, ◌^◌, ◌<◌, ◌≤◌, min, max, Bool, true, false, ◌&&◌, not, ltb, leb, List, [], ◌∷◌, ◌++◌, length, map, filter, flat_map, filter_map, find}
+use Rattle.std.proofs.Common.{◌≡◌, ◌≢◌, ℕ, suc, ◌+◌, ◌*◌, ◌-◌, ◌^◌, ◌<◌, ◌≤◌, min, max, Bool, true, false, ◌&&◌, not, ltb, leb, List, [], ◌∷◌, ◌++◌, length, map, filter, flat_map, filter_map}
 use Rattle.std.proofs.Common.{fold, Option, Some, None, ◌⊎◌, inl, inr, refl, sym, subst, ◌∙◌, arith}
 use Rattle.std.specs.Prelude.{if◌then◌else◌, is_some, IsSome, IfSome, ⊤, slice_get, option_and_then}
 use Rattle.std.specs.List.{list_any}
@@ -7,7 +7,7 @@ use Rattle.std.specs.Option.{option_map_or}
 use Rattle.std.proofs.Math.Nat.{max-le, le-min, le-max_left, le-max_right}
 use Rattle.std.proofs.lemmas.Option.{none-some, same_Some}
 use Rattle.std.proofs.lemmas.Bool.{not-true, false_from_ne_true, leb-true, lt-ltb, le-leb, ltb-true, ltb-false, and_right, lt-leb, leb-false, cases_Bool}
-use Rattle.turn_agent.specs.Agent.{Agent, timed_out_transaction, due, is_due, is_timed_out, transaction_timeout}
+use Rattle.turn_agent.specs.Agent.{timed_out_transaction, due, is_due, is_timed_out, transaction_timeout}
 use Rattle.turn_agent.specs.declared.transaction.Transaction.{Transaction}
 use Rattle.turn_stun.specs.declared.transport.TransportType.{TransportType}
 use Rattle.turn_agent.specs.Schedule.{Timers, resends_of}
@@ -35,7 +35,8 @@ use Rattle.turn_client_api.specs.Transmit.{reply_step, transmit_step, without_fi
 use Rattle.turn_client_api.specs.Alarm.{IsIdleUntil, Lasts}
 use Rattle.turn_client_laws.proofs.HasLemmas.{Has, has-append, has-left, has-right, map-has, flat_map-has, has-flat_map, has-found, filter-has, filter_map-has, has-filter_map, find-none, filter-none}
 use Rattle.turn_client_laws.proofs.HasLemmas.{least-le, all-has}
-use Rattle.turn_client_laws.proofs.MoveLemmas.{cases_Option}
+use Rattle.turn_client_laws.proofs.MoveLemmas.{cases_Option, none-found}
+use Rattle.turn_client_laws.proofs.GrantOriginLemmas.{has-mapped}
 
 -- the grant has not expired by now, if its expiry is one to wait for
 abbrev pub Alive : ℕ → Grant → Type 0
@@ -161,10 +162,7 @@ no_reply-kept (q ∷ qs) none = by q.is_request (no_reply-kept qs) none
 
     by : (b : Bool) → (list_any (λ q. not q.is_request) qs ≡ false → without_first_reply qs ≡ qs) → list_any (λ q. not q.is_request) (has b) ≡ false → without_first_reply (has b) ≡ has b
     by true later none = rw (later none) refl
-    by false later none = absurd (some none)
-      where
-        some : true ≡ false → ⊥
-        some e = cc
+    by false later none = cc
 
 reply-none : (t : State) → has_reply t ≡ false → reply_step t ≡ (None, t)
 reply-none t none = rw (no_replies t.queue none, no_reply-kept t.queue none) refl
@@ -221,15 +219,15 @@ pub record AreLater (now : ℕ) (t : State) : Type 0 where
   pub none_over : timed_out_transaction (agent_of t) now ≡ None
   pub grants : (g : Grant) → Has g t.grants → (m : ℕ) → Has m (grant_part now t g) → now < m
 
+has-one : (m k : ℕ) → Has m (k ∷ []) → m ≡ k
+has-one m k (inl same) = same
+has-one m k (inr none) = absurd none
+
 has-queued : (now m : ℕ) (t : State) → (has_queued_request t ≡ true → now < pause_end t) → Has m (queued_part t) → now < m
 has-queued now m t queued h = by (has_queued_request t) refl
   where
     by : (b : Bool) → has_queued_request t ≡ b → now < m
-    by true e = at (rw e at h)
-      where
-        at : (m ≡ pause_end t) ⊎ ⊥ → now < m
-        at (inl same) = rw same (queued e)
-        at (inr none) = absurd none
+    by true e = rw (has-one m (pause_end t) (rw e at h)) (queued e)
     by false e = absurd (rw e at h)
 
 and_false_left : (x y : Bool) → y ≡ true → (x && y) ≡ false → x ≡ false
@@ -247,22 +245,6 @@ waits_on timers transport now t not_due not_over = by (leb (transaction_timeout 
         let last : leb (resends_of timers transport) t.resends ≡ false = and_false_left _ _ past not_over in
         absurd (omega (arith, ltb-false _ _ more, leb-false _ _ last))
 
--- what is neither to be retransmitted nor timed out waits on
-transactions-later : (now m : ℕ) (a : Agent) (xs : List Transaction) → find (is_due a.timers a.transport now) xs ≡ None → find (is_timed_out a.timers a.transport now) xs ≡ None
-    → Has m (map (transaction_timeout a.timers a.transport) xs) → now < m
-transactions-later now m a [] none_due none_over h = absurd h
-transactions-later now m a (x ∷ xs) none_due none_over h = by (is_due a.timers a.transport now x) (is_timed_out a.timers a.transport now x) refl refl (transactions-later now m a xs)
-  where
-    by : (d o : Bool) → is_due a.timers a.transport now x ≡ d → is_timed_out a.timers a.transport now x ≡ o
-        → (find (is_due a.timers a.transport now) xs ≡ None → find (is_timed_out a.timers a.transport now) xs ≡ None → Has m (map (transaction_timeout a.timers a.transport) xs) → now < m) → now < m
-    by true o e f others = absurd (none-some x (sym (rw e at none_due)))
-    by false true e f others = absurd (none-some x (sym (rw f at none_over)))
-    by false false e f others = at h
-      where
-        at : (m ≡ transaction_timeout a.timers a.transport x) ⊎ Has m (map (transaction_timeout a.timers a.transport) xs) → now < m
-        at (inl same) = rw same (waits_on a.timers a.transport now x e f)
-        at (inr there) = others (rw e at none_due) (rw f at none_over) there
-
 all-later : (now : ℕ) (t : State) → AreLater now t → now < least_due now t
 all-later now t l = later-least now max_time (due_times now t) (omega (arith, l.in_range)) by
   where
@@ -272,7 +254,9 @@ all-later now t l = later-least now max_time (due_times now t) (omega (arith, l.
       where
         sends : Has m (queued_part t) ⊎ Has m (transactions_part t) → now < m
         sends (inl q) = has-queued now m t l.queued q
-        sends (inr x) = transactions-later now m (agent_of t) t.transactions l.none_due l.none_over x
+        sends (inr x) =
+            let (y, there, e) = has-mapped (transaction_timeout (agent_of t).timers t.transport) m t.transactions x in
+            rw e (waits_on (agent_of t).timers t.transport now y (none-found _ y t.transactions l.none_due there) (none-found _ y t.transactions l.none_over there))
 
         grants : Has m (queued_part t ++ transactions_part t) ⊎ Has m (flat_map (grant_part now t) t.grants) → now < m
         grants (inl s) = sends (has-append m (queued_part t) (transactions_part t) s)
@@ -362,25 +346,15 @@ end-later : (now m : ℕ) (g : Grant) → Alive now g → Has m (end_of now g) �
 end-later now m (Allocation a) alive h = by (ltb now a.expiry) refl
   where
     by : (b : Bool) → ltb now a.expiry ≡ b → now < m
-    by true e = at (rw e at h)
-      where
-        at : (m ≡ a.expiry) ⊎ ⊥ → now < m
-        at (inl same) = rw same (ltb-true now a.expiry e)
-        at (inr none) = absurd none
+    by true e = rw (has-one m a.expiry (rw e at h)) (ltb-true now a.expiry e)
     by false e = absurd (rw e at h)
-end-later now m (Permission ip (Active expiry)) alive (inl same) = rw same alive
-end-later now m (Permission ip (Active expiry)) alive (inr none) = absurd none
-end-later now m (Channel number peer (Active expiry)) alive (inl same) = rw same alive
-end-later now m (Channel number peer (Active expiry)) alive (inr none) = absurd none
+end-later now m (Permission ip (Active expiry)) alive h = rw (has-one m expiry h) alive
+end-later now m (Channel number peer (Active expiry)) alive h = rw (has-one m expiry h) alive
 end-later now m (Connection c) alive h = by c.deadline refl
   where
     by : (d : Option ℕ) → c.deadline ≡ d → now < m
     by None e = absurd (rw e at h)
-    by (Some deadline) e = at (rw e at h)
-      where
-        at : (m ≡ deadline) ⊎ ⊥ → now < m
-        at (inl same) = rw same (rw e at alive)
-        at (inr none) = absurd none
+    by (Some deadline) e = rw (has-one m deadline (rw e at h)) (rw e at alive)
 end-later now m g alive h = absurd h
 
 -- the time to refresh it, after the pause
@@ -390,15 +364,11 @@ refresh-later now m t g pause h = by (refresh_time t g) refl
   where
     by : (o : Option ℕ) → refresh_time t g ≡ o → now < m
     by None e = absurd (rw e at h)
-    by (Some time) e = at (rw e at h)
+    by (Some time) e = rw (has-one m (max (pause_end t) time) (rw e at h)) (later (leb time now) refl)
       where
         later : (b : Bool) → leb time now ≡ b → now < max (pause_end t) time
         later true f = omega (arith, pause (rw e (rw f refl)), le-max_left (pause_end t) time)
         later false f = omega (arith, leb-false time now f, le-max_right (pause_end t) time)
-
-        at : (m ≡ max (pause_end t) time) ⊎ ⊥ → now < m
-        at (inl same) = rw same (later (leb time now) refl)
-        at (inr none) = absurd none
 
 -- what is due of a grant that is active is later than now, except a refresh whose time has come
 grant-later : (now m : ℕ) (t : State) (g : Grant) → Alive now g → (is_refresh_due now t g ≡ true → now < pause_end t) → Has m (grant_part now t g) → now < m
@@ -452,9 +422,17 @@ refresh-or-later now t ready range none_due idle e reached = by ready.grants_lat
               }),
             ))
 
+-- the client has something to send, if it has so while nothing is to be retransmitted
+busy-if : (now : ℕ) (t : State) → (due (agent_of t) now ≡ None → IsSome (if is_paused now t then reply_step t else queue_step now t).0) → IsSome (next_transmit now t)
+busy-if now t sends = by (due (agent_of t) now) refl
+  where
+    by : (o : Option Transaction) → due (agent_of t) now ≡ o → IsSome (next_transmit now t)
+    by (Some x) e = rw (next_transmit, transmit_step, e) refl
+    by None e = rw (next_transmit, not_due-transmit now t e) (sends e)
+
 -- if a client that is ready returns a time not later than now, it has something to send
 pub ready-busy : (now : ℕ) (t : State) → IsReady now t → now ≤ 2 ^ 62 → least_due now t ≤ now → IsSome (next_transmit now t)
-ready-busy now t ready range reached = again (due (agent_of t) now) refl
+ready-busy now t ready range reached = busy-if now t (λ none. chosen none (is_paused now t) refl)
   where
     chosen : due (agent_of t) now ≡ None → (b : Bool) → is_paused now t ≡ b → IsSome (if is_paused now t then reply_step t else queue_step now t).0
     chosen none true idle =
@@ -475,13 +453,9 @@ ready-busy now t ready range reached = again (due (agent_of t) now) refl
         sends [] e = rw (queue-empty now t e) (refresh-or-later now t ready range none idle e reached)
         sends (q ∷ qs) e = front-sends now t (q ∷ qs) e (omega arith)
 
-    again : (o : Option Transaction) → due (agent_of t) now ≡ o → IsSome (next_transmit now t)
-    again (Some x) e = rw (next_transmit, transmit_step, e) refl
-    again None e = rw (next_transmit, not_due-transmit now t e) (chosen e (is_paused now t) refl)
-
 -- a queued reply can be sent
 pub reply-busy : (now : ℕ) (t : State) → has_reply t ≡ true → IsSome (next_transmit now t)
-reply-busy now t waits = again (due (agent_of t) now) refl
+reply-busy now t waits = busy-if now t (λ none. chosen (is_paused now t) refl)
   where
     replies : (qs : List Queued) → list_any (λ q. not q.is_request) qs ≡ true → IsSome (slice_get (filter_map reply_in qs) 0)
     replies [] e = let wrong : false ≡ true = e in cc
@@ -495,13 +469,9 @@ reply-busy now t waits = again (due (agent_of t) now) refl
     chosen true paused = rw paused (replies t.queue waits)
     chosen false idle = rw idle (front t.queue refl waits)
 
-    again : (o : Option Transaction) → due (agent_of t) now ≡ o → IsSome (next_transmit now t)
-    again (Some x) e = rw (next_transmit, transmit_step, e) refl
-    again None e = rw (next_transmit, not_due-transmit now t e) (chosen (is_paused now t) refl)
-
 -- a new client has something to send
 pub new-busy : (now : ℕ) (t : State) → t.phase ≡ New → t.last_send ≡ None → IsSome (next_transmit now t)
-new-busy now t new unsent = again (due (agent_of t) now) refl
+new-busy now t new unsent = busy-if now t (λ none. rw idle (front t.queue refl))
   where
     idle : is_paused now t ≡ false
     idle = rw unsent (false_from_ne_true (ltb now 0) (λ e. absurd (omega (arith, ltb-true now 0 e))))
@@ -509,7 +479,3 @@ new-busy now t new unsent = again (due (agent_of t) now) refl
     front : (qs : List Queued) → t.queue ≡ qs → IsSome (queue_step now t).0
     front [] e = rw (queue-empty now t e) (subst (λ p. IsSome (idle_step p now t).0) (sym new) refl)
     front (q ∷ qs) e = front-sends now t (q ∷ qs) e (omega arith)
-
-    again : (o : Option Transaction) → due (agent_of t) now ≡ o → IsSome (next_transmit now t)
-    again (Some x) e = rw (next_transmit, transmit_step, e) refl
-    again None e = rw (next_transmit, not_due-transmit now t e, idle) (front t.queue refl)

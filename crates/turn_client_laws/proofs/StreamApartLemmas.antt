@@ -11,7 +11,8 @@ use Rattle.turn_client_api.specs.declared.state.Mode.TheVariants.{Waiting, Bound
 use Rattle.turn_client_api.specs.declared.state.Stream.{Stream}
 use Rattle.turn_client_laws.specs.LawsStreams.{IsEmptyIfBroken}
 use Rattle.turn_client_laws.proofs.AddressLemmas.{same_address-true, same_address-self}
-use Rattle.turn_client_laws.proofs.StreamDrainLemmas.{broken_by, bytes_by, mode_by}
+use Rattle.turn_client_laws.proofs.MoveLemmas.{on_test}
+use Rattle.turn_client_laws.proofs.StreamDrainLemmas.{broken_by, broken_by-Sets, bytes_by, bytes_by-Sets, mode_by, mode_by-KeepsHeld}
 
 abbrev pub ends : List Stream → List SocketAddr
 ends xs = map (λ stream. stream.local) xs
@@ -100,14 +101,14 @@ all-fine local (x ∷ xs) h k =
     All-cons (IsFineAt local) x xs (All-head (IsWholeAt local) x xs h, All-head IsEmptyIfBroken x xs k)
     (all-fine local xs (All-tail (IsWholeAt local) x xs h) (All-tail IsEmptyIfBroken x xs k))
 
-local-cond : (b : Bool) (x y : Stream) → y.local ≡ x.local → (cond b y x).local ≡ x.local
-local-cond true x y e = e
-local-cond false x y e = refl
+map-apart : (f : Stream → Stream) → ((x : Stream) → (f x).local ≡ x.local) → ((x : Stream) → IsEmptyIfBroken x → IsEmptyIfBroken (f x)) → (xs : List Stream) → Apart xs → Apart (map f xs)
+unfolding IsDistinct
+map-apart f keeps empty xs h = (rw (ends-map f keeps xs) h.0, all-map IsEmptyIfBroken IsEmptyIfBroken f empty xs h.1)
 
 pub bytes-apart : (local : SocketAddr) (bytes : List ℕ) (xs : List Stream) → NotBroken local xs → Apart xs → Apart (map (bytes_by local bytes) xs)
 unfolding IsDistinct bytes_by
 bytes-apart local bytes xs whole h = (
-  rw (ends-map (bytes_by local bytes) (λ x. local-cond (same_address x.local local) x (record x { bytes = bytes }) refl) xs) h.0,
+  rw (ends-map (bytes_by local bytes) (bytes_by-Sets local bytes).keeps xs) h.0,
   all-map (IsFineAt local) IsEmptyIfBroken (bytes_by local bytes) (λ x fine. by x (same_address x.local local) fine.0 fine.1) xs (all-fine local xs whole h.1),
 )
   where
@@ -117,53 +118,34 @@ bytes-apart local bytes xs whole h = (
 
 pub bytes-NotBroken : (local : SocketAddr) (bytes : List ℕ) (xs : List Stream) → NotBroken local xs → NotBroken local (map (bytes_by local bytes) xs)
 unfolding bytes_by
-bytes-NotBroken local bytes xs whole = all-map (IsWholeAt local) (IsWholeAt local) (bytes_by local bytes) (λ x. by x (same_address x.local local)) xs whole
-  where
-    by : (x : Stream) (b : Bool) → IsWholeAt local x → IsWholeAt local (cond b (record x { bytes = bytes }) x)
-    by x true unbroken = unbroken
-    by x false unbroken = unbroken
+bytes-NotBroken local bytes =
+    all-map (IsWholeAt local) (IsWholeAt local) (bytes_by local bytes)
+    (λ x unbroken. on_test (IsWholeAt local) (same_address x.local local) (record x { bytes = bytes }) x unbroken unbroken)
 
 pub bound-NotBroken : (at local peer : SocketAddr) (xs : List Stream) → NotBroken at xs → NotBroken at (map (mode_by local (Bound peer)) xs)
 unfolding mode_by
-bound-NotBroken at local peer xs whole = all-map (IsWholeAt at) (IsWholeAt at) (mode_by local (Bound peer)) (λ x. by x (same_address x.local local)) xs whole
-  where
-    by : (x : Stream) (b : Bool) → IsWholeAt at x → IsWholeAt at (cond b (record x { mode = Bound peer }) x)
-    by x true unbroken = λ e f. cc
-    by x false unbroken = unbroken
+bound-NotBroken at local peer =
+    all-map (IsWholeAt at) (IsWholeAt at) (mode_by local (Bound peer))
+    (λ x unbroken. on_test (IsWholeAt at) (same_address x.local local) (record x { mode = Bound peer }) x (λ e f. cc) unbroken)
 
 -- a broken stream without bytes is allowed
 pub emptied-apart : (local : SocketAddr) (xs : List Stream) → Apart xs → Apart (map (bytes_by local []) xs)
-unfolding IsDistinct bytes_by
-emptied-apart local xs h = (
-  rw (ends-map (bytes_by local []) (λ x. local-cond (same_address x.local local) x (record x { bytes = [] }) refl) xs) h.0,
-  all-map IsEmptyIfBroken IsEmptyIfBroken (bytes_by local []) (λ x. by x (same_address x.local local)) xs h.1,
-)
-  where
-    by : (x : Stream) (b : Bool) → IsEmptyIfBroken x → IsEmptyIfBroken (cond b (record x { bytes = [] }) x)
-    by x true empty = λ e. refl
-    by x false empty = empty
+unfolding bytes_by
+emptied-apart local =
+    map-apart (bytes_by local []) (bytes_by-Sets local []).keeps
+    (λ x empty. on_test IsEmptyIfBroken (same_address x.local local) (record x { bytes = [] }) x (λ e. refl) empty)
 
 pub broken-apart : (local : SocketAddr) (xs : List Stream) → Apart xs → Apart (map (broken_by local) xs)
-unfolding IsDistinct broken_by
-broken-apart local xs h = (
-  rw (ends-map (broken_by local) (λ x. local-cond (same_address x.local local) x (record x { mode = Broken; bytes = [] }) refl) xs) h.0,
-  all-map IsEmptyIfBroken IsEmptyIfBroken (broken_by local) (λ x. by x (same_address x.local local)) xs h.1,
-)
-  where
-    by : (x : Stream) (b : Bool) → IsEmptyIfBroken x → IsEmptyIfBroken (cond b (record x { mode = Broken; bytes = [] }) x)
-    by x true empty = λ e. refl
-    by x false empty = empty
+unfolding broken_by
+broken-apart local =
+    map-apart (broken_by local) (broken_by-Sets local).keeps
+    (λ x empty. on_test IsEmptyIfBroken (same_address x.local local) (record x { mode = Broken; bytes = [] }) x (λ e. refl) empty)
 
 pub bound-apart : (local peer : SocketAddr) (xs : List Stream) → Apart xs → Apart (map (mode_by local (Bound peer)) xs)
-unfolding IsDistinct mode_by
-bound-apart local peer xs h = (
-  rw (ends-map (mode_by local (Bound peer)) (λ x. local-cond (same_address x.local local) x (record x { mode = Bound peer }) refl) xs) h.0,
-  all-map IsEmptyIfBroken IsEmptyIfBroken (mode_by local (Bound peer)) (λ x. by x (same_address x.local local)) xs h.1,
-)
-  where
-    by : (x : Stream) (b : Bool) → IsEmptyIfBroken x → IsEmptyIfBroken (cond b (record x { mode = Bound peer }) x)
-    by x true empty = λ e. cc
-    by x false empty = empty
+unfolding mode_by
+bound-apart local peer =
+    map-apart (mode_by local (Bound peer)) (mode_by-KeepsHeld local (Bound peer)).local
+    (λ x empty. on_test IsEmptyIfBroken (same_address x.local local) (record x { mode = Bound peer }) x (λ e. cc) empty)
 
 -- ---- streams are removed and added
 

@@ -35,10 +35,7 @@ now-timely : (now : ℕ) (was s : State) → HasWorkNow now was s → Timely now
 now-timely now was s busy = (λ later. absurd (omega (arith, later)), λ reached. busy)
 
 event-busy : (now : ℕ) (was s : State) → has_event s ≡ true → HasWorkNow now was s
-event-busy now was s some = inl (λ none. by (rw none at some))
-  where
-    by : false ≡ true → ⊥
-    by e = cc
+event-busy now was s some = inl (λ none. let no : false ≡ true = rw none at some in cc)
 
 no_event : (events : List TurnEvent) → ltb 0 (length events) ≡ false → events ≡ []
 no_event [] e = refl
@@ -147,17 +144,11 @@ settled-given now s t range old no_reply no_offer gave = record {
   not_new = old;
   no_reply = no_reply;
   gave_up = λ g. gave;
-  none_over = λ f. absurd (wrong f);
+  none_over = λ f. cc;
   no_offer = no_offer;
-  alive = λ empty f g h. absurd (wrong f);
-  grants_later = λ f. absurd (wrong f);
+  alive = λ empty f g h. cc;
+  grants_later = λ f. cc;
 }
-  where
-    wrong : true ≡ false → ⊥
-    wrong f = cc
-
-replies-same : (s t : State) → t.queue ≡ s.queue → has_reply s ≡ false → has_reply t ≡ false
-replies-same s t same no_reply = rw same no_reply
 
 old-phase : (p q : Phase) → q ≡ p → p ≢ New → q ≢ New
 old-phase p q e old new = old (sym e ∙ new)
@@ -176,14 +167,8 @@ given-timely now s orderly range no_reply no_offer x given p e = by p e
     gave = (x, outstanding, without-ended x.id s.transactions)
 
     over : (b : Bool) → s.phase ≡ Authenticating → Timely now s (answer_step (Some x.id) now (if b then closed u else u))
-    over true e = answer-timely now s (Some x.id) (closed u) (settled-given now s (closed u) range (λ new. closed_new new) no_reply refl gave)
-      where
-        closed_new : Closed ≡ New → ⊥
-        closed_new f = cc
-    over false e = answer-timely now s (Some x.id) u (settled-given now s u range (old-phase Authenticating s.phase e (λ new. authenticating_new new)) no_reply no_offer gave)
-      where
-        authenticating_new : Authenticating ≡ New → ⊥
-        authenticating_new f = cc
+    over true e = answer-timely now s (Some x.id) (closed u) (settled-given now s (closed u) range (λ new. cc) no_reply refl gave)
+    over false e = answer-timely now s (Some x.id) u (settled-given now s u range (old-phase Authenticating s.phase e (λ new. cc)) no_reply no_offer gave)
 
     by : (p : Phase) → s.phase ≡ p → Timely now s (timed_step p (Some x.id) now u)
     by New e = now-timely now s u (inr (inl (new-busy now u e (orderly.nothing_sent e))))
@@ -192,26 +177,20 @@ given-timely now s orderly range no_reply no_offer x given p e = by p e
         let t = lapsed (Some x.id) now u in
         let shrinks = lapsed-shrinks (Some x.id) now u in
         let gave_later : GaveUp s t = (x, outstanding, rw shrinks.transactions (without-ended x.id s.transactions)) in
-        answer-timely now s (Some x.id) t (settled-given now s t range (old-phase Allocated t.phase (shrinks.phase ∙ e) (λ new. allocated_new new)) (replies-same s t shrinks.queue no_reply)
+        answer-timely now s (Some x.id) t (settled-given now s t range (old-phase Allocated t.phase (shrinks.phase ∙ e) (λ new. cc)) (rw shrinks.queue no_reply)
         (lapsed-no_offer u t shrinks no_offer) gave_later)
-      where
-        allocated_new : Allocated ≡ New → ⊥
-        allocated_new f = cc
     by p e = tt
 
 none-timely : (now : ℕ) (s : State) → FitsPhaseForPoll s → AllHaveAllocation s → now ≤ 2 ^ 62 → has_reply s ≡ false → next_offer s ≡ None → timed_out_transaction (agent_of s) now ≡ None → (p : Phase)
     → s.phase ≡ p → Timely now s (timed_step p None now s)
 none-timely now s orderly stand range no_reply no_offer none p e = by p e
   where
-    wrong : false ≡ true → ⊥
-    wrong f = cc
-
     before_grants : s.phase ≢ New → s.grants ≡ [] → Timely now s (answer_step None now s)
     before_grants old empty = answer-timely now s None s (record {
       in_range = range;
       not_new = old;
       no_reply = no_reply;
-      gave_up = λ f. absurd (wrong f);
+      gave_up = λ f. cc;
       none_over = λ f. none;
       no_offer = no_offer;
       alive = λ quiet f. no_grants-alive now s empty;
@@ -221,31 +200,22 @@ none-timely now s orderly stand range no_reply no_offer none p e = by p e
     by : (p : Phase) → s.phase ≡ p → Timely now s (timed_step p None now s)
     by New e = now-timely now s s (inr (inl (new-busy now s e (orderly.nothing_sent e))))
     by Closed e = tt
-    by Requesting e = before_grants (old-phase Requesting s.phase e (λ new. requesting_new new)) (orderly.no_grants (subst IsBeforeGrants (sym e) tt))
-      where
-        requesting_new : Requesting ≡ New → ⊥
-        requesting_new f = cc
-    by Authenticating e = before_grants (old-phase Authenticating s.phase e (λ new. authenticating_new new)) (orderly.no_grants (subst IsBeforeGrants (sym e) tt))
-      where
-        authenticating_new : Authenticating ≡ New → ⊥
-        authenticating_new f = cc
+    by Requesting e = before_grants (old-phase Requesting s.phase e (λ new. cc)) (orderly.no_grants (subst IsBeforeGrants (sym e) tt))
+    by Authenticating e = before_grants (old-phase Authenticating s.phase e (λ new. cc)) (orderly.no_grants (subst IsBeforeGrants (sym e) tt))
     by Allocated e =
         let t = lapsed None now s in
         let shrinks = lapsed-shrinks None now s in
         let live : t.phase ≡ Allocated = shrinks.phase ∙ e in
         answer-timely now s None t (record {
           in_range = range;
-          not_new = old-phase Allocated t.phase live (λ new. allocated_new new);
-          no_reply = replies-same s t shrinks.queue no_reply;
-          gave_up = λ f. absurd (wrong f);
+          not_new = old-phase Allocated t.phase live (λ new. cc);
+          no_reply = rw shrinks.queue no_reply;
+          gave_up = λ f. cc;
           none_over = λ f. subst (λ a. timed_out_transaction a now ≡ None) (sym shrinks.agent) none;
           no_offer = lapsed-no_offer s t shrinks no_offer;
           alive = λ quiet f. lapsed-alive None now s stand quiet;
           grants_later = λ f. inl live;
         })
-      where
-        allocated_new : Allocated ≡ New → ⊥
-        allocated_new f = cc
 
 -- what `poll` returns is timely, whatever the times before
 pub poll-timely : (now : ℕ) (s : State) → FitsPhaseForPoll s → AllHaveAllocation s → now ≤ 2 ^ 62 → IsTimely (poll_step now s).0 now s (poll_step now s).1
