@@ -29,7 +29,8 @@ use Rattle.turn_client_api.specs.declared.call.Call.TheVariants.{CreatePermissio
 use Rattle.turn_client_laws.specs.LawsRequests.{AsksFor, IsListedAs, IsListedFor, IsMade, IsMadeAs, IsSentAgain}
 use Rattle.turn_client_laws.specs.LawsGone.{IsTakenBy, grant_identity}
 use Rattle.turn_client_laws.proofs.HasLemmas.{Has}
-use Rattle.turn_client_laws.proofs.MoveLemmas.{Moves, Never, Settles, adds-more, adds-one, adds-never, adds-same, by_test, on_test, loses-map, loses-more, loses-same, settles-moves, settles-same}
+use Rattle.turn_client_laws.proofs.MoveLemmas.{Moves, Never, Settles, adds-more, adds-one, adds-never, adds-same, by_test, on_test, loses-map}
+use Rattle.turn_client_laws.proofs.MoveLemmas.{loses-more, loses-same, settles-moves, settles-same}
 use Rattle.turn_client_laws.proofs.MoveMessageLemmas.{made-of, request_made, requested-made}
 use Rattle.turn_client_laws.proofs.GrantOriginLemmas.{has-mapped}
 
@@ -67,7 +68,8 @@ does-requested call purpose now s u asks (made, listed, lost) = (
 
 expired-grant_identity : (family : AddressFamily) (g : Grant) → grant_identity g ≡ grant_identity (changed_allocation (λ a. is_of_family family a.relayed) (λ a. record a { is_expired = true }) g)
 expired-grant_identity family (Allocation a) =
-    on_test (λ g. grant_identity (Allocation a) ≡ grant_identity g) (is_of_family family a.relayed) (Allocation (record a { is_expired = true })) (Allocation a) refl refl
+    on_test (λ g. grant_identity (Allocation a) ≡ grant_identity g) (is_of_family family a.relayed) (Allocation (record a { is_expired = true }))
+    (Allocation a) refl refl
 expired-grant_identity family g = refl
 
 does-in : {E : Type 0} (call : Call) (o : Option Relay) (ip : IpAddr) (now : ℕ) (refusal : E) (s : State) (otherwise : Result Unit E × State) → Does call s otherwise.1

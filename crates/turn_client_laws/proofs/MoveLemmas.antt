@@ -1,5 +1,6 @@
 -- How requests, listings and grants are added and removed.
-use Rattle.std.proofs.Common.{◌≡◌, ◌⊎◌, Bool, true, false, not, cond, List, [], ◌∷◌, ◌++◌, map, filter, find, Option, Some, None, refl, sym, subst, ◌∙◌, inl, inr}
+use Rattle.std.proofs.Common.{◌≡◌, ◌⊎◌, Bool, true, false, not, cond, List, [], ◌∷◌, ◌++◌, map, filter, find, Option, Some, None, refl, sym, subst}
+use Rattle.std.proofs.Common.{◌∙◌, inl, inr}
 use Rattle.std.proofs.lemmas.Bool.{cases_Bool}
 use Rattle.turn_agent.specs.declared.transaction.Transaction.{Transaction}
 use Rattle.turn_client_api.specs.State.{State}
@@ -89,6 +90,16 @@ loses-more Taken gs hs more first g h = elim (first g h) [ inl (k, there, same) 
 
 pub loses-map : (Taken : Grant → Type 0) (f : Grant → Grant) (gs : List Grant) → ((g : Grant) → grant_identity g ≡ grant_identity (f g)) → Loses Taken gs (map f gs)
 loses-map Taken f gs same g h = inl (f g, map-has f g gs h, same g)
+
+-- the first grant stays, or it is removed
+pub loses-cons : (Taken : Grant → Type 0) (x y : Grant) (gs hs : List Grant) → grant_identity x ≡ grant_identity y → Loses Taken gs hs
+    → Loses Taken (x ∷ gs) (y ∷ hs)
+loses-cons Taken x y gs hs same loses g (inl is) = inl (y, inl refl, rw is same)
+loses-cons Taken x y gs hs same loses g (inr there) = elim (loses g there) [ inl (k, here, e) ↦ inl (k, inr here, e) | inr taken ↦ inr taken ]
+
+pub loses-one : (Taken : Grant → Type 0) (x : Grant) (gs : List Grant) → Taken x → Loses Taken (x ∷ gs) gs
+loses-one Taken x gs taken g (inl is) = inr (rw is taken)
+loses-one Taken x gs taken g (inr there) = inl (remains-here g gs there)
 
 pub loses-wider : (Taken Other : Grant → Type 0) (gs hs : List Grant) → ((g : Grant) → Taken g → Other g) → Loses Taken gs hs → Loses Other gs hs
 loses-wider Taken Other gs hs wider loses g h = elim (loses g h) [ inl remains ↦ inl remains | inr taken ↦ inr (wider g taken) ]

@@ -31,7 +31,8 @@ use Rattle.turn_client_api.specs.Judgement.{Judgement, Unrelated, Challenged, Fa
 use Rattle.turn_client_api.specs.Judgement.{authenticating_judgement, bind_judgement, class_in, connection_id_in, is_bind_of, judgement_of, lifetime_in, method_in, peer_in}
 use Rattle.turn_client_api.specs.Effect.{allocate_denied, allocate_granted, transaction_ended, family_not_supported, has_code, in_phase}
 use Rattle.turn_client_api.specs.Retry.{bind_time, retried, state_after_retry, with_held}
-use Rattle.turn_client_api.specs.Connections.{attempt_indicated, attempt_requested, bind_again, bind_answered, bind_step, deadline_set, is_connected, accepts_attempt, bound, not_bound}
+use Rattle.turn_client_api.specs.Connections.{attempt_indicated, attempt_requested, bind_again, bind_answered, bind_step, deadline_set, is_connected}
+use Rattle.turn_client_api.specs.Connections.{accepts_attempt, bound, not_bound}
 use Rattle.turn_client_api.specs.Connections.{with_deadline}
 use Rattle.turn_client_api.specs.Payloads.{Outcome, Handled, Ignored, challenge_step, message_step, response_step, signed_step, wrong_step}
 use Rattle.turn_client_laws.specs.LawsReplies.{IsAccepted}
@@ -39,7 +40,8 @@ use Rattle.turn_client_laws.specs.LawsRequests.{IsAnswer, IsListedAgain, IsMade,
 use Rattle.turn_client_laws.specs.LawsGone.{GivesBack, IsTakenByReply, IsRemovedByInput, grant_identity}
 use Rattle.turn_client_laws.proofs.EditsOfMessages.{found-has, retried-has}
 use Rattle.turn_client_laws.proofs.HasLemmas.{Has, has-right}
-use Rattle.turn_client_laws.proofs.MoveLemmas.{Moves, Never, Settles, adds-filter, adds-more, adds-one, adds-same, loses-filter, loses-map, loses-more, loses-same, loses-wider, on_test}
+use Rattle.turn_client_laws.proofs.MoveLemmas.{Moves, Never, Settles, adds-filter, adds-more, adds-one, adds-same, loses-filter, loses-map}
+use Rattle.turn_client_laws.proofs.MoveLemmas.{loses-more, loses-same, loses-wider, on_test}
 use Rattle.turn_client_laws.proofs.MoveLemmas.{settles-moves, settles-same, settles-wider}
 use Rattle.turn_client_laws.proofs.MoveReplyLemmas.{IsFor, response-fits}
 use Rattle.turn_client_laws.proofs.OneInputLemmas.{bind-by, input-by}
@@ -87,7 +89,8 @@ made-of purpose now s t text spelled ts e = record {
 
 -- whatever the state was in which it is requested
 abbrev pub requested-made : (purpose : Purpose) (now : ℕ) (s u : State) → IsMade purpose now s (requested (fresh_id s) purpose now u)
-requested-made purpose now s u = made-of purpose now s (requested (fresh_id s) purpose now u) (request_for u purpose (fresh_id s)) (inl refl) u.transactions refl
+requested-made purpose now s u =
+    made-of purpose now s (requested (fresh_id s) purpose now u) (request_for u purpose (fresh_id s)) (inl refl) u.transactions refl
 
 -- ---- over the control connection
 
@@ -256,11 +259,9 @@ message-turns message now s = by (judgement_of s message) refl
 -- ---- connections that wait to be bound
 
 deadline-grant_identity : (local : SocketAddr) (deadline : Option ℕ) (g : Grant) → grant_identity g ≡ grant_identity (deadline_set local deadline g)
-deadline-grant_identity local deadline (Connection c) = by (same_address c.local local)
-  where
-    by : (b : Bool) → grant_identity (Connection c) ≡ grant_identity (cond b (Connection (record c { deadline = deadline })) (Connection c))
-    by true = refl
-    by false = refl
+deadline-grant_identity local deadline (Connection c) =
+    on_test (λ g. grant_identity (Connection c) ≡ grant_identity g) (same_address c.local local) (Connection (record c { deadline = deadline }))
+    (Connection c) refl refl
 deadline-grant_identity local deadline g = refl
 
 again-turns : (c : DataConnection) (message : List ℕ) (d : Challenge) (now : ℕ) (s : State) → Turns (λ g. is_connection_from c.local g ≡ true) message now s (bind_again c (id_of message) d now s)
@@ -303,7 +304,8 @@ answered-turns c message now s = by (bind_judgement s c.local message) refl
         (adds-filter Never _ s.transactions, adds-filter Never _ s.listed, loses-filter Taken (is_connection_from c.local) s.grants (λ g e. e)))
     by j e = rw e unbound
 
-pub bind-turns : (local : SocketAddr) (message : List ℕ) (now : ℕ) (s : State) → Turns (λ g. is_connection_from local g ≡ true) message now s (bind_step local message now s)
+pub bind-turns : (local : SocketAddr) (message : List ℕ) (now : ℕ) (s : State)
+    → Turns (λ g. is_connection_from local g ≡ true) message now s (bind_step local message now s)
 bind-turns local message now s =
     let Taken = λ (a : SocketAddr) (g : Grant). is_connection_from a g ≡ true in
     bind-by (Turns (Taken local) message now s) local message now s (turns-same (Taken local) message now s)
@@ -318,10 +320,11 @@ turns-wider Taken Other message now s t wider (made, listed, lost) = (made, list
 -- the connection itself
 pub turn-turns : (one : Input) → Turns (λ g. IsRemovedByInput g one) one.bytes one.time one.before (processed one).1
 turn-turns one =
-    input-by (Turns Taken one.bytes one.time one.before) one (turns-same Taken one.bytes one.time one.before)
-    (λ over whole. turns-wider (IsTakenByReply one.bytes one.before) Taken one.bytes one.time one.before _ (λ g h. inl h) (message-turns one.bytes one.time one.before))
-    (λ stream of waits whole. turns-wider (λ g. is_connection_from stream.local g ≡ true) Taken one.bytes one.time one.before _ (λ g h. inr (rw of (waits, h)))
-    (bind-turns stream.local one.bytes one.time one.before))
-  where
-    Taken : Grant → Type 0
-    Taken g = IsRemovedByInput g one
+    let bytes = one.bytes in
+    let now = one.time in
+    let s = one.before in
+    let Taken = λ (g : Grant). IsRemovedByInput g one in
+    let Over = λ (local : SocketAddr) (g : Grant). is_connection_from local g ≡ true in
+    input-by (Turns Taken bytes now s) one (turns-same Taken bytes now s)
+    (λ over whole. turns-wider (IsTakenByReply bytes s) Taken bytes now s _ (λ g h. inl h) (message-turns bytes now s))
+    (λ stream of waits whole. turns-wider (Over stream.local) Taken bytes now s _ (λ g h. inr (rw of (waits, h))) (bind-turns stream.local bytes now s))

@@ -1,5 +1,6 @@
 -- What time removes, and what is requested as it passes.
-use Rattle.std.proofs.Common.{◌≡◌, ◌⊎◌, ℕ, ◌<◌, ◌≤◌, eqb, leb, Bool, true, false, cond, ◌&&◌, ◌||◌, List, [], ◌∷◌, fold, Option, Some, None, refl, sym, subst, inl, inr}
+use Rattle.std.proofs.Common.{◌≡◌, ◌⊎◌, ℕ, ◌<◌, ◌≤◌, eqb, leb, Bool, true, false, cond, ◌&&◌, ◌||◌, List, [], ◌∷◌, fold, Option, Some, None, refl}
+use Rattle.std.proofs.Common.{sym, subst, inl, inr}
 use Rattle.std.specs.Prelude.{All, IsSome, drop, find, flat_map, is_some, reverse, slice_get}
 use Rattle.std.specs.List.{Contains}
 use Rattle.std.proofs.lemmas.Bool.{leb-false, leb-true}
@@ -36,7 +37,9 @@ use Rattle.turn_client_laws.proofs.EarlyLapseLemmas.{lapsed-none}
 use Rattle.turn_client_laws.proofs.HasLemmas.{Has, all-has, has-found}
 use Rattle.turn_client_laws.proofs.LapseLemmas.{lapsed-shrinks}
 use Rattle.turn_client_laws.proofs.MoveCallLemmas.{Does, ListedAt, MadeAt, does-same, does-settled}
-use Rattle.turn_client_laws.proofs.MoveLemmas.{Adds, Loses, Never, Remains, Settles, adds-filter, adds-never, adds-one, adds-same, adds-then, by_test, loses-same, none-found, on_test, settles-same}
+use Rattle.turn_client_laws.proofs.MoveLemmas.{Adds, Loses, Never, Settles, adds-filter, adds-never, adds-one, adds-same, adds-then, by_test}
+use Rattle.turn_client_laws.proofs.MoveLemmas.{loses-same, none-found, on_test, settles-same}
+use Rattle.turn_client_laws.proofs.MoveLemmas.{loses-cons}
 use Rattle.turn_client_laws.proofs.GrantOriginLemmas.{has-mapped}
 use Rattle.turn_client_laws.proofs.MoveMessageLemmas.{made-of}
 use Rattle.turn_client_laws.proofs.MoveSocketLemmas.{by_found}
@@ -155,23 +158,16 @@ module _ (now : ℕ) (s : State) where
       )
       by p = over
 
+told-grant_identity : (g : Grant) → grant_identity g ≡ grant_identity (as_reported g)
+told-grant_identity (Offer offer) = refl
+told-grant_identity g = refl
+
 pub told-loses : (Taken : Grant → Type 0) (family : AddressFamily) (gs : List Grant) → Loses Taken gs (first_reported family gs)
-told-loses Taken family [] g h = absurd h
-told-loses Taken family (x ∷ gs) g h = by (is_some (unreported_in family x)) h (told-loses Taken family gs g)
-  where
-    told-grant_identity : (g : Grant) → grant_identity g ≡ grant_identity (as_reported g)
-    told-grant_identity (Offer offer) = refl
-    told-grant_identity g = refl
-
-    further : Remains g (first_reported family gs) ⊎ Taken g → Remains g (x ∷ first_reported family gs) ⊎ Taken g
-    further (inl (is, there, same)) = inl (is, inr there, same)
-    further (inr taken) = inr taken
-
-    by : (b : Bool) → Has g (x ∷ gs) → (Has g gs → Remains g (first_reported family gs) ⊎ Taken g) → Remains g (cond b (as_reported x ∷ gs) (x ∷ first_reported family gs)) ⊎ Taken g
-    by true (inl is) later = inl (as_reported x, inl refl, rw is (told-grant_identity x))
-    by true (inr there) later = inl (g, inr there, refl)
-    by false (inl is) later = inl (g, inl is, refl)
-    by false (inr there) later = further (later there)
+told-loses Taken family [] = loses-same Taken []
+told-loses Taken family (x ∷ gs) =
+    on_test (Loses Taken (x ∷ gs)) (is_some (unreported_in family x)) (as_reported x ∷ gs) (x ∷ first_reported family gs)
+    (loses-cons Taken x (as_reported x) gs gs (told-grant_identity x) (loses-same Taken gs))
+    (loses-cons Taken x x gs (first_reported family gs) refl (told-loses Taken family gs))
 
 pub poll-does : (now : ℕ) (s : State) → Does (Poll now) s (poll_step now s).1
 poll-does now s =
@@ -214,8 +210,10 @@ module _ (now : ℕ) (s : State) where
       → (made : IsMade purpose now s (sent_at_once text purpose now u).1) → (first_sent (fresh_id u) u.remote now text ≡ first_sent (fresh_id s) u.remote now made.text) → fresh_id u ≡ fresh_id s
       → Does sending s (sent_at_once text purpose now u).1
   at_once-does text purpose u asks settles made spelled fresh = (
-    adds-one (MadeAt sending s t) s.transactions u.transactions (first_sent (fresh_id u) u.remote now text) (adds-never _ s.transactions u.transactions settles.0) (inr (purpose, now, asks, (made, spelled))),
-    adds-one (ListedAt sending s t) s.listed u.listed (record { id = fresh_id u; purpose = purpose }) (adds-never _ s.listed u.listed settles.1) (purpose, now, asks, inl refl, (made, fresh)),
+    adds-one (MadeAt sending s t) s.transactions u.transactions (first_sent (fresh_id u) u.remote now text)
+        (adds-never _ s.transactions u.transactions settles.0) (inr (purpose, now, asks, (made, spelled))),
+    adds-one (ListedAt sending s t) s.listed u.listed (record { id = fresh_id u; purpose = purpose }) (adds-never _ s.listed u.listed settles.1)
+        (purpose, now, asks, inl refl, (made, fresh)),
     settles.2,
   )
     where

@@ -74,14 +74,11 @@ lasting-grant_identity expiry g = refl
 
 renewed-grant_identity : (which : Grant → Bool) (expiry : ℕ) (g : Grant) → grant_identity g ≡ grant_identity (lasting_if which expiry g)
 renewed-grant_identity which expiry g =
-    elim (which g) as (λ b. grant_identity g ≡ grant_identity (cond b (lasting expiry g) g)) [ true ↦ lasting-grant_identity expiry g | false ↦ refl ]
+    on_test (λ is. grant_identity g ≡ grant_identity is) (which g) (lasting expiry g) g (lasting-grant_identity expiry g) refl
 
 prolonged-grant_identity : (which : Relay → Bool) (lasts : ℕ) (g : Grant) → grant_identity g ≡ grant_identity (changed_allocation which (λ a. record a { expiry = lasts }) g)
-prolonged-grant_identity which lasts (Allocation a) = by (which a)
-  where
-    by : (b : Bool) → grant_identity (Allocation a) ≡ grant_identity (cond b (Allocation (record a { expiry = lasts })) (Allocation a))
-    by true = refl
-    by false = refl
+prolonged-grant_identity which lasts (Allocation a) =
+    on_test (λ g. grant_identity (Allocation a) ≡ grant_identity g) (which a) (Allocation (record a { expiry = lasts })) (Allocation a) refl refl
 prolonged-grant_identity which lasts g = refl
 
 module _ (all : List Purpose) where

@@ -1,5 +1,6 @@
 -- What is requested and removed with data connections, with data, and when allocations are deleted.
-use Rattle.std.proofs.Common.{◌≡◌, ◌⊎◌, ℕ, leb, Bool, true, false, not, cond, ◌&&◌, List, [], ◌∷◌, ◌++◌, map, filter, Option, Some, None, refl, ◌∙◌, inl, inr}
+use Rattle.std.proofs.Common.{◌≡◌, ◌⊎◌, ℕ, leb, Bool, true, not, ◌&&◌, List, [], ◌∷◌, ◌++◌, map, filter, Option, Some, None, refl, ◌∙◌, inl, inr}
+use Rattle.std.proofs.lemmas.Bool.{cases_Bool}
 use Rattle.std.specs.Prelude.{filter_map, find, is_some}
 use Rattle.std.specs.Option.{option_map_or}
 use Rattle.std.specs.Net.Socket.{socket_ip}
@@ -36,8 +37,9 @@ use Rattle.turn_client_api.specs.declared.call.Call.TheVariants.{Delete, Allocat
 use Rattle.turn_client_laws.specs.LawsRequests.{IsMade}
 use Rattle.turn_client_laws.specs.LawsGone.{IsTakenBy, grant_identity}
 use Rattle.turn_client_laws.proofs.HasLemmas.{Has, map-has}
-use Rattle.turn_client_laws.proofs.MoveLemmas.{Loses, Never, Remains, Settles, adds-filter, adds-more, adds-one, adds-same, by_test, loses-filter, loses-more, loses-same, on_test}
-use Rattle.turn_client_laws.proofs.MoveLemmas.{remains-here, settles-same, adds-never}
+use Rattle.turn_client_laws.proofs.MoveLemmas.{Loses, Never, Remains, Settles, adds-filter, adds-more, adds-one, adds-same, by_test, loses-filter}
+use Rattle.turn_client_laws.proofs.MoveLemmas.{loses-more, loses-same, on_test}
+use Rattle.turn_client_laws.proofs.MoveLemmas.{settles-same, adds-never, loses-cons, loses-one}
 use Rattle.turn_client_laws.proofs.MoveCallLemmas.{Does, ListedAt, MadeAt, does-same, does-settled}
 use Rattle.turn_client_laws.proofs.MoveMessageLemmas.{made-of, request_made}
 use Rattle.turn_client_laws.proofs.GrantOriginLemmas.{has-mapped}
@@ -58,9 +60,10 @@ gone-does call local s takes =
 -- the same, with its stream
 pub gone-settles : (local : SocketAddr) (s : State) → Settles (λ g. is_connection_from local g ≡ true) s (without_stream local (connection_gone local s))
 gone-settles local s =
-    on_test (Settles (λ g. is_connection_from local g ≡ true) s) (is_some (connection_at local s)) _ s
-    (adds-same Never s.transactions, adds-filter Never _ s.listed, loses-filter (λ g. is_connection_from local g ≡ true) (is_connection_from local) s.grants (λ g is. is))
-    (settles-same (λ g. is_connection_from local g ≡ true) s)
+    let Taken = λ (g : Grant). is_connection_from local g ≡ true in
+    on_test (Settles Taken s) (is_some (connection_at local s)) _ s
+    (adds-same Never s.transactions, adds-filter Never _ s.listed, loses-filter Taken (is_connection_from local) s.grants (λ g is. is))
+    (settles-same Taken s)
 
 pub closed-does : (local remote : SocketAddr) (now : ℕ) (s : State) → Does (TcpClosed local remote now) s (tcp_closed_step local remote s)
 closed-does local remote now s =
@@ -70,21 +73,11 @@ closed-does local remote now s =
 -- ---- an offer is removed
 
 loses-first : (Taken : Grant → Type 0) (which : Grant → Bool) (gs : List Grant) → ((g : Grant) → which g ≡ true → Taken g) → Loses Taken gs (without_first which gs)
-loses-first Taken which [] takes g h = absurd h
-loses-first Taken which (x ∷ gs) takes g h = by (which x) refl h (loses-first Taken which gs takes g)
-  where
-    Left : List Grant → Type 0
-    Left later = Remains g later ⊎ Taken g
-
-    further : Left (without_first which gs) → Left (x ∷ without_first which gs)
-    further (inl (is, there, same)) = inl (is, inr there, same)
-    further (inr taken) = inr taken
-
-    by : (b : Bool) → which x ≡ b → Has g (x ∷ gs) → (Has g gs → Left (without_first which gs)) → Left (cond b gs (x ∷ without_first which gs))
-    by true e (inl is) later = inr (takes g (rw is e))
-    by true e (inr there) later = inl (remains-here g gs there)
-    by false e (inl is) later = inl (g, inl is, refl)
-    by false e (inr there) later = further (later there)
+loses-first Taken which [] takes = loses-same Taken []
+loses-first Taken which (x ∷ gs) takes = elim (cases_Bool (which x)) [
+  | inl e ↦ rw e (loses-one Taken x gs (takes x e))
+  | inr e ↦ rw e (loses-cons Taken x x gs (without_first which gs) refl (loses-first Taken which gs takes))
+]
 
 module _ (id : ℕ) (tuple : Socket5Tuple) (peer : SocketAddr) (now : ℕ) (s : State) where
   abbrev taking : Option SocketAddr → Call

@@ -21,7 +21,8 @@ use Rattle.turn_client_laws.specs.LawsRequests.{IsListedByInput, IsListingOf, Is
 use Rattle.turn_client_laws.specs.LawsGone.{IsOverItself, IsStillThere, IsTakenBy, IsRemovedByInput}
 use Rattle.turn_client_laws.proofs.HasLemmas.{Has, has-filter}
 use Rattle.turn_client_laws.proofs.MoveCallLemmas.{channel-does, connect-does, does-same, does-settled, permission-does}
-use Rattle.turn_client_laws.proofs.MoveLemmas.{IsOfBare, Moves, Remains, Settles, adds-filter, adds-same, loses-same, loses-wider, moves-same, remains-here, settles-moves, settles-same, settles-wider}
+use Rattle.turn_client_laws.proofs.MoveLemmas.{IsOfBare, Moves, Remains, Settles, adds-filter, adds-same, loses-same, loses-wider, moves-same}
+use Rattle.turn_client_laws.proofs.MoveLemmas.{remains-here, settles-moves, settles-same, settles-wider}
 use Rattle.turn_client_laws.proofs.MoveMessageLemmas.{turn-turns}
 use Rattle.turn_client_laws.proofs.MovePollLemmas.{poll-does, transmit-does}
 use Rattle.turn_client_laws.proofs.MoveReplyLemmas.{is_for-whole}
@@ -112,7 +113,8 @@ end-settles : (call : Call) (s t : State) (end : IsStreamEnd call s t) → Settl
 end-settles call s t end = subst (λ u. Settles (λ g. is_connection_from end.local g ≡ true) s u) (sym end.gone) (gone-settles end.local s)
 
 -- of the inputs of a packet, or as the stream ends
-packet-obeys : (packet : Transmit (List ℕ)) (now : ℕ) (s t : State) → Moves (λ x. IsDoneBy (IsMadeByInput x) (Recv packet now) s) (λ l. IsDoneBy (IsListedByInput l) (Recv packet now) s)
+packet-obeys : (packet : Transmit (List ℕ)) (now : ℕ) (s t : State)
+    → Moves (λ x. IsDoneBy (IsMadeByInput x) (Recv packet now) s) (λ l. IsDoneBy (IsListedByInput l) (Recv packet now) s)
     (λ g. IsDoneBy (IsRemovedByInput g) (Recv packet now) s) s t → ObeysTo (Recv packet now) s t
 packet-obeys packet now s t (made, listed, lost) =
     (made, listed, loses-wider (λ g. IsDoneBy (IsRemovedByInput g) (Recv packet now) s) (IsTakenBy (Recv packet now) s) s.grants t.grants (λ g h. inl h) lost)
@@ -168,7 +170,9 @@ none-obeys call s t end = by (memory-ends call s t end)
   where
     by : (t ≡ s) ⊎ (t ≡ closed s) ⊎ (TakesInput call × EndsWithoutMemory call s t) → ObeysTo call s t
     by (inl e) = subst (ObeysTo call s) (sym e) (moves-same (IsRequestOf call s) (IsListingOf call s) (IsTakenBy call s) s)
-    by (inr (inl e)) = subst (ObeysTo call s) (sym e) (adds-same (IsRequestOf call s) s.transactions, adds-filter (IsListingOf call s) _ s.listed, loses-same (IsTakenBy call s) s.grants)
+    by (inr (inl e)) =
+        subst (ObeysTo call s) (sym e)
+        (adds-same (IsRequestOf call s) s.transactions, adds-filter (IsListingOf call s) _ s.listed, loses-same (IsTakenBy call s) s.grants)
     by (inr (inr (takes, end))) = amid-obeys call s t takes (calls-end call s t takes end)
 
 -- even if memory allocation fails

@@ -39,7 +39,8 @@ gone-asks local s = asks-cond (is_some (connection_at local s)) s _ _ refl refl
 
 module _ (id : ℕ) where
   -- it was outstanding, or is the ID of a request that was made
-  drawn : (Made : Transaction → Type 0) (s : State) (later : List Transaction) → Adds Made s.transactions later → ((x : Transaction) → Made x → IsOneOf x.id s.transactions s)
+  drawn : (Made : Transaction → Type 0) (s : State) (later : List Transaction) → Adds Made s.transactions later
+      → ((x : Transaction) → Made x → IsOneOf x.id s.transactions s)
       → is_outstanding id later ≡ true → IsOneOf id s.transactions s
   drawn Made s later adds made = outstanding-IsOneOf id later s.transactions s (λ x there. by x (adds x there))
     where

@@ -22,7 +22,8 @@ use Rattle.turn_client_api.specs.declared.grant.Origin.{Origin}
 use Rattle.turn_client_api.specs.declared.grant.Origin.TheVariants.{ServerRequest}
 use Rattle.turn_client_api.specs.Grants.{is_of_request, as_offer}
 use Rattle.turn_client_api.specs.Requests.{counted_up, fresh_id, is_taken, max_ids_taken}
-use Rattle.turn_client_laws.proofs.MoveLemmas.{cases_Option}
+use Rattle.turn_client_laws.proofs.MoveLemmas.{cases_Option, none-found}
+use Rattle.turn_client_laws.proofs.InAllocationLemmas.{any-has}
 
 -- ---- candidates
 
@@ -139,13 +140,7 @@ length-taken s =
 
 -- where none passes, no element does
 none-passes : (p : ℕ → Bool) (q : ℕ) (xs : List ℕ) → find p xs ≡ None → list_any (eqb q) xs ≡ true → p q ≡ false
-none-passes p q [] none member = cc
-none-passes p q (x ∷ xs) none member = by (p x) refl (eqb q x) refl (none-passes p q xs)
-  where
-    by : (b : Bool) → p x ≡ b → (c : Bool) → eqb q x ≡ c → (find p xs ≡ None → list_any (eqb q) xs ≡ true → p q ≡ false) → p q ≡ false
-    by true e c f later = let found : Some x ≡ None = rw e at none in cc
-    by false e true f later = rw (eqb-true q x f) e
-    by false e false f later = later (rw e at none) (rw f at member)
+none-passes p q xs none member = let (x, there, is) = any-has (eqb q) xs member in rw (eqb-true q x is) (none-found p x xs none there)
 
 none-absurd : (n k l : ℕ) → n + 1 ≤ k → k ≤ l → l ≤ n → ⊥
 none-absurd n k l above more most = omega (arith, above, more, most)

@@ -1,5 +1,6 @@
 -- Which requests are outstanding after a message: those that were, and one with an ID that was used.
-use Rattle.std.proofs.Common.{◌≡◌, ℕ, Bool, true, false, cond, ◌&&◌, ◌||◌, eqb, leb, List, [], ◌∷◌, ◌++◌, fold, length, Option, Some, None, ◌⊎◌, inl, inr, refl, subst, ◌∙◌}
+use Rattle.std.proofs.Common.{◌≡◌, ℕ, Bool, true, false, cond, ◌&&◌, ◌||◌, eqb, leb, List, [], ◌∷◌, ◌++◌, fold, length, Option, Some, None, ◌⊎◌, inl}
+use Rattle.std.proofs.Common.{inr, refl, subst, ◌∙◌}
 use Rattle.std.specs.Option.{option_map_or}
 use Rattle.std.proofs.lemmas.Bool.{eqb-true, eq-eqb}
 use Rattle.std.specs.declared.net.ip_addr.IpAddr.{IpAddr}
@@ -104,12 +105,14 @@ pub has-IsOneOf : (x : Transaction) (ts : List Transaction) (s : State) → Has 
 has-IsOneOf x ts s there = inl (has-any (λ (y : Transaction). eqb y.id x.id) x ts there (eq-eqb x.id x.id refl))
 
 -- what is outstanding is the ID of a request
-pub outstanding-IsOneOf : (id : ℕ) (us ts : List Transaction) (s : State) → ((x : Transaction) → Has x us → IsOneOf x.id ts s) → is_outstanding id us ≡ true → IsOneOf id ts s
+pub outstanding-IsOneOf : (id : ℕ) (us ts : List Transaction) (s : State) → ((x : Transaction) → Has x us → IsOneOf x.id ts s) → is_outstanding id us ≡ true
+    → IsOneOf id ts s
 outstanding-IsOneOf id us ts s each h =
     let (x, there, is) = any-has (λ (y : Transaction). eqb y.id id) us h in
     subst (λ (n : ℕ). IsOneOf n ts s) (eqb-true x.id id is) (each x there)
 
-denied-one : (id : ℕ) (message : List ℕ) (now : ℕ) (s : State) → is_outstanding id (allocate_denied (fresh_id s) message now (transaction_ended (id_of message) s)).transactions ≡ true
+denied-one : (id : ℕ) (message : List ℕ) (now : ℕ) (s : State)
+    → is_outstanding id (allocate_denied (fresh_id s) message now (transaction_ended (id_of message) s)).transactions ≡ true
     → IsOneOf id (A.without_transaction (id_of message) s.transactions) s
 denied-one id message now s = by (has_code family_not_supported message && leb 2 (length s.families)) refl
   where

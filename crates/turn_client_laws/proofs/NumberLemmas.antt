@@ -10,6 +10,7 @@ use Rattle.turn_client_api.specs.declared.grant.Grant.TheVariants.{Channel, Offe
 use Rattle.turn_client_api.specs.Grants.{is_channel_of}
 use Rattle.turn_client_api.specs.Calls.{is_offer_of, without_first}
 use Rattle.turn_client_laws.specs.LawsNumbers.{number_of_channel}
+use Rattle.turn_client_laws.proofs.HasLemmas.{Has}
 
 -- the numbers of the channels among these grants
 abbrev pub numbers : List Grant → List ℕ
@@ -45,14 +46,21 @@ apart-filter p (g ∷ gs) h = by (number_of_channel g) refl (p g) refl (apart-fi
 pub apart-others : (gs hs : List Grant) → numbers hs ≡ [] → AreApart gs → AreApart (gs ++ hs)
 apart-others gs hs none h = rw (filter_map-append number_of_channel gs hs, none, append-nil (numbers gs)) h
 
-all-last : (P : ℕ → Type 0) (n : ℕ) (ns : List ℕ) → P n → AllByRecursion P ns → AllByRecursion P (ns ++ n ∷ [])
-all-last P n [] last h = (last, tt)
-all-last P n (m ∷ ns) last h = (h.0, all-last P n ns last h.1)
+-- what holds of all holds of one of them
+pub all-of : {A : Type 0} (P : A → Type 0) (x : A) (xs : List A) → AllByRecursion P xs → Has x xs → P x
+all-of P x [] all none = absurd none
+all-of P x (y ∷ xs) all (inl is) = rw is all.0
+all-of P x (y ∷ xs) all (inr there) = all-of P x xs all.1 there
 
-distinct-last : (n : ℕ) (ns : List ℕ) → AllByRecursion (λ m. eqb m n ≡ false) ns → IsDistinct eqb ns → IsDistinct eqb (ns ++ n ∷ [])
+all-last : {A : Type 0} (P : A → Type 0) (x : A) (xs : List A) → P x → AllByRecursion P xs → AllByRecursion P (xs ++ x ∷ [])
+all-last P x [] last h = (last, tt)
+all-last P x (y ∷ xs) last h = (h.0, all-last P x xs last h.1)
+
+pub distinct-last : {A : Type 0} (same : A → A → Bool) (x : A) (xs : List A) → AllByRecursion (λ y. same y x ≡ false) xs → IsDistinct same xs
+    → IsDistinct same (xs ++ x ∷ [])
 unfolding IsDistinct
-distinct-last n [] free h = (tt, tt)
-distinct-last n (m ∷ ns) free h = (all-last (λ k. eqb m k ≡ false) n ns free.0 h.0, distinct-last n ns free.1 h.1)
+distinct-last same x [] free h = (tt, tt)
+distinct-last same x (y ∷ xs) free h = (all-last (λ z. same y z ≡ false) x xs free.0 h.0, distinct-last same x xs free.1 h.1)
 
 -- no channel has the number
 all-free : (n : ℕ) (gs : List Grant) → list_any (is_channel_of n) gs ≡ false → AllByRecursion (λ m. eqb m n ≡ false) (numbers gs)
@@ -63,7 +71,7 @@ all-free n (_ ∷ gs) free = all-free n gs free
 -- a channel of a number that none has
 pub apart-channel : (n : ℕ) (gs hs : List Grant) → list_any (is_channel_of n) gs ≡ false → numbers hs ≡ n ∷ [] → AreApart gs → AreApart (gs ++ hs)
 apart-channel n gs hs free one h =
-    rw (filter_map-append number_of_channel gs hs, one) (distinct-last n (numbers gs) (all-free n gs free) h)
+    rw (filter_map-append number_of_channel gs hs, one) (distinct-last eqb n (numbers gs) (all-free n gs free) h)
 
 -- what was removed is not in the list
 pub none-filter : {X : Type 0} (p : X → Bool) (xs : List X) → list_any p (filter (λ x. not (p x)) xs) ≡ false

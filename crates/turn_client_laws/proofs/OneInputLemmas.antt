@@ -27,7 +27,8 @@ module _ (P : State → Type 0) (bytes : List ℕ) (now : ℕ) (s : State) (same
   pub datagram-by : (is_message bytes ≡ true → P (message_step bytes now s).1) → P (datagram_step bytes now s).1
   datagram-by message = by (is_message bytes) refl (is_channel_frame bytes)
     where
-      by : (b : Bool) → is_message bytes ≡ b → (c : Bool) → P (cond {A = Outcome × State} b (message_step bytes now s) (cond {A = Outcome × State} c (channel_sent s bytes, s) (Ignored, s))).1
+      by : (b : Bool) → is_message bytes ≡ b → (c : Bool)
+          → P (cond {A = Outcome × State} b (message_step bytes now s) (cond {A = Outcome × State} c (channel_sent s bytes, s) (Ignored, s))).1
       by true e c = message e
       by false e true = same
       by false e false = same
@@ -36,13 +37,15 @@ module _ (P : State → Type 0) (bytes : List ℕ) (now : ℕ) (s : State) (same
       → (m ≡ Waiting → is_message bytes ≡ true → P (bind_step stream.local bytes now s)) → P (frame_step (record stream { mode = m }) bytes now s).1
   frame_in_mode-by Control stream message bind = by (not (begins_message bytes)) (is_message bytes) refl
     where
-      by : (b c : Bool) → is_message bytes ≡ c → P (cond {A = Outcome × State} b (channel_sent s bytes, s) (cond {A = Outcome × State} c (message_step bytes now s) (Handled, s))).1
+      by : (b c : Bool) → is_message bytes ≡ c
+          → P (cond {A = Outcome × State} b (channel_sent s bytes, s) (cond {A = Outcome × State} c (message_step bytes now s) (Handled, s))).1
       by false true e = message refl e
       by false false e = same
       by true c e = same
   frame_in_mode-by Waiting stream message bind = by (not (begins_message bytes)) (is_message bytes) refl
     where
-      by : (b c : Bool) → is_message bytes ≡ c → P (cond {A = Outcome × State} b (Ignored, s) (cond {A = Outcome × State} c (Handled, bind_step stream.local bytes now s) (Handled, s))).1
+      by : (b c : Bool) → is_message bytes ≡ c
+          → P (cond {A = Outcome × State} b (Ignored, s) (cond {A = Outcome × State} c (Handled, bind_step stream.local bytes now s) (Handled, s))).1
       by false true e = bind refl e
       by false false e = same
       by true c e = same
@@ -63,15 +66,18 @@ bind_in_phase-by P Allocated local bytes now s same answered = by (connection_at
     by None e = rw e same
     by (Some c) e =
         let found = has-found (λ (d : DataConnection). same_address d.local local) c (filter_map as_connection s.grants) e in
-        rw e (on_test P (eqb (method_in bytes) connection_bind_method) (bind_answered c bytes now u) u (answered c (same_address-true c.local local found.1)) same)
+        rw e
+        (on_test P (eqb (method_in bytes) connection_bind_method) (bind_answered c bytes now u) u (answered c (same_address-true c.local local found.1)) same)
 bind_in_phase-by P p local bytes now s same answered = same
 
 -- a message of a connection that waits to be bound
-pub bind-by : (P : State → Type 0) (local : SocketAddr) (bytes : List ℕ) (now : ℕ) (s : State) → P s → ((c : DataConnection) → c.local ≡ local → P (bind_answered c bytes now s))
+pub bind-by : (P : State → Type 0) (local : SocketAddr) (bytes : List ℕ) (now : ℕ) (s : State) → P s
+    → ((c : DataConnection) → c.local ≡ local → P (bind_answered c bytes now s))
     → P (bind_step local bytes now s)
 bind-by P local bytes now s = bind_in_phase-by P s.phase local bytes now s
 
-pub input-by : (P : State → Type 0) (one : Input) → P one.before → (IsOverControl one → is_message one.bytes ≡ true → P (message_step one.bytes one.time one.before).1)
+pub input-by : (P : State → Type 0) (one : Input) → P one.before
+    → (IsOverControl one → is_message one.bytes ≡ true → P (message_step one.bytes one.time one.before).1)
     → ((stream : Stream) → one.stream ≡ Some stream → stream.mode ≡ Waiting → is_message one.bytes ≡ true → P (bind_step stream.local one.bytes one.time one.before)) → P (processed one).1
 input-by P one same message bind = by one.stream refl
   where

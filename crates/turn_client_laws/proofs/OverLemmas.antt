@@ -3,7 +3,7 @@ use Rattle.std.proofs.Common.{◌≡◌, ◌⊎◌, ◌≤◌, ℕ, eqb, leb, Bo
 use Rattle.std.proofs.Common.{inr}
 use Rattle.std.specs.Option.{option_map_or}
 use Rattle.std.specs.List.{Contains, IsDistinct, AllByRecursion}
-use Rattle.std.proofs.lemmas.Bool.{and_parts, eqb-true, eq-eqb, leb-true, ltb-true}
+use Rattle.std.proofs.lemmas.Bool.{and_parts, eqb-true, eq-eqb, leb-true, ltb-true, cases_Bool}
 use Rattle.std.proofs.lemmas.Option.{none-some, same_Some}
 use Rattle.std.specs.declared.net.socket_addr.SocketAddr.{SocketAddr}
 use Rattle.turn_types.specs.declared.family.AddressFamily.{AddressFamily}
@@ -31,29 +31,20 @@ use Rattle.turn_client_api.specs.Steps.{Leaves}
 use Rattle.turn_client_api.specs.declared.call.Call.TheVariants.{Poll}
 use Rattle.turn_client_laws.specs.LawsNumbers.{HasDistinctNumbers, number_of_channel}
 use Rattle.turn_client_laws.specs.LawsGone.{IsGivenUp, IsOver, IsPastWith, HasExpiredOrFailed, IsStillThere, grant_identity}
-use Rattle.turn_client_laws.proofs.HasLemmas.{Has, filter-has, has-append, has-filter, has-filter_map, has-found, has-left, has-right}
+use Rattle.turn_client_laws.proofs.HasLemmas.{Has, filter-has, has-append, has-filter, has-filter_map, has-found, has-left, has-right, filter_map-has}
 use Rattle.turn_client_laws.proofs.InAllocationLemmas.{same_family-true}
 use Rattle.turn_client_laws.proofs.LapseLemmas.{has-unreversed}
-use Rattle.turn_client_laws.proofs.MoveLemmas.{Never, Remains, by_test, remains-here}
+use Rattle.turn_client_laws.proofs.MoveLemmas.{Never, Remains, by_test, remains-here, cases_Option}
 use Rattle.turn_client_laws.proofs.MovePollLemmas.{told-loses}
-use Rattle.turn_client_laws.proofs.NumberLemmas.{AreApart, numbers}
+use Rattle.turn_client_laws.proofs.NumberLemmas.{AreApart, all-of, numbers}
 use Rattle.turn_client_laws.proofs.StandLemmas.{contains-has, has-contains}
 
 -- ---- channels of one number are one
 
 number-free : (n : ℕ) (peer : SocketAddr) (progress : Progress) (gs : List Grant) → AllByRecursion (λ m. eqb n m ≡ false) (numbers gs) → Has (Channel n peer progress) gs → ⊥
-number-free n peer progress [] free there = there
-number-free n peer progress (g ∷ gs) free there = by (number_of_channel g) refl there (number-free n peer progress gs)
-  where
-    by : (o : Option ℕ) → number_of_channel g ≡ o → Has (Channel n peer progress) (g ∷ gs) → (AllByRecursion (λ m. eqb n m ≡ false) (numbers gs) → Has (Channel n peer progress) gs → ⊥) → ⊥
-    by None e (inl is) more = none-some n (sym (rw (sym is) at e))
-    by None e (inr later) more = more (rw e at free) later
-    by (Some m) e (inl is) more =
-        let same : n ≡ m = same_Some n m (rw (sym is) at e) in
-        let no : eqb n m ≡ false = (rw e at free).0 in
-        let yes : eqb n m ≡ true = eq-eqb n m same in
-        let clash : true ≡ false = sym yes ∙ no in cc
-    by (Some m) e (inr later) more = more (rw e at free).1 later
+number-free n peer progress gs free there =
+    let no : eqb n n ≡ false = all-of (λ m. eqb n m ≡ false) n (numbers gs) free (filter_map-has number_of_channel (Channel n peer progress) n gs there refl) in
+    let clash : true ≡ false = sym (eq-eqb n n refl) ∙ no in cc
 
 one-channel : (n : ℕ) (p q : SocketAddr) (a b : Progress) (gs : List Grant) → AreApart gs → Has (Channel n p a) gs → Has (Channel n q b) gs → Channel n p a ≡ Channel n q b
 unfolding IsDistinct
@@ -61,11 +52,9 @@ one-channel n p q a b [] apart first second = absurd first
 one-channel n p q a b (g ∷ gs) apart (inl e) (inl f) = e ∙ sym f
 one-channel n p q a b (g ∷ gs) apart (inl e) (inr later) = absurd (number-free n q b gs (rw (sym e) at apart).0 later)
 one-channel n p q a b (g ∷ gs) apart (inr later) (inl f) = absurd (number-free n p a gs (rw (sym f) at apart).0 later)
-one-channel n p q a b (g ∷ gs) apart (inr first) (inr second) = one-channel n p q a b gs (by (number_of_channel g) refl) first second
-  where
-    by : (o : Option ℕ) → number_of_channel g ≡ o → AreApart gs
-    by None e = rw e at apart
-    by (Some m) e = (rw e at apart).1
+one-channel n p q a b (g ∷ gs) apart (inr first) (inr second) =
+    let later : AreApart gs = elim (cases_Option (number_of_channel g)) [ inl e ↦ rw e at apart | inr (m, e) ↦ (rw e at apart).1 ] in
+    one-channel n p q a b gs later first second
 
 -- ---- how time leaves a grant
 
@@ -97,9 +86,13 @@ module _ (now : ℕ) (s : State) (apart : HasDistinctNumbers s) where
   abbrev Over : Grant → Type 0
   Over g = HasExpiredOrFailed now s g ⊎ IsPastWith now s g
 
+  -- it is among these, or has expired
+  abbrev Stays : List Grant → Grant → Type 0
+  Stays gs g = ((is : Grant) × Has is gs × Ages g is) ⊎ Over g
+
   -- from the grants of the state these remain, and those that do not have expired
   record Traces (gs : List Grant) : Type 0 where
-    pub left : (g : Grant) → Has g s.grants → ((is : Grant) × Has is gs × Ages g is) ⊎ Over g
+    pub left : (g : Grant) → Has g s.grants → Stays gs g
     pub came : (is : Grant) → Has is gs → (g : Grant) × Has g s.grants × Ages g is
 
   traces-same : Traces s.grants
@@ -115,15 +108,11 @@ module _ (now : ℕ) (s : State) (apart : HasDistinctNumbers s) where
     came = λ is there. t.came is (has-filter (λ g. not (which g)) is gs there).0;
   }
     where
-      Stays : Grant → Type 0
-      Stays g = ((is : Grant) × Has is (filter (λ g. not (which g)) gs) × Ages g is) ⊎ Over g
-
-      at : (g is : Grant) → Has is gs → Ages g is → (b : Bool) → which is ≡ b → Stays g
-      at g is here ages true e = inr (over g is ages e)
-      at g is here ages false e = inl (is, filter-has (λ g. not (which g)) is gs here (rw e refl), ages)
-
-      by : (g : Grant) → ((is : Grant) × Has is gs × Ages g is) ⊎ Over g → Stays g
-      by g (inl (is, here, ages)) = at g is here ages (which is) refl
+      by : (g : Grant) → Stays gs g → Stays (filter (λ g. not (which g)) gs) g
+      by g (inl (is, here, ages)) = elim (cases_Bool (which is)) [
+        | inl e ↦ inr (over g is ages e)
+        | inr e ↦ inl (is, filter-has (λ g. not (which g)) is gs here (rw e refl), ages)
+      ]
       by g (inr gone) = inr gone
 
   -- the channel expires, and is reserved
@@ -151,19 +140,15 @@ module _ (now : ℕ) (s : State) (apart : HasDistinctNumbers s) where
       last : Has held (kept ++ held ∷ [])
       last = has-right held kept (held ∷ []) (inl refl)
 
-      Stays : Grant → Type 0
-      Stays g = ((is : Grant) × Has is (kept ++ held ∷ []) × Ages g is) ⊎ Over g
-
-      one : (g : Grant) → Has g s.grants → is_channel_of n g ≡ true → Stays g
+      one : (g : Grant) → Has g s.grants → is_channel_of n g ≡ true → Stays (kept ++ held ∷ []) g
       one g there of = let (to, progress, e) = channel-of n g of in
           inl (held, last, inr (n, peer, expiry, e ∙ one-channel n to peer progress (Active expiry) s.grants apart (rw e at there) first, refl))
 
-      at : (g is : Grant) → Has g s.grants → Has is gs → Ages g is → (b : Bool) → is_channel_of n is ≡ b → Stays g
-      at g is there within ages true e = one g there (ages-number n g is ages e)
-      at g is there within ages false e = inl (is, has-left is kept (held ∷ []) (filter-has (λ g. not (is_channel_of n g)) is gs within (rw e refl)), ages)
-
-      by : (g : Grant) → Has g s.grants → ((is : Grant) × Has is gs × Ages g is) ⊎ Over g → Stays g
-      by g there (inl (is, within, ages)) = at g is there within ages (is_channel_of n is) refl
+      by : (g : Grant) → Has g s.grants → Stays gs g → Stays (kept ++ held ∷ []) g
+      by g there (inl (is, within, ages)) = elim (cases_Bool (is_channel_of n is)) [
+        | inl e ↦ one g there (ages-number n g is ages e)
+        | inr e ↦ inl (is, has-left is kept (held ∷ []) (filter-has (λ g. not (is_channel_of n g)) is gs within (rw e refl)), ages)
+      ]
       by g there (inr gone) = inr gone
 
       from : (is : Grant) → Has is kept ⊎ Has is (held ∷ []) → (g : Grant) × Has g s.grants × Ages g is
@@ -249,11 +234,12 @@ module _ (now : ℕ) (s : State) (apart : HasDistinctNumbers s) where
         spent : (c : DataConnection) (o : Option ℕ) → c.deadline ≡ o → option_map_or (λ deadline. leb deadline now || is_for_any purposes (Connection c)) o false ≡ true
             → HasExpiredOrFailed now s (Connection c)
         spent c None f unbound = cc
-        spent c (Some deadline) f unbound = (deadline, f, at (leb deadline now) refl unbound)
-          where
-            at : (b : Bool) → leb deadline now ≡ b → (b || is_for_any purposes (Connection c)) ≡ true → (deadline ≤ now) ⊎ IsGivenUp now s (Connection c)
-            at true h unbound = inl (leb-true deadline now h)
-            at false h unbound = inr (asked-vain (Connection c) unbound)
+        spent c (Some deadline) f unbound =
+            let up : (deadline ≤ now) ⊎ IsGivenUp now s (Connection c) = elim (cases_Bool (leb deadline now)) [
+              | inl h ↦ inl (leb-true deadline now h)
+              | inr h ↦ inr (asked-vain (Connection c) (rw h at unbound))
+            ] in
+            (deadline, f, up)
 
         by : (is : Grant) → Ages g is → is_unbound purposes now is ≡ true → Over g
         by (Connection c) (inl same) unbound = inl (subst (HasExpiredOrFailed now s) same (spent c c.deadline refl unbound))
@@ -317,11 +303,7 @@ module _ (now : ℕ) (s : State) (apart : HasDistinctNumbers s) where
       where
         of : (g : Grant) → as_allocation g ≡ Some a → Has g s.grants → Has (Allocation a) s.grants
         of (Allocation b) reads there = rw (sym (same_Some b a reads)) there
-        of (Permission ip progress) reads there = absurd (none-some a reads)
-        of (Channel n peer progress) reads there = absurd (none-some a reads)
-        of (Connect peer) reads there = absurd (none-some a reads)
-        of (Offer offer) reads there = absurd (none-some a reads)
-        of (Connection c) reads there = absurd (none-some a reads)
+        of g reads there = absurd (none-some a reads)
 
     -- whatever is outstanding
     lapsed-traces : (t : State) → t.grants ≡ s.grants → t.listed ≡ s.listed → Traces (fold (lapsed_allocation given purposes now) t (allocations s)).grants

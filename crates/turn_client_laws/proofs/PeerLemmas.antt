@@ -21,9 +21,9 @@ use Rattle.turn_client_api.specs.State.{State}
 use Rattle.turn_client_api.specs.declared.state.Phase.{Phase}
 use Rattle.turn_client_api.specs.declared.state.Phase.TheVariants.{Requesting, Authenticating, Allocated}
 use Rattle.turn_client_api.specs.declared.grant.Grant.{Grant}
-use Rattle.turn_client_api.specs.declared.grant.Grant.TheVariants.{Allocation, Permission, Channel, Connect, Offer, Connection}
+use Rattle.turn_client_api.specs.declared.grant.Grant.TheVariants.{Permission, Channel}
 use Rattle.turn_client_api.specs.declared.grant.Progress.{Progress}
-use Rattle.turn_client_api.specs.declared.grant.Progress.TheVariants.{Pending, Active, Reserved}
+use Rattle.turn_client_api.specs.declared.grant.Progress.TheVariants.{Active}
 use Rattle.turn_client_api.specs.declared.state.Mode.{Mode}
 use Rattle.turn_client_api.specs.declared.state.Mode.TheVariants.{Control, Waiting, Bound, Broken}
 use Rattle.turn_client_api.specs.declared.state.Stream.{Stream}
@@ -92,13 +92,7 @@ channel-in number peer (Channel other to (Active expiry) ∷ gs) h = by (channel
         let peers : to ≡ peer = cc in
         rw (same, peers) (expiry, Contains-here (Channel number peer (Active expiry)) gs)
     by more false e = later-channel number peer (Channel other to (Active expiry)) gs (more (rw e at h))
-channel-in number peer (Channel other to Pending ∷ gs) h = later-channel number peer (Channel other to Pending) gs (channel-in number peer gs h)
-channel-in number peer (Channel other to (Reserved until) ∷ gs) h = later-channel number peer (Channel other to (Reserved until)) gs (channel-in number peer gs h)
-channel-in number peer (Allocation a ∷ gs) h = later-channel number peer (Allocation a) gs (channel-in number peer gs h)
-channel-in number peer (Permission ip progress ∷ gs) h = later-channel number peer (Permission ip progress) gs (channel-in number peer gs h)
-channel-in number peer (Connect to ∷ gs) h = later-channel number peer (Connect to) gs (channel-in number peer gs h)
-channel-in number peer (Offer offer ∷ gs) h = later-channel number peer (Offer offer) gs (channel-in number peer gs h)
-channel-in number peer (Connection c ∷ gs) h = later-channel number peer (Connection c) gs (channel-in number peer gs h)
+channel-in number peer (g ∷ gs) h = later-channel number peer g gs (channel-in number peer gs h)
 
 -- ---- replies and challenges return no data of a peer
 

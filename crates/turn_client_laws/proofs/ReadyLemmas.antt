@@ -1,5 +1,6 @@
 -- When a client with nothing pending is idle, and when it has something to send.
-use Rattle.std.proofs.Common.{◌≡◌, ◌≢◌, ℕ, suc, ◌+◌, ◌*◌, ◌-◌, ◌^◌, ◌<◌, ◌≤◌, min, max, Bool, true, false, ◌&&◌, not, ltb, leb, List, [], ◌∷◌, ◌++◌, length, map, filter, flat_map, filter_map}
+use Rattle.std.proofs.Common.{◌≡◌, ◌≢◌, ℕ, suc, ◌+◌, ◌*◌, ◌-◌, ◌^◌, ◌<◌, ◌≤◌, min, max, Bool, true, false, ◌&&◌, not, ltb, leb, List, [], ◌∷◌, ◌++◌}
+use Rattle.std.proofs.Common.{length, map, filter, flat_map, filter_map}
 use Rattle.std.proofs.Common.{fold, Option, Some, None, ◌⊎◌, inl, inr, refl, sym, subst, ◌∙◌, arith}
 use Rattle.std.specs.Prelude.{if◌then◌else◌, is_some, IsSome, IfSome, ⊤, slice_get, option_and_then}
 use Rattle.std.specs.List.{list_any}
@@ -212,13 +213,6 @@ later-least now start [] first later = first
 later-least now start (m ∷ ms) first later =
     later-least now (min start m) ms (omega (arith, le-min {k = suc now} {a = start} {b = m} (omega (arith, first)) (omega (arith, later m (inl refl))))) (λ k h. later k (inr h))
 
-pub record AreLater (now : ℕ) (t : State) : Type 0 where
-  pub in_range : now ≤ 2 ^ 62
-  pub queued : has_queued_request t ≡ true → now < pause_end t
-  pub none_due : due (agent_of t) now ≡ None
-  pub none_over : timed_out_transaction (agent_of t) now ≡ None
-  pub grants : (g : Grant) → Has g t.grants → (m : ℕ) → Has m (grant_part now t g) → now < m
-
 has-one : (m k : ℕ) → Has m (k ∷ []) → m ≡ k
 has-one m k (inl same) = same
 has-one m k (inr none) = absurd none
@@ -245,22 +239,25 @@ waits_on timers transport now t not_due not_over = by (leb (transaction_timeout 
         let last : leb (resends_of timers transport) t.resends ≡ false = and_false_left _ _ past not_over in
         absurd (omega (arith, ltb-false _ _ more, leb-false _ _ last))
 
-all-later : (now : ℕ) (t : State) → AreLater now t → now < least_due now t
-all-later now t l = later-least now max_time (due_times now t) (omega (arith, l.in_range)) by
+-- every time at which something is due is later, if those of the queue and the grants are
+all-later : (now : ℕ) (t : State) → IsReady now t → now ≤ 2 ^ 62 → (has_queued_request t ≡ true → now < pause_end t) → due (agent_of t) now ≡ None
+    → ((g : Grant) → Has g t.grants → (m : ℕ) → Has m (grant_part now t g) → now < m) → now < least_due now t
+all-later now t ready range queued none_due each = later-least now max_time (due_times now t) (omega (arith, range)) by
   where
     by : (m : ℕ) → Has m (due_times now t) → now < m
-    by m (inl e) = rw e (omega (arith, l.in_range, le-min {k = suc now} {a = now + 9999 * 1_000_000_000} {b = 2 ^ 63 - 1} (omega arith) (omega (arith, l.in_range))))
+    by m (inl e) = rw e (omega (arith, range, le-min {k = suc now} {a = now + 9999 * 1_000_000_000} {b = 2 ^ 63 - 1} (omega arith) (omega (arith, range))))
     by m (inr h) = grants (has-append m (queued_part t ++ transactions_part t) (flat_map (grant_part now t) t.grants) h)
       where
         sends : Has m (queued_part t) ⊎ Has m (transactions_part t) → now < m
-        sends (inl q) = has-queued now m t l.queued q
+        sends (inl q) = has-queued now m t queued q
         sends (inr x) =
             let (y, there, e) = has-mapped (transaction_timeout (agent_of t).timers t.transport) m t.transactions x in
-            rw e (waits_on (agent_of t).timers t.transport now y (none-found _ y t.transactions l.none_due there) (none-found _ y t.transactions l.none_over there))
+            let not_over = none-found _ y t.transactions ready.none_over there in
+            rw e (waits_on (agent_of t).timers t.transport now y (none-found _ y t.transactions none_due there) not_over)
 
         grants : Has m (queued_part t ++ transactions_part t) ⊎ Has m (flat_map (grant_part now t) t.grants) → now < m
         grants (inl s) = sends (has-append m (queued_part t) (transactions_part t) s)
-        grants (inr g) = let came = has-flat_map (grant_part now t) m t.grants g in l.grants came.from came.there m came.gives
+        grants (inr g) = let came = has-flat_map (grant_part now t) m t.grants g in each came.from came.there m came.gives
 
 refresh-sends : (now : ℕ) (t : State) (ps : List Purpose) → flat_map (refreshes_in now t) (allocations t) ≡ ps → (p : Purpose) → Has p ps → IsSome (refresh_step now t).0
 refresh-sends now t [] e p h = absurd h
@@ -391,17 +388,7 @@ refresh-or-later now t ready range none_due idle e reached = by ready.grants_lat
 
     by : (t.phase ≡ Allocated) ⊎ (t.grants ≡ []) → IsSome (idle_step t.phase now t).0
     by (inr no_grants) =
-        absurd (omega (
-          arith,
-          reached,
-          all-later now t (record {
-            in_range = range;
-            queued = nothing_queued;
-            none_due = none_due;
-            none_over = ready.none_over;
-            grants = λ g h. absurd (rw no_grants at h);
-          }),
-        ))
+        absurd (omega (arith, reached, all-later now t ready range nothing_queued none_due (λ g h. absurd (rw no_grants at h))))
     by (inl live) = subst (λ p. IsSome (idle_step p now t).0) (sym live) (found (is_some (refresh_step now t).0) refl)
       where
         no_refresh : is_some (refresh_step now t).0 ≡ false → (g : Grant) → Has g t.grants → is_refresh_due now t g ≡ true → now < pause_end t
@@ -410,20 +397,12 @@ refresh-or-later now t ready range none_due idle e reached = by ready.grants_lat
         found : (b : Bool) → is_some (refresh_step now t).0 ≡ b → IsSome (refresh_step now t).0
         found true f = f
         found false f =
-            absurd (omega (
-              arith,
-              reached,
-              all-later now t (record {
-                in_range = range;
-                queued = nothing_queued;
-                none_due = none_due;
-                none_over = ready.none_over;
-                grants = λ g h m inside. grant-later now m t g (ready.alive g h) (no_refresh f g h) inside;
-              }),
-            ))
+            let later = all-later now t ready range nothing_queued none_due (λ g h m. grant-later now m t g (ready.alive g h) (no_refresh f g h)) in
+            absurd (omega (arith, reached, later))
 
 -- the client has something to send, if it has so while nothing is to be retransmitted
-busy-if : (now : ℕ) (t : State) → (due (agent_of t) now ≡ None → IsSome (if is_paused now t then reply_step t else queue_step now t).0) → IsSome (next_transmit now t)
+busy-if : (now : ℕ) (t : State) → (due (agent_of t) now ≡ None → IsSome (if is_paused now t then reply_step t else queue_step now t).0)
+    → IsSome (next_transmit now t)
 busy-if now t sends = by (due (agent_of t) now) refl
   where
     by : (o : Option Transaction) → due (agent_of t) now ≡ o → IsSome (next_transmit now t)
@@ -436,17 +415,9 @@ ready-busy now t ready range reached = busy-if now t (λ none. chosen none (is_p
   where
     chosen : due (agent_of t) now ≡ None → (b : Bool) → is_paused now t ≡ b → IsSome (if is_paused now t then reply_step t else queue_step now t).0
     chosen none true idle =
-        absurd (omega (
-          arith,
-          reached,
-          all-later now t (record {
-            in_range = range;
-            queued = λ q. ltb-true now (pause_end t) idle;
-            none_due = none;
-            none_over = ready.none_over;
-            grants = λ g h m inside. grant-later now m t g (ready.alive g h) (λ d. ltb-true now (pause_end t) idle) inside;
-          }),
-        ))
+        let pause = ltb-true now (pause_end t) idle in
+        let later = all-later now t ready range (λ q. pause) none (λ g h m. grant-later now m t g (ready.alive g h) (λ d. pause)) in
+        absurd (omega (arith, reached, later))
     chosen none false idle = rw idle (sends t.queue refl)
       where
         sends : (qs : List Queued) → t.queue ≡ qs → IsSome (queue_step now t).0

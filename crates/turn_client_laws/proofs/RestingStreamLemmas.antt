@@ -1,10 +1,7 @@
 -- If no stream is ready, nothing is processed.
-use Rattle.std.proofs.Common.{◌≡◌, ℕ, zero, suc, Bool, true, false, cond, List, [], length, take, drop, Option, Some, None, refl, sym}
+use Rattle.std.proofs.Common.{◌≡◌, ℕ, zero, suc, false, cond, List, [], length, Some, None, refl, true, Bool, Option}
 use Rattle.std.specs.Prelude.{All, find}
-use Rattle.std.proofs.lemmas.List.{take-append-drop}
 use Rattle.turn_types.specs.Frames.{begins_no_frame, frame_len}
-use Rattle.turn_types.proofs.FrameLemmas.{frame_len-IsWhole}
-use Rattle.turn_types.proofs.SplitLemmas.{IsWhole-IsFrame}
 use Rattle.turn_client_api.specs.State.{State}
 use Rattle.turn_client_api.specs.declared.state.Mode.{Mode}
 use Rattle.turn_client_api.specs.declared.state.Mode.TheVariants.{Bound, Broken}
@@ -13,16 +10,14 @@ use Rattle.turn_client_api.specs.Streams.{is_ready, max_steps, poll_recv_step, r
 use Rattle.turn_client_laws.specs.Handled.{poll_recv_inputs, inputs_taken}
 use Rattle.turn_client_laws.specs.LawsStreams.{HasNoFrame, NeedsMoreBytes}
 use Rattle.turn_client_laws.proofs.HasLemmas.{find-none, has-all}
+use Rattle.turn_client_laws.proofs.StreamShortLemmas.{no_frame-none}
+
+none-by : (b : Bool) (some other : Option ℕ) → b ≡ false → other ≡ None → cond b some other ≡ None
+none-by true some other e none = cc
+none-by false some other e none = none
 
 no_frame-waits : (bytes : List ℕ) → HasNoFrame bytes → cond (begins_no_frame bytes) (Some (length bytes)) (frame_len bytes) ≡ None
-no_frame-waits bytes h = by (begins_no_frame bytes) (frame_len bytes) h.0 refl
-  where
-    by : (b : Bool) (o : Option ℕ) → b ≡ false → frame_len bytes ≡ o → cond b (Some (length bytes)) o ≡ None
-    by true o e f = cc
-    by false None e f = refl
-    by false (Some k) e f =
-        let is = frame_len-IsWhole bytes k f in
-        absurd (h.1 (take k bytes) (drop k bytes) (sym (take-append-drop k bytes)) (IsWhole-IsFrame bytes k is))
+no_frame-waits bytes h = none-by (begins_no_frame bytes) _ (frame_len bytes) h.0 (no_frame-none bytes h (frame_len bytes) refl)
 
 waits-in : (mode : Mode) (stream : Stream) → NeedsMoreBytes (record stream { mode = mode }) → ready_len (record stream { mode = mode }) ≡ None
 waits-in (Bound peer) stream h = rw h refl

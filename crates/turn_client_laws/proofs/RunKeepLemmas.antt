@@ -31,7 +31,8 @@ module _ (R : State → State → Type 0) (k : IsKept R) where
   datagram-kept bytes now s = datagram-by (R s) bytes now s (k.same s) (λ whole. k.message bytes now s)
 
   pub frame-kept : (stream : Stream) (frame : List ℕ) (now : ℕ) (s : State) → R s (frame_step stream frame now s).1
-  frame-kept stream frame now s = frame-by (R s) frame now s (k.same s) stream (λ mode whole. k.message frame now s) (λ mode whole. k.binds stream.local frame now s)
+  frame-kept stream frame now s =
+      frame-by (R s) frame now s (k.same s) stream (λ mode whole. k.message frame now s) (λ mode whole. k.binds stream.local frame now s)
 
   pub input-kept : (one : Input) → R one.before (processed one).1
   input-kept one =

@@ -4,6 +4,7 @@ use Rattle.std.proofs.Common.{◌≡◌, ◌≢◌, ℕ, Bool, true, false, not,
 use Rattle.std.specs.Prelude.{All, find}
 use Rattle.std.specs.List.{IsDistinct, AllByRecursion}
 use Rattle.std.proofs.lemmas.Bool.{false_from_ne_true, cases_Bool}
+use Rattle.std.proofs.lemmas.List.{map-append}
 use Rattle.std.proofs.lemmas.List.Elements.{All-nil, All-cons, All-head, All-tail, All-push}
 use Rattle.std.specs.declared.net.socket_addr.SocketAddr.{SocketAddr}
 use Rattle.turn_agent.specs.Agent.{same_address}
@@ -12,6 +13,8 @@ use Rattle.turn_client_api.specs.declared.state.Stream.{Stream}
 use Rattle.turn_client_laws.specs.LawsStreams.{IsEmptyIfBroken}
 use Rattle.turn_client_laws.proofs.AddressLemmas.{same_address-true, same_address-self}
 use Rattle.turn_client_laws.proofs.MoveLemmas.{on_test}
+use Rattle.turn_client_laws.proofs.HasLemmas.{has-found, map-has}
+use Rattle.turn_client_laws.proofs.NumberLemmas.{all-of, distinct-last}
 use Rattle.turn_client_laws.proofs.StreamDrainLemmas.{broken_by, broken_by-Sets, bytes_by, bytes_by-Sets, mode_by, mode_by-KeepsHeld}
 
 abbrev pub ends : List Stream → List SocketAddr
@@ -56,15 +59,8 @@ none-there local [] h = All-nil (IsWholeAt local)
 none-there local (x ∷ xs) h = All-cons (IsWholeAt local) x xs (λ e. absurd (unlike local x.local h.0 e)) (none-there local xs h.1)
 
 found-differs : (p : Stream → Bool) (local : SocketAddr) (xs : List Stream) (stream : Stream) → find p xs ≡ Some stream → IsNoneOf local xs → same_address local stream.local ≡ false
-found-differs p local [] stream e h = cc
-found-differs p local (x ∷ xs) stream e h = by (p x) refl (found-differs p local xs stream)
-  where
-    by : (b : Bool) → p x ≡ b → (find p xs ≡ Some stream → IsNoneOf local xs → same_address local stream.local ≡ false) → same_address local stream.local ≡ false
-    by true f later =
-        let is : Some x ≡ Some stream = rw f at e in
-        let same : x ≡ stream = cc in
-        rw (← same) h.0
-    by false f later = later (rw f at e) h.1
+found-differs p local xs stream e h =
+    all-of (λ y. same_address local y ≡ false) stream.local (ends xs) h (map-has (λ (x : Stream). x.local) stream xs (has-found p stream xs e).0)
 
 -- with distinct local addresses, the one that is found is the one at its local address
 pub found-NotBroken : (p : Stream → Bool) (xs : List Stream) (stream : Stream) → find p xs ≡ Some stream → stream.mode ≢ Broken → IsDistinct same_address (ends xs) → NotBroken stream.local xs
@@ -101,7 +97,8 @@ all-fine local (x ∷ xs) h k =
     All-cons (IsFineAt local) x xs (All-head (IsWholeAt local) x xs h, All-head IsEmptyIfBroken x xs k)
     (all-fine local xs (All-tail (IsWholeAt local) x xs h) (All-tail IsEmptyIfBroken x xs k))
 
-map-apart : (f : Stream → Stream) → ((x : Stream) → (f x).local ≡ x.local) → ((x : Stream) → IsEmptyIfBroken x → IsEmptyIfBroken (f x)) → (xs : List Stream) → Apart xs → Apart (map f xs)
+map-apart : (f : Stream → Stream) → ((x : Stream) → (f x).local ≡ x.local) → ((x : Stream) → IsEmptyIfBroken x → IsEmptyIfBroken (f x)) → (xs : List Stream)
+    → Apart xs → Apart (map f xs)
 unfolding IsDistinct
 map-apart f keeps empty xs h = (rw (ends-map f keeps xs) h.0, all-map IsEmptyIfBroken IsEmptyIfBroken f empty xs h.1)
 
@@ -172,21 +169,12 @@ others-differ local [] = tt
 others-differ local (x ∷ xs) =
     elim (cases_Bool (same_address x.local local)) [ inl e ↦ rw e (others-differ local xs) | inr e ↦ rw (e, e) (refl, others-differ local xs) ]
 
-all-last : (P : SocketAddr → Type 0) (a : SocketAddr) (xs : List Stream) (x : Stream) → P x.local → AllByRecursion P (ends xs) → AllByRecursion P (ends (xs ++ x ∷ []))
-all-last P a [] x last h = (last, tt)
-all-last P a (y ∷ ys) x last h = (h.0, all-last P a ys x last h.1)
-
-distinct-last : (xs : List Stream) (x : Stream) → AreOthers x.local xs → IsDistinct same_address (ends xs) → IsDistinct same_address (ends (xs ++ x ∷ []))
-unfolding IsDistinct
-distinct-last [] x differ h = (tt, tt)
-distinct-last (y ∷ ys) x differ h = (all-last (λ z. same_address y.local z ≡ false) y.local ys x differ.0 h.0, distinct-last ys x differ.1 h.1)
-
 -- a new one in place of any at its local address
 pub new-apart : (local : SocketAddr) (xs : List Stream) → Apart xs → Apart (filter (λ x. not (same_address x.local local)) xs ++ record { local = local; mode = Waiting; bytes = [] } ∷ [])
 unfolding is_other
 new-apart local xs h =
     let others = filter-apart (is_other local) xs h in
     let stream : Stream = record { local = local; mode = Waiting; bytes = [] } in (
-      distinct-last (filter (is_other local) xs) stream (others-differ local xs) others.0,
+      rw map-append (distinct-last same_address local (ends (filter (is_other local) xs)) (others-differ local xs) others.0),
       All-push IsEmptyIfBroken (filter (is_other local) xs) stream others.1 (λ e. refl),
     )

@@ -1,5 +1,5 @@
 -- Calls keep the local addresses of the streams distinct: most leave the streams unchanged.
-use Rattle.std.proofs.Common.{◌≡◌, ◌⊎◌, ℕ, Bool, true, false, cond, ◌&&◌, List, [], Option, Some, None, Err, refl, sym, subst, inl, inr}
+use Rattle.std.proofs.Common.{◌≡◌, ◌⊎◌, ℕ, ◌&&◌, List, [], Option, Some, None, Err, refl, sym, subst, inl, inr}
 use Rattle.std.specs.List.{IsDistinct}
 use Rattle.std.specs.Option.{option_map_or}
 use Rattle.std.proofs.lemmas.List.Elements.{All-nil, All-cons}
@@ -20,6 +20,7 @@ use Rattle.turn_client_api.specs.declared.call.Call.{Call}
 use Rattle.turn_client_api.specs.declared.call.Call.TheVariants.{Delete, AllocatedTcpSocket, Recv, PollRecv}
 use Rattle.turn_client_laws.specs.LawsHandled.{TakesInput}
 use Rattle.turn_client_laws.specs.LawsStreams.{AreApart, IsEmptyIfBroken}
+use Rattle.turn_client_laws.proofs.MoveLemmas.{by_test}
 use Rattle.turn_client_laws.proofs.StreamApartLemmas.{Apart, new-apart}
 use Rattle.turn_client_laws.proofs.StreamMessageLemmas.{Same, Same-KeepsEdits}
 use Rattle.turn_client_laws.proofs.EditsOfCalls.{delete-walk, quiet-walk}
@@ -44,17 +45,15 @@ refused-same : (id : ℕ) (peer : SocketAddr) (origin : Origin) (s : State) → 
 refused-same id peer OwnConnect s = refl
 refused-same id peer origin s = refl
 
-either-opened : {A : Type 0} (b : Bool) (s : State) (x y : A × State) → IsOpened s x.1 → IsOpened s y.1 → IsOpened s (cond b x y).1
-either-opened true s x y p q = p
-either-opened false s x y p q = q
-
 socket-opened : (id : ℕ) (peer : SocketAddr) (local : Option SocketAddr) (origin : Origin) (now : ℕ) (s : State) → IsOpened s (socket_step id peer local origin now s).1
 socket-opened id peer None origin now s = inl (refused-same id peer origin s)
-socket-opened id peer (Some local) origin now s = either-opened (is_local_taken local s) s _ _ (inl refl) (inr (local, opened-one id peer local origin now s))
+socket-opened id peer (Some local) origin now s =
+    by_test (IsOpened s) (is_local_taken local s) _ _ (inl refl) (inr (local, opened-one id peer local origin now s))
 
 pub tcp_socket-opened : (id : ℕ) (tuple : Socket5Tuple) (peer : SocketAddr) (local : Option SocketAddr) (now : ℕ) (s : State) → IsOpened s (allocated_tcp_socket_step id tuple peer local now s).1
 tcp_socket-opened id tuple peer local now s =
-    either-opened (same_transport s.config.allocation_transport Tcp && is_control tuple s && is_allocated s.phase) s _ _ (by (offer_origin id peer s)) (inl refl)
+    by_test (IsOpened s) (same_transport s.config.allocation_transport Tcp && is_control tuple s && is_allocated s.phase) _ _ (by (offer_origin id peer s))
+    (inl refl)
   where
     by : (o : Option Origin) → IsOpened s (option_map_or (λ origin. socket_step id peer local origin now s) o (Err Socket.NoAllocation, s)).1
     by None = inl refl

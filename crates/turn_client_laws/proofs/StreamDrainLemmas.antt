@@ -2,10 +2,7 @@
 use Rattle.std.proofs.Common.{◌≡◌, ℕ, zero, suc, ◌<◌, ◌≤◌, Bool, true, false, cond, List, [], ◌∷◌, ◌++◌, length, map, take, drop, Option, Some, None, refl, sym, ap, ◌∙◌, inl, inr, arith}
 use Rattle.std.specs.Prelude.{All, find, is_some}
 use Rattle.std.proofs.lemmas.List.{length-drop}
-use Rattle.std.proofs.lemmas.List.Elements.{All-nil, All-cons}
-use Rattle.std.proofs.lemmas.Option.{same_Some}
 use Rattle.std.specs.declared.net.socket_addr.SocketAddr.{SocketAddr}
-use Rattle.std.proofs.lemmas.Bool.{cases_Bool}
 use Rattle.turn_types.specs.Frames.{IsFrame, begins_no_frame, frame_len}
 use Rattle.turn_types.proofs.FrameLemmas.{frame_len-IsWhole}
 use Rattle.turn_types.proofs.SplitLemmas.{IsFrame-frame_len}
@@ -20,9 +17,10 @@ use Rattle.turn_client_api.specs.Streams.{steps_until_payload, with_bytes}
 use Rattle.turn_client_api.specs.Receive.{first_frame_step, piece_step, then_all}
 use Rattle.turn_client_laws.specs.LawsPeers.{HasNoPeer}
 use Rattle.turn_client_laws.specs.LawsStreams.{HasNoFrame, NeedsMoreBytes}
-use Rattle.turn_client_laws.proofs.MoveLemmas.{on_test, cases_Option}
+use Rattle.turn_client_laws.proofs.MoveLemmas.{on_test, cases_Option, none-found}
 use Rattle.turn_client_laws.proofs.StreamMessageLemmas.{Rebound, frame-rebound}
 use Rattle.turn_client_laws.proofs.StreamWeightLemmas.{KeepsHeld, Sets, kept-Sets, later-Sets, weight, weight-le, weight-less}
+use Rattle.turn_client_laws.proofs.HasLemmas.{has-found, all-has}
 
 -- ---- the bytes in a stream
 
@@ -75,9 +73,7 @@ map-map f g (x ∷ xs) = ap (λ ys. g (f x) ∷ ys) (map-map f g xs)
 
 -- the first stream that is ready has bytes for a step
 pub found-ready : (xs : List Stream) (stream : Stream) → find is_ready xs ≡ Some stream → is_ready stream ≡ true
-found-ready [] stream e = cc
-found-ready (x ∷ xs) stream e =
-    elim (cases_Bool (is_ready x)) [ inl f ↦ let same : x ≡ stream = same_Some _ _ (rw f at e) in rw (← same) f | inr f ↦ found-ready xs stream (rw f at e) ]
+found-ready xs stream e = (has-found is_ready stream xs e).1
 
 -- Of the first stream that is ready: it is taken out, and holds less after its step.
 module _ (stream : Stream) (s : State) (found : find is_ready s.streams ≡ Some stream) where
@@ -233,12 +229,10 @@ drained-in (Bound peer) stream e = by stream.bytes e
 drained-in mode stream e = framed-HasNoFrame stream.bytes e
 
 all-drained : (xs : List Stream) → find is_ready xs ≡ None → All NeedsMoreBytes xs
-all-drained [] e = All-nil NeedsMoreBytes
-all-drained (x ∷ xs) e =
-    elim (cases_Option (ready_len x)) [
-      | inl f ↦ All-cons NeedsMoreBytes x xs (drained-in x.mode x f) (all-drained xs (rw f at e))
-      | inr (len, f) ↦ let wrong : Some x ≡ None = rw f at e in cc
-    ]
+all-drained xs e = all-has NeedsMoreBytes xs (λ x there. drained-in x.mode x (none-some x (none-found is_ready x xs e there)))
+  where
+    none-some : (x : Stream) → is_ready x ≡ false → ready_len x ≡ None
+    none-some x fails = elim (cases_Option (ready_len x)) [ inl none ↦ none | inr (len, some) ↦ let no : true ≡ false = rw some at fails in cc ]
 
 pub poll_recv-drained : (now : ℕ) (s : State) → (poll_recv_step now s).0 ≡ None → All NeedsMoreBytes (poll_recv_step now s).1.streams
 poll_recv-drained now s none =

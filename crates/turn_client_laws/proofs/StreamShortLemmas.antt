@@ -30,7 +30,7 @@ frame_len-none bytes begins none =
     let short : leb (frame_size bytes) (length bytes) ≡ false = some-if _ (frame_size bytes) (rw begins at none) in
     leb-false (frame_size bytes) (length bytes) short
 
-no_frame-none : (bytes : List ℕ) → HasNoFrame bytes → (o : Option ℕ) → frame_len bytes ≡ o → o ≡ None
+pub no_frame-none : (bytes : List ℕ) → HasNoFrame bytes → (o : Option ℕ) → frame_len bytes ≡ o → o ≡ None
 no_frame-none bytes h None e = refl
 no_frame-none bytes h (Some k) e =
     absurd (h.1 (take k bytes) (drop k bytes) (sym (take-append-drop k bytes)) (IsWhole-IsFrame bytes k (frame_len-IsWhole bytes k e)))

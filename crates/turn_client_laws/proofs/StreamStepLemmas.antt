@@ -10,11 +10,13 @@ use Rattle.turn_client_api.specs.declared.state.Mode.{Mode}
 use Rattle.turn_client_api.specs.declared.state.Mode.TheVariants.{Control, Waiting, Bound, Broken}
 use Rattle.turn_client_api.specs.declared.state.Stream.{Stream}
 use Rattle.turn_client_api.specs.Connections.{connection_at}
-use Rattle.turn_client_api.specs.Payloads.{Payload, Outcome, Handled, Ignored, PeerData, channel_sent, datagram_step, is_channel_frame, is_message, message_step}
+use Rattle.turn_client_api.specs.Payloads.{Payload, Outcome, Handled, Ignored, PeerData, datagram_step}
 use Rattle.turn_client_api.specs.Streams.{broken_at, frame_step, framed_by, framed_stream_step, go_on, is_ready, max_steps, poll_recv_step, stream_at, next_frame_step, detached_frame_step}
 use Rattle.turn_client_api.specs.Streams.{first_ready_step, steps_until_payload, with_bytes}
 use Rattle.turn_client_api.specs.Receive.{connection_gone, first_frame_step, piece_step, recv_step, stream_step, then_all}
 use Rattle.turn_client_laws.specs.LawsStreams.{AreApart}
+use Rattle.turn_client_laws.proofs.MoveLemmas.{by_test}
+use Rattle.turn_client_laws.proofs.OneInputLemmas.{datagram-by}
 use Rattle.turn_client_laws.proofs.StreamApartLemmas.{Apart, NotBroken, bound-NotBroken, bound-apart, broken-apart, bytes-apart, bytes-NotBroken, emptied-apart, filter-apart, found-NotBroken}
 use Rattle.turn_client_laws.proofs.StreamDrainLemmas.{broken_by, bytes_by, found-ready, mode_by}
 use Rattle.turn_client_laws.proofs.StreamMessageLemmas.{Same, Rebound, frame-rebound, message-same, same-cond}
@@ -31,10 +33,6 @@ rebound-apart : (s t : State) → Rebound s t → StayApart s t
 unfolding mode_by
 rebound-apart s t (inl same) h = same-apart s t same h
 rebound-apart s t (inr (local, peer, is)) h = subst Apart (sym is) (bound-apart local peer s.streams h)
-
-apart-cond : {A : Type 0} (b : Bool) (s : State) (x y : A × State) → StayApart s x.1 → StayApart s y.1 → StayApart s (cond b x y).1
-apart-cond true s x y p q = p
-apart-cond false s x y p q = q
 
 -- ---- steps
 
@@ -113,7 +111,7 @@ piece_in_mode to Waiting stream piece now s e h =
     first_frame_step-apart u piece now s whole h
 piece_in_mode to (Bound peer) stream piece now s e h = emptied-apart stream.local s.streams h
 piece_in_mode to Broken stream piece now s e h =
-    apart-cond (same_address stream.local s.local) s (then_all now (Handled, s)) (Handled, s) (then_all-apart now (Handled, s)) (λ k. k) h
+    by_test (StayApart s) (same_address stream.local s.local) (then_all now (Handled, s)) (Handled, s) (then_all-apart now (Handled, s)) (λ k. k) h
 
 gone-same : (local : SocketAddr) (s : State) → Same s (connection_gone local s)
 gone-same local s = same-cond (is_some (connection_at local s)) s _ _ refl refl
@@ -125,12 +123,7 @@ stream-apart to stream [] now s e h =
 stream-apart to stream (b ∷ bs) now s e h = piece_in_mode to stream.mode stream (b ∷ bs) now s e h
 
 datagram-same : (bytes : List ℕ) (now : ℕ) (s : State) → Same s (datagram_step bytes now s).1
-datagram-same bytes now s = by (is_message bytes) (is_channel_frame bytes)
-  where
-    by : (b c : Bool) → Same s (cond {A = Outcome × State} b (message_step bytes now s) (cond {A = Outcome × State} c (channel_sent s bytes, s) (Ignored, s))).1
-    by true c = message-same bytes now s
-    by false true = refl
-    by false false = refl
+datagram-same bytes now s = datagram-by (Same s) bytes now s refl (λ whole. message-same bytes now s)
 
 pub recv-apart : (transport : TransportType) (from to : SocketAddr) (bytes : List ℕ) (now : ℕ) (s : State) → StayApart s (recv_step transport from to bytes now s).1
 recv-apart transport from to bytes now =

@@ -1,6 +1,6 @@
 -- How many bytes the streams hold, where those of one local address count once: a step decreases the
 -- number.
-use Rattle.std.proofs.Common.{◌≡◌, ℕ, ◌+◌, ◌-◌, ◌<◌, ◌≤◌, max, Bool, true, false, cond, List, [], ◌∷◌, length, map, Some, refl, sym, ap, ◌∙◌, arith}
+use Rattle.std.proofs.Common.{◌≡◌, ℕ, ◌+◌, ◌-◌, ◌<◌, ◌≤◌, max, Bool, true, false, cond, List, [], ◌∷◌, length, map, Some, refl, sym, ap, ◌∙◌, arith, inl, inr}
 use Rattle.std.specs.Prelude.{find, sum_by}
 use Rattle.std.proofs.lemmas.Bool.{false_from_ne_true}
 use Rattle.std.proofs.lemmas.List.Sums.{sum_by-cons}
@@ -8,6 +8,7 @@ use Rattle.std.specs.declared.net.socket_addr.SocketAddr.{SocketAddr}
 use Rattle.turn_agent.specs.Agent.{same_address}
 use Rattle.turn_client_api.specs.declared.state.Stream.{Stream}
 use Rattle.turn_client_laws.proofs.AddressLemmas.{same_address-true, same_address-self}
+use Rattle.turn_client_laws.proofs.HasLemmas.{Has, has-found}
 
 -- the most bytes of the streams at this local address
 unfoldable pub top : SocketAddr → List Stream → ℕ
@@ -26,17 +27,11 @@ weight-le [] = omega arith
 weight-le (x ∷ xs) = omega (arith, weight-le xs, sum_by-cons (λ (stream : Stream). length stream.bytes) x xs)
 
 -- a stream in the list counts
-pub found-le-top : (p : Stream → Bool) (xs : List Stream) (stream : Stream) → find p xs ≡ Some stream → length stream.bytes ≤ top stream.local xs
+has-le-top : (stream : Stream) (xs : List Stream) → Has stream xs → length stream.bytes ≤ top stream.local xs
 unfolding top
-found-le-top p [] stream h = cc
-found-le-top p (x ∷ xs) stream h = by (p x) refl (found-le-top p xs stream)
-  where
-    by : (b : Bool) → p x ≡ b → (find p xs ≡ Some stream → length stream.bytes ≤ top stream.local xs) → length stream.bytes ≤ top stream.local (x ∷ xs)
-    by true e later =
-        let is : Some x ≡ Some stream = rw e at h in
-        let same : x ≡ stream = cc in
-        rw (same, same_address-self stream.local) (omega arith)
-    by false e later = let more = later (rw e at h) in omega (arith, more)
+has-le-top stream [] none = absurd none
+has-le-top stream (x ∷ xs) (inl is) = rw (← is, same_address-self stream.local) (omega arith)
+has-le-top stream (x ∷ xs) (inr there) = let more = has-le-top stream xs there in omega (arith, more)
 
 -- ---- a change of each stream that keeps its local address
 
@@ -127,4 +122,4 @@ weight-set local bytes f is (x ∷ xs) = rw (is.keeps x) (by (same_address x.loc
 pub weight-less : (p : Stream → Bool) (xs : List Stream) (stream : Stream) (bytes : List ℕ) (f : Stream → Stream) → find p xs ≡ Some stream → Sets stream.local bytes f
     → length bytes < length stream.bytes → weight (map f xs) < weight xs
 weight-less p xs stream bytes f found is fewer =
-    omega (arith, weight-set stream.local bytes f is xs, top-set stream.local bytes f is xs, found-le-top p xs stream found, fewer)
+    omega (arith, weight-set stream.local bytes f is xs, top-set stream.local bytes f is xs, has-le-top stream xs (has-found p stream xs found).0, fewer)

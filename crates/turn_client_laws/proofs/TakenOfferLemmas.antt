@@ -3,7 +3,7 @@ use Rattle.std.proofs.Common.{◌≡◌, ℕ, Bool, true, false, List, [], ◌�
 use Rattle.std.specs.declared.net.socket_addr.SocketAddr.{SocketAddr}
 use Rattle.std.proofs.lemmas.Bool.{cases_Bool}
 use Rattle.turn_client_api.specs.declared.grant.Grant.{Grant}
-use Rattle.turn_client_api.specs.declared.grant.Grant.TheVariants.{Allocation, Permission, Channel, Connect, Offer, Connection}
+use Rattle.turn_client_api.specs.declared.grant.Grant.TheVariants.{Offer}
 use Rattle.turn_client_api.specs.declared.grant.Purpose.{Purpose}
 use Rattle.turn_client_api.specs.declared.grant.Purpose.TheVariants.{ForAllocation}
 use Rattle.turn_client_api.specs.Grants.{is_for}
@@ -26,10 +26,6 @@ stays-first which g (x ∷ xs) (inr there) kept =
 
 -- no request is for an offer
 pub no-offer : (id : ℕ) (peer : SocketAddr) (p : Purpose) (g : Grant) → is_for p g ≡ true → is_offer_of id peer g ≡ false
-no-offer id peer p (Allocation a) for = refl
-no-offer id peer p (Permission ip progress) for = refl
-no-offer id peer p (Channel number to progress) for = refl
-no-offer id peer p (Connect to) for = refl
-no-offer id peer p (Connection c) for = refl
 no-offer id peer ForAllocation (Offer offer) for = cc
 no-offer id peer p (Offer offer) for = cc
+no-offer id peer p g for = refl

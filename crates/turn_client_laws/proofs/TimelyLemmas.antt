@@ -1,9 +1,10 @@
 -- The time that `poll` returns is timely.
 use Rattle.std.proofs.Common.{◌≡◌, ◌≢◌, ℕ, ◌^◌, ◌<◌, ◌≤◌, max, Bool, true, false, ltb, eqb, List, [], ◌∷◌, length, Option, Some, None, ◌⊎◌, inl, inr, refl, sym, subst, ◌∙◌, arith}
+use Rattle.turn_agent.proofs.TransactionLemmas.{is_outstanding-without}
 use Rattle.std.specs.Prelude.{if◌then◌else◌, is_some}
 use Rattle.std.specs.Option.{option_map_or}
 use Rattle.std.proofs.Math.Nat.{max-le, le-max_right}
-use Rattle.std.proofs.lemmas.Bool.{ltb-true, ltb-false, eq-eqb, cases_Bool}
+use Rattle.std.proofs.lemmas.Bool.{ltb-true, ltb-false, eq-eqb}
 use Rattle.std.specs.declared.net.socket_addr.SocketAddr.{SocketAddr}
 use Rattle.turn_agent.specs.Agent.{timed_out_transaction, is_timed_out, is_outstanding}
 use Rattle.turn_agent.specs.Agent as A
@@ -26,6 +27,8 @@ use Rattle.turn_client_api.specs.declared.poll.TurnPollRet.TheVariants as Do
 use Rattle.turn_client_laws.proofs.HasLemmas.{Has, has-found}
 use Rattle.turn_client_laws.proofs.ReadyLemmas.{Alive, IsReady, new-busy, ready-busy, ready-silent, reply-busy}
 use Rattle.turn_client_laws.proofs.LapseLemmas.{lapsed-alive, lapsed-no_offer, lapsed-shrinks}
+use Rattle.turn_client_laws.proofs.WakeupLemmas.{phase-old}
+use Rattle.turn_client_laws.proofs.InAllocationLemmas.{has-any}
 
 abbrev Timely : ℕ → State → TurnPollRet × State → Type 0
 Timely now was answer = IsTimely answer.0 now was answer.1
@@ -58,10 +61,6 @@ pub record IsSettled (now : ℕ) (was : State) (given : Bool) (t : State) : Type
   pub alive : t.events ≡ [] → given ≡ false → (g : Grant) → Has g t.grants → Alive now g
   pub grants_later : given ≡ false → (t.phase ≡ Allocated) ⊎ (t.grants ≡ [])
 
-not_new-false : (p : Phase) → p ≢ New → is_new p ≡ false
-not_new-false New old = absurd (old refl)
-not_new-false p old = refl
-
 ready-timely : (now : ℕ) (was t : State) (m : ℕ) → now ≤ 2 ^ 62 → IsReady now t → (m ≡ least_due now t) ⊎ (m ≡ max now (least_due now t)) → Timely now was (Do.WaitUntil m, t)
 ready-timely now was t m range ready (inl e) =
     (λ later. ready-silent now m t ready (omega (arith, e)), λ reached. inr (inl (ready-busy now t ready range (omega (arith, e, reached)))))
@@ -78,7 +77,7 @@ wakeup-timely : (now : ℕ) (was : State) (given : Bool) (t : State) → IsSettl
 wakeup-timely now was given t settled no_close = by (has_event t) given refl refl
   where
     old : is_new t.phase ≡ false
-    old = not_new-false t.phase settled.not_new
+    old = phase-old t.phase settled.not_new
 
     answer : ℕ → Type 0
     answer m = Timely now was (Do.WaitUntil m, t)
@@ -123,15 +122,6 @@ answer-timely now was given t settled = by t.closes t.phase (allocations t) refl
 
 -- ---- what timed out
 
-found-outstanding : (p : Transaction → Bool) (x : Transaction) (xs : List Transaction) → Has x xs → is_outstanding x.id xs ≡ true
-found-outstanding p x [] h = absurd h
-found-outstanding p x (y ∷ ys) (inl e) = rw (subst (λ z. eqb z.id x.id ≡ true) e (eq-eqb x.id x.id refl)) refl
-found-outstanding p x (y ∷ ys) (inr h) = elim (cases_Bool (eqb y.id x.id)) [ inl e ↦ rw e refl | inr e ↦ rw e (found-outstanding p x ys h) ]
-
-without-ended : (id : ℕ) (xs : List Transaction) → is_outstanding id (A.without_transaction id xs) ≡ false
-without-ended id [] = refl
-without-ended id (y ∷ ys) = elim (cases_Bool (eqb y.id id)) [ inl e ↦ rw e (without-ended id ys) | inr e ↦ rw e (rw e (without-ended id ys)) ]
-
 -- ---- the phases
 
 no_grants-alive : (now : ℕ) (t : State) → t.grants ≡ [] → (g : Grant) → Has g t.grants → Alive now g
@@ -161,10 +151,12 @@ given-timely now s orderly range no_reply no_offer x given p e = by p e
     u = transaction_ended x.id s
 
     outstanding : is_outstanding x.id s.transactions ≡ true
-    outstanding = found-outstanding (is_timed_out (agent_of s).timers s.transport now) x s.transactions (has-found (is_timed_out (agent_of s).timers s.transport now) x s.transactions given).0
+    outstanding =
+        has-any (λ (y : Transaction). eqb y.id x.id) x s.transactions (has-found (is_timed_out (agent_of s).timers s.transport now) x s.transactions given).0
+        (eq-eqb x.id x.id refl)
 
     gave : GaveUp s u
-    gave = (x, outstanding, without-ended x.id s.transactions)
+    gave = (x, outstanding, is_outstanding-without x.id s.transactions)
 
     over : (b : Bool) → s.phase ≡ Authenticating → Timely now s (answer_step (Some x.id) now (if b then closed u else u))
     over true e = answer-timely now s (Some x.id) (closed u) (settled-given now s (closed u) range (λ new. cc) no_reply refl gave)
@@ -176,7 +168,7 @@ given-timely now s orderly range no_reply no_offer x given p e = by p e
     by Allocated e =
         let t = lapsed (Some x.id) now u in
         let shrinks = lapsed-shrinks (Some x.id) now u in
-        let gave_later : GaveUp s t = (x, outstanding, rw shrinks.transactions (without-ended x.id s.transactions)) in
+        let gave_later : GaveUp s t = (x, outstanding, rw shrinks.transactions (is_outstanding-without x.id s.transactions)) in
         answer-timely now s (Some x.id) t (settled-given now s t range (old-phase Allocated t.phase (shrinks.phase ∙ e) (λ new. cc)) (rw shrinks.queue no_reply)
         (lapsed-no_offer u t shrinks no_offer) gave_later)
     by p e = tt

@@ -45,11 +45,13 @@ pub among-done : (Did : Input → Type 0) (call : Call) (s : State) → Among Di
 among-done Did call s (one, there, did) = (one, has-contains one (handled call s) there, did)
 
 -- the first inputs of the call are among all of them
-pub front-done : (Did : Input → Type 0) (call : Call) (s : State) (front later : List Input) → handled call s ≡ front ++ later → Among Did front → IsDoneBy Did call s
+pub front-done : (Did : Input → Type 0) (call : Call) (s : State) (front later : List Input) → handled call s ≡ front ++ later → Among Did front
+    → IsDoneBy Did call s
 front-done Did call s front later all (one, there, did) = among-done Did call s (one, subst (Has one) (sym all) (has-left one front later there), did)
 
 -- what holds after the inputs held before them, or one of them caused it
-pub leads-back : (P : State → Type 0) (Did : Input → Type 0) → ((s t : State) → DiffersInStreams s t → P t → P s) → ((one : Input) → P (processed one).1 → P one.before ⊎ Did one)
+pub leads-back : (P : State → Type 0) (Did : Input → Type 0) → ((s t : State) → DiffersInStreams s t → P t → P s)
+    → ((one : Input) → P (processed one).1 → P one.before ⊎ Did one)
     → (turns : List Input) (s t : State) → InputsLead turns s t → P t → P s ⊎ Among Did turns
 leads-back P Did alike step [] s t differs h = inl (alike s t differs h)
 leads-back P Did alike step (one ∷ turns) s t (differs, lead) h = by (leads-back P Did alike step turns (processed one).1 t lead h)
@@ -67,7 +69,8 @@ module _ (P : State → Type 0) (Did : Input → Type 0) (k : IsBrought P Did) w
 
   pub turn-brings : (one : Input) → P (processed one).1 → Brings one
   turn-brings one =
-      input-by (λ t. P t → Brings one) one (λ h. inl h) (λ over whole h. k.message one over whole h) (λ stream of waits whole h. k.binds one stream of waits whole h)
+      input-by (λ t. P t → Brings one) one (λ h. inl h) (λ over whole h. k.message one over whole h)
+      (λ stream of waits whole h. k.binds one stream of waits whole h)
 
   pub lead-brings : (turns : List Input) (s t : State) → InputsLead turns s t → P t → P s ⊎ Among Did turns
   lead-brings = leads-back P Did k.differs turn-brings

@@ -21,13 +21,17 @@ use Rattle.turn_client_api.specs.declared.call.Call.TheVariants.{Recv, PollRecv}
 use Rattle.turn_client_laws.specs.LawsHandled.{DiffersInStreams, ProcessesInputs, IsBoundAt, TakesInput, InputsLead}
 use Rattle.turn_client_laws.proofs.HasLemmas.{Has, has-filter}
 use Rattle.turn_client_laws.proofs.GrantOriginLemmas.{has-mapped}
+use Rattle.turn_client_laws.proofs.MoveLemmas.{on_test}
 use Rattle.turn_client_laws.proofs.StandLemmas.{contains-has, has-contains}
 use Rattle.turn_client_laws.proofs.PacketLemmas.{packet-by}
 
 -- ---- streams
 
--- what each bound stream was before
-bound-mapped : (f : Stream → Stream) → ((x : Stream) (peer : SocketAddr) → (f x).mode ≡ Bound peer → ((f x).local ≡ x.local) × (x.mode ≡ Bound peer)) → (s : State) (local peer : SocketAddr)
+-- what is bound so was bound so before
+abbrev WasBound : Stream → SocketAddr → Stream → Type 0
+WasBound x peer y = y.mode ≡ Bound peer → (y.local ≡ x.local) × (x.mode ≡ Bound peer)
+
+bound-mapped : (f : Stream → Stream) → ((x : Stream) (peer : SocketAddr) → WasBound x peer (f x)) → (s : State) (local peer : SocketAddr)
     → IsBoundAt local peer (record s { streams = map f s.streams }) → IsBoundAt local peer s
 bound-mapped f keeps s local peer (x, there, at, mode) = by (has-mapped f x s.streams (contains-has x (map f s.streams) there))
   where
@@ -46,25 +50,16 @@ differs-trans s t u first second = record {
 }
 
 pub bytes-differs : (a : SocketAddr) (bytes : List ℕ) (s : State) → DiffersInStreams s (with_bytes a bytes s)
-bytes-differs a bytes s = record { others = refl; bound = bound-mapped f (λ x peer. by (same_address x.local a) x peer) s }
-  where
-    f : Stream → Stream
-    f x = cond (same_address x.local a) (record x { bytes = bytes }) x
-
-    by : (b : Bool) (x : Stream) (peer : SocketAddr) → (cond b (record x { bytes = bytes }) x).mode ≡ Bound peer → ((cond b (record x { bytes = bytes }) x).local ≡ x.local) × (x.mode ≡ Bound peer)
-    by true x peer e = (refl, e)
-    by false x peer e = (refl, e)
+bytes-differs a bytes s = record {
+  others = refl;
+  bound = bound-mapped _ (λ x peer. on_test (WasBound x peer) (same_address x.local a) (record x { bytes = bytes }) x (λ e. (refl, e)) (λ e. (refl, e))) s;
+}
 
 pub broken-differs : (a : SocketAddr) (s : State) → DiffersInStreams s (broken_at a s)
-broken-differs a s = record { others = refl; bound = bound-mapped f (λ x peer. by (same_address x.local a) x peer) s }
-  where
-    f : Stream → Stream
-    f x = cond (same_address x.local a) (record x { mode = Broken; bytes = [] }) x
-
-    by : (b : Bool) (x : Stream) (peer : SocketAddr) → (cond b (record x { mode = Broken; bytes = [] }) x).mode ≡ Bound peer → ((cond b (record x { mode = Broken; bytes = [] }) x).local ≡ x.local)
-        × (x.mode ≡ Bound peer)
-    by true x peer e = cc
-    by false x peer e = (refl, e)
+broken-differs a s = record {
+  others = refl;
+  bound = bound-mapped _ (λ x peer. on_test (WasBound x peer) (same_address x.local a) (record x { mode = Broken; bytes = [] }) x (λ e. cc) (λ e. (refl, e))) s;
+}
 
 pub dropped-differs : (a : SocketAddr) (s : State) → DiffersInStreams s (without_stream a s)
 dropped-differs a s = record { others = refl; bound = by }

@@ -155,7 +155,8 @@ lists-two (CreatePermission transport ip now) s = one-two (CreatePermission tran
 lists-two (BindChannel transport peer now) s =
     one-two (BindChannel transport peer now) s (ForChannel (unwrap_or (free_number s) 0) peer) (λ purpose at asks. asks.1.2 ∙ rw asks.1.1 refl)
 lists-two (TcpConnect peer now) s = one-two (TcpConnect peer now) s (ForConnect peer) (λ purpose at asks. asks.1)
-lists-two (AllocatedTcpSocket id tuple peer (Some local) now) s = one-two (AllocatedTcpSocket id tuple peer (Some local) now) s (ForBind local peer id) (λ purpose at asks. asks.1)
+lists-two (AllocatedTcpSocket id tuple peer (Some local) now) s =
+    one-two (AllocatedTcpSocket id tuple peer (Some local) now) s (ForBind local peer id) (λ purpose at asks. asks.1)
 lists-two (PollTransmit now) s = one-two (PollTransmit now) s (next-purpose s.phase wanted) by
   where
     wanted : Option Purpose
@@ -170,9 +171,11 @@ lists-two call s = (ForAllocation, ForAllocation, λ p l. absurd l.2)
 
 -- what holds for each listing that is added
 abbrev IsListingHere : Call → State → Listing → Type 0
-IsListingHere call s l = (purpose : Purpose) × (at : ℕ) × AsksFor call s purpose at × IsListedFor purpose l.purpose × IsListedAs purpose at s (state_after call s) l
+IsListingHere call s l =
+    (purpose : Purpose) × (at : ℕ) × AsksFor call s purpose at × IsListedFor purpose l.purpose × IsListedAs purpose at s (state_after call s) l
 
-quiet-two : (call : Call) (s : State) → ((l : Listing) → Contains (state_after call s).listed l → Contains s.listed l ⊎ IsListingHere call s l) → StayTwo s (state_after call s)
+quiet-two : (call : Call) (s : State) → ((l : Listing) → Contains (state_after call s).listed l → Contains s.listed l ⊎ IsListingHere call s l)
+    → StayTwo s (state_after call s)
 quiet-two call s came =
     two-more (Lists call s) s (state_after call s) (lists-two call s) (λ l there. by l (came l (has-contains l (state_after call s).listed there)))
   where
@@ -186,9 +189,11 @@ quiet-two call s came =
 again-two : (message : List ℕ) (now : ℕ) (s t : State) → Adds (IsListedAgain message now s t) s.listed t.listed → StayTwo s t
 again-two message now s t adds h = two-more (λ p. Has (listing (id_of message) p) s.listed) s t (h (id_of message)) (λ l there. by l (adds l there)) h
   where
-    by : (l : Listing) → Has l s.listed ⊎ IsListedAgain message now s t l → Has l s.listed ⊎ ((l.id ≡ fresh_id s) × Has (listing (id_of message) l.purpose) s.listed)
+    by : (l : Listing) → Has l s.listed ⊎ IsListedAgain message now s t l
+        → Has l s.listed ⊎ ((l.id ≡ fresh_id s) × Has (listing (id_of message) l.purpose) s.listed)
     by l (inl old) = inl old
-    by l (inr (purpose, asked, answers, (made, is))) = inr (is, purpose-with (id_of message) l.purpose s (contains-has l.purpose (purposes_of (id_of message) s) answers))
+    by l (inr (purpose, asked, answers, (made, is))) =
+        inr (is, purpose-with (id_of message) l.purpose s (contains-has l.purpose (purposes_of (id_of message) s) answers))
 
 StayTwo-IsKept : IsKept StayTwo
 StayTwo-IsKept = record {

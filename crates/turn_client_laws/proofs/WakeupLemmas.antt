@@ -1,9 +1,9 @@
 -- When a caller is to call again.
-use Rattle.std.proofs.Common.{◌≡◌, ◌⊎◌, ℕ, ◌+◌, ◌≤◌, Bool, true, false, cond, ltb, length, ◌||◌, List, [], ◌∷◌, fold, min, max, refl, ap, ◌∙◌, inl, inr, arith}
+use Rattle.std.proofs.Common.{◌≡◌, ◌⊎◌, ℕ, ◌+◌, ◌≤◌, Bool, true, false, cond, ltb, length, List, [], ◌∷◌, fold, min, max, refl, ap, ◌∙◌, inl, inr, arith, ◌||◌}
 use Rattle.std.specs.Prelude.{◌≢◌, All}
 use Rattle.std.specs.List.{Contains}
 use Rattle.std.proofs.Math.Nat.{min-le_left, min-le_right, min-eq_left}
-use Rattle.std.proofs.lemmas.Bool.{cases_lt, lt-ltb}
+use Rattle.std.proofs.lemmas.Bool.{cases_lt, lt-ltb, or_left, or_right}
 use Rattle.std.proofs.lemmas.List.Elements.{All-nil, All-cons}
 use Rattle.turn_client_api.specs.State.{State, max_time, later_by}
 use Rattle.turn_client_api.specs.declared.state.Phase.{Phase}
@@ -61,46 +61,28 @@ due-IsLeast now s = from_first max_time (later_by max_wait now) _ (min-le_right 
 pub wakeup-new : (has_given_up : Bool) (now : ℕ) (s : State) → s.phase ≡ New → next_wakeup has_given_up now s ≡ now
 wakeup-new given now s e = rw e refl
 
-wakeup-when : (b : Bool) (now other : ℕ) → b ≡ true → cond b now other ≡ now
-wakeup-when b now other e = rw e refl
-
-second_of : (a b c d : Bool) → b ≡ true → (a || b || c || d) ≡ true
-second_of true b c d e = refl
-second_of false b c d e = rw e refl
-
-third_of : (a b c d : Bool) → c ≡ true → (a || b || c || d) ≡ true
-third_of false false c d e = rw e refl
-third_of a b c d e = refl
-
-fourth_of : (a b c : Bool) → (a || b || c || true) ≡ true
-fourth_of true b c = refl
-fourth_of false true c = refl
-fourth_of false false true = refl
-fourth_of false false false = refl
+wakeup-busy : (given : Bool) (now : ℕ) (s : State) → (is_new s.phase || has_event s || has_reply s || given) ≡ true → next_wakeup given now s ≡ now
+wakeup-busy given now s e = rw e refl
 
 events-waiting : (events : List TurnEvent) → events ≢ [] → ltb 0 (length events) ≡ true
 events-waiting [] h = absurd (h refl)
 events-waiting (e ∷ es) h = lt-ltb 0 (length (e ∷ es)) (omega arith)
 
 pub wakeup-event : (has_given_up : Bool) (now : ℕ) (s : State) → s.events ≢ [] → next_wakeup has_given_up now s ≡ now
-wakeup-event given now s h = wakeup-when _ now _ (second_of (is_new s.phase) (has_event s) (has_reply s) given (events-waiting s.events h))
+wakeup-event given now s h = wakeup-busy given now s (or_left _ given (or_left _ (has_reply s) (or_right (is_new s.phase) _ (events-waiting s.events h))))
 
 pub wakeup-reply : (has_given_up : Bool) (now : ℕ) (s : State) → has_reply s ≡ true → next_wakeup has_given_up now s ≡ now
-wakeup-reply given now s h = wakeup-when _ now _ (third_of (is_new s.phase) (has_event s) (has_reply s) given h)
+wakeup-reply given now s h = wakeup-busy given now s (or_left _ given (or_right (is_new s.phase || has_event s) _ h))
 
 pub wakeup-given_up : (now : ℕ) (s : State) → next_wakeup true now s ≡ now
-wakeup-given_up now s = wakeup-when _ now _ (fourth_of (is_new s.phase) (has_event s) (has_reply s))
+wakeup-given_up now s = wakeup-busy true now s (or_right (is_new s.phase || has_event s || has_reply s) true refl)
 
 -- ---- if nothing is pending
 
 waits_not : (events : List TurnEvent) → events ≡ [] → ltb 0 (length events) ≡ false
-waits_not [] e = refl
-waits_not (x ∷ xs) e = absurd (unlike e)
-  where
-    unlike : x ∷ xs ≡ [] → ⊥
-    unlike h = cc
+waits_not events e = rw e refl
 
-phase-old : (p : Phase) → p ≢ New → is_new p ≡ false
+pub phase-old : (p : Phase) → p ≢ New → is_new p ≡ false
 phase-old New old = absurd (old refl)
 phase-old p old = refl
 
@@ -115,24 +97,8 @@ quiet now s old none no_reply =
 
 pub wakeup-others : (now : ℕ) (s : State) → s.phase ≢ New → s.phase ≢ Allocated → s.events ≡ [] → has_reply s ≡ false → next_wakeup false now s ≡ least_due now s
 wakeup-others now s old other none no_reply =
-    let asleep = quiet now s (phase-old s.phase old) none no_reply in
-    asleep ∙ other_time (is_allocated s.phase) (phase-other s.phase other)
-  where
-    other_time : (b : Bool) → b ≡ false → cond b (max now (least_due now s)) (least_due now s) ≡ least_due now s
-    other_time true e = absurd (wrong e)
-      where
-        wrong : true ≡ false → ⊥
-        wrong h = cc
-    other_time false e = refl
+    let sleeps : is_allocated s.phase ≡ false = phase-other s.phase other in
+    quiet now s (phase-old s.phase old) none no_reply ∙ rw sleeps refl
 
 pub wakeup-allocated : (now : ℕ) (s : State) → s.phase ≡ Allocated → s.events ≡ [] → has_reply s ≡ false → next_wakeup false now s ≡ max now (least_due now s)
-wakeup-allocated now s live none no_reply =
-    let asleep = quiet now s (ap is_new live) none no_reply in
-    asleep ∙ later_time (is_allocated s.phase) (ap is_allocated live)
-  where
-    later_time : (b : Bool) → b ≡ true → cond b (max now (least_due now s)) (least_due now s) ≡ max now (least_due now s)
-    later_time true e = refl
-    later_time false e = absurd (wrong e)
-      where
-        wrong : false ≡ true → ⊥
-        wrong h = cc
+wakeup-allocated now s live none no_reply = quiet now s (ap is_new live) none no_reply ∙ rw live refl

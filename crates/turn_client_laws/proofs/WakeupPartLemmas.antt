@@ -1,5 +1,6 @@
 -- The returned time, part by part.
-use Rattle.std.proofs.Common.{◌≡◌, ℕ, ◌+◌, ◌≤◌, max, min, Bool, true, false, cond, List, [], ◌∷◌, ◌++◌, map, filter_map, flat_map, fold, Option, Some, None, refl, sym, ap, ◌∙◌, arith}
+use Rattle.std.proofs.Common.{◌≡◌, ℕ, ◌+◌, ◌≤◌, max, min, Bool, true, false, cond, List, [], ◌∷◌, ◌++◌, map, filter_map, flat_map, fold, Option, Some}
+use Rattle.std.proofs.Common.{None, refl, ap, ◌∙◌, arith}
 use Rattle.std.specs.Prelude.{option_to_list}
 use Rattle.std.specs.Option.{option_map_or}
 use Rattle.std.proofs.Math.Nat.{min-le_right}
@@ -40,13 +41,7 @@ joined p a b e r = omega arith
 -- the earliest expiries and refreshes of one and of the others
 combined : (p a b e r whole front later ends refreshes : ℕ) → whole ≡ min front later → front ≡ min a (max p b) → later ≡ min e (max p r) → ends ≡ min a e → refreshes ≡ min b r
     → whole ≡ min ends (max p refreshes)
-combined p a b e r whole front later ends refreshes h f l he hr =
-    h
-    ∙ (ap (λ x. min x later) f
-    ∙ (ap (min (min a (max p b))) l
-    ∙ (joined p a b e r
-    ∙ (ap (λ x. min x (max p (min b r))) (sym he)
-    ∙ ap (λ x. min ends (max p x)) (sym hr)))))
+combined p a b e r whole front later ends refreshes h f l he hr = rw (h, f, l, he, hr) (joined p a b e r)
 
 -- ---- grants
 
