@@ -1,5 +1,5 @@
 -- What a call leaves if memory allocation fails: what messages and the end of a client keep is kept.
-use Rattle.std.proofs.Common.{◌≡◌, ◌⊎◌, ℕ, Bool, true, false, cond, List, Option, Some, None, refl, subst, sym, inl, inr}
+use Rattle.std.proofs.Common.{◌≡◌, ◌⊎◌, ℕ, Bool, true, false, cond, List, Option, Some, None, refl, subst, sym, inl, inr, arith}
 use Rattle.std.specs.Prelude.{IsSomeAnd, find}
 use Rattle.std.proofs.lemmas.Option.{none-some, same_Some}
 use Rattle.std.specs.declared.net.socket_addr.SocketAddr.{SocketAddr}
@@ -15,9 +15,8 @@ use Rattle.turn_client_api.specs.Receive.{first_frame_step}
 use Rattle.turn_client_api.specs.Answers.{EndsAfterSteps, RecvEnds, before_others}
 use Rattle.turn_client_api.specs.Steps.{EndsWithoutMemory, Leaves, state_after}
 use Rattle.turn_client_api.specs.declared.call.Call.{Call}
-use Rattle.turn_client_api.specs.declared.call.Call.TheVariants.{SendTo, Recv, PollRecv, Poll, PollTransmit}
-use Rattle.turn_client_api.specs.declared.call.Call.TheVariants.{PollEvent, RelayedAddresses}
-use Rattle.turn_client_api.specs.declared.call.Call.TheVariants.{Permissions, HavePermission, ProtocolError}
+use Rattle.turn_client_api.specs.declared.call.Call.TheVariants.{SendTo, Recv, PollRecv, Poll, PollTransmit, PollEvent, RelayedAddresses, Permissions}
+use Rattle.turn_client_api.specs.declared.call.Call.TheVariants.{HavePermission, ProtocolError}
 use Rattle.turn_client_laws.specs.LawsHandled.{TakesInput}
 use Rattle.turn_client_laws.proofs.RunKeepLemmas.{IsKept, first_frame_step-kept, turns-kept}
 
@@ -36,9 +35,7 @@ IsBehind to piece now s u =
 
 behind-same : (p : Outcome × State) (u : State) → behind p ≡ Some u → u ≡ p.1
 unfolding behind
-behind-same (PeerData payload, t) u e = absurd (none-some u e)
-behind-same (PeerIcmp transport peer icmp, t) u e = absurd (none-some u e)
-behind-same (_, t) u e = sym (same_Some t u e)
+behind-same p u e = grind arith
 
 pub before-IsBehind : (to : SocketAddr) (piece : List ℕ) (now : ℕ) (s u : State) → before_others to piece now s ≡ Some u → IsBehind to piece now s u
 unfolding behind

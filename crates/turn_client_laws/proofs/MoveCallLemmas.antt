@@ -1,5 +1,5 @@
 -- What each call requests, and what it removes.
-use Rattle.std.proofs.Common.{◌≡◌, ◌⊎◌, ℕ, Bool, true, false, not, cond, ◌||◌, List, [], ◌∷◌, map, Option, Some, None, Result, Err, refl, inl, inr}
+use Rattle.std.proofs.Common.{◌≡◌, ◌⊎◌, ℕ, Bool, true, false, not, cond, ◌||◌, List, [], ◌∷◌, map, Option, Some, None, Result, Err, refl, inl, inr, arith}
 use Rattle.std.specs.Prelude.{filter_map, is_some, is_none}
 use Rattle.std.specs.List.{list_any}
 use Rattle.std.specs.Net.Socket.{socket_ip}
@@ -12,7 +12,7 @@ use Rattle.turn_agent.specs.Agent.{first_sent}
 use Rattle.turn_agent.specs.declared.transaction.Transaction.{Transaction}
 use Rattle.turn_client_api.specs.State.{State}
 use Rattle.turn_client_api.specs.declared.grant.Grant.{Grant}
-use Rattle.turn_client_api.specs.declared.grant.Grant.TheVariants.{Allocation, Permission, Connect}
+use Rattle.turn_client_api.specs.declared.grant.Grant.TheVariants.{Permission, Connect}
 use Rattle.turn_client_api.specs.declared.grant.Relay.{Relay}
 use Rattle.turn_client_api.specs.declared.grant.Listing.{Listing}
 use Rattle.turn_client_api.specs.declared.grant.Progress.TheVariants.{Pending}
@@ -29,9 +29,9 @@ use Rattle.turn_client_api.specs.declared.call.Call.TheVariants.{CreatePermissio
 use Rattle.turn_client_laws.specs.LawsRequests.{AsksFor, IsListedAs, IsListedFor, IsMade, IsMadeAs, IsSentAgain}
 use Rattle.turn_client_laws.specs.LawsGone.{IsTakenBy, grant_identity}
 use Rattle.turn_client_laws.proofs.HasLemmas.{Has}
-use Rattle.turn_client_laws.proofs.MoveLemmas.{Moves, Never, Settles, adds-more, adds-one, adds-never, adds-same, by_test, on_test, loses-map}
+use Rattle.turn_client_laws.proofs.MoveLemmas.{Moves, Never, Settles, adds-more, adds-one, adds-never, adds-same, by_test, loses-map}
 use Rattle.turn_client_laws.proofs.MoveLemmas.{loses-more, loses-same, settles-moves, settles-same}
-use Rattle.turn_client_laws.proofs.MoveMessageLemmas.{made-of, request_made, requested-made}
+use Rattle.turn_client_laws.proofs.MoveMessageLemmas.{each-listing, made-of, request_made, requested-made}
 use Rattle.turn_client_laws.proofs.GrantOriginLemmas.{has-mapped}
 
 -- what the call makes, if it leaves this state
@@ -67,10 +67,7 @@ does-requested call purpose now s u asks (made, listed, lost) = (
 -- ---- calls that need an allocation
 
 expired-grant_identity : (family : AddressFamily) (g : Grant) → grant_identity g ≡ grant_identity (changed_allocation (λ a. is_of_family family a.relayed) (λ a. record a { is_expired = true }) g)
-expired-grant_identity family (Allocation a) =
-    on_test (λ g. grant_identity (Allocation a) ≡ grant_identity g) (is_of_family family a.relayed) (Allocation (record a { is_expired = true }))
-    (Allocation a) refl refl
-expired-grant_identity family g = refl
+expired-grant_identity family g = grind arith
 
 does-in : {E : Type 0} (call : Call) (o : Option Relay) (ip : IpAddr) (now : ℕ) (refusal : E) (s : State) (otherwise : Result Unit E × State) → Does call s otherwise.1
     → Does call s (in_allocation o ip now refusal s otherwise).1
@@ -147,10 +144,9 @@ module _ (transport : TransportType) (peer : SocketAddr) (now : ℕ) (s : State)
       made = made-of purpose now s t (request_for s purpose (fresh_id s)) (inl refl) s.transactions refl
 
       listed : (l : Listing) → Has l (listings (fresh_id s) (purpose ∷ map ForPermission (missing_permission peer s))) → ListedAt binding s t l
-      listed l there = by (has-mapped (λ (p : Purpose). record { id = fresh_id s; purpose = p }) l (purpose ∷ map ForPermission (missing_permission peer s)) there)
-        where
-          by : (p : Purpose) × Has p (purpose ∷ map ForPermission (missing_permission peer s)) × (l ≡ record { id = fresh_id s; purpose = p }) → ListedAt binding s t l
-          by (p, h, e) = rw e (purpose, now, asks, listed-with number (missing_permission peer s) (is_none (permission_state (socket_ip peer) s)) refl p h, (made, refl))
+      listed =
+          each-listing (ListedAt binding s t) (fresh_id s) (purpose ∷ map ForPermission (missing_permission peer s))
+          (λ p h. (purpose, now, asks, listed-with number (missing_permission peer s) (is_none (permission_state (socket_ip peer) s)) refl p h, (made, refl)))
 
   bound_by-does : (l : List ℕ) (b : Bool) (o : Option ℕ) → free_number s ≡ o → Does binding s (bound_by peer now s l b o).1
   bound_by-does [] true (Some number) e = bound-does number e

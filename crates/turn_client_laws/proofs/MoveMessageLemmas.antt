@@ -1,5 +1,7 @@
 -- What messages request, and what they remove.
-use Rattle.std.proofs.Common.{◌≡◌, ◌⊎◌, ℕ, eqb, ltb, leb, Bool, true, false, not, cond, ◌&&◌, List, [], ◌∷◌, ◌++◌, filter, length, Option, Some, None, refl, subst, inl, inr}
+use Rattle.std.proofs.Common.{◌≡◌, ◌⊎◌, ℕ, eqb, ltb, leb, Bool, true, false, not, cond, ◌&&◌, List, [], ◌∷◌, ◌++◌, filter, length, Option, Some, None}
+use Rattle.std.proofs.Common.{refl, subst, inl, inr, sym}
+use Rattle.std.proofs.Common.{arith}
 use Rattle.std.specs.Prelude.{find, is_some, IfSome}
 use Rattle.std.specs.List.{list_any}
 use Rattle.std.specs.Option.{option_map_or}
@@ -12,15 +14,13 @@ use Rattle.turn_stun.specs.Message.{id_of}
 use Rattle.turn_stun.specs.declared.transport.TransportType.TheVariants.{Tcp}
 use Rattle.turn_auth.specs.LongTerm.{Challenge}
 use Rattle.turn_agent.specs.Agent as A
-use Rattle.turn_agent.specs.Agent.{first_sent, is_response, same_address}
+use Rattle.turn_agent.specs.Agent.{first_sent, is_response}
 use Rattle.turn_agent.specs.declared.transaction.Transaction.{Transaction}
-use Rattle.turn_client_api.specs.State.{State}
+use Rattle.turn_client_api.specs.State.{State, later_by}
 use Rattle.turn_client_api.specs.declared.grant.Grant.{Grant}
-use Rattle.turn_client_api.specs.declared.grant.Grant.TheVariants.{Connection}
 use Rattle.turn_client_api.specs.declared.grant.DataConnection.{DataConnection}
 use Rattle.turn_client_api.specs.declared.grant.Listing.{Listing}
 use Rattle.turn_client_api.specs.declared.grant.Purpose.{Purpose}
-use Rattle.turn_client_api.specs.State.{later_by}
 use Rattle.turn_client_api.specs.declared.grant.Purpose.TheVariants.{ForAllocation}
 use Rattle.turn_client_api.specs.declared.state.Phase.{Phase}
 use Rattle.turn_client_api.specs.declared.state.Phase.TheVariants.{Requesting, Authenticating}
@@ -32,17 +32,15 @@ use Rattle.turn_client_api.specs.Judgement.{authenticating_judgement, bind_judge
 use Rattle.turn_client_api.specs.Effect.{allocate_denied, allocate_granted, transaction_ended, family_not_supported, has_code, in_phase}
 use Rattle.turn_client_api.specs.Retry.{bind_time, retried, state_after_retry, with_held}
 use Rattle.turn_client_api.specs.Connections.{attempt_indicated, attempt_requested, bind_again, bind_answered, bind_step, deadline_set, is_connected}
-use Rattle.turn_client_api.specs.Connections.{accepts_attempt, bound, not_bound}
-use Rattle.turn_client_api.specs.Connections.{with_deadline}
+use Rattle.turn_client_api.specs.Connections.{accepts_attempt, bound, not_bound, with_deadline}
 use Rattle.turn_client_api.specs.Payloads.{Outcome, Handled, Ignored, challenge_step, message_step, response_step, signed_step, wrong_step}
 use Rattle.turn_client_laws.specs.LawsReplies.{IsAccepted}
 use Rattle.turn_client_laws.specs.LawsRequests.{IsAnswer, IsListedAgain, IsMade, IsMadeAgain, Spells}
 use Rattle.turn_client_laws.specs.LawsGone.{GivesBack, IsTakenByReply, IsRemovedByInput, grant_identity}
 use Rattle.turn_client_laws.proofs.EditsOfMessages.{found-has, retried-has}
 use Rattle.turn_client_laws.proofs.HasLemmas.{Has, has-right}
-use Rattle.turn_client_laws.proofs.MoveLemmas.{Moves, Never, Settles, adds-filter, adds-more, adds-one, adds-same, loses-filter, loses-map}
-use Rattle.turn_client_laws.proofs.MoveLemmas.{loses-more, loses-same, loses-wider, on_test}
-use Rattle.turn_client_laws.proofs.MoveLemmas.{settles-moves, settles-same, settles-wider}
+use Rattle.turn_client_laws.proofs.MoveLemmas.{Moves, Never, Settles, adds-filter, adds-more, adds-one, adds-same, loses-filter, loses-map, loses-more}
+use Rattle.turn_client_laws.proofs.MoveLemmas.{loses-same, loses-wider, on_test, settles-moves, settles-same, settles-wider}
 use Rattle.turn_client_laws.proofs.MoveReplyLemmas.{IsFor, response-fits}
 use Rattle.turn_client_laws.proofs.OneInputLemmas.{bind-by, input-by}
 use Rattle.turn_client_laws.proofs.GrantOriginLemmas.{has-mapped}
@@ -58,21 +56,25 @@ turns-settled Taken message now s t settles = settles-moves (IsMadeAgain message
 pub turns-same : (Taken : Grant → Type 0) (message : List ℕ) (now : ℕ) (s : State) → Turns Taken message now s s
 turns-same Taken message now s = turns-settled Taken message now s s (settles-same Taken s)
 
+-- what holds of a request as it is listed for each of these purposes
+pub each-listing : (P : Listing → Type 0) (id : ℕ) (all : List Purpose) → ((p : Purpose) → Has p all → P (record { id = id; purpose = p })) → (l : Listing)
+    → Has l (listings id all) → P l
+each-listing P id all each l there =
+    let (p, h, e) = has-mapped (λ (p : Purpose). record { id = id; purpose = p }) l all there in
+    subst P (sym e) (each p h)
+
 -- the request is made for one purpose, and listed for some
 module _ (message : List ℕ) (now : ℕ) (s t : State) (purpose : Purpose) (answers : Has purpose (purposes_of (id_of message) s)) (made : IsMade purpose now s t) where
   made-again : IsMadeAgain message now s t (first_sent (fresh_id s) t.remote now made.text)
   made-again = (purpose, has-contains purpose (purposes_of (id_of message) s) answers, (made, refl))
 
   listed-again : (some : List Purpose) → ((p : Purpose) → Has p some → Has p (purposes_of (id_of message) s)) → (l : Listing) → Has l (listings (fresh_id s) some) → IsListedAgain message now s t l
-  listed-again some each l there = by (has-mapped (λ (p : Purpose). record { id = fresh_id s; purpose = p }) l some there)
-    where
-      by : (p : Purpose) × Has p some × (l ≡ record { id = fresh_id s; purpose = p }) → IsListedAgain message now s t l
-      by (p, h, e) = rw e (
-        purpose,
-        has-contains purpose (purposes_of (id_of message) s) answers,
-        has-contains p (purposes_of (id_of message) s) (each p h),
-        (made, refl),
-      )
+  listed-again some each = each-listing (IsListedAgain message now s t) (fresh_id s) some (λ p h. (
+    purpose,
+    has-contains purpose (purposes_of (id_of message) s) answers,
+    has-contains p (purposes_of (id_of message) s) (each p h),
+    (made, refl),
+  ))
 
 -- the transaction of a request for the purpose
 abbrev pub request_made : Purpose → ℕ → State → State → Transaction
@@ -259,10 +261,7 @@ message-turns message now s = by (judgement_of s message) refl
 -- ---- connections that wait to be bound
 
 deadline-grant_identity : (local : SocketAddr) (deadline : Option ℕ) (g : Grant) → grant_identity g ≡ grant_identity (deadline_set local deadline g)
-deadline-grant_identity local deadline (Connection c) =
-    on_test (λ g. grant_identity (Connection c) ≡ grant_identity g) (same_address c.local local) (Connection (record c { deadline = deadline }))
-    (Connection c) refl refl
-deadline-grant_identity local deadline g = refl
+deadline-grant_identity local deadline g = grind arith
 
 again-turns : (c : DataConnection) (message : List ℕ) (d : Challenge) (now : ℕ) (s : State) → Turns (λ g. is_connection_from c.local g ≡ true) message now s (bind_again c (id_of message) d now s)
 again-turns c message d now s = by (find (is_bind_of c.local) (purposes_of (id_of message) s)) refl

@@ -1,6 +1,6 @@
 -- What time removes, and what is requested as it passes.
 use Rattle.std.proofs.Common.{◌≡◌, ◌⊎◌, ℕ, ◌<◌, ◌≤◌, eqb, leb, Bool, true, false, cond, ◌&&◌, ◌||◌, List, [], ◌∷◌, fold, Option, Some, None, refl}
-use Rattle.std.proofs.Common.{sym, subst, inl, inr}
+use Rattle.std.proofs.Common.{sym, subst, inl, inr, arith}
 use Rattle.std.specs.Prelude.{All, IsSome, drop, find, flat_map, is_some, reverse, slice_get}
 use Rattle.std.specs.List.{Contains}
 use Rattle.std.proofs.lemmas.Bool.{leb-false, leb-true}
@@ -8,18 +8,16 @@ use Rattle.std.specs.declared.net.socket_addr.SocketAddr.{SocketAddr}
 use Rattle.turn_types.specs.declared.family.AddressFamily.{AddressFamily}
 use Rattle.turn_agent.specs.Agent.{due, first_sent, timed_out_transaction, resent, sent_again}
 use Rattle.turn_agent.specs.declared.transaction.Transaction.{Transaction}
-use Rattle.turn_client_api.specs.State.{State}
+use Rattle.turn_client_api.specs.State.{State, agent_of}
 use Rattle.turn_client_api.specs.declared.grant.DataOffer.{DataOffer}
 use Rattle.turn_client_api.specs.declared.grant.Grant.{Grant}
-use Rattle.turn_client_api.specs.declared.grant.Grant.TheVariants.{Channel, Offer}
+use Rattle.turn_client_api.specs.declared.grant.Grant.TheVariants.{Channel}
 use Rattle.turn_client_api.specs.declared.grant.Relay.{Relay}
 use Rattle.turn_client_api.specs.declared.grant.Progress.TheVariants.{Active}
 use Rattle.turn_client_api.specs.declared.grant.Purpose.{Purpose}
 use Rattle.turn_client_api.specs.declared.grant.Purpose.TheVariants.{ForAllocation}
 use Rattle.turn_client_api.specs.declared.state.Phase.{Phase}
-use Rattle.turn_client_api.specs.declared.state.Phase.TheVariants.{New}
-use Rattle.turn_client_api.specs.State.{agent_of}
-use Rattle.turn_client_api.specs.declared.state.Phase.TheVariants.{Requesting, Authenticating, Allocated}
+use Rattle.turn_client_api.specs.declared.state.Phase.TheVariants.{New, Requesting, Authenticating, Allocated}
 use Rattle.turn_client_api.specs.Grants.{allocations, family_of, is_of, without_grants}
 use Rattle.turn_client_api.specs.Requests.{first_allocate, fresh_id, request_for, to_server}
 use Rattle.turn_client_api.specs.Effect.{closed, transaction_ended}
@@ -37,9 +35,8 @@ use Rattle.turn_client_laws.proofs.EarlyLapseLemmas.{lapsed-none}
 use Rattle.turn_client_laws.proofs.HasLemmas.{Has, all-has, has-found}
 use Rattle.turn_client_laws.proofs.LapseLemmas.{lapsed-shrinks}
 use Rattle.turn_client_laws.proofs.MoveCallLemmas.{Does, ListedAt, MadeAt, does-same, does-settled}
-use Rattle.turn_client_laws.proofs.MoveLemmas.{Adds, Loses, Never, Settles, adds-filter, adds-never, adds-one, adds-same, adds-then, by_test}
-use Rattle.turn_client_laws.proofs.MoveLemmas.{loses-same, none-found, on_test, settles-same}
-use Rattle.turn_client_laws.proofs.MoveLemmas.{loses-cons}
+use Rattle.turn_client_laws.proofs.MoveLemmas.{Adds, Loses, Never, Settles, adds-filter, adds-never, adds-one, adds-same, adds-then, by_test, loses-same}
+use Rattle.turn_client_laws.proofs.MoveLemmas.{none-found, on_test, settles-same, loses-cons}
 use Rattle.turn_client_laws.proofs.GrantOriginLemmas.{has-mapped}
 use Rattle.turn_client_laws.proofs.MoveMessageLemmas.{made-of}
 use Rattle.turn_client_laws.proofs.MoveSocketLemmas.{by_found}
@@ -159,8 +156,7 @@ module _ (now : ℕ) (s : State) where
       by p = over
 
 told-grant_identity : (g : Grant) → grant_identity g ≡ grant_identity (as_reported g)
-told-grant_identity (Offer offer) = refl
-told-grant_identity g = refl
+told-grant_identity g = grind arith
 
 pub told-loses : (Taken : Grant → Type 0) (family : AddressFamily) (gs : List Grant) → Loses Taken gs (first_reported family gs)
 told-loses Taken family [] = loses-same Taken []

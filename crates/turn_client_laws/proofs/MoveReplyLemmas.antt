@@ -1,5 +1,6 @@
 -- What signed replies remove: grants that their requests were made for.
-use Rattle.std.proofs.Common.{◌≡◌, ◌⊎◌, ℕ, eqb, leb, Bool, true, false, cond, ◌||◌, List, [], ◌∷◌, ◌++◌, filter, fold, Option, Some, None, refl, sym, ap, ◌∙◌, inl, inr}
+use Rattle.std.proofs.Common.{◌≡◌, ◌⊎◌, ℕ, eqb, leb, Bool, true, false, cond, ◌||◌, List, [], ◌∷◌, ◌++◌, filter, fold, Option, Some, None, refl, sym}
+use Rattle.std.proofs.Common.{ap, ◌∙◌, inl, inr, arith}
 use Rattle.std.specs.Option.{option_map_or}
 use Rattle.std.proofs.lemmas.Bool.{and_parts, eqb-true, cases_Bool}
 use Rattle.std.specs.declared.net.ip_addr.IpAddr.{IpAddr}
@@ -8,13 +9,12 @@ use Rattle.turn_stun.specs.Message.{id_of}
 use Rattle.turn_types.specs.declared.family.AddressFamily.{AddressFamily}
 use Rattle.turn_client_api.specs.State.{State}
 use Rattle.turn_client_api.specs.declared.grant.Grant.{Grant}
-use Rattle.turn_client_api.specs.declared.grant.Grant.TheVariants.{Allocation, Permission, Channel}
 use Rattle.turn_client_api.specs.declared.grant.Relay.{Relay}
 use Rattle.turn_client_api.specs.declared.grant.Progress.{Progress}
 use Rattle.turn_client_api.specs.declared.grant.Progress.TheVariants.{Pending, Active}
 use Rattle.turn_client_api.specs.declared.grant.Listing.{Listing}
 use Rattle.turn_client_api.specs.declared.grant.Purpose.{Purpose}
-use Rattle.turn_client_api.specs.declared.grant.Purpose.TheVariants.{ForAllocation, ForRefresh, ForPermission, ForChannel, ForConnect, ForBind}
+use Rattle.turn_client_api.specs.declared.grant.Purpose.TheVariants.{ForRefresh, ForPermission, ForChannel, ForConnect}
 use Rattle.turn_client_api.specs.Grants.{changed_allocation, channel_at, first_in, is_channel_of, is_connect_to, is_for, is_for_any, is_permission_of, permission_state, purposes_of, unlisted}
 use Rattle.turn_client_api.specs.Grants.{without_grants}
 use Rattle.turn_client_api.specs.Judgement.{connection_id_in, lifetime_in}
@@ -33,13 +33,7 @@ IsFor all g = (p : Purpose) × Has p all × ((is_for p g ≡ true) ⊎ GivesBack
 -- ---- what a request is for does not depend on the progress of that
 
 is_for-grant_identity : (p : Purpose) (g : Grant) → is_for p (grant_identity g) ≡ is_for p g
-is_for-grant_identity ForAllocation (Allocation a) = refl
-is_for-grant_identity (ForRefresh family lifetime) (Allocation a) = refl
-is_for-grant_identity (ForPermission ip) (Allocation a) = refl
-is_for-grant_identity (ForChannel number peer) (Allocation a) = refl
-is_for-grant_identity (ForConnect peer) (Allocation a) = refl
-is_for-grant_identity (ForBind local peer id) (Allocation a) = refl
-is_for-grant_identity p g = refl
+is_for-grant_identity p g = grind arith
 
 pub is_for-whole : (p : Purpose) (g is : Grant) → grant_identity g ≡ grant_identity is → is_for p is ≡ true → is_for p g ≡ true
 is_for-whole p g is same h = sym (is_for-grant_identity p g) ∙ (ap (is_for p) same ∙ (is_for-grant_identity p is ∙ h))
@@ -68,18 +62,13 @@ purposes-stay id s t within p there = by (has-mapped (λ (l : Listing). l.purpos
 -- ---- of the purposes of a request
 
 lasting-grant_identity : (expiry : ℕ) (g : Grant) → grant_identity g ≡ grant_identity (lasting expiry g)
-lasting-grant_identity expiry (Permission ip (Active was)) = refl
-lasting-grant_identity expiry (Channel number peer (Active was)) = refl
-lasting-grant_identity expiry g = refl
+lasting-grant_identity expiry g = grind arith
 
 renewed-grant_identity : (which : Grant → Bool) (expiry : ℕ) (g : Grant) → grant_identity g ≡ grant_identity (lasting_if which expiry g)
-renewed-grant_identity which expiry g =
-    on_test (λ is. grant_identity g ≡ grant_identity is) (which g) (lasting expiry g) g (lasting-grant_identity expiry g) refl
+renewed-grant_identity which expiry g = grind (arith, lasting-grant_identity)
 
 prolonged-grant_identity : (which : Relay → Bool) (lasts : ℕ) (g : Grant) → grant_identity g ≡ grant_identity (changed_allocation which (λ a. record a { expiry = lasts }) g)
-prolonged-grant_identity which lasts (Allocation a) =
-    on_test (λ g. grant_identity (Allocation a) ≡ grant_identity g) (which a) (Allocation (record a { expiry = lasts })) (Allocation a) refl refl
-prolonged-grant_identity which lasts g = refl
+prolonged-grant_identity which lasts g = grind arith
 
 module _ (all : List Purpose) where
   -- a signed reply may do this

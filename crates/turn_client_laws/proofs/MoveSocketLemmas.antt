@@ -1,5 +1,5 @@
 -- What is requested and removed with data connections, with data, and when allocations are deleted.
-use Rattle.std.proofs.Common.{◌≡◌, ◌⊎◌, ℕ, leb, Bool, true, not, ◌&&◌, List, [], ◌∷◌, ◌++◌, map, filter, Option, Some, None, refl, ◌∙◌, inl, inr}
+use Rattle.std.proofs.Common.{◌≡◌, ◌⊎◌, ℕ, leb, Bool, true, not, ◌&&◌, List, [], ◌∷◌, ◌++◌, map, filter, Option, Some, None, refl, ◌∙◌, inl, inr, arith}
 use Rattle.std.proofs.lemmas.Bool.{cases_Bool}
 use Rattle.std.specs.Prelude.{filter_map, find, is_some}
 use Rattle.std.specs.Option.{option_map_or}
@@ -11,14 +11,13 @@ use Rattle.turn_types.specs.declared.family.AddressFamily.{AddressFamily}
 use Rattle.turn_types.specs.declared.family.AddressFamily.TheVariants.{IPV4}
 use Rattle.turn_agent.specs.Agent.{first_sent, same_address}
 use Rattle.turn_agent.specs.declared.transaction.Transaction.{Transaction}
-use Rattle.turn_client_api.specs.State.{State}
+use Rattle.turn_client_api.specs.State.{State, later_by}
 use Rattle.turn_client_api.specs.declared.grant.Grant.{Grant}
-use Rattle.turn_client_api.specs.declared.grant.Grant.TheVariants.{Allocation, Connection}
+use Rattle.turn_client_api.specs.declared.grant.Grant.TheVariants.{Connection}
 use Rattle.turn_client_api.specs.declared.grant.DataConnection.{DataConnection}
 use Rattle.turn_client_api.specs.declared.grant.Listing.{Listing}
 use Rattle.turn_client_api.specs.declared.grant.Origin.{Origin}
 use Rattle.turn_client_api.specs.declared.grant.Origin.TheVariants.{OwnConnect, ServerRequest}
-use Rattle.turn_client_api.specs.State.{later_by}
 use Rattle.turn_client_api.specs.declared.grant.Purpose.{Purpose}
 use Rattle.turn_client_api.specs.declared.grant.Purpose.TheVariants.{ForRefresh, ForBind}
 use Rattle.turn_client_api.specs.declared.grant.Relay.{Relay}
@@ -37,11 +36,10 @@ use Rattle.turn_client_api.specs.declared.call.Call.TheVariants.{Delete, Allocat
 use Rattle.turn_client_laws.specs.LawsRequests.{IsMade}
 use Rattle.turn_client_laws.specs.LawsGone.{IsTakenBy, grant_identity}
 use Rattle.turn_client_laws.proofs.HasLemmas.{Has, map-has}
-use Rattle.turn_client_laws.proofs.MoveLemmas.{Loses, Never, Remains, Settles, adds-filter, adds-more, adds-one, adds-same, by_test, loses-filter}
-use Rattle.turn_client_laws.proofs.MoveLemmas.{loses-more, loses-same, on_test}
-use Rattle.turn_client_laws.proofs.MoveLemmas.{settles-same, adds-never, loses-cons, loses-one}
+use Rattle.turn_client_laws.proofs.MoveLemmas.{Loses, Never, Remains, Settles, adds-filter, adds-more, adds-one, adds-same, by_test, loses-filter, loses-more}
+use Rattle.turn_client_laws.proofs.MoveLemmas.{loses-same, on_test, settles-same, adds-never, loses-cons, loses-one}
 use Rattle.turn_client_laws.proofs.MoveCallLemmas.{Does, ListedAt, MadeAt, does-same, does-settled}
-use Rattle.turn_client_laws.proofs.MoveMessageLemmas.{made-of, request_made}
+use Rattle.turn_client_laws.proofs.MoveMessageLemmas.{each-listing, made-of, request_made}
 use Rattle.turn_client_laws.proofs.GrantOriginLemmas.{has-mapped}
 
 -- a pair by the result of a look-up
@@ -137,8 +135,7 @@ module _ (id : ℕ) (tuple : Socket5Tuple) (peer : SocketAddr) (now : ℕ) (s : 
 -- ---- allocations are deleted
 
 all-grant_identity : (now : ℕ) (g : Grant) → grant_identity g ≡ grant_identity (changed_allocation (λ a. true) (λ a. record a { expiry = now; is_expired = true }) g)
-all-grant_identity now (Allocation a) = refl
-all-grant_identity now g = refl
+all-grant_identity now g = grind arith
 
 module _ (now : ℕ) (s : State) where
   left : List Grant
@@ -177,13 +174,9 @@ module _ (now : ℕ) (s : State) where
       refresh_of a = ForRefresh (family_of a.relayed) 0
 
       listed : (l : Listing) → Has l (listings (fresh_id s) (map refresh_of (allocations s))) → ListedAt (Delete now) s t l
-      listed l there = by (has-mapped (λ (p : Purpose). record { id = fresh_id s; purpose = p }) l (map refresh_of (allocations s)) there)
-        where
-          of : (p : Purpose) → (a : Relay) × Has a (allocations s) × (p ≡ refresh_of a) → ListedAt (Delete now) s t (record { id = fresh_id s; purpose = p })
-          of p (a, h, e) = rw e (refresh_of a, now, (refl, (family_of a.relayed, refl)), inl refl, (made (family_of a.relayed), refl))
-
-          by : (p : Purpose) × Has p (map refresh_of (allocations s)) × (l ≡ record { id = fresh_id s; purpose = p }) → ListedAt (Delete now) s t l
-          by (p, h, e) = rw e (of p (has-mapped refresh_of p (allocations s) h))
+      listed = each-listing (ListedAt (Delete now) s t) (fresh_id s) (map refresh_of (allocations s)) (λ p h.
+          let (a, there, e) = has-mapped refresh_of p (allocations s) h in
+          (p, now, (refl, (family_of a.relayed, e)), inl refl, (rw e (made (family_of a.relayed)), refl)))
 
   pub delete-does : Does (Delete now) s (delete_step now s).1
   delete-does = by_test (Does (Delete now) s) (is_allocated s.phase) _ _ deleted-does (does-same (Delete now) s)

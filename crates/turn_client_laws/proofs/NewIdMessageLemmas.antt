@@ -1,7 +1,6 @@
 -- Which requests are outstanding after a message: those that were, and one with an ID that was used.
-use Rattle.std.proofs.Common.{◌≡◌, ℕ, Bool, true, false, cond, ◌&&◌, ◌||◌, eqb, leb, List, [], ◌∷◌, ◌++◌, fold, length, Option, Some, None, ◌⊎◌, inl}
-use Rattle.std.proofs.Common.{inr, refl, subst, ◌∙◌}
-use Rattle.std.specs.Option.{option_map_or}
+use Rattle.std.proofs.Common.{◌≡◌, ℕ, Bool, true, false, cond, ◌&&◌, eqb, leb, List, [], ◌∷◌, ◌++◌, fold, length, Option, Some, None, ◌⊎◌, inl}
+use Rattle.std.proofs.Common.{inr, refl, subst, ◌∙◌, arith}
 use Rattle.std.proofs.lemmas.Bool.{eqb-true, eq-eqb}
 use Rattle.std.specs.declared.net.ip_addr.IpAddr.{IpAddr}
 use Rattle.std.specs.declared.net.socket_addr.SocketAddr.{SocketAddr}
@@ -17,15 +16,15 @@ use Rattle.turn_client_api.specs.declared.grant.Purpose.{Purpose}
 use Rattle.turn_client_api.specs.declared.grant.Purpose.TheVariants.{ForRefresh, ForPermission, ForChannel, ForConnect}
 use Rattle.turn_client_api.specs.declared.state.Phase.{Phase}
 use Rattle.turn_client_api.specs.declared.state.Phase.TheVariants.{Authenticating}
-use Rattle.turn_client_api.specs.Grants.{channel_at, first_in, permission_state, purposes_of}
+use Rattle.turn_client_api.specs.Grants.{channel_at, first_in, purposes_of}
 use Rattle.turn_client_api.specs.Requests.{fresh_id}
-use Rattle.turn_client_api.specs.Judgement.{connection_id_in, lifetime_in}
-use Rattle.turn_client_api.specs.Effect.{allocate_denied, allocate_granted, allocation_mismatch, channel_answered, connect_answered, effect, transaction_ended, family_not_supported, has_code}
-use Rattle.turn_client_api.specs.Effect.{min_lifetime, permission_answered, permission_answered_for, listed_permissions_answered, prolonged, refreshed}
+use Rattle.turn_client_api.specs.Judgement.{connection_id_in}
+use Rattle.turn_client_api.specs.Effect.{allocate_denied, allocate_granted, channel_answered, connect_answered, effect, transaction_ended}
+use Rattle.turn_client_api.specs.Effect.{family_not_supported, has_code}
+use Rattle.turn_client_api.specs.Effect.{permission_answered, permission_answered_for, listed_permissions_answered, refreshed}
 use Rattle.turn_client_api.specs.Payloads.{answered_purposes, response_step, signed_step}
 use Rattle.turn_client_laws.proofs.HasLemmas.{Has, has-append}
 use Rattle.turn_client_laws.proofs.InAllocationLemmas.{any-has, has-any}
-use Rattle.turn_client_laws.proofs.MoveLemmas.{cases_Option}
 
 -- ---- effects request nothing
 
@@ -41,18 +40,10 @@ asks-cond true s t u k l = k
 asks-cond false s t u k l = l
 
 permission-asks : (ip : IpAddr) (is_granted : Bool) (now : ℕ) (s : State) → AsksNothing s (permission_answered ip is_granted now s)
-permission-asks ip is_granted now s = by (permission_state ip s) refl is_granted
-  where
-    by : (o : Option Progress) → permission_state ip s ≡ o → (g : Bool) → AsksNothing s (permission_answered ip g now s)
-    by None e g = rw e refl
-    by (Some Pending) e true = rw e refl
-    by (Some Pending) e false = rw e refl
-    by (Some (Active expiry)) e true = rw e refl
-    by o e g = rw e refl
+permission-asks ip is_granted now s = grind arith
 
 permission_state-asks : (is_granted : Bool) (now : ℕ) (t : State) (p : Purpose) → AsksNothing t (permission_answered_for is_granted now t p)
-permission_state-asks is_granted now t (ForPermission ip) = permission-asks ip is_granted now t
-permission_state-asks is_granted now t p = refl
+permission_state-asks is_granted now t p = grind (arith, permission-asks)
 
 permissions-asks : (id : ℕ) (is_granted : Bool) (now : ℕ) (s : State) → AsksNothing s (listed_permissions_answered id is_granted now s)
 permissions-asks id is_granted now s = asks-fold (permission_answered_for is_granted now) (permission_state-asks is_granted now) (purposes_of id s) s
@@ -67,18 +58,10 @@ channel-asks number id is_granted now s = by (first_in (channel_at number) s) re
     by o e g = rw e refl
 
 connect-asks : (peer : SocketAddr) (o : Option ℕ) (s : State) → AsksNothing s (connect_answered peer o s)
-connect-asks peer (Some id) s = refl
-connect-asks peer None s = refl
+connect-asks peer o s = grind arith
 
 refreshed-asks : (family : AddressFamily) (lifetime : ℕ) (is_granted : Bool) (message : List ℕ) (now : ℕ) (s : State) → AsksNothing s (refreshed family lifetime is_granted message now s)
-refreshed-asks family lifetime is_granted message now s =
-    asks-cond (eqb lifetime 0) s _ _
-    (asks-cond (is_granted || has_code allocation_mismatch message) s _ _ refl refl)
-    (asks-cond is_granted s _ _ (by (lifetime_in message)) refl)
-  where
-    by : (o : Option ℕ) → AsksNothing s (option_map_or (λ granted. prolonged family granted now s) o s)
-    by None = refl
-    by (Some granted) = asks-cond (leb min_lifetime granted) s _ _ refl refl
+refreshed-asks family lifetime is_granted message now s = grind arith
 
 effect-asks : (id : ℕ) (is_granted : Bool) (message : List ℕ) (now : ℕ) (s : State) (p : Purpose) → AsksNothing s (effect id is_granted message now s p)
 effect-asks id is_granted message now s (ForRefresh family lifetime) = refreshed-asks family lifetime is_granted message now s
@@ -93,7 +76,7 @@ reply-asks is_granted message now s =
     asks-fold (effect (id_of message) is_granted message now) (effect-asks (id_of message) is_granted message now) (answered_purposes message s) (transaction_ended (id_of message) s)
 
 pub granted-asks : (message : List ℕ) (now : ℕ) (s : State) → AsksNothing s (allocate_granted message now s)
-granted-asks message now s = elim (cases_Option (lifetime_in message)) [ inl e ↦ rw e refl | inr (lifetime, e) ↦ rw e refl ]
+granted-asks message now s = grind arith
 
 -- ---- signed replies
 

@@ -1,6 +1,6 @@
 -- As time passes, a grant is removed only when it has expired.
 use Rattle.std.proofs.Common.{◌≡◌, ◌⊎◌, ◌≤◌, ℕ, eqb, leb, Bool, true, false, not, cond, ◌&&◌, ◌||◌, List, [], ◌∷◌, ◌++◌, filter, find, fold, reverse, Option, Some, None, refl, sym, subst, ◌∙◌, inl}
-use Rattle.std.proofs.Common.{inr}
+use Rattle.std.proofs.Common.{inr, arith}
 use Rattle.std.specs.Option.{option_map_or}
 use Rattle.std.specs.List.{Contains, IsDistinct, AllByRecursion}
 use Rattle.std.proofs.lemmas.Bool.{and_parts, eqb-true, eq-eqb, leb-true, ltb-true, cases_Bool}
@@ -9,22 +9,22 @@ use Rattle.std.specs.declared.net.socket_addr.SocketAddr.{SocketAddr}
 use Rattle.turn_types.specs.declared.family.AddressFamily.{AddressFamily}
 use Rattle.turn_agent.specs.Agent.{timed_out_transaction}
 use Rattle.turn_agent.specs.declared.transaction.Transaction.{Transaction}
-use Rattle.turn_client_api.specs.State.{State}
+use Rattle.turn_client_api.specs.State.{State, agent_of, later_by}
 use Rattle.turn_client_api.specs.declared.grant.DataOffer.{DataOffer}
 use Rattle.turn_client_api.specs.declared.grant.Grant.{Grant}
-use Rattle.turn_client_api.specs.declared.grant.Grant.TheVariants.{Allocation, Permission, Channel, Connect, Offer, Connection}
+use Rattle.turn_client_api.specs.declared.grant.Grant.TheVariants.{Allocation, Permission, Channel, Offer, Connection}
 use Rattle.turn_client_api.specs.declared.grant.DataConnection.{DataConnection}
 use Rattle.turn_client_api.specs.declared.grant.Relay.{Relay}
 use Rattle.turn_client_api.specs.declared.grant.Progress.{Progress}
-use Rattle.turn_client_api.specs.declared.grant.Progress.TheVariants.{Pending, Active, Reserved}
+use Rattle.turn_client_api.specs.declared.grant.Progress.TheVariants.{Active, Reserved}
 use Rattle.turn_client_api.specs.declared.grant.Purpose.{Purpose}
-use Rattle.turn_client_api.specs.State.{agent_of, later_by}
 use Rattle.turn_client_api.specs.declared.state.Phase.{Phase}
 use Rattle.turn_client_api.specs.declared.state.Phase.TheVariants.{Requesting, Authenticating, Allocated}
 use Rattle.turn_client_api.specs.Grants.{as_allocation, allocations, family_of, family_of_grant, is_channel_of, is_connect, is_for_any, is_of, is_of_request, is_pending_channel, is_pending_permission}
 use Rattle.turn_client_api.specs.Effect.{closed, transaction_ended, reserved_time}
 use Rattle.turn_client_api.specs.Due.{has_event, has_reply}
-use Rattle.turn_client_api.specs.Poll.{answer_by, answer_step, channel_lapsed, connections_unbound, timed_out_purposes, timed_out_step, allocation_expires, failed_by_timeout, is_timed_out_offer}
+use Rattle.turn_client_api.specs.Poll.{answer_step, channel_lapsed, connections_unbound, timed_out_purposes, timed_out_step, allocation_expires}
+use Rattle.turn_client_api.specs.Poll.{failed_by_timeout, is_timed_out_offer}
 use Rattle.turn_client_api.specs.Poll.{is_lapsed_channel, is_lapsed_permission, is_listed_for_allocation, is_over, is_unbound, lapsed, lapsed_allocation, lapsed_in, last_channel_lapsed, next_offer}
 use Rattle.turn_client_api.specs.Poll.{offer_step, offers_timed_out, permissions_lapsed, poll_step, timed_step}
 use Rattle.turn_client_api.specs.Steps.{Leaves}
@@ -65,16 +65,13 @@ Ages g is =
     ⊎ ((n : ℕ) × (peer : SocketAddr) × (expiry : ℕ) × (g ≡ Channel n peer (Active expiry)) × (is ≡ Channel n peer (Reserved (later_by reserved_time expiry))))
 
 ages-grant_identity : (g is : Grant) → Ages g is → grant_identity g ≡ grant_identity is
-ages-grant_identity g is (inl e) = rw e refl
-ages-grant_identity g is (inr (n, peer, expiry, e, f)) = rw (e, f) refl
+ages-grant_identity g is ages = grind arith
 
 ages-family : (g is : Grant) → Ages g is → family_of_grant is ≡ family_of_grant g
-ages-family g is (inl e) = rw e refl
-ages-family g is (inr (n, peer, expiry, e, f)) = rw (e, f) refl
+ages-family g is ages = grind arith
 
 ages-number : (n : ℕ) (g is : Grant) → Ages g is → is_channel_of n is ≡ true → is_channel_of n g ≡ true
-ages-number n g is (inl e) of = rw e at of
-ages-number n g is (inr (m, peer, expiry, e, f)) of = rw e (rw f at of)
+ages-number n g is ages of = grind arith
 
 -- a channel of the number
 channel-of : (n : ℕ) (g : Grant) → is_channel_of n g ≡ true → (peer : SocketAddr) × (progress : Progress) × (g ≡ Channel n peer progress)
@@ -216,16 +213,13 @@ module _ (now : ℕ) (s : State) (apart : HasDistinctNumbers s) where
         by (inr (n, peer, expiry, e, f)) (spent, free) up = absurd (free n peer (later_by reserved_time expiry) f)
 
     channel-vain : IsVain is_pending_channel
-    channel-vain (Channel n peer Pending) e = (λ up. up, λ m to until f. cc)
-    channel-vain g e = cc
+    channel-vain g e = grind arith
 
     permission-vain : IsVain is_pending_permission
-    permission-vain (Permission ip Pending) e = (λ up. up, λ m to until f. cc)
-    permission-vain g e = cc
+    permission-vain g e = grind arith
 
     connect-vain : IsVain is_connect
-    connect-vain (Connect peer) e = (λ up. up, λ m to until f. cc)
-    connect-vain g e = cc
+    connect-vain g e = grind arith
 
     -- a connection that is not bound in time, or whose request timed out
     unbound-over : (family : AddressFamily) → TakesOver (λ g. is_of family g && is_unbound purposes now g)
@@ -323,13 +317,7 @@ module _ (now : ℕ) (s : State) (apart : HasDistinctNumbers s) where
       elim (t.left g there) [ inl (is, here, ages) ↦ inl (is, here, ages-grant_identity g is ages) | inr over ↦ inr (phase, over) ]
 
   answer-grants : (given : Option ℕ) (t : State) → (answer_step given now t).1.grants ≡ t.grants
-  answer-grants given t = by t.closes t.phase (allocations t)
-    where
-      by : (closes : List SocketAddr) (p : Phase) (relays : List Relay) → (answer_by closes p relays given now t).1.grants ≡ t.grants
-      by (local ∷ others) p relays = refl
-      by [] Allocated [] = refl
-      by [] Allocated (a ∷ relays) = refl
-      by closes p relays = refl
+  answer-grants given t = grind arith
 
   none-spares : timed_out_transaction (agent_of s) now ≡ None → (p : Phase) → s.phase ≡ p → Spares (timed_step p None now s).1.grants
   none-spares e Requesting f = subst Spares (sym (answer-grants None s)) spares-same

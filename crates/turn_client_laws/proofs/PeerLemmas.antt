@@ -1,14 +1,13 @@
 -- The peers whose data is returned.
-use Rattle.std.proofs.Common.{◌≡◌, ℕ, suc, arith, Bool, true, false, not, cond, ◌&&◌, eqb, ltb, List, [], ◌∷◌, Option, Some, None, refl, inl, inr}
+use Rattle.std.proofs.Common.{◌≡◌, ℕ, suc, arith, Bool, true, false, not, cond, eqb, List, [], ◌∷◌, Option, Some, None, refl, inl, inr}
 use Rattle.std.specs.Prelude.{slice_get, filter_map}
 use Rattle.std.specs.List.{Contains}
 use Rattle.std.specs.Net.Socket.{socket_ip}
 use Rattle.std.proofs.lemmas.Bool.{eqb-true}
 use Rattle.std.specs.declared.net.ip_addr.IpAddr.{IpAddr}
 use Rattle.std.specs.declared.net.socket_addr.SocketAddr.{SocketAddr}
-use Rattle.turn_stun.specs.Message.{Attribute}
+use Rattle.turn_stun.specs.Message.{Attribute, id_of}
 use Rattle.turn_stun.specs.declared.message.header.MessageClass.{MessageClass}
-use Rattle.turn_stun.specs.declared.message.header.MessageClass.TheVariants.{Request, Indication, Error}
 use Rattle.turn_types.specs.Channel.{channel_data_at}
 use Rattle.turn_types.specs.Frames.{begins_message}
 use Rattle.turn_types.specs.Send.{data_kind}
@@ -17,7 +16,7 @@ use Rattle.turn_auth.specs.Validation.{validation_of}
 use Rattle.turn_auth.specs.declared.validation.Validation.{Validation}
 use Rattle.turn_auth.specs.declared.validation.Validation.TheVariants.{Validated, ResendRequest, Refused}
 use Rattle.turn_auth.specs.LongTerm.{Challenge}
-use Rattle.turn_client_api.specs.State.{State}
+use Rattle.turn_client_api.specs.State.{State, auth_of}
 use Rattle.turn_client_api.specs.declared.state.Phase.{Phase}
 use Rattle.turn_client_api.specs.declared.state.Phase.TheVariants.{Requesting, Authenticating, Allocated}
 use Rattle.turn_client_api.specs.declared.grant.Grant.{Grant}
@@ -28,22 +27,18 @@ use Rattle.turn_client_api.specs.declared.state.Mode.{Mode}
 use Rattle.turn_client_api.specs.declared.state.Mode.TheVariants.{Control, Waiting, Bound, Broken}
 use Rattle.turn_client_api.specs.declared.state.Stream.{Stream}
 use Rattle.turn_client_api.specs.declared.grant.Purpose.{Purpose}
-use Rattle.turn_client_api.specs.Grants.{channel_peer, first_in, has_active_permission, permission_progress, is_active, same_ip, purposes_of}
+use Rattle.turn_client_api.specs.Grants.{channel_peer, first_in, has_active_permission, permission_progress, is_active, same_ip}
 use Rattle.turn_client_api.specs.Judgement.{Judgement, Unrelated, Challenged, Fatal, LateResponse, DataIndication, ConnectionAttempt, SignedRequest, SignedSuccess, SignedError, judgement_of}
 use Rattle.turn_client_api.specs.Judgement.{has_unknown, last_in, last_peer_in, last_icmp_in}
 use Rattle.turn_client_api.specs.Answers.{is_data_indication}
-use Rattle.turn_client_api.specs.Connections.{attempt_indicated}
+use Rattle.turn_client_api.specs.Connections.{attempt_indicated, attempt_requested}
 use Rattle.std.specs.Option.{option_map_or}
-use Rattle.turn_stun.specs.Message.{id_of}
-use Rattle.turn_client_api.specs.Requests.{refresh_method, connection_attempt_method}
-use Rattle.turn_agent.specs.Agent.{is_outstanding, is_response}
-use Rattle.turn_client_api.specs.State.{auth_of}
-use Rattle.turn_client_api.specs.Requests.{data_method}
-use Rattle.turn_client_api.specs.Judgement.{method_in, class_in, by_class, challenged_or, challenge_in, answers_one, answers_allocate, requesting_judgement, authenticating_judgement}
+use Rattle.turn_client_api.specs.Requests.{connection_attempt_method}
+use Rattle.turn_agent.specs.Agent.{is_outstanding}
+use Rattle.turn_client_api.specs.Judgement.{method_in, class_in, by_class, challenged_or, challenge_in, answers_allocate, requesting_judgement}
+use Rattle.turn_client_api.specs.Judgement.{authenticating_judgement}
 use Rattle.turn_client_api.specs.Judgement.{allocated_judgement}
-use Rattle.turn_client_api.specs.Retry.{retried}
-use Rattle.turn_client_api.specs.Connections.{attempt_requested, bind_step}
-use Rattle.turn_client_api.specs.Payloads.{Handled, Ignored, PeerData, PeerIcmp, outcome_for, signed_step, challenge_step, answered_purposes}
+use Rattle.turn_client_api.specs.Payloads.{Handled, Ignored, PeerData, PeerIcmp, outcome_for, signed_step, challenge_step}
 use Rattle.turn_client_api.specs.Payloads.{Outcome, data_indicated, data_of, channel_sent, message_step, datagram_step, is_message, is_channel_frame}
 use Rattle.turn_client_api.specs.Streams.{frame_step, control_frame_step, waiting_frame_step}
 use Rattle.turn_client_laws.specs.LawsPeers.{IsIndicated, IsMessageFromPermitted, IsFromPermitted, HasNoPeer}
@@ -102,51 +97,33 @@ nobodys bytes s (PeerIcmp transport peer icmp) is = absurd is
 nobodys bytes s outcome is = tt
 
 handled-if : (b : Bool) (t u : State) → HasNoPeer (cond {A = Outcome × State} b (Handled, t) (Ignored, u)).0
-handled-if true t u = tt
-handled-if false t u = tt
+handled-if b t u = grind arith
 
 outcome_for-nobodys : (message : List ℕ) (purposes : List Purpose) → HasNoPeer (outcome_for message purposes)
-outcome_for-nobodys message (purpose ∷ others) = tt
-outcome_for-nobodys message [] = elim (eqb (method_in message) refresh_method) as (λ b. HasNoPeer (cond b Handled Ignored)) [ true ↦ tt | false ↦ tt ]
+outcome_for-nobodys message purposes = grind arith
 
 signed_step-nobodys : (is_granted : Bool) (message : List ℕ) (now : ℕ) (s : State) → HasNoPeer (signed_step is_granted message now s).0
-signed_step-nobodys is_granted message now s = by s.phase refl is_granted
-  where
-    by : (p : Phase) → s.phase ≡ p → (g : Bool) → HasNoPeer (signed_step g message now s).0
-    by Authenticating e true = rw e tt
-    by Authenticating e false = rw e tt
-    by p e g = rw e (outcome_for-nobodys message (answered_purposes message s))
+signed_step-nobodys is_granted message now s = grind (arith, outcome_for-nobodys)
 
 challenge_step-nobodys : (message : List ℕ) (challenge : Challenge) (now : ℕ) (s : State) → HasNoPeer (challenge_step message challenge now s).0
-challenge_step-nobodys message challenge now s = by (ltb s.challenges s.config.max_stale_nonces) refl (retried (purposes_of (id_of message) s)) refl
-  where
-    by : (b : Bool) → ltb s.challenges s.config.max_stale_nonces ≡ b → (o : Option Purpose) → retried (purposes_of (id_of message) s) ≡ o → HasNoPeer (challenge_step message challenge now s).0
-    by false e o f = rw e tt
-    by true e None f = rw (e, f) tt
-    by true e (Some purpose) f = rw (e, f) tt
+challenge_step-nobodys message challenge now s = grind arith
 
 attempt-nobodys : (o : Option State) (s : State) → HasNoPeer (option_map_or {T = State} {U = Outcome × State} (λ t. (Handled, t)) o (Ignored, s)).0
-attempt-nobodys None s = tt
-attempt-nobodys (Some t) s = tt
+attempt-nobodys o s = grind arith
 
 -- ---- messages
 
 by_class-unlike : (class : MessageClass) → by_class class ≡ DataIndication → ⊥
-by_class-unlike Request e = cc
-by_class-unlike class e = cc
+by_class-unlike class e = grind arith
 
 challenged_or-unlike : (j : Judgement) (o : Option Challenge) → (j ≡ DataIndication → ⊥) → challenged_or j o ≡ DataIndication → ⊥
-challenged_or-unlike j None not_j e = not_j e
-challenged_or-unlike j (Some challenge) not_j e = cc
+challenged_or-unlike j o not_j e = grind arith
 
 cond-unlike : (b : Bool) (j k : Judgement) → (j ≡ DataIndication → ⊥) → (k ≡ DataIndication → ⊥) → cond b j k ≡ DataIndication → ⊥
-cond-unlike true j k not_j not_k e = not_j e
-cond-unlike false j k not_j not_k e = not_k e
+cond-unlike b j k not_j not_k e = grind arith
 
 requesting-unlike : (s : State) (message : List ℕ) → requesting_judgement s message ≡ DataIndication → ⊥
-requesting-unlike s message =
-    cond-unlike (answers_one s message) (challenged_or Fatal (challenge_in s message)) Unrelated
-    (challenged_or-unlike Fatal (challenge_in s message) (λ e. cc)) (λ e. cc)
+requesting-unlike s message = grind arith
 
 authenticating-unlike : (s : State) (message : List ℕ) → authenticating_judgement s message ≡ DataIndication → ⊥
 authenticating-unlike s message = by (validation_of (auth_of s) message) refl
@@ -161,22 +138,7 @@ authenticating-unlike s message = by (validation_of (auth_of s) message) refl
         (challenged_or-unlike Unrelated (challenge_in s message) (λ e. cc)) (λ e. cc))
 
 allocated-indication : (s : State) (message : List ℕ) → allocated_judgement s message ≡ DataIndication → is_data_indication message ≡ true
-allocated-indication s message = by (class_in message) refl (validation_of (auth_of s) message) refl
-  where
-    stray : (c : MessageClass) → cond (is_response c && not (is_outstanding (id_of message) s.transactions)) Unrelated (by_class c) ≡ DataIndication → ⊥
-    stray c = cond-unlike (is_response c && not (is_outstanding (id_of message) s.transactions)) Unrelated (by_class c) (λ e. cc) (by_class-unlike c)
-
-    data_or : (b c : Bool) → cond b DataIndication (cond c ConnectionAttempt Unrelated) ≡ DataIndication → b ≡ true
-    data_or true c e = refl
-    data_or false true e = cc
-    data_or false false e = cc
-
-    by : (c : MessageClass) → class_in message ≡ c → (v : Validation) → validation_of (auth_of s) message ≡ v → allocated_judgement s message ≡ DataIndication → is_data_indication message ≡ true
-    by Indication e v f = rw e (data_or (eqb (method_in message) data_method) (eqb (method_in message) connection_attempt_method))
-    by Error e (Validated algorithm) f = rw (e, f) (λ h. absurd (challenged_or-unlike _ (challenge_in s message) (stray (class_in message)) h))
-    by Error e v f = rw (e, f) (λ h. absurd (challenged_or-unlike Unrelated (challenge_in s message) (λ e. cc) h))
-    by c e (Validated algorithm) f = rw (e, f) (λ h. absurd (stray (class_in message) h))
-    by c e v f = rw (e, f) (λ h. cc)
+allocated-indication s message = grind arith
 
 -- only a DATA indication is judged to be from a peer, and only in this phase
 DataIndication-indication : (s : State) (message : List ℕ) → judgement_of s message ≡ DataIndication → (s.phase ≡ Allocated) × (is_data_indication message ≡ true)
@@ -245,12 +207,7 @@ control-IsMessageFromPermitted frame now s = by (begins_message frame) (is_messa
     by true false = tt
 
 waiting-nobodys : (local : SocketAddr) (frame : List ℕ) (now : ℕ) (s : State) → HasNoPeer (waiting_frame_step local frame now s).0
-waiting-nobodys local frame now s = by (begins_message frame) (is_message frame)
-  where
-    by : (b c : Bool) → HasNoPeer (cond {A = Outcome × State} (not b) (Ignored, s) (cond c (Handled, bind_step local frame now s) (Handled, s))).0
-    by false c = tt
-    by true true = tt
-    by true false = tt
+waiting-nobodys local frame now s = grind arith
 
 pub frame-IsFromPermitted : (stream : Stream) (frame : List ℕ) (now : ℕ) (s : State) → IsFromPermitted stream.mode frame s (frame_step stream frame now s).0
 frame-IsFromPermitted stream frame now s = by stream.mode refl

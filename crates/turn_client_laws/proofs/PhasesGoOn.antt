@@ -1,8 +1,7 @@
 -- What calls keep: that the client has ended, its phase, how many challenges were answered, realm and
 -- algorithm.
-use Rattle.std.proofs.Common.{◌≡◌, ℕ, Bool, true, false, ltb, List, [], ◌∷◌, Option, Some, None, refl, ap, ◌∙◌, inl, inr, arith, ◌≤◌}
+use Rattle.std.proofs.Common.{◌≡◌, ℕ, Bool, true, false, ltb, List, [], Option, Some, None, refl, ap, ◌∙◌, inl, inr, arith, ◌≤◌}
 use Rattle.std.specs.Prelude.{⊤}
-use Rattle.std.specs.Option.{option_map_or}
 use Rattle.std.proofs.lemmas.Bool.{ltb-true, ltb-false}
 use Rattle.std.proofs.lemmas.Option.{none-some, same_Some}
 use Rattle.std.specs.declared.net.socket_addr.SocketAddr.{SocketAddr}
@@ -10,9 +9,7 @@ use Rattle.turn_stun.specs.Message.{id_of}
 use Rattle.turn_auth.specs.Challenge.{challenge_of}
 use Rattle.turn_auth.proofs.ChallengeLemmas.{challenge_of-sound}
 use Rattle.turn_auth.specs.LongTerm.{Challenge}
-use Rattle.turn_agent.specs.Agent.{timed_out_transaction}
-use Rattle.turn_agent.specs.declared.transaction.Transaction.{Transaction}
-use Rattle.turn_client_api.specs.State.{State, agent_of, auth_of}
+use Rattle.turn_client_api.specs.State.{State, auth_of}
 use Rattle.turn_client_api.specs.declared.state.Phase.{Phase}
 use Rattle.turn_client_api.specs.declared.state.Phase.TheVariants.{New, Requesting, Authenticating, Closed}
 use Rattle.turn_client_api.specs.declared.grant.Purpose.{Purpose}
@@ -20,9 +17,9 @@ use Rattle.turn_client_api.specs.Grants.{purposes_of}
 use Rattle.turn_client_api.specs.Judgement.{Challenged, challenge_in, judgement_of}
 use Rattle.turn_client_api.specs.Connections.{bind_step}
 use Rattle.turn_client_api.specs.Due.{has_reply}
-use Rattle.turn_client_api.specs.Effect.{transaction_ended, phase_with}
+use Rattle.turn_client_api.specs.Effect.{phase_with}
 use Rattle.turn_client_api.specs.Payloads.{challenge_step, message_step}
-use Rattle.turn_client_api.specs.Poll.{poll_step, timed_step}
+use Rattle.turn_client_api.specs.Poll.{poll_step}
 use Rattle.turn_client_api.specs.Retry.{phase_after, retried}
 use Rattle.turn_client_api.specs.Steps.{Leaves, state_after}
 use Rattle.turn_client_api.specs.declared.call.Call.{Call}
@@ -38,8 +35,7 @@ abbrev pub Keeps : State → State → Type 0
 Keeps s t = StaysClosed s t × KeepsChallengeLimit s t × KeepsRealm s t × GoesOn s t
 
 pub rank-le : (p : Phase) → rank p ≤ 4
-rank-le New = omega arith
-rank-le p = omega arith
+rank-le p = grind arith
 
 pub keeps-same : (s : State) → Keeps s s
 keeps-same s = (λ h. h, λ h. h, λ c e. (c, e, refl, refl), (omega arith, λ h. h))
@@ -70,12 +66,10 @@ takes-realm : (s : State) (message : List ℕ) (d : Challenge) → challenge_in 
 takes-realm s message d e c f = let (r, a) = challenge-realm s.held s message d c e f in (d, refl, r, a)
 
 rank-after : (p : Phase) → rank p ≤ rank (phase_after p)
-rank-after New = omega arith
-rank-after p = omega arith
+rank-after p = grind arith
 
 pub rank-with : (addresses : List SocketAddr) → 3 ≤ rank (phase_with addresses)
-rank-with [] = omega arith
-rank-with (a ∷ others) = omega arith
+rank-with addresses = grind arith
 
 -- a challenge that is answered is counted
 pub challenge-IsCounted : (message : List ℕ) (now : ℕ) (s : State) (d : Challenge) → judgement_of s message ≡ Challenged d → IsChallengeCounted s (message_step message now s).1
@@ -136,15 +130,7 @@ leaves-keeps = leaves-walk Keeps Keeps-KeepsAllEdits (λ s streams. keeps-same s
 
 -- a client that has ended reports so when nothing is pending
 told_of : (p : Phase) (events : List TurnEvent) (now : ℕ) (s : State) → p ≡ Closed → events ≡ [] → has_reply s ≡ false → (poll_step now (record s { phase = p; events = events })).0 ≡ Do.Closed
-told_of Closed [] now s e f g = rw g (by (timed_out_transaction (agent_of s) now))
-  where
-    u : State
-    u = record s { phase = Closed; events = [] }
-
-    by : (o : Option Transaction) → (option_map_or (λ (t : Transaction). timed_step Closed (Some t.id) now (transaction_ended t.id u)) o (timed_step Closed None now u)).0 ≡ Do.Closed
-    by None = refl
-    by (Some t) = refl
-told_of p events now s e f g = cc
+told_of p events now s e f g = grind arith
 
 pub closed-told : (now : ℕ) (s : State) → s.phase ≡ Closed → s.events ≡ [] → has_reply s ≡ false → (poll_step now s).0 ≡ Do.Closed
 closed-told now s = told_of s.phase s.events now s

@@ -1,35 +1,34 @@
 -- When a client with nothing pending is idle, and when it has something to send.
-use Rattle.std.proofs.Common.{◌≡◌, ◌≢◌, ℕ, suc, ◌+◌, ◌*◌, ◌-◌, ◌^◌, ◌<◌, ◌≤◌, min, max, Bool, true, false, ◌&&◌, not, ltb, leb, List, [], ◌∷◌, ◌++◌}
-use Rattle.std.proofs.Common.{length, map, filter, flat_map, filter_map}
-use Rattle.std.proofs.Common.{fold, Option, Some, None, ◌⊎◌, inl, inr, refl, sym, subst, ◌∙◌, arith}
-use Rattle.std.specs.Prelude.{if◌then◌else◌, is_some, IsSome, IfSome, ⊤, slice_get, option_and_then}
+use Rattle.std.proofs.Common.{◌≡◌, ◌≢◌, ℕ, suc, ◌+◌, ◌*◌, ◌-◌, ◌^◌, ◌<◌, ◌≤◌, min, max, Bool, true, false, ◌&&◌, not, ltb, leb, List, [], ◌∷◌, ◌++◌, length}
+use Rattle.std.proofs.lemmas.Bool.Decides.{nat_tests}
+use Rattle.std.proofs.Common.{map, filter, flat_map, filter_map, fold, Option, Some, None, ◌⊎◌, inl, inr, refl, sym, subst, ◌∙◌, arith}
+use Rattle.std.specs.Prelude.{if◌then◌else◌, is_some, IsSome, IfSome, ⊤, slice_get}
 use Rattle.std.specs.List.{list_any}
 use Rattle.std.specs.Option.{option_map_or}
-use Rattle.std.proofs.Math.Nat.{max-le, le-min, le-max_left, le-max_right}
+use Rattle.std.proofs.Math.Nat.{le-min}
 use Rattle.std.proofs.lemmas.Option.{none-some, same_Some}
-use Rattle.std.proofs.lemmas.Bool.{not-true, false_from_ne_true, leb-true, lt-ltb, le-leb, ltb-true, ltb-false, and_right, lt-leb, leb-false, cases_Bool}
+use Rattle.std.proofs.lemmas.Bool.{not-true, false_from_ne_true, lt-ltb, le-leb, ltb-true, ltb-false, and_right, lt-leb, cases_Bool}
 use Rattle.turn_agent.specs.Agent.{timed_out_transaction, due, is_due, is_timed_out, transaction_timeout}
 use Rattle.turn_agent.specs.declared.transaction.Transaction.{Transaction}
 use Rattle.turn_stun.specs.declared.transport.TransportType.{TransportType}
-use Rattle.turn_agent.specs.Schedule.{Timers, resends_of}
+use Rattle.turn_agent.specs.Schedule.{Timers}
 use Rattle.turn_types.specs.declared.family.AddressFamily.{AddressFamily}
 use Rattle.turn_types.specs.declared.family.AddressFamily.TheVariants.{IPV4, IPV6}
 use Rattle.turn_client_api.specs.Config.{same_family}
-use Rattle.turn_client_api.specs.State.{State}
+use Rattle.turn_client_api.specs.State.{State, agent_of, max_time}
 use Rattle.turn_client_api.specs.declared.grant.Purpose.{Purpose}
 use Rattle.turn_client_api.specs.declared.grant.Purpose.TheVariants.{ForRefresh, ForPermission, ForChannel}
 use Rattle.turn_client_api.specs.declared.state.Phase.{Phase}
 use Rattle.turn_client_api.specs.declared.state.Phase.TheVariants.{New, Allocated}
 use Rattle.turn_client_api.specs.declared.grant.Grant.{Grant}
-use Rattle.turn_client_api.specs.declared.grant.Grant.TheVariants.{Allocation, Permission, Channel}
-use Rattle.turn_client_api.specs.State.{agent_of, max_time}
-use Rattle.turn_client_api.specs.declared.grant.Grant.TheVariants.{Connection}
+use Rattle.turn_client_api.specs.declared.grant.Grant.TheVariants.{Allocation, Permission, Channel, Connection}
 use Rattle.turn_client_api.specs.declared.grant.Relay.{Relay}
 use Rattle.turn_client_api.specs.declared.grant.Progress.TheVariants.{Active}
 use Rattle.turn_client_api.specs.declared.state.Queued.{Queued}
-use Rattle.turn_client_api.specs.Grants.{allocations, as_allocation, find_allocation, family_of, family_of_grant, family_of_ip, has_request, is_of}
+use Rattle.turn_client_api.specs.Grants.{allocations, as_allocation, find_allocation, family_of, family_of_grant, family_of_ip, is_of}
 use Rattle.turn_client_api.specs.Requests.{asked_lifetime}
-use Rattle.turn_client_api.specs.Due.{due_times, end_of, is_refreshable, has_queued_request, has_reply, is_paused, least_due, pause_end, refresh_of, refresh_time, refresh_time_by_kind}
+use Rattle.turn_client_api.specs.Due.{due_times, end_of, is_refreshable, has_queued_request, has_reply, is_paused, least_due, pause_end, refresh_of}
+use Rattle.turn_client_api.specs.Due.{refresh_time}
 use Rattle.turn_client_api.specs.Poll.{next_offer}
 use Rattle.turn_client_api.specs.Transmit.{idle_step, is_due_in, is_ranked, is_refresh_due, next_transmit, queue_step, refresh_purpose, refresh_step, refreshes_in, refreshes_of_rank, reply_in}
 use Rattle.turn_client_api.specs.Transmit.{reply_step, transmit_step, without_first_reply}
@@ -107,19 +106,11 @@ no_replies (q ∷ qs) none =
 
 empty : (qs : List Queued) → list_any (λ q. not q.is_request) qs ≡ false → list_any (λ q. q.is_request) qs ≡ false → qs ≡ []
 empty [] no_reply no_request = refl
-empty (q ∷ qs) no_reply no_request = by q.is_request refl
-  where
-    by : (b : Bool) → q.is_request ≡ b → q ∷ qs ≡ []
-    by true is = let h : true ≡ false = rw is at no_request in cc
-    by false is = let h : true ≡ false = rw is at no_reply in cc
+empty (q ∷ qs) no_reply no_request = grind arith
 
 -- what is before the later of two times, and not before the first, is before the second
 early : (m time least pause : ℕ) → m < least → least ≤ max pause time → pause ≤ m → leb time m ≡ false
-early m time least pause before later over = by (leb time m) refl
-  where
-    by : (b : Bool) → leb time m ≡ b → leb time m ≡ false
-    by false e = e
-    by true e = absurd (omega (arith, before, later, max-le {a = pause} {b = time} {k = m} over (leb-true time m e)))
+early m time least pause before later over = grind (arith, nat_tests)
 
 -- no refresh is due before the pause has ended and its own time has come
 not_refreshed : (now m : ℕ) (t : State) → m < least_due now t → is_paused m t ≡ false → (g : Grant) → Has g t.grants → is_refresh_due m t g ≡ false
@@ -156,14 +147,7 @@ not_due-transmit m t none = rw (none, transmit_step) refl
 
 no_reply-kept : (qs : List Queued) → list_any (λ q. not q.is_request) qs ≡ false → without_first_reply qs ≡ qs
 no_reply-kept [] none = refl
-no_reply-kept (q ∷ qs) none = by q.is_request (no_reply-kept qs) none
-  where
-    has : Bool → List Queued
-    has b = record q { is_request = b } ∷ qs
-
-    by : (b : Bool) → (list_any (λ q. not q.is_request) qs ≡ false → without_first_reply qs ≡ qs) → list_any (λ q. not q.is_request) (has b) ≡ false → without_first_reply (has b) ≡ has b
-    by true later none = rw (later none) refl
-    by false later none = cc
+no_reply-kept (q ∷ qs) none = grind (arith, no_reply-kept qs)
 
 reply-none : (t : State) → has_reply t ≡ false → reply_step t ≡ (None, t)
 reply-none t none = rw (no_replies t.queue none, no_reply-kept t.queue none) refl
@@ -218,11 +202,7 @@ has-one m k (inl same) = same
 has-one m k (inr none) = absurd none
 
 has-queued : (now m : ℕ) (t : State) → (has_queued_request t ≡ true → now < pause_end t) → Has m (queued_part t) → now < m
-has-queued now m t queued h = by (has_queued_request t) refl
-  where
-    by : (b : Bool) → has_queued_request t ≡ b → now < m
-    by true e = rw (has-one m (pause_end t) (rw e at h)) (queued e)
-    by false e = absurd (rw e at h)
+has-queued now m t queued h = grind arith
 
 and_false_left : (x y : Bool) → y ≡ true → (x && y) ≡ false → x ≡ false
 and_false_left true y passes fails = sym passes ∙ fails
@@ -230,14 +210,7 @@ and_false_left false y passes fails = refl
 
 waits_on : (timers : Timers) (transport : TransportType) (now : ℕ) (t : Transaction) → is_due timers transport now t ≡ false → is_timed_out timers transport now t ≡ false
     → now < transaction_timeout timers transport t
-waits_on timers transport now t not_due not_over = by (leb (transaction_timeout timers transport t) now) refl
-  where
-    by : (b : Bool) → leb (transaction_timeout timers transport t) now ≡ b → now < transaction_timeout timers transport t
-    by false later = leb-false (transaction_timeout timers transport t) now later
-    by true past =
-        let more : ltb t.resends (resends_of timers transport) ≡ false = and_false_left _ _ past not_due in
-        let last : leb (resends_of timers transport) t.resends ≡ false = and_false_left _ _ past not_over in
-        absurd (omega (arith, ltb-false _ _ more, leb-false _ _ last))
+waits_on timers transport now t not_due not_over = grind (arith, nat_tests)
 
 -- every time at which something is due is later, if those of the queue and the grants are
 all-later : (now : ℕ) (t : State) → IsReady now t → now ≤ 2 ^ 62 → (has_queued_request t ≡ true → now < pause_end t) → due (agent_of t) now ≡ None
@@ -264,9 +237,7 @@ refresh-sends now t [] e p h = absurd h
 refresh-sends now t (q ∷ qs) e p h = rw e refl
 
 same_family-swap : (a b : AddressFamily) → same_family a b ≡ true → same_family b a ≡ true
-same_family-swap IPV4 IPV6 e = e
-same_family-swap IPV6 IPV4 e = e
-same_family-swap a b e = refl
+same_family-swap a b e = grind arith
 
 same_family-self : (a : AddressFamily) → same_family a a ≡ true
 same_family-self IPV4 = refl
@@ -289,17 +260,8 @@ unfolding is_refresh_due
 untimed now t g none due = let no : false ≡ true = rw none at due in cc
 
 used-due : (now : ℕ) (t : State) (g : Grant) → is_refresh_due now t g ≡ true → is_refreshable g t ≡ true
-unfolding refresh_time
-used-due now t g due = by (is_refreshable g t) refl
-  where
-    none : (used request : Bool) (o : Option ℕ) → used ≡ false → option_and_then (λ (time : ℕ). if used && request then Some time else None) o ≡ None
-    none false request None e = refl
-    none false request (Some time) e = refl
-    none true request o e = let no : true ≡ false = e in cc
-
-    by : (b : Bool) → is_refreshable g t ≡ b → is_refreshable g t ≡ true
-    by true e = e
-    by false e = absurd (untimed now t g (none (is_refreshable g t) (not (has_request g t)) (refresh_time_by_kind g) e) due)
+unfolding is_refresh_due refresh_time
+used-due now t g due = grind arith
 
 -- in `Allocated`, with nothing queued and the pause over, a refresh whose time has come is sent
 refresh-busy : (now : ℕ) (t : State) → IsReady now t → (g : Grant) → Has g t.grants → is_refresh_due now t g ≡ true → IsSome (refresh_step now t).0
@@ -340,32 +302,12 @@ refresh-busy now t ready g h due = by g h due
 
 -- the expiry of a grant that is active
 end-later : (now m : ℕ) (g : Grant) → Alive now g → Has m (end_of now g) → now < m
-end-later now m (Allocation a) alive h = by (ltb now a.expiry) refl
-  where
-    by : (b : Bool) → ltb now a.expiry ≡ b → now < m
-    by true e = rw (has-one m a.expiry (rw e at h)) (ltb-true now a.expiry e)
-    by false e = absurd (rw e at h)
-end-later now m (Permission ip (Active expiry)) alive h = rw (has-one m expiry h) alive
-end-later now m (Channel number peer (Active expiry)) alive h = rw (has-one m expiry h) alive
-end-later now m (Connection c) alive h = by c.deadline refl
-  where
-    by : (d : Option ℕ) → c.deadline ≡ d → now < m
-    by None e = absurd (rw e at h)
-    by (Some deadline) e = rw (has-one m deadline (rw e at h)) (rw e at alive)
-end-later now m g alive h = absurd h
+end-later now m g alive h = grind (arith, nat_tests)
 
 -- the time to refresh it, after the pause
 refresh-later : (now m : ℕ) (t : State) (g : Grant) → (is_refresh_due now t g ≡ true → now < pause_end t) → Has m (refresh_of t g) → now < m
 unfolding is_refresh_due
-refresh-later now m t g pause h = by (refresh_time t g) refl
-  where
-    by : (o : Option ℕ) → refresh_time t g ≡ o → now < m
-    by None e = absurd (rw e at h)
-    by (Some time) e = rw (has-one m (max (pause_end t) time) (rw e at h)) (later (leb time now) refl)
-      where
-        later : (b : Bool) → leb time now ≡ b → now < max (pause_end t) time
-        later true f = omega (arith, pause (rw e (rw f refl)), le-max_left (pause_end t) time)
-        later false f = omega (arith, leb-false time now f, le-max_right (pause_end t) time)
+refresh-later now m t g pause h = grind (arith, nat_tests)
 
 -- what is due of a grant that is active is later than now, except a refresh whose time has come
 grant-later : (now m : ℕ) (t : State) (g : Grant) → Alive now g → (is_refresh_due now t g ≡ true → now < pause_end t) → Has m (grant_part now t g) → now < m

@@ -1,5 +1,5 @@
 -- If no stream is ready, nothing is processed.
-use Rattle.std.proofs.Common.{◌≡◌, ℕ, zero, suc, false, cond, List, [], length, Some, None, refl, true, Bool, Option}
+use Rattle.std.proofs.Common.{◌≡◌, ℕ, zero, suc, false, cond, List, [], length, Some, None, refl, Bool, Option, arith}
 use Rattle.std.specs.Prelude.{All, find}
 use Rattle.turn_types.specs.Frames.{begins_no_frame, frame_len}
 use Rattle.turn_client_api.specs.State.{State}
@@ -13,8 +13,7 @@ use Rattle.turn_client_laws.proofs.HasLemmas.{find-none, has-all}
 use Rattle.turn_client_laws.proofs.StreamShortLemmas.{no_frame-none}
 
 none-by : (b : Bool) (some other : Option ℕ) → b ≡ false → other ≡ None → cond b some other ≡ None
-none-by true some other e none = cc
-none-by false some other e none = none
+none-by b some other e none = grind arith
 
 no_frame-waits : (bytes : List ℕ) → HasNoFrame bytes → cond (begins_no_frame bytes) (Some (length bytes)) (frame_len bytes) ≡ None
 no_frame-waits bytes h = none-by (begins_no_frame bytes) _ (frame_len bytes) h.0 (no_frame-none bytes h (frame_len bytes) refl)

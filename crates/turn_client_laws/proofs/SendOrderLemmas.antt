@@ -10,7 +10,7 @@ use Rattle.turn_agent.specs.Agent.{resent}
 use Rattle.turn_client_api.specs.Config.{Config}
 use Rattle.turn_client_api.specs.State.{State, initial}
 use Rattle.turn_client_api.specs.declared.state.Phase.{Phase}
-use Rattle.turn_client_api.specs.declared.state.Phase.TheVariants.{New, Requesting, Allocated, Closed}
+use Rattle.turn_client_api.specs.declared.state.Phase.TheVariants.{New, Allocated, Closed}
 use Rattle.turn_client_api.specs.declared.grant.Grant.{Grant}
 use Rattle.turn_client_api.specs.declared.grant.Progress.TheVariants.{Pending}
 use Rattle.turn_client_api.specs.declared.state.Queued.{Queued}
@@ -43,22 +43,17 @@ well p s far sent = absurd (omega arith)
 -- ---- phases
 
 granted-rank : (p : Phase) → (IsUngranted p → ⊥) → 3 ≤ rank p
-granted-rank Allocated granted = omega arith
-granted-rank Closed granted = omega arith
-granted-rank p granted = absurd (granted tt)
+granted-rank p granted = grind arith
 
 rank-granted : (p : Phase) → 3 ≤ rank p → IsUngranted p → ⊥
-rank-granted Allocated far ungranted = ungranted
-rank-granted Closed far ungranted = ungranted
-rank-granted p far ungranted = absurd (omega (arith, far))
+rank-granted p far ungranted = grind arith
 
 -- a client to which the server allocated stays one
 stays-granted : (s t : State) → GoesOn s t → (IsUngranted s.phase → ⊥) → IsUngranted t.phase → ⊥
 stays-granted s t on granted = rank-granted t.phase (omega (arith, granted-rank s.phase granted, on.0))
 
 counts-steady : (p : Phase) (challenges : ℕ) (s : State) → FitsPhase (record s { phase = p }) → FitsPhase (record s { phase = phase_after p; challenges = challenges })
-counts-steady Requesting challenges s h = (λ e. cc, λ b. h.1 tt, h.2, λ u. h.3 tt)
-counts-steady p challenges s h = h
+counts-steady p challenges s h = grind arith
 
 -- ---- lists
 

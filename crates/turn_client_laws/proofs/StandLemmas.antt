@@ -1,14 +1,8 @@
 -- What is active in a list of grants, and what a change of the list leaves of it.
-use Rattle.std.proofs.Common.{◌≡◌, ℕ, zero, suc, Bool, true, false, cond, List, [], ◌∷◌, ◌++◌, map, filter, inl, inr, refl, sym, ◌∙◌, arith}
+use Rattle.std.proofs.Common.{zero, suc, Bool, true, false, cond, List, [], ◌∷◌, ◌++◌, map, filter, inl, inr, refl, sym, arith}
 use Rattle.std.specs.List.{Contains}
-use Rattle.std.specs.declared.net.ip_addr.IpAddr.{IpAddr}
-use Rattle.std.specs.declared.net.socket_addr.SocketAddr.{SocketAddr}
 use Rattle.turn_client_api.specs.State.{State}
 use Rattle.turn_client_api.specs.declared.grant.Grant.{Grant}
-use Rattle.turn_client_api.specs.declared.grant.Grant.TheVariants.{Allocation, Permission, Channel, Connection}
-use Rattle.turn_client_api.specs.declared.grant.DataConnection.{DataConnection}
-use Rattle.turn_client_api.specs.declared.grant.Relay.{Relay}
-use Rattle.turn_client_api.specs.declared.grant.Progress.TheVariants.{Active}
 use Rattle.turn_client_laws.specs.LawsGranted.{IsActiveGrant, IsSameGrant, WasActive}
 use Rattle.turn_client_laws.proofs.HasLemmas.{Has, has-append, has-filter}
 use Rattle.turn_client_laws.proofs.PeerLemmas.{Contains-here, Contains-later}
@@ -29,42 +23,14 @@ contains-has x (y ∷ xs) (suc k, within, is) = inr (contains-has x xs (k, omega
 
 -- a grant that is active is kept as itself
 pub kept-same : (g : Grant) → IsActiveGrant g → IsSameGrant g g
-kept-same (Allocation a) h = (refl, refl)
-kept-same (Permission ip (Active expiry)) h = (refl, refl)
-kept-same (Channel number peer (Active expiry)) h = (refl, refl, refl)
-kept-same (Connection c) h = (refl, h)
-kept-same g h = absurd h
+kept-same g h = grind arith
 
 -- what is kept was active
 pub kept-stood : (g h : Grant) → IsSameGrant g h → IsActiveGrant g
-kept-stood (Allocation a) h k = tt
-kept-stood (Permission ip (Active expiry)) h k = tt
-kept-stood (Channel number peer (Active expiry)) h k = tt
-kept-stood (Connection c) (Connection d) (e, none) = none
-kept-stood g h k = absurd k
-
-allocation-kept : (a b : Relay) (i : Grant) → IsSameGrant (Allocation a) (Allocation b) → IsSameGrant (Allocation b) i → IsSameGrant (Allocation a) i
-allocation-kept a b (Allocation c) (e, d) (f, l) = (e ∙ f, d ∙ l)
-allocation-kept a b i k l = absurd l
-
-permission-kept : (a b : IpAddr) (m n : ℕ) (i : Grant) → (a ≡ b) × (m ≡ n) → IsSameGrant (Permission b (Active n)) i → IsSameGrant (Permission a (Active m)) i
-permission-kept a b m n (Permission ip (Active expiry)) (e, d) (f, l) = (e ∙ f, d ∙ l)
-permission-kept a b m n i k l = absurd l
-
-channel-kept : (a b : ℕ) (p q : SocketAddr) (m n : ℕ) (i : Grant) → (a ≡ b) × (p ≡ q) × (m ≡ n) → IsSameGrant (Channel b q (Active n)) i → IsSameGrant (Channel a p (Active m)) i
-channel-kept a b p q m n (Channel number peer (Active expiry)) (e, f, d) (g, h, l) = (e ∙ g, f ∙ h, d ∙ l)
-channel-kept a b p q m n i k l = absurd l
-
-connection-kept : (c d : DataConnection) (i : Grant) → IsSameGrant (Connection c) (Connection d) → IsSameGrant (Connection d) i → IsSameGrant (Connection c) i
-connection-kept c d (Connection f) (e, none) (g, later) = (e ∙ g, none)
-connection-kept c d i k l = absurd l
+kept-stood g h k = grind arith
 
 pub kept-trans : (g h i : Grant) → IsSameGrant g h → IsSameGrant h i → IsSameGrant g i
-kept-trans (Allocation a) (Allocation b) i k l = allocation-kept a b i k l
-kept-trans (Permission a (Active m)) (Permission b (Active n)) i k l = permission-kept a b m n i k l
-kept-trans (Channel a p (Active m)) (Channel b q (Active n)) i k l = channel-kept a b p q m n i k l
-kept-trans (Connection c) (Connection d) i k l = connection-kept c d i k l
-kept-trans g h i k l = absurd k
+kept-trans g h i k l = grind arith
 
 -- ---- lists
 

@@ -1,5 +1,5 @@
 -- Calls keep the local addresses of the streams distinct: most leave the streams unchanged.
-use Rattle.std.proofs.Common.{◌≡◌, ◌⊎◌, ℕ, ◌&&◌, List, [], Option, Some, None, Err, refl, sym, subst, inl, inr}
+use Rattle.std.proofs.Common.{◌≡◌, ◌⊎◌, ℕ, ◌&&◌, List, [], Option, Some, None, Err, refl, sym, subst, inl, inr, arith}
 use Rattle.std.specs.List.{IsDistinct}
 use Rattle.std.specs.Option.{option_map_or}
 use Rattle.std.proofs.lemmas.List.Elements.{All-nil, All-cons}
@@ -10,7 +10,6 @@ use Rattle.turn_client_api.specs.Config.{Config}
 use Rattle.turn_client_api.specs.State.{State, initial}
 use Rattle.turn_client_api.specs.declared.state.Mode.TheVariants.{Control}
 use Rattle.turn_client_api.specs.declared.grant.Origin.{Origin}
-use Rattle.turn_client_api.specs.declared.grant.Origin.TheVariants.{OwnConnect}
 use Rattle.turn_client_api.specs.Grants.{same_transport}
 use Rattle.turn_client_api.specs.Calls.{allocated_tcp_socket_step, is_allocated, is_control, is_local_taken, offer_origin, socket_opened, socket_refused, socket_step, with_stream}
 use Rattle.turn_client_api.specs.declared.poll.Socket5Tuple.{Socket5Tuple}
@@ -38,12 +37,10 @@ abbrev pub IsOpened : State → State → Type 0
 IsOpened s t = Same s t ⊎ ((local : SocketAddr) × (t.streams ≡ (with_stream local s).streams))
 
 opened-one : (id : ℕ) (peer local : SocketAddr) (origin : Origin) (now : ℕ) (s : State) → (socket_opened id peer local origin now s).streams ≡ (with_stream local s).streams
-opened-one id peer local OwnConnect now s = refl
-opened-one id peer local origin now s = refl
+opened-one id peer local origin now s = grind arith
 
 refused-same : (id : ℕ) (peer : SocketAddr) (origin : Origin) (s : State) → Same s (socket_refused id peer origin s)
-refused-same id peer OwnConnect s = refl
-refused-same id peer origin s = refl
+refused-same id peer origin s = grind arith
 
 socket-opened : (id : ℕ) (peer : SocketAddr) (local : Option SocketAddr) (origin : Origin) (now : ℕ) (s : State) → IsOpened s (socket_step id peer local origin now s).1
 socket-opened id peer None origin now s = inl (refused-same id peer origin s)

@@ -11,7 +11,7 @@ use Rattle.turn_client_api.specs.State.{State}
 use Rattle.turn_client_api.specs.declared.state.Mode.{Mode}
 use Rattle.turn_client_api.specs.declared.state.Mode.TheVariants.{Control, Bound, Broken}
 use Rattle.turn_client_api.specs.declared.state.Stream.{Stream}
-use Rattle.turn_client_api.specs.Payloads.{Payload, Outcome, Handled, Ignored, PeerData}
+use Rattle.turn_client_api.specs.Payloads.{Payload, Outcome, Handled, Ignored}
 use Rattle.turn_client_api.specs.Streams.{broken_at, frame_step, framed_by, framed_stream_step, go_on, is_ready, max_steps, poll_recv_step, ready_len, next_frame_step, first_ready_step}
 use Rattle.turn_client_api.specs.Streams.{steps_until_payload, with_bytes}
 use Rattle.turn_client_api.specs.Receive.{first_frame_step, piece_step, then_all}
@@ -148,8 +148,7 @@ turn-lighter stream now s found = turned-lighter stream.mode stream now s found
 
 -- two ways to go on that agree on all that is lighter
 go_on-same : (next other : State → Option Payload × State) (p : Outcome × State) → next p.1 ≡ other p.1 → go_on next p ≡ go_on other p
-go_on-same next other (PeerData payload, t) same = refl
-go_on-same next other (_, t) same = same
+go_on-same next other p same = grind arith
 
 pub none-ready : (now : ℕ) (s : State) → weight s.streams ≤ 0 → (o : Option Stream) → find is_ready s.streams ≡ o → o ≡ None
 none-ready now s empty None e = refl
@@ -182,11 +181,7 @@ abbrev pub IsDone : Option Payload × State → Type 0
 IsDone p = p.0 ≡ None → find is_ready p.1.streams ≡ None
 
 go_on-done : (next : State → Option Payload × State) (p : Outcome × State) → IsDone (next p.1) → IsDone (go_on next p)
-go_on-done next (PeerData payload, t) done = λ h. absurd (some-none h)
-  where
-    some-none : Some (record payload { place = None }) ≡ None → ⊥
-    some-none h = cc
-go_on-done next (_, t) done = done
+go_on-done next p done = grind arith
 
 pub turns-done : (n now : ℕ) (s : State) → weight s.streams ≤ n → IsDone (steps_until_payload n now s)
 unfolding steps_until_payload
@@ -203,11 +198,7 @@ turns-done (suc n) now s h = by (find is_ready s.streams) refl (λ t p. turns-do
 
 framed-none : (bytes : List ℕ) → framed bytes ≡ None → (begins_no_frame bytes ≡ false) × (frame_len bytes ≡ None)
 unfolding framed
-framed-none bytes = by (begins_no_frame bytes)
-  where
-    by : (b : Bool) → cond b (Some (length bytes)) (frame_len bytes) ≡ None → (b ≡ false) × (frame_len bytes ≡ None)
-    by true e = cc
-    by false e = (refl, e)
+framed-none bytes e = grind arith
 
 framed-HasNoFrame : (bytes : List ℕ) → framed bytes ≡ None → HasNoFrame bytes
 framed-HasNoFrame bytes e = ((framed-none bytes e).0, by)

@@ -7,7 +7,7 @@ use Rattle.std.specs.declared.net.socket_addr.SocketAddr.{SocketAddr}
 use Rattle.turn_agent.specs.Agent.{same_address}
 use Rattle.turn_client_api.specs.State.{State}
 use Rattle.turn_client_api.specs.declared.state.Stream.{Stream}
-use Rattle.turn_client_api.specs.Payloads.{Payload, Outcome, PeerData}
+use Rattle.turn_client_api.specs.Payloads.{Payload, Outcome}
 use Rattle.turn_client_api.specs.Streams.{go_on, is_ready, max_steps, poll_recv_step, next_frame_step, first_ready_step, steps_until_payload}
 use Rattle.turn_client_laws.specs.LawsStreams.{AreApart}
 use Rattle.turn_client_laws.proofs.StreamApartLemmas.{IsNoneOf, differ-sym, ends}
@@ -35,8 +35,7 @@ abbrev pub IsLessThan : ℕ → Option Payload × State → Type 0
 IsLessThan n p = IsSome p.0 → weight p.1.streams < n
 
 go_on-less : (next : State → Option Payload × State) (n : ℕ) (p : Outcome × State) → weight p.1.streams < n → IsLessThan (weight p.1.streams) (next p.1) → IsLessThan n (go_on next p)
-go_on-less next n (PeerData payload, t) first more = λ h. first
-go_on-less next n (_, t) first more = λ h. let less = more h in omega (arith, first, less)
+go_on-less next n p first more = grind arith
 
 pub turns-less : (n now : ℕ) (s : State) → IsLessThan (weight s.streams) (steps_until_payload n now s)
 unfolding steps_until_payload

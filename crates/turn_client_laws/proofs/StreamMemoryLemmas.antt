@@ -1,5 +1,5 @@
 -- The streams keep distinct local addresses, even if memory allocation fails.
-use Rattle.std.proofs.Common.{◌≡◌, ◌≢◌, ◌⊎◌, ℕ, List, Option, Some, None, refl, subst, sym, inl, inr}
+use Rattle.std.proofs.Common.{◌≡◌, ◌≢◌, ◌⊎◌, ℕ, List, Option, Some, None, refl, subst, sym, inl, inr, arith}
 use Rattle.std.specs.Prelude.{IsSomeAnd, find}
 use Rattle.std.specs.declared.net.socket_addr.SocketAddr.{SocketAddr}
 use Rattle.turn_agent.specs.Agent.{same_address}
@@ -40,8 +40,7 @@ turns_end-apart now s u (t, (n, led), broken) h = by (find is_ready t.streams) b
         (subst (λ (p : Option Payload × State). AreApart p.1) led (turns-apart n now s h))
 
 control-whole : (mode : Mode) → mode ≡ Control → mode ≢ Broken
-control-whole Control e = λ f. cc
-control-whole mode e = λ f. cc
+control-whole mode e f = grind arith
 
 before-apart : (to : SocketAddr) (piece : List ℕ) (now : ℕ) (s u : State) → IsBehind to piece now s u → StayApart s u
 before-apart to piece now s u (stream, f, inl (mode, e)) h =

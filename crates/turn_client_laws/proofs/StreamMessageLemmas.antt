@@ -9,8 +9,7 @@ use Rattle.turn_client_api.specs.declared.state.Mode.TheVariants.{Bound}
 use Rattle.turn_client_api.specs.declared.state.Stream.{Stream}
 use Rattle.turn_client_api.specs.declared.grant.DataConnection.{DataConnection}
 use Rattle.turn_client_api.specs.Grants.{purposes_of}
-use Rattle.turn_client_api.specs.Judgement.{Judgement, Challenged, SignedSuccess, bind_judgement}
-use Rattle.turn_client_api.specs.Judgement.{is_bind_of}
+use Rattle.turn_client_api.specs.Judgement.{Judgement, Challenged, SignedSuccess, bind_judgement, is_bind_of}
 use Rattle.turn_client_api.specs.Connections.{bind_again, bind_answered, with_mode}
 use Rattle.turn_client_api.specs.Payloads.{message_step}
 use Rattle.turn_client_api.specs.Streams.{frame_step}

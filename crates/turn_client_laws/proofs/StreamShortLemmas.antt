@@ -17,12 +17,10 @@ u16-most : (bytes : List ℕ) → 3 < length bytes → All (λ b. b < 256) bytes
 u16-most bytes there h = omega (arith, h 2 0 (omega (arith, there)), h 3 0 there)
 
 size-by : (b : Bool) (n : ℕ) → n ≤ 65535 → cond b (20 + n) (4 + padded_len n) ≤ 65555
-size-by true n h = omega (arith, h)
-size-by false n h = omega (arith, h)
+size-by b n h = grind arith
 
 some-if : (b : Bool) (n : ℕ) → cond b (Some n) None ≡ None → b ≡ false
-some-if true n h = cc
-some-if false n h = refl
+some-if b n h = grind arith
 
 -- it holds less than its size
 frame_len-none : (bytes : List ℕ) → begins_no_frame bytes ≡ false → frame_len bytes ≡ None → length bytes < frame_size bytes

@@ -1,5 +1,6 @@
 -- Bytes received over streams keep their local addresses distinct.
-use Rattle.std.proofs.Common.{◌≡◌, ◌≢◌, ℕ, zero, suc, ◌++◌, Bool, true, false, not, cond, List, [], ◌∷◌, take, drop, Option, Some, None, refl, subst, sym, inl, inr}
+use Rattle.std.proofs.Common.{◌≡◌, ◌≢◌, ℕ, zero, suc, ◌++◌, Bool, true, false, not, cond, List, [], ◌∷◌, take, drop, Option, Some, None, refl, subst}
+use Rattle.std.proofs.Common.{sym, inl, inr, arith}
 use Rattle.std.specs.Prelude.{find, is_some}
 use Rattle.std.specs.declared.net.socket_addr.SocketAddr.{SocketAddr}
 use Rattle.turn_stun.specs.declared.transport.TransportType.{TransportType}
@@ -71,8 +72,7 @@ go_on-apart next s (_, t) first more = more t first
 
 -- what is broken is not ready
 ready-whole : (mode : Mode) (stream : Stream) → is_ready (record stream { mode = mode }) ≡ true → mode ≢ Broken
-ready-whole Broken stream e = cc
-ready-whole mode stream e = λ f. cc
+ready-whole mode stream e f = grind arith
 
 pub turns-apart : (n now : ℕ) (s : State) → StayApart s (steps_until_payload n now s).1
 unfolding steps_until_payload

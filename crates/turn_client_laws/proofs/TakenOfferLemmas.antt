@@ -1,11 +1,9 @@
 -- What remains when an offer is removed.
-use Rattle.std.proofs.Common.{◌≡◌, ℕ, Bool, true, false, List, [], ◌∷◌, inl, inr, refl}
+use Rattle.std.proofs.Common.{◌≡◌, ℕ, Bool, true, false, List, [], ◌∷◌, inl, inr, refl, arith}
 use Rattle.std.specs.declared.net.socket_addr.SocketAddr.{SocketAddr}
 use Rattle.std.proofs.lemmas.Bool.{cases_Bool}
 use Rattle.turn_client_api.specs.declared.grant.Grant.{Grant}
-use Rattle.turn_client_api.specs.declared.grant.Grant.TheVariants.{Offer}
 use Rattle.turn_client_api.specs.declared.grant.Purpose.{Purpose}
-use Rattle.turn_client_api.specs.declared.grant.Purpose.TheVariants.{ForAllocation}
 use Rattle.turn_client_api.specs.Grants.{is_for}
 use Rattle.turn_client_api.specs.Calls.{is_offer_of, without_first}
 use Rattle.turn_client_laws.proofs.HasLemmas.{Has}
@@ -26,6 +24,4 @@ stays-first which g (x ∷ xs) (inr there) kept =
 
 -- no request is for an offer
 pub no-offer : (id : ℕ) (peer : SocketAddr) (p : Purpose) (g : Grant) → is_for p g ≡ true → is_offer_of id peer g ≡ false
-no-offer id peer ForAllocation (Offer offer) for = cc
-no-offer id peer p (Offer offer) for = cc
-no-offer id peer p g for = refl
+no-offer id peer p g for = grind arith

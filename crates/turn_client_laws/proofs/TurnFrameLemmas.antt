@@ -1,5 +1,5 @@
 -- A step of a stream is one frame.
-use Rattle.std.proofs.Common.{◌≡◌, ℕ, Bool, true, false, cond, List, [], ◌∷◌, map, drop, Option, Some, None, refl, ap, sym, inl, inr}
+use Rattle.std.proofs.Common.{◌≡◌, ℕ, Bool, true, false, cond, List, [], ◌∷◌, map, drop, Option, Some, None, refl, ap, sym, inl, inr, arith}
 use Rattle.std.proofs.lemmas.List.{append-nil, take-append-drop}
 use Rattle.std.specs.declared.net.socket_addr.SocketAddr.{SocketAddr}
 use Rattle.std.proofs.lemmas.Bool.{cases_Bool}
@@ -16,7 +16,7 @@ use Rattle.turn_client_laws.specs.LawsHandled.{IsInputOf}
 use Rattle.turn_client_laws.proofs.FrameRestLemmas.{bytes_by}
 
 once : (a : SocketAddr) (first later : List ℕ) (x : Stream) → bytes_by a later (bytes_by a first x) ≡ bytes_by a later x
-once a first later x = elim (cases_Bool (same_address x.local a)) [ inl e ↦ rw (e, e) refl | inr e ↦ rw (e, e) refl ]
+once a first later x = grind arith
 
 twice : (a : SocketAddr) (first later : List ℕ) (xs : List Stream) → map (bytes_by a later) (map (bytes_by a first) xs) ≡ map (bytes_by a later) xs
 twice a first later [] = refl

@@ -1,5 +1,5 @@
 -- A request is listed for two purposes at most.
-use Rattle.std.proofs.Common.{◌≡◌, ◌⊎◌, ℕ, Bool, true, false, not, eqb, List, filter, Option, Some, inl, inr, refl, sym, subst, ◌∙◌}
+use Rattle.std.proofs.Common.{◌≡◌, ◌⊎◌, ℕ, Bool, true, false, not, eqb, List, filter, Option, Some, inl, inr, refl, sym, subst, ◌∙◌, arith}
 use Rattle.std.specs.Prelude.{flat_map, slice_get, unwrap_or}
 use Rattle.std.specs.List.{Contains, list_any}
 use Rattle.std.specs.Net.Socket.{socket_ip}
@@ -116,14 +116,10 @@ partner p = p
 
 with-partner : (q p : Purpose) → IsListedFor q p → (p ≡ q) ⊎ (p ≡ partner q)
 unfolding partner
-with-partner q p (inl e) = inl e
-with-partner (ForChannel number peer) (ForPermission ip) (inr e) = inr (rw e refl)
-with-partner q p (inr none) = absurd none
+with-partner q p listed = grind arith
 
 refresh-either : (family : AddressFamily) (p : Purpose) → IsListedFor (ForRefresh family 0) p → (p ≡ ForRefresh IPV4 0) ⊎ (p ≡ ForRefresh IPV6 0)
-refresh-either IPV4 p (inl e) = inl e
-refresh-either IPV6 p (inl e) = inr e
-refresh-either family p (inr none) = absurd none
+refresh-either family p listed = grind arith
 
 -- the call lists a request of its own for this
 abbrev Lists : Call → State → Purpose → Type 0

@@ -83,12 +83,10 @@ waits_not : (events : List TurnEvent) → events ≡ [] → ltb 0 (length events
 waits_not events e = rw e refl
 
 pub phase-old : (p : Phase) → p ≢ New → is_new p ≡ false
-phase-old New old = absurd (old refl)
-phase-old p old = refl
+phase-old p old = grind arith
 
 phase-other : (p : Phase) → p ≢ Allocated → is_allocated p ≡ false
-phase-other Allocated other = absurd (other refl)
-phase-other p other = refl
+phase-other p other = grind arith
 
 quiet : (now : ℕ) (s : State) → is_new s.phase ≡ false → s.events ≡ [] → has_reply s ≡ false → next_wakeup false now s ≡ cond (is_allocated s.phase) (max now (least_due now s)) (least_due now s)
 quiet now s old none no_reply =

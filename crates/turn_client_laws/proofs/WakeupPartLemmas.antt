@@ -1,13 +1,11 @@
 -- The returned time, part by part.
-use Rattle.std.proofs.Common.{◌≡◌, ℕ, ◌+◌, ◌≤◌, max, min, Bool, true, false, cond, List, [], ◌∷◌, ◌++◌, map, filter_map, flat_map, fold, Option, Some}
-use Rattle.std.proofs.Common.{None, refl, ap, ◌∙◌, arith}
+use Rattle.std.proofs.Common.{◌≡◌, ℕ, ◌+◌, ◌≤◌, max, min, cond, List, [], ◌∷◌, ◌++◌, map, filter_map, flat_map, fold, Option, Some, None, refl, ap, ◌∙◌, arith}
 use Rattle.std.specs.Prelude.{option_to_list}
-use Rattle.std.specs.Option.{option_map_or}
 use Rattle.std.proofs.Math.Nat.{min-le_right}
 use Rattle.turn_agent.specs.Agent.{transaction_timeout}
 use Rattle.turn_client_api.specs.State.{State, agent_of, max_time, later_by}
 use Rattle.turn_client_api.specs.declared.grant.Grant.{Grant}
-use Rattle.turn_client_api.specs.Due.{end_of, has_queued_request, least_due, max_wait, pause, pause_end, refresh_of, refresh_time}
+use Rattle.turn_client_api.specs.Due.{end_of, has_queued_request, least_due, max_wait, pause_end, refresh_of, refresh_time}
 use Rattle.turn_client_laws.specs.LawsBodies.{soonest, soonest_queued, soonest_transaction}
 
 -- any start that is not above the greatest
@@ -29,11 +27,7 @@ least-le_greatest : (greatest : ℕ) (ms : List ℕ) → fold min greatest ms �
 least-le_greatest greatest ms = omega (arith, least-from greatest greatest ms (omega arith))
 
 pause-within : (s : State) → pause_end s ≤ max_time
-pause-within s = by s.last_send
-  where
-    by : (o : Option ℕ) → option_map_or (later_by pause) o 0 ≤ max_time
-    by None = omega arith
-    by (Some time) = min-le_right (time + pause) max_time
+pause-within s = grind arith
 
 joined : (p a b e r : ℕ) → min (min a (max p b)) (min e (max p r)) ≡ min (min a e) (max p (min b r))
 joined p a b e r = omega arith
@@ -47,8 +41,7 @@ combined p a b e r whole front later ends refreshes h f l he hr = rw (h, f, l, h
 
 module _ (now : ℕ) (s : State) (greatest : ℕ) (within : pause_end s ≤ greatest) where
   refresh-part : (o : Option ℕ) → fold min greatest (map (max (pause_end s)) (option_to_list o)) ≡ max (pause_end s) (fold min greatest (option_to_list o))
-  refresh-part None = omega (arith, within)
-  refresh-part (Some m) = omega (arith, within)
+  refresh-part o = grind arith
 
   cons-part : (o : Option ℕ) (g : Grant) (gs : List Grant) → refresh_time s g ≡ o
       → fold min greatest (filter_map (refresh_time s) (g ∷ gs)) ≡ min (fold min greatest (option_to_list o)) (fold min greatest (filter_map (refresh_time s) gs))
@@ -83,11 +76,7 @@ module _ (now : ℕ) (s : State) (greatest : ℕ) (within : pause_end s ≤ grea
 -- ---- all of them
 
 queued-part : (s : State) (greatest : ℕ) → pause_end s ≤ greatest → fold min greatest (cond (has_queued_request s) (pause_end s ∷ []) []) ≡ cond (has_queued_request s) (pause_end s) greatest
-queued-part s greatest within = by (has_queued_request s)
-  where
-    by : (b : Bool) → fold min greatest (cond b (pause_end s ∷ []) []) ≡ cond b (pause_end s) greatest
-    by true = omega (arith, within)
-    by false = refl
+queued-part s greatest within = grind arith
 
 in-row : (first q t e : ℕ) → min (min (min first q) t) e ≡ min first (min q (min t e))
 in-row first q t e = omega arith

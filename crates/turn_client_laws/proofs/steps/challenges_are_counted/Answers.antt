@@ -1,7 +1,6 @@
 use Rattle.turn_client_laws.proofs.ConfiguredLemmas.{leaves-configured}
 use Rattle.turn_client_laws.proofs.CountLemmas.{leaves-heeded}
-use Rattle.turn_client_laws.proofs.PhasesGoOn.{leaves-keeps}
-use Rattle.turn_client_laws.proofs.PhasesGoOn.{challenge-IsCounted}
+use Rattle.turn_client_laws.proofs.PhasesGoOn.{leaves-keeps, challenge-IsCounted}
 use Rattle.turn_client_laws.proofs.steps.challenges_are_counted.Goals as goal
 
 pub returns : goal.returns
