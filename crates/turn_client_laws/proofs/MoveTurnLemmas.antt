@@ -157,8 +157,7 @@ end-obeys : (call : Call) (s t : State) → EndsAmidInputs call s t → Moves (�
     (λ g. IsDoneBy (IsRemovedByInput g) call s) s t
 end-obeys call s t end =
     let (made, listed, lost) = lead-obeys call s end.last end.front end.lead (λ Did. front-done Did call s end.front end.later end.all) in
-    subst (λ (u : State). Moves (λ x. IsDoneBy (IsMadeByInput x) call s) (λ l. IsDoneBy (IsListedByInput l) call s) (λ g. IsDoneBy (IsRemovedByInput g) call s) s u)
-    (sym end.ended) (made, λ l h. listed l (has-filter _ l end.last.listed h).0, lost)
+    rw end.ended (made, λ l h. listed l (has-filter _ l end.last.listed h).0, lost)
 
 amid-obeys : (call : Call) (s t : State) → TakesInput call → EndsAmidInputs call s t → ObeysTo call s t
 amid-obeys (Recv packet now) s t takes end = packet-obeys packet now s t (end-obeys (Recv packet now) s t end)

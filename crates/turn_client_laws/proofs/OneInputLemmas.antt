@@ -78,7 +78,8 @@ bind-by P local bytes now s = bind_in_phase-by P s.phase local bytes now s
 
 pub input-by : (P : State → Type 0) (one : Input) → P one.before
     → (IsOverControl one → is_message one.bytes ≡ true → P (message_step one.bytes one.time one.before).1)
-    → ((stream : Stream) → one.stream ≡ Some stream → stream.mode ≡ Waiting → is_message one.bytes ≡ true → P (bind_step stream.local one.bytes one.time one.before)) → P (processed one).1
+    → ((stream : Stream) → one.stream ≡ Some stream → stream.mode ≡ Waiting → is_message one.bytes ≡ true → P (bind_step stream.local one.bytes one.time one.before))
+    → P (processed one).1
 input-by P one same message bind = by one.stream refl
   where
     by : (o : Option Stream) → one.stream ≡ o → P (processed (record one { stream = o })).1
