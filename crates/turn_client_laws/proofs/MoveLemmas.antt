@@ -141,9 +141,13 @@ by_test P true x y k l = k
 by_test P false x y k l = l
 
 -- a value by a test
-pub on_test : {A : Type 0} (P : A → Type 0) (b : Bool) (x y : A) → P x → P y → P (cond b x y)
-on_test P true x y k l = k
-on_test P false x y k l = l
+pub on_choice : {A : Type 0} (P : A → Type 0) (b : Bool) (x y : A) → P x → P y → P (cond b x y)
+on_choice P true x y k l = k
+on_choice P false x y k l = l
+
+-- a state by a test
+pub on_test : (P : State → Type 0) (b : Bool) (s t : State) → P s → P t → P (cond b s t)
+on_test = on_choice
 
 pub cases_Option : {A : Type 0} (o : Option A) → (o ≡ None) ⊎ ((x : A) × (o ≡ Some x))
 cases_Option None = inl refl

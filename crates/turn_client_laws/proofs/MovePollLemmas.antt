@@ -36,7 +36,7 @@ use Rattle.turn_client_laws.proofs.HasLemmas.{Has, all-has, has-found}
 use Rattle.turn_client_laws.proofs.LapseLemmas.{lapsed-shrinks}
 use Rattle.turn_client_laws.proofs.MoveCallLemmas.{Does, ListedAt, MadeAt, does-same, does-settled}
 use Rattle.turn_client_laws.proofs.MoveLemmas.{Adds, Loses, Never, Settles, adds-filter, adds-never, adds-one, adds-same, adds-then, by_test, loses-same}
-use Rattle.turn_client_laws.proofs.MoveLemmas.{none-found, on_test, settles-same, loses-cons}
+use Rattle.turn_client_laws.proofs.MoveLemmas.{none-found, on_choice, on_test, settles-same, loses-cons}
 use Rattle.turn_client_laws.proofs.GrantOriginLemmas.{has-mapped}
 use Rattle.turn_client_laws.proofs.MoveMessageLemmas.{made-of}
 use Rattle.turn_client_laws.proofs.MoveSocketLemmas.{by_found}
@@ -161,7 +161,7 @@ told-grant_identity g = grind arith
 pub told-loses : (Taken : Grant → Type 0) (family : AddressFamily) (gs : List Grant) → Loses Taken gs (first_reported family gs)
 told-loses Taken family [] = loses-same Taken []
 told-loses Taken family (x ∷ gs) =
-    on_test (Loses Taken (x ∷ gs)) (is_some (unreported_in family x)) (as_reported x ∷ gs) (x ∷ first_reported family gs)
+    on_choice (Loses Taken (x ∷ gs)) (is_some (unreported_in family x)) (as_reported x ∷ gs) (x ∷ first_reported family gs)
     (loses-cons Taken x (as_reported x) gs gs (told-grant_identity x) (loses-same Taken gs))
     (loses-cons Taken x x gs (first_reported family gs) refl (told-loses Taken family gs))
 

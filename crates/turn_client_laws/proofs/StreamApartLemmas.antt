@@ -12,7 +12,7 @@ use Rattle.turn_client_api.specs.declared.state.Mode.TheVariants.{Waiting, Bound
 use Rattle.turn_client_api.specs.declared.state.Stream.{Stream}
 use Rattle.turn_client_laws.specs.LawsStreams.{IsEmptyIfBroken}
 use Rattle.turn_client_laws.proofs.AddressLemmas.{same_address-true, same_address-self}
-use Rattle.turn_client_laws.proofs.MoveLemmas.{on_test}
+use Rattle.turn_client_laws.proofs.MoveLemmas.{on_choice}
 use Rattle.turn_client_laws.proofs.HasLemmas.{has-found, map-has}
 use Rattle.turn_client_laws.proofs.NumberLemmas.{all-of, distinct-last}
 use Rattle.turn_client_laws.proofs.StreamDrainLemmas.{broken_by, broken_by-Sets, bytes_by, bytes_by-Sets, mode_by, mode_by-KeepsHeld}
@@ -117,32 +117,32 @@ pub bytes-NotBroken : (local : SocketAddr) (bytes : List ℕ) (xs : List Stream)
 unfolding bytes_by
 bytes-NotBroken local bytes =
     all-map (IsWholeAt local) (IsWholeAt local) (bytes_by local bytes)
-    (λ x unbroken. on_test (IsWholeAt local) (same_address x.local local) (record x { bytes = bytes }) x unbroken unbroken)
+    (λ x unbroken. on_choice (IsWholeAt local) (same_address x.local local) (record x { bytes = bytes }) x unbroken unbroken)
 
 pub bound-NotBroken : (at local peer : SocketAddr) (xs : List Stream) → NotBroken at xs → NotBroken at (map (mode_by local (Bound peer)) xs)
 unfolding mode_by
 bound-NotBroken at local peer =
     all-map (IsWholeAt at) (IsWholeAt at) (mode_by local (Bound peer))
-    (λ x unbroken. on_test (IsWholeAt at) (same_address x.local local) (record x { mode = Bound peer }) x (λ e f. cc) unbroken)
+    (λ x unbroken. on_choice (IsWholeAt at) (same_address x.local local) (record x { mode = Bound peer }) x (λ e f. cc) unbroken)
 
 -- a broken stream without bytes is allowed
 pub emptied-apart : (local : SocketAddr) (xs : List Stream) → Apart xs → Apart (map (bytes_by local []) xs)
 unfolding bytes_by
 emptied-apart local =
     map-apart (bytes_by local []) (bytes_by-Sets local []).keeps
-    (λ x empty. on_test IsEmptyIfBroken (same_address x.local local) (record x { bytes = [] }) x (λ e. refl) empty)
+    (λ x empty. on_choice IsEmptyIfBroken (same_address x.local local) (record x { bytes = [] }) x (λ e. refl) empty)
 
 pub broken-apart : (local : SocketAddr) (xs : List Stream) → Apart xs → Apart (map (broken_by local) xs)
 unfolding broken_by
 broken-apart local =
     map-apart (broken_by local) (broken_by-Sets local).keeps
-    (λ x empty. on_test IsEmptyIfBroken (same_address x.local local) (record x { mode = Broken; bytes = [] }) x (λ e. refl) empty)
+    (λ x empty. on_choice IsEmptyIfBroken (same_address x.local local) (record x { mode = Broken; bytes = [] }) x (λ e. refl) empty)
 
 pub bound-apart : (local peer : SocketAddr) (xs : List Stream) → Apart xs → Apart (map (mode_by local (Bound peer)) xs)
 unfolding mode_by
 bound-apart local peer =
     map-apart (mode_by local (Bound peer)) (mode_by-KeepsHeld local (Bound peer)).local
-    (λ x empty. on_test IsEmptyIfBroken (same_address x.local local) (record x { mode = Bound peer }) x (λ e. cc) empty)
+    (λ x empty. on_choice IsEmptyIfBroken (same_address x.local local) (record x { mode = Bound peer }) x (λ e. cc) empty)
 
 -- ---- streams are removed and added
 

@@ -17,7 +17,7 @@ use Rattle.turn_client_api.specs.Streams.{steps_until_payload, with_bytes}
 use Rattle.turn_client_api.specs.Receive.{first_frame_step, piece_step, then_all}
 use Rattle.turn_client_laws.specs.LawsPeers.{HasNoPeer}
 use Rattle.turn_client_laws.specs.LawsStreams.{HasNoFrame, NeedsMoreBytes}
-use Rattle.turn_client_laws.proofs.MoveLemmas.{on_test, cases_Option, none-found}
+use Rattle.turn_client_laws.proofs.MoveLemmas.{on_choice, cases_Option, none-found}
 use Rattle.turn_client_laws.proofs.StreamMessageLemmas.{Rebound, frame-rebound}
 use Rattle.turn_client_laws.proofs.StreamWeightLemmas.{KeepsHeld, Sets, kept-Sets, later-Sets, weight, weight-le, weight-less}
 use Rattle.turn_client_laws.proofs.HasLemmas.{has-found, all-has}
@@ -47,7 +47,7 @@ mode_by local mode x = cond (same_address x.local local) (record x { mode = mode
 pub bytes_by-Sets : (local : SocketAddr) (bytes : List ℕ) → Sets local bytes (bytes_by local bytes)
 unfolding bytes_by
 bytes_by-Sets local bytes = record {
-  keeps = λ x. on_test (λ y. y.local ≡ x.local) (same_address x.local local) (record x { bytes = bytes }) x refl refl;
+  keeps = λ x. on_choice (λ y. y.local ≡ x.local) (same_address x.local local) (record x { bytes = bytes }) x refl refl;
   at = λ x e. rw e refl;
   others = λ x e. rw e refl;
 }
@@ -55,7 +55,7 @@ bytes_by-Sets local bytes = record {
 pub broken_by-Sets : (local : SocketAddr) → Sets local [] (broken_by local)
 unfolding broken_by
 broken_by-Sets local = record {
-  keeps = λ x. on_test (λ y. y.local ≡ x.local) (same_address x.local local) (record x { mode = Broken; bytes = [] }) x refl refl;
+  keeps = λ x. on_choice (λ y. y.local ≡ x.local) (same_address x.local local) (record x { mode = Broken; bytes = [] }) x refl refl;
   at = λ x e. rw e refl;
   others = λ x e. rw e refl;
 }
@@ -63,8 +63,8 @@ broken_by-Sets local = record {
 pub mode_by-KeepsHeld : (local : SocketAddr) (mode : Mode) → KeepsHeld (mode_by local mode)
 unfolding mode_by
 mode_by-KeepsHeld local mode = record {
-  local = λ x. on_test (λ y. y.local ≡ x.local) (same_address x.local local) (record x { mode = mode }) x refl refl;
-  bytes = λ x. on_test (λ y. y.bytes ≡ x.bytes) (same_address x.local local) (record x { mode = mode }) x refl refl;
+  local = λ x. on_choice (λ y. y.local ≡ x.local) (same_address x.local local) (record x { mode = mode }) x refl refl;
+  bytes = λ x. on_choice (λ y. y.bytes ≡ x.bytes) (same_address x.local local) (record x { mode = mode }) x refl refl;
 }
 
 pub map-map : (f g : Stream → Stream) (xs : List Stream) → map (λ x. g (f x)) xs ≡ map g (map f xs)

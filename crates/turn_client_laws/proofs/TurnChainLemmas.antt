@@ -21,7 +21,7 @@ use Rattle.turn_client_api.specs.declared.call.Call.TheVariants.{Recv, PollRecv}
 use Rattle.turn_client_laws.specs.LawsHandled.{DiffersInStreams, ProcessesInputs, IsBoundAt, TakesInput, InputsLead}
 use Rattle.turn_client_laws.proofs.HasLemmas.{Has, has-filter}
 use Rattle.turn_client_laws.proofs.GrantOriginLemmas.{has-mapped}
-use Rattle.turn_client_laws.proofs.MoveLemmas.{on_test}
+use Rattle.turn_client_laws.proofs.MoveLemmas.{on_choice}
 use Rattle.turn_client_laws.proofs.StandLemmas.{contains-has, has-contains}
 use Rattle.turn_client_laws.proofs.PacketLemmas.{packet-by}
 
@@ -52,13 +52,13 @@ differs-trans s t u first second = record {
 pub bytes-differs : (a : SocketAddr) (bytes : List ℕ) (s : State) → DiffersInStreams s (with_bytes a bytes s)
 bytes-differs a bytes s = record {
   others = refl;
-  bound = bound-mapped _ (λ x peer. on_test (WasBound x peer) (same_address x.local a) (record x { bytes = bytes }) x (λ e. (refl, e)) (λ e. (refl, e))) s;
+  bound = bound-mapped _ (λ x peer. on_choice (WasBound x peer) (same_address x.local a) (record x { bytes = bytes }) x (λ e. (refl, e)) (λ e. (refl, e))) s;
 }
 
 pub broken-differs : (a : SocketAddr) (s : State) → DiffersInStreams s (broken_at a s)
 broken-differs a s = record {
   others = refl;
-  bound = bound-mapped _ (λ x peer. on_test (WasBound x peer) (same_address x.local a) (record x { mode = Broken; bytes = [] }) x (λ e. cc) (λ e. (refl, e))) s;
+  bound = bound-mapped _ (λ x peer. on_choice (WasBound x peer) (same_address x.local a) (record x { mode = Broken; bytes = [] }) x (λ e. cc) (λ e. (refl, e))) s;
 }
 
 pub dropped-differs : (a : SocketAddr) (s : State) → DiffersInStreams s (without_stream a s)
