@@ -4,7 +4,7 @@ use Rattle.std.specs.Prelude.{find, slice_get, set}
 use Rattle.std.specs.Option.{option_map, option_map_or}
 use Rattle.std.specs.List.{IsDistinct, AllByRecursion, position}
 use Rattle.std.proofs.lemmas.Option.{slice_get-get_or}
-use Rattle.turn_agent.proofs.AgentLemmas.{position-IsFirst, position-none}
+use Rattle.turn_agent.proofs.AgentLemmas.{find-passes, position-IsFirst, position-none}
 use Rattle.std.specs.declared.net.socket_addr.SocketAddr.{SocketAddr}
 use Rattle.turn_agent.specs.Agent.{same_address}
 use Rattle.turn_client_api.specs.declared.state.Stream.{Stream}
@@ -56,17 +56,6 @@ set-at_end f (y ∷ ys) zero x h e =
 set-at_end f (y ∷ ys) (suc i) x h e =
     rw (at-differs y.local ys i x h.0 e) (ap (λ t. y ∷ t) (set-at_end f ys i x h.1 e))
 
-found-local : (local : SocketAddr) (xs : List Stream) (x : Stream) → find (is_at local) xs ≡ Some x → x.local ≡ local
-found-local local [] x e = cc
-found-local local (y ∷ ys) x e = by (same_address y.local local) refl (found-local local ys x)
-  where
-    by : (b : Bool) → same_address y.local local ≡ b → (find (is_at local) ys ≡ Some x → x.local ≡ local) → x.local ≡ local
-    by true g later =
-        let is : Some y ≡ Some x = rw g at e in
-        let same : y ≡ x = cc in
-        rw (← same) (same_address-true y.local local g)
-    by false g later = later (rw g at e)
-
 -- the first stream that passes a test is changed
 pub set-first : (p : Stream → Bool) (f : Stream → Stream) (xs : List Stream) (i : ℕ) (d : Stream) → HasOwnEnds xs → position p xs ≡ Some i
     → set xs i (f (get_or xs i d)) ≡ at_end (get_or xs i d).local f xs
@@ -74,12 +63,16 @@ set-first p f xs i d h e =
     let first = position-IsFirst p xs i e in
     set-at_end f xs i (get_or xs i d) h (slice_get-get_or xs i d first.within)
 
+pub set-HasOwnEnds : (p : Stream → Bool) (f : Stream → Stream) → KeepsEnd f → (xs : List Stream) (i : ℕ) (d : Stream) → HasOwnEnds xs → position p xs ≡ Some i
+    → HasOwnEnds (set xs i (f (get_or xs i d)))
+set-HasOwnEnds p f same xs i d h e = rw (set-first p f xs i d h e) (at_end-HasOwnEnds (get_or xs i d).local f same xs h)
+
 -- the stream at this local address is changed
 pub set-local : (local : SocketAddr) (f : Stream → Stream) (xs : List Stream) (i : ℕ) (d : Stream) → HasOwnEnds xs → position (is_at local) xs ≡ Some i
     → set xs i (f (get_or xs i d)) ≡ at_end local f xs
 set-local local f xs i d h e =
     let first = position-IsFirst (is_at local) xs i e in
-    let same = found-local local xs (get_or xs i d) (first.found d) in
+    let same = same_address-true (get_or xs i d).local local (find-passes (is_at local) xs (get_or xs i d) (first.found d)) in
     set-first (is_at local) f xs i d h e ∙ ap (λ a. at_end a f xs) same
 
 -- with none at it nothing changes

@@ -1,18 +1,14 @@
 use Rattle.std.proofs.Common.{refl, sym, ap, ◌∙◌}
 use Rattle.turn_client_streams.specs.Buffered.{broken}
 use Rattle.turn_client_streams.specs.Held.{with_streams}
-use Rattle.turn_client_streams.proofs.StreamLemmas.{at_end-HasOwnEnds, none-local, set-local}
+use Rattle.turn_client_streams.proofs.StreamLemmas.{is_at, none-local, set-HasOwnEnds, set-local}
 use Rattle.turn_client_streams.proofs.streams.Streams.break_at.Goals as goal
 
 pub invariant_of-self : goal.invariant_of-self
 invariant_of-self c =
-    rw (
-      c.break_off.ensures,
-      c.index_mut.ensures.value,
-      set-local c.args.local (broken) c.self.inside.list.items c.in-Some.place _ c.self.invariant
-          (rw (c.as_slice.ensures.value) at (sym c.place_at.ensures ∙ c.in-Some.is)),
-    )
-    (at_end-HasOwnEnds c.args.local (broken) (λ x. refl) c.self.inside.list.items c.self.invariant)
+    rw (c.break_off.ensures, c.index_mut.ensures.value)
+    (set-HasOwnEnds (is_at c.args.local) broken (λ x. refl) c.self.inside.list.items c.in-Some.place _ c.self.invariant
+    (rw c.as_slice.ensures.value at (sym c.place_at.ensures ∙ c.in-Some.is)))
 
 pub returns-in-Some : goal.returns-in-Some
 returns-in-Some c = λ s.

@@ -3,18 +3,14 @@ use Rattle.turn_agent.proofs.AgentLemmas.{position-IsFirst, position-none}
 use Rattle.turn_client_api.specs.Streams.{is_ready}
 use Rattle.turn_client_streams.specs.Buffered.{with_content}
 use Rattle.turn_client_streams.specs.Held.{with_streams}
-use Rattle.turn_client_streams.proofs.StreamLemmas.{at_end-HasOwnEnds, set-first}
+use Rattle.turn_client_streams.proofs.StreamLemmas.{set-HasOwnEnds, set-first}
 use Rattle.turn_client_streams.proofs.streams.Streams.take_ready.Goals as goal
 
 pub invariant_of-self : goal.invariant_of-self
 invariant_of-self c =
-    rw (
-      c.take_out.ensures.after,
-      c.index_mut.ensures.value,
-      set-first is_ready (with_content []) c.self.inside.list.items c.in-Some.place _ c.self.invariant
-          (rw c.as_slice.ensures.value at (sym c.ready_place.ensures.exact ∙ c.in-Some.is)),
-    )
-    (at_end-HasOwnEnds _ (with_content []) (λ x. refl) c.self.inside.list.items c.self.invariant)
+    rw (c.take_out.ensures.after, c.index_mut.ensures.value)
+    (set-HasOwnEnds is_ready (with_content []) (λ x. refl) c.self.inside.list.items c.in-Some.place _ c.self.invariant
+    (rw c.as_slice.ensures.value at (sym c.ready_place.ensures.exact ∙ c.in-Some.is)))
 
 pub returns-clause-stream : goal.returns-clause-stream
 returns-clause-stream c =
