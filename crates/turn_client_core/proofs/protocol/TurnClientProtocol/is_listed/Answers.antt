@@ -1,11 +1,5 @@
-use Rattle.std.proofs.Common.{◌≡◌, ◌∙◌, ap, refl}
-use Rattle.turn_client_api.specs.Grants.{is_listed}
-use Rattle.turn_client_grants.specs.Table.{with_table}
 use Rattle.turn_client_core.specs.contracts.protocol.TurnClientProtocol.{the_view}
 use Rattle.turn_client_core.proofs.protocol.TurnClientProtocol.is_listed.Goals as goal
 
 pub returns : goal.returns
-returns c =
-    let s = the_view c.self.inside in
-    let same : with_table c.table.result.now s ≡ s = rw (c.table.ensures.grants, c.table.ensures.listed) refl in
-    rw (← c.self.view_is) (c.is_listed.ensures s ∙ ap (λ t. is_listed c.args.id t) same)
+returns c = rw (← c.self.view_is, ← c.table.ensures.grants, ← c.table.ensures.listed) (c.is_listed.ensures (the_view c.self.inside))
