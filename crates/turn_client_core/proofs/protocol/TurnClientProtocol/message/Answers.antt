@@ -27,21 +27,33 @@ challenged-requires c =
     let (challenge, is) = challenged-is (judgement_of c.args.self.now c.args.message.now) (sym c.judge-judged.ensures ∙ c.in-Challenged.is) in
     rw (Challenged-is c.args.self.now c.args.message.now challenge is) refl
 
-pub returns-in-Challenged-clause-answer : goal.returns-in-Challenged-clause-answer
-returns-in-Challenged-clause-answer c =
-    let (challenge, is) = challenged-is (judgement_of c.args.self.now c.args.message.now) (sym c.judge-judged.ensures ∙ c.in-Challenged.is) in
-    rw is (c.challenged.ensures.answer challenge (Challenged-is c.args.self.now c.args.message.now challenge is))
+pub returns-in-Challenged : goal.returns-in-Challenged
+returns-in-Challenged c =
+    let kind = sym c.judge-judged.ensures ∙ c.in-Challenged.is in
+    let (challenge, is) = challenged-is (judgement_of c.args.self.now c.args.message.now) kind in
+    let contained = Challenged-is c.args.self.now c.args.message.now challenge is in
+    record {
+      answer = rw is (c.challenged.ensures.answer challenge contained);
+      part = c.challenged.ensures.part;
+      after = rw is (c.challenged.ensures.after challenge contained);
+      err = c.challenged.ensures.err;
+      free = λ h. absurd (data-judged c.args.self.now c.args.message.now h Challenged kind);
+      wanted = rw is c.challenged.ensures.wanted;
+    }
 
-pub returns-in-Challenged-clause-after : goal.returns-in-Challenged-clause-after
-returns-in-Challenged-clause-after c =
-    let (challenge, is) = challenged-is (judgement_of c.args.self.now c.args.message.now) (sym c.judge-judged.ensures ∙ c.in-Challenged.is) in
-    rw is (c.challenged.ensures.after challenge (Challenged-is c.args.self.now c.args.message.now challenge is))
-
-pub returns-in-Fatal-clause-answer : goal.returns-in-Fatal-clause-answer
-returns-in-Fatal-clause-answer c = rw (judged-is (judgement_of c.args.self.now c.args.message.now) Fatal (sym c.judge-judged.ensures ∙ c.in-Fatal.is) tt) c.fatal.ensures.answer
-
-pub returns-in-Fatal-clause-after : goal.returns-in-Fatal-clause-after
-returns-in-Fatal-clause-after c = rw (judged-is (judgement_of c.args.self.now c.args.message.now) Fatal (sym c.judge-judged.ensures ∙ c.in-Fatal.is) tt) c.fatal.ensures.after
+pub returns-in-Fatal : goal.returns-in-Fatal
+returns-in-Fatal c =
+    let kind = sym c.judge-judged.ensures ∙ c.in-Fatal.is in
+    let is = judged-is (judgement_of c.args.self.now c.args.message.now) Fatal kind tt in
+    let takes : message_takes_memory c.args.message.now c.args.self.now ≡ true = rw is refl in
+    record {
+      answer = rw is c.fatal.ensures.answer;
+      part = c.fatal.ensures.part;
+      after = rw is c.fatal.ensures.after;
+      err = c.fatal.ensures.err;
+      free = λ h. absurd (data-judged c.args.self.now c.args.message.now h Fatal kind);
+      wanted = on-err _ takes;
+    }
 
 pub returns-in-DataIndication-clause-answer : goal.returns-in-DataIndication-clause-answer
 returns-in-DataIndication-clause-answer c = rw (judged-is (judgement_of c.args.self.now c.args.message.now) DataIndication (sym c.judge-judged.ensures
@@ -55,35 +67,59 @@ returns-in-DataIndication-clause-part c =
 pub returns-in-DataIndication-clause-after : goal.returns-in-DataIndication-clause-after
 returns-in-DataIndication-clause-after c = rw (judged-is (judgement_of c.args.self.now c.args.message.now) DataIndication (sym c.judge-judged.ensures ∙ c.in-DataIndication.is) tt) refl
 
-pub returns-in-ConnectionAttempt-clause-answer : goal.returns-in-ConnectionAttempt-clause-answer
-returns-in-ConnectionAttempt-clause-answer c = rw (judged-is (judgement_of c.args.self.now c.args.message.now) ConnectionAttempt (sym c.judge-judged.ensures
-    ∙ c.in-ConnectionAttempt.is) tt) c.attempt_indicated.ensures.answer
+pub returns-in-ConnectionAttempt : goal.returns-in-ConnectionAttempt
+returns-in-ConnectionAttempt c =
+    let kind = sym c.judge-judged.ensures ∙ c.in-ConnectionAttempt.is in
+    let is = judged-is (judgement_of c.args.self.now c.args.message.now) ConnectionAttempt kind tt in
+    record {
+      answer = rw is c.attempt_indicated.ensures.answer;
+      part = c.attempt_indicated.ensures.part;
+      after = rw is c.attempt_indicated.ensures.after;
+      err = c.attempt_indicated.ensures.err;
+      free = λ h. absurd (data-judged c.args.self.now c.args.message.now h ConnectionAttempt kind);
+      wanted = rw is c.attempt_indicated.ensures.wanted;
+    }
 
-pub returns-in-ConnectionAttempt-clause-after : goal.returns-in-ConnectionAttempt-clause-after
-returns-in-ConnectionAttempt-clause-after c = rw (judged-is (judgement_of c.args.self.now c.args.message.now) ConnectionAttempt (sym c.judge-judged.ensures
-    ∙ c.in-ConnectionAttempt.is) tt) c.attempt_indicated.ensures.after
+pub returns-in-SignedRequest : goal.returns-in-SignedRequest
+returns-in-SignedRequest c =
+    let kind = sym c.judge-judged.ensures ∙ c.in-SignedRequest.is in
+    let is = judged-is (judgement_of c.args.self.now c.args.message.now) SignedRequest kind tt in
+    record {
+      answer = rw is c.requested.ensures.answer;
+      part = c.requested.ensures.part;
+      after = rw is c.requested.ensures.after;
+      err = c.requested.ensures.err;
+      free = λ h. absurd (data-judged c.args.self.now c.args.message.now h SignedRequest kind);
+      wanted = rw is c.requested.ensures.wanted;
+    }
 
-pub returns-in-SignedRequest-clause-answer : goal.returns-in-SignedRequest-clause-answer
-returns-in-SignedRequest-clause-answer c = rw (judged-is (judgement_of c.args.self.now c.args.message.now) SignedRequest (sym c.judge-judged.ensures
-    ∙ c.in-SignedRequest.is) tt) c.requested.ensures.answer
+pub returns-in-SignedSuccess : goal.returns-in-SignedSuccess
+returns-in-SignedSuccess c =
+    let kind = sym c.judge-judged.ensures ∙ c.in-SignedSuccess.is in
+    let is = judged-is (judgement_of c.args.self.now c.args.message.now) SignedSuccess kind tt in
+    let takes : message_takes_memory c.args.message.now c.args.self.now ≡ true = rw is refl in
+    record {
+      answer = rw is c.succeeded.ensures.answer;
+      part = c.succeeded.ensures.part;
+      after = rw is c.succeeded.ensures.after;
+      err = c.succeeded.ensures.err;
+      free = λ h. absurd (data-judged c.args.self.now c.args.message.now h SignedSuccess kind);
+      wanted = on-err _ takes;
+    }
 
-pub returns-in-SignedRequest-clause-after : goal.returns-in-SignedRequest-clause-after
-returns-in-SignedRequest-clause-after c = rw (judged-is (judgement_of c.args.self.now c.args.message.now) SignedRequest (sym c.judge-judged.ensures
-    ∙ c.in-SignedRequest.is) tt) c.requested.ensures.after
-
-pub returns-in-SignedSuccess-clause-answer : goal.returns-in-SignedSuccess-clause-answer
-returns-in-SignedSuccess-clause-answer c = rw (judged-is (judgement_of c.args.self.now c.args.message.now) SignedSuccess (sym c.judge-judged.ensures
-    ∙ c.in-SignedSuccess.is) tt) c.succeeded.ensures.answer
-
-pub returns-in-SignedSuccess-clause-after : goal.returns-in-SignedSuccess-clause-after
-returns-in-SignedSuccess-clause-after c = rw (judged-is (judgement_of c.args.self.now c.args.message.now) SignedSuccess (sym c.judge-judged.ensures
-    ∙ c.in-SignedSuccess.is) tt) c.succeeded.ensures.after
-
-pub returns-in-SignedError-clause-answer : goal.returns-in-SignedError-clause-answer
-returns-in-SignedError-clause-answer c = rw (judged-is (judgement_of c.args.self.now c.args.message.now) SignedError (sym c.judge-judged.ensures ∙ c.in-SignedError.is) tt) c.failed.ensures.answer
-
-pub returns-in-SignedError-clause-after : goal.returns-in-SignedError-clause-after
-returns-in-SignedError-clause-after c = rw (judged-is (judgement_of c.args.self.now c.args.message.now) SignedError (sym c.judge-judged.ensures ∙ c.in-SignedError.is) tt) c.failed.ensures.after
+pub returns-in-SignedError : goal.returns-in-SignedError
+returns-in-SignedError c =
+    let kind = sym c.judge-judged.ensures ∙ c.in-SignedError.is in
+    let is = judged-is (judgement_of c.args.self.now c.args.message.now) SignedError kind tt in
+    let takes : message_takes_memory c.args.message.now c.args.self.now ≡ true = rw is refl in
+    record {
+      answer = rw is c.failed.ensures.answer;
+      part = c.failed.ensures.part;
+      after = rw is c.failed.ensures.after;
+      err = c.failed.ensures.err;
+      free = λ h. absurd (data-judged c.args.self.now c.args.message.now h SignedError kind);
+      wanted = on-err _ takes;
+    }
 
 pub requested-requires : goal.requested-requires
 requested-requires c = request-signs c.args.self.now c.args.message.now (judged-is (judgement_of c.args.self.now c.args.message.now) SignedRequest (sym c.judge-judged.ensures
@@ -91,52 +127,3 @@ requested-requires c = request-signs c.args.self.now c.args.message.now (judged-
 
 pub failed-requires : goal.failed-requires
 failed-requires c = error-answers c.args.self.now c.args.message.now (judged-is (judgement_of c.args.self.now c.args.message.now) SignedError (sym c.judge-judged.ensures ∙ c.in-SignedError.is) tt)
-
-pub returns-in-Challenged-clause-free : goal.returns-in-Challenged-clause-free
-returns-in-Challenged-clause-free c = λ h. absurd (data-judged c.args.self.now c.args.message.now h Challenged (sym c.judge-judged.ensures ∙ c.in-Challenged.is))
-
-pub returns-in-Fatal-clause-free : goal.returns-in-Fatal-clause-free
-returns-in-Fatal-clause-free c = λ h. absurd (data-judged c.args.self.now c.args.message.now h Fatal (sym c.judge-judged.ensures ∙ c.in-Fatal.is))
-
-pub returns-in-ConnectionAttempt-clause-free : goal.returns-in-ConnectionAttempt-clause-free
-returns-in-ConnectionAttempt-clause-free c = λ h. absurd (data-judged c.args.self.now c.args.message.now h ConnectionAttempt (sym c.judge-judged.ensures ∙ c.in-ConnectionAttempt.is))
-
-pub returns-in-SignedRequest-clause-free : goal.returns-in-SignedRequest-clause-free
-returns-in-SignedRequest-clause-free c = λ h. absurd (data-judged c.args.self.now c.args.message.now h SignedRequest (sym c.judge-judged.ensures ∙ c.in-SignedRequest.is))
-
-pub returns-in-SignedSuccess-clause-free : goal.returns-in-SignedSuccess-clause-free
-returns-in-SignedSuccess-clause-free c = λ h. absurd (data-judged c.args.self.now c.args.message.now h SignedSuccess (sym c.judge-judged.ensures ∙ c.in-SignedSuccess.is))
-
-pub returns-in-SignedError-clause-free : goal.returns-in-SignedError-clause-free
-returns-in-SignedError-clause-free c = λ h. absurd (data-judged c.args.self.now c.args.message.now h SignedError (sym c.judge-judged.ensures ∙ c.in-SignedError.is))
-
-pub returns-in-Challenged-clause-wanted : goal.returns-in-Challenged-clause-wanted
-returns-in-Challenged-clause-wanted c =
-    let (challenge, is) = challenged-is (judgement_of c.args.self.now c.args.message.now) (sym c.judge-judged.ensures ∙ c.in-Challenged.is) in
-    rw is c.challenged.ensures.wanted
-
-pub returns-in-ConnectionAttempt-clause-wanted : goal.returns-in-ConnectionAttempt-clause-wanted
-returns-in-ConnectionAttempt-clause-wanted c = rw (judged-is (judgement_of c.args.self.now c.args.message.now) ConnectionAttempt (sym c.judge-judged.ensures
-    ∙ c.in-ConnectionAttempt.is) tt) c.attempt_indicated.ensures.wanted
-
-pub returns-in-SignedRequest-clause-wanted : goal.returns-in-SignedRequest-clause-wanted
-returns-in-SignedRequest-clause-wanted c = rw (judged-is (judgement_of c.args.self.now c.args.message.now) SignedRequest (sym c.judge-judged.ensures
-    ∙ c.in-SignedRequest.is) tt) c.requested.ensures.wanted
-
-pub returns-in-Fatal-clause-wanted : goal.returns-in-Fatal-clause-wanted
-returns-in-Fatal-clause-wanted c =
-    let takes : message_takes_memory c.args.message.now c.args.self.now ≡ true = rw
-    (judged-is (judgement_of c.args.self.now c.args.message.now) Fatal (sym c.judge-judged.ensures ∙ c.in-Fatal.is) tt) refl in
-    on-err _ takes
-
-pub returns-in-SignedSuccess-clause-wanted : goal.returns-in-SignedSuccess-clause-wanted
-returns-in-SignedSuccess-clause-wanted c =
-    let takes : message_takes_memory c.args.message.now c.args.self.now ≡ true = rw
-    (judged-is (judgement_of c.args.self.now c.args.message.now) SignedSuccess (sym c.judge-judged.ensures ∙ c.in-SignedSuccess.is) tt) refl in
-    on-err _ takes
-
-pub returns-in-SignedError-clause-wanted : goal.returns-in-SignedError-clause-wanted
-returns-in-SignedError-clause-wanted c =
-    let takes : message_takes_memory c.args.message.now c.args.self.now ≡ true = rw
-    (judged-is (judgement_of c.args.self.now c.args.message.now) SignedError (sym c.judge-judged.ensures ∙ c.in-SignedError.is) tt) refl in
-    on-err _ takes
