@@ -1,12 +1,13 @@
 -- The number of queued replies.
-use Rattle.std.proofs.Common.{◌≡◌, ℕ, zero, suc, ◌+◌, ◌<◌, ◌≤◌, Bool, true, false, ltb, List, [], ◌∷◌, Some, length, get_or, refl, sym, ◌∙◌, arith}
-use Rattle.std.proofs.lemmas.Bool.{lt-ltb, le-ltb}
+use Rattle.std.proofs.Common.{◌≡◌, ℕ, zero, suc, ◌+◌, ◌<◌, ◌≤◌, Bool, true, false, ltb, List, [], ◌∷◌, None, Some, length, get_or, ap, refl, sym, ◌∙◌, arith}
+use Rattle.std.proofs.lemmas.Bool.{lt-ltb, le-ltb, ltb-false, not-true}
 use Rattle.std.proofs.lemmas.List.Filters.{length-filter_both}
 use Rattle.std.specs.List.{list_any, position, remove}
-use Rattle.std.specs.Prelude.{filter, not}
-use Rattle.turn_agent.proofs.AgentLemmas.{find-passes, position-IsFirst}
+use Rattle.std.specs.Prelude.{filter, is_some, not}
+use Rattle.turn_agent.proofs.AgentLemmas.{find-passes, position-IsFirst, position-none}
 use Rattle.turn_client_api.specs.declared.state.Queued.{Queued}
 use Rattle.turn_client_core.specs.Queue.{reply_count}
+use Rattle.turn_client_core.proofs.BindLemmas.{found_any}
 use Rattle.turn_client_core.proofs.ReplyLemmas.{NoReply}
 
 -- one passes exactly if the number of those that pass is not zero
@@ -46,6 +47,12 @@ none-counted (q ∷ queue) none = by q.is_request refl none (none-counted queue)
         record { first = rw e rest.first; rest = rw (e, rest.rest) refl }
     by false e none later = absurd (omega (arith, rw e at none))
 
+pub no_reply : (queue : List Queued) → position (λ q. not q.is_request) queue ≡ None → NoReply queue
+no_reply queue none =
+    let found = found_any (λ (q : Queued). not q.is_request) queue in
+    let fails = sym (reply-counted queue) ∙ (sym found ∙ ap is_some (position-none (λ (q : Queued). not q.is_request) queue none)) in
+    none-counted queue (omega (arith, ltb-false 0 (reply_count queue) fails))
+
 -- a reply is removed
 reply_count-removed : (queue : List Queued) (i : ℕ) (d : Queued) → i < length queue → (get_or queue i d).is_request ≡ false → reply_count (remove queue i) + 1 ≡ reply_count queue
 reply_count-removed [] i d within is = absurd (omega arith)
@@ -56,13 +63,9 @@ reply_count-removed (q ∷ queue) (suc i) d within is = by (reply_count-removed 
     by others true request = rw request others
     by others false reply = rw reply (omega (arith, others))
 
-is_reply : (b : Bool) → not b ≡ true → b ≡ false
-is_reply true e = sym e
-is_reply false e = refl
-
 -- the first reply is removed
 pub reply_count-taken : (queue : List Queued) (i : ℕ) (d : Queued) → position (λ q. not q.is_request) queue ≡ Some i → reply_count (remove queue i) + 1 ≡ reply_count queue
 reply_count-taken queue i d found =
     let first = position-IsFirst (λ (q : Queued). not q.is_request) queue i found in
     let passes = find-passes (λ (q : Queued). not q.is_request) queue (get_or queue i d) (first.found d) in
-    reply_count-removed queue i d first.within (is_reply (get_or queue i d).is_request passes)
+    reply_count-removed queue i d first.within (not-true (get_or queue i d).is_request passes)
