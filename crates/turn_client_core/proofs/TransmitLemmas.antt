@@ -1,5 +1,5 @@
 -- What `poll_transmit` sends, step by step.
-use Rattle.std.proofs.Common.{◌≡◌, ◌∙◌, ℕ, List, [], ◌∷◌, Option, Some, None, append-nil, refl, sym, ap}
+use Rattle.std.proofs.Common.{◌≡◌, ◌∙◌, ℕ, List, [], ◌∷◌, Option, Some, None, append-nil, refl, ap}
 use Rattle.std.proofs.lemmas.Bool.{false≢true}
 use Rattle.std.specs.Prelude.{IsSome, filter_map, find, slice_get}
 use Rattle.turn_stun.specs.declared.transport.Transmit.{Transmit}
@@ -30,47 +30,28 @@ Packet = Option (Transmit (List ℕ))
 abbrev pub Sent : Type 0
 Sent = Packet × Outgoing
 
-some_differs : (o p : Outgoing) (packet : Transmit (List ℕ)) → ◌≡◌ {A = Sent} (Some packet, p) (None, o) → ⊥
-some_differs o p packet e = differ (ap (λ (r : Sent). r.0) e)
-  where
-    differ : ◌≡◌ {A = Packet} (Some packet) None → ⊥
-    differ e = cc
+-- what was sent first, or else what is sent next
+abbrev pub sent_or : (State → Packet × State) → State → Sent → Packet × State
+sent_or next s (None, o) = next (with_outbox o s)
+sent_or next s (Some packet, o) = (Some packet, with_outbox o s)
 
--- a request was retransmitted
-pub resent-sends : (now : ℕ) (s : State) (o p : Outgoing) (packet : Transmit (List ℕ)) → o.timers ≡ timers_of s.config → (Some packet, p) ≡ resend_step now o
-    → ◌≡◌ {A = Packet × State} (Some packet, with_outbox p s) (transmit_step now (with_outbox o s))
-resent-sends now s o p packet times step = by (find (is_due o.timers o.transport now) o.transactions) refl step
+-- a retransmission comes before all else
+pub resends-first : (now : ℕ) (s : State) (o : Outgoing) → o.timers ≡ timers_of s.config
+    → sent_or (waiting_step now) s (resend_step now o) ≡ transmit_step now (with_outbox o s)
+resends-first now s o times = by (find (is_due o.timers o.transport now) o.transactions) refl
   where
-    by : (found : Option Transaction) → find (is_due o.timers o.transport now) o.transactions ≡ found → (Some packet, p) ≡ resend_step now o
-        → ◌≡◌ {A = Packet × State} (Some packet, with_outbox p s) (transmit_step now (with_outbox o s))
-    by None e step = absurd (some_differs o p packet (rw e at step))
-    by (Some t) e step = rw (← times, e) (ap (λ (r : Sent). (r.0, with_outbox r.1 s)) (rw e at step))
+    by : (found : Option Transaction) → find (is_due o.timers o.transport now) o.transactions ≡ found
+        → sent_or (waiting_step now) s (resend_step now o) ≡ transmit_step now (with_outbox o s)
+    by None e = rw (← times, e) refl
+    by (Some t) e = rw (← times, e) refl
 
--- no retransmission was due
-pub not_resent-sends : (now : ℕ) (s : State) (o p : Outgoing) → o.timers ≡ timers_of s.config → (None, p) ≡ resend_step now o → waiting_step now (with_outbox p s) ≡ transmit_step now (with_outbox o s)
-not_resent-sends now s o p times step = by (find (is_due o.timers o.transport now) o.transactions) refl step
+-- then the first queued packet
+pub front-first : (now : ℕ) (s : State) (o : Outgoing) → sent_or (idle_step s.phase now) s (front_step now o) ≡ queue_step now (with_outbox o s)
+front-first now s o = by (slice_get o.queue 0) refl
   where
-    by : (found : Option Transaction) → find (is_due o.timers o.transport now) o.transactions ≡ found → (None, p) ≡ resend_step now o
-        → waiting_step now (with_outbox p s) ≡ transmit_step now (with_outbox o s)
-    by None e step = rw (← times, e) (ap (λ (r : Sent). waiting_step now (with_outbox r.1 s)) (rw e at step))
-    by (Some t) e step = absurd (some_differs _ _ _ (sym (rw e at step)))
-
--- the first queued packet is sent
-pub front-sends : (now : ℕ) (s : State) (o p : Outgoing) (packet : Transmit (List ℕ)) → (Some packet, p) ≡ front_step now o
-    → ◌≡◌ {A = Packet × State} (Some packet, with_outbox p s) (queue_step now (with_outbox o s))
-front-sends now s o p packet step = by (slice_get o.queue 0) refl step
-  where
-    by : (found : Option Queued) → slice_get o.queue 0 ≡ found → (Some packet, p) ≡ front_step now o → ◌≡◌ {A = Packet × State} (Some packet, with_outbox p s) (queue_step now (with_outbox o s))
-    by None e step = absurd (some_differs o p packet (rw e at step))
-    by (Some q) e step = rw e (ap (λ (r : Sent). (r.0, with_outbox r.1 s)) (rw e at step))
-
--- no packet was queued
-pub no_front-sends : (now : ℕ) (s : State) (o p : Outgoing) → (None, p) ≡ front_step now o → idle_step s.phase now (with_outbox p s) ≡ queue_step now (with_outbox o s)
-no_front-sends now s o p step = by (slice_get o.queue 0) refl step
-  where
-    by : (found : Option Queued) → slice_get o.queue 0 ≡ found → (None, p) ≡ front_step now o → idle_step s.phase now (with_outbox p s) ≡ queue_step now (with_outbox o s)
-    by None e step = rw e (ap (λ (r : Sent). idle_step s.phase now (with_outbox r.1 s)) (rw e at step))
-    by (Some q) e step = absurd (some_differs _ _ _ (sym (rw e at step)))
+    by : (found : Option Queued) → slice_get o.queue 0 ≡ found → sent_or (idle_step s.phase now) s (front_step now o) ≡ queue_step now (with_outbox o s)
+    by None e = rw e refl
+    by (Some q) e = rw e refl
 
 -- ---- a request that is sent at once
 

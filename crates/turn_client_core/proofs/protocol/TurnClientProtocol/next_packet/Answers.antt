@@ -1,8 +1,9 @@
-use Rattle.std.proofs.Common.{◌≡◌, subst}
+use Rattle.std.proofs.Common.{◌≡◌, ◌∙◌, ap, subst}
 use Rattle.std.specs.Prelude.{IfOk, IsSome, OnErr}
 use Rattle.turn_client_api.specs.State.{State}
+use Rattle.turn_client_core.specs.Sending.{waiting_step}
 use Rattle.turn_client_core.specs.contracts.protocol.TurnClientProtocol.{the_view}
-use Rattle.turn_client_core.proofs.TransmitLemmas.{Packet, not_resent-sends, resent-sends, transmit-wanted}
+use Rattle.turn_client_core.proofs.TransmitLemmas.{Packet, resends-first, sent_or, transmit-wanted}
 use Rattle.turn_client_core.proofs.ResultLemmas.{on-err}
 use Rattle.turn_client_core.proofs.protocol.TurnClientProtocol.next_packet.Goals as goal
 
@@ -11,15 +12,17 @@ returns-in-Some-clause-step c =
     let s = the_view c.self.inside in
     let o = c.self.inside.outbox in
     rw (← c.self.view_is)
-    (resent-sends c.args.now s o c.resend.new.self c.in-Some.packet c.self.invariant.times (rw c.in-Some.is at c.in_ok-packet.ensures.step))
+    (ap (sent_or (waiting_step c.args.now) s) (rw c.in-Some.is at c.in_ok-packet.ensures.step) ∙ resends-first c.args.now s o c.self.invariant.times)
 
 pub returns-in-None-clause-step : goal.returns-in-None-clause-step
 returns-in-None-clause-step c =
     let s = the_view c.self.inside in
-    let o = c.self.inside.outbox in
+    let sent =
+    ap (sent_or (waiting_step c.args.now) s) (rw c.in-None.is at c.in_ok-packet.ensures.step)
+    ∙ resends-first c.args.now s c.self.inside.outbox c.self.invariant.times in
     rw (← c.self.view_is)
     (subst (λ (r : Packet × State). IfOk c.send_waiting.result (λ packet. ◌≡◌ {A = Packet × State} (packet, c.send_waiting.new.self) r))
-    (not_resent-sends c.args.now s o c.resend.new.self c.self.invariant.times (rw c.in-None.is at c.in_ok-packet.ensures.step)) c.send_waiting.ensures.step)
+    sent c.send_waiting.ensures.step)
 
 pub returns-in_err-packet-clause-free : goal.returns-in_err-packet-clause-free
 returns-in_err-packet-clause-free c =
@@ -30,7 +33,7 @@ returns-in_err-packet-clause-free c =
 pub returns-in-None-clause-free : goal.returns-in-None-clause-free
 returns-in-None-clause-free c =
     let s = the_view c.self.inside in
-    let o = c.self.inside.outbox in
-    rw (← c.self.view_is)
-    (subst (λ (r : Packet × State). OnErr c.send_waiting.result (IsSome r.0))
-    (not_resent-sends c.args.now s o c.resend.new.self c.self.invariant.times (rw c.in-None.is at c.in_ok-packet.ensures.step)) c.send_waiting.ensures.free)
+    let sent =
+    ap (sent_or (waiting_step c.args.now) s) (rw c.in-None.is at c.in_ok-packet.ensures.step)
+    ∙ resends-first c.args.now s c.self.inside.outbox c.self.invariant.times in
+    rw (← c.self.view_is) (subst (λ (r : Packet × State). OnErr c.send_waiting.result (IsSome r.0)) sent c.send_waiting.ensures.free)
