@@ -5,7 +5,6 @@ use Rattle.turn_auth.specs.declared.integrity.IntegrityAlgorithm.{IntegrityAlgor
 use Rattle.turn_auth.specs.declared.integrity.IntegrityAlgorithm.TheVariants.{Sha1, Sha256}
 
 pub two_algorithms : (a b : IntegrityAlgorithm) → a ≢ b → with_algorithm (a ∷ []) b ≡ a ∷ b ∷ []
-two_algorithms Sha1 Sha1 differ = absurd (differ refl)
 two_algorithms Sha1 Sha256 differ = refl
 two_algorithms Sha256 Sha1 differ = refl
-two_algorithms Sha256 Sha256 differ = absurd (differ refl)
+two_algorithms a b differ = absurd (differ refl)

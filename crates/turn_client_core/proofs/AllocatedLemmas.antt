@@ -12,6 +12,7 @@ use Rattle.turn_client_laws.proofs.NumberLemmas.{none-filter}
 use Rattle.turn_client_grants.specs.Table.{are_apart, are_new, has_no_double}
 use Rattle.turn_client_api.specs.Grants.{family_of, is_of_family}
 use Rattle.turn_client_core.specs.Allocated.{IsRead, missing}
+use Rattle.turn_client_core.proofs.RetryLemmas.{none-filtered}
 
 module _ {X : Type 0} (p q : X → Bool) where
   -- a test among those that pass another
@@ -36,9 +37,8 @@ module _ {X : Type 0} (p q : X → Bool) where
       by false later = later
 
 not-or : (a b : Bool) → not (a || (b || false)) ≡ (not a && not b)
-not-or true b = refl
 not-or false true = refl
-not-or false false = refl
+not-or a b = refl
 
 -- before any address is taken
 pub missing-none : (families : List AddressFamily) → missing [] families ≡ families
@@ -70,22 +70,9 @@ module _ (address : SocketAddr) (taken : List SocketAddr) (families : List Addre
 -- ---- what is granted is new
 
 same-family : (a b family : AddressFamily) → same_family a b ≡ true → same_family a family ≡ same_family b family
-same-family IPV4 IPV4 family is = refl
 same-family IPV4 IPV6 family is = cc
 same-family IPV6 IPV4 family is = cc
-same-family IPV6 IPV6 family is = refl
-
-both-false : (a b : Bool) → (a || b) ≡ false → (a ≡ false) × (b ≡ false)
-both-false true b none = cc
-both-false false b none = (refl, none)
-
-none-left : {X : Type 0} (p q : X → Bool) (xs : List X) → list_any p xs ≡ false → list_any p (filter q xs) ≡ false
-none-left p q [] none = refl
-none-left p q (x ∷ xs) none = by (q x) (both-false (p x) (list_any p xs) none) (none-left p q xs)
-  where
-    by : (kept : Bool) → (p x ≡ false) × (list_any p xs ≡ false) → (list_any p xs ≡ false → list_any p (filter q xs) ≡ false) → list_any p (cond kept (x ∷ filter q xs) (filter q xs)) ≡ false
-    by true parts later = rw (parts.0, later parts.1) refl
-    by false parts later = later parts.1
+same-family a b family is = refl
 
 module _ (lifetime now : ℕ) where
   abbrev grants_of : List SocketAddr → List Grant
@@ -99,7 +86,8 @@ module _ (lifetime now : ℕ) where
   apart-from : (a : SocketAddr) (families : List AddressFamily) (addresses : List SocketAddr) → list_any (λ family. is_of_family family a) families ≡ false
       → list_all (has_no_double (new_allocation lifetime now a ∷ [])) (grants_of (taken_addresses families addresses)) ≡ true
   apart-from a families [] none = refl
-  apart-from a families (b ∷ later) none = by (list_any (λ family. is_of_family family b) families) refl (apart-from a families later none) (apart-from a rest later (none-left _ _ families none))
+  apart-from a families (b ∷ later) none = by (list_any (λ family. is_of_family family b) families) refl (apart-from a families later none)
+      (apart-from a rest later (none-filtered _ _ families none))
     where
       rest : List AddressFamily
       rest = filter (λ family. not (is_of_family family b)) families

@@ -1,18 +1,19 @@
 -- Pieces for the stream at their local address.
-use Rattle.std.proofs.Common.{◌≡◌, ◌≢◌, ℕ, ◌<◌, Bool, true, false, cond, List, [], ◌∷◌, length, Option, Some, None, inl, inr, refl, subst, ap, ◌∙◌, arith}
-use Rattle.std.specs.Prelude.{IsSomeAnd, OnErr, Result, Ok, Err, find}
+use Rattle.std.proofs.Common.{◌≡◌, ◌≢◌, ℕ, ◌<◌, true, false, List, [], ◌∷◌, length, Option, Some, None, inl, inr, refl, sym, ap, ◌∙◌, arith}
+use Rattle.std.specs.Prelude.{IsSomeAnd}
 use Rattle.std.specs.Option.{option_map, option_map_or}
 use Rattle.std.specs.declared.net.socket_addr.SocketAddr.{SocketAddr}
 use Rattle.turn_stun.specs.declared.transport.TransportType.TheVariants.{Tcp}
 use Rattle.turn_agent.specs.Agent.{same_address}
+use Rattle.turn_agent.proofs.AgentLemmas.{find-passes}
 use Rattle.turn_client_api.specs.Answers.{EndsAfterSteps, RecvEnds, before_others}
 use Rattle.turn_client_api.specs.Effect.{closed}
-use Rattle.turn_client_api.specs.Payloads.{Outcome, Handled, Ignored, PeerData, PeerIcmp}
+use Rattle.turn_client_api.specs.Payloads.{Outcome, Handled, Ignored}
 use Rattle.turn_client_api.specs.Receive.{connection_gone, first_frame_step, piece_step}
 use Rattle.turn_client_api.specs.State.{State}
 use Rattle.turn_client_api.specs.Streams.{broken_at, stream_at, with_bytes, without_stream}
 use Rattle.turn_client_api.specs.declared.state.Mode.{Mode}
-use Rattle.turn_client_api.specs.declared.state.Mode.TheVariants.{Control, Waiting, Bound, Broken}
+use Rattle.turn_client_api.specs.declared.state.Mode.TheVariants.{Control, Broken}
 use Rattle.turn_client_api.specs.declared.state.Stream.{Stream}
 use Rattle.turn_client_laws.proofs.AddressLemmas.{same_address-true}
 use Rattle.turn_client_laws.proofs.MemoryLemmas.{behind}
@@ -20,31 +21,21 @@ use Rattle.turn_client_core.specs.StreamSteps.{EndsBehind, PieceEnds, broken_pie
 use Rattle.turn_client_core.proofs.TurnLemmas.{emptied-broken}
 
 -- the stream that is found has this local address
-found-local : (local : SocketAddr) (xs : List Stream) (x : Stream) → find (λ (y : Stream). same_address y.local local) xs ≡ Some x → x.local ≡ local
-found-local local [] x e = cc
-found-local local (y ∷ ys) x e = by (same_address y.local local) refl (found-local local ys x) e
-  where
-    by : (b : Bool) → same_address y.local local ≡ b → (find (λ (z : Stream). same_address z.local local) ys ≡ Some x → x.local ≡ local)
-        → cond b (Some y) (find (λ (z : Stream). same_address z.local local) ys) ≡ Some x → x.local ≡ local
-    by true g later f = let same : y ≡ x = cc in subst (λ (z : Stream). z.local ≡ local) same (same_address-true y.local local g)
-    by false g later f = later f
-
 pub stream_at-local : (local : SocketAddr) (s : State) (stream : Stream) → stream_at local s ≡ Some stream → stream.local ≡ local
-stream_at-local local s stream e = found-local local s.streams stream e
+stream_at-local local s stream e = same_address-true stream.local local (find-passes (λ (x : Stream). same_address x.local local) s.streams stream e)
 
 -- ---- a piece of a stream that is not broken
 
 turned-mode : (mode : Mode) (stream : Stream) (piece : List ℕ) (now : ℕ) (s : State) → is_broken mode ≡ false
     → piece_step (record stream { mode = mode }) piece now s ≡ whole_piece_step (record stream { mode = mode }) piece now (with_bytes stream.local [] s)
-turned-mode Control stream piece now s whole = refl
-turned-mode Waiting stream piece now s whole = refl
-turned-mode (Bound peer) stream piece now s whole = refl
 turned-mode Broken stream piece now s whole = cc
+turned-mode mode stream piece now s whole = refl
 
-pub piece-turned : (to : SocketAddr) (stream : Stream) (piece : List ℕ) (now : ℕ) (s : State) → stream_at to s ≡ Some stream → 0 < length piece → is_broken stream.mode ≡ false
-    → piece_at to piece now s ≡ whole_piece_step stream piece now (with_bytes stream.local [] s)
-piece-turned to stream [] now s e some whole = absurd (omega (arith, some))
-piece-turned to stream (b ∷ bs) now s e some whole = rw e (turned-mode stream.mode stream (b ∷ bs) now s whole)
+pub piece-turned : (to : SocketAddr) (stream : Stream) (piece : List ℕ) (now : ℕ) (s t : State) → stream_at to s ≡ Some stream → 0 < length piece
+    → option_map_or (λ (x : Stream). is_broken x.mode) (stream_at to s) false ≡ false → t ≡ with_bytes stream.local [] s
+    → whole_piece_step stream piece now t ≡ piece_at to piece now s
+piece-turned to stream [] now s t e some whole out = absurd (omega (arith, some))
+piece-turned to stream (b ∷ bs) now s t e some whole out = rw (out, e) (sym (turned-mode stream.mode stream (b ∷ bs) now s (rw e at whole)))
 
 -- there is no such stream
 pub piece-ignored : (to : SocketAddr) (piece : List ℕ) (now : ℕ) (s : State) → stream_at to s ≡ None → piece_at to piece now s ≡ (Ignored, s)
@@ -58,10 +49,8 @@ some-piece (b ∷ bs) some = λ e. cc
 
 behind-from : (p : Outcome × State) (P : State → Type 0) → IsSomeAnd (others_from p) P → IsSomeAnd (behind p) P
 unfolding behind
-behind-from (PeerData payload, t) P h = h
-behind-from (PeerIcmp transport peer icmp, t) P h = h
 behind-from (Handled, t) P h = h
-behind-from (Ignored, t) P h = h
+behind-from (outcome, t) P h = h
 
 others-in : (to : SocketAddr) (mode : Mode) (stream : Stream) (piece : List ℕ) (now : ℕ) (was s : State) → stream_at to was ≡ Some (record stream { mode = mode }) → mode ≡ Control
     → EndsBehind now (fed_frame_step (record stream { mode = mode }) piece now (with_bytes stream.local [] was)) s
@@ -69,9 +58,7 @@ others-in : (to : SocketAddr) (mode : Mode) (stream : Stream) (piece : List ℕ)
 unfolding behind
 others-in to Control stream piece now was s e control ends =
     rw e (behind-from (first_frame_step (record stream { mode = Control }) piece now was) (λ t. EndsAfterSteps now t s) ends)
-others-in to Waiting stream piece now was s e control ends = cc
-others-in to (Bound peer) stream piece now was s e control ends = cc
-others-in to Broken stream piece now was s e control ends = cc
+others-in to mode stream piece now was s e control ends = cc
 
 pub piece-ends : (to : SocketAddr) (stream : Stream) (piece : List ℕ) (now : ℕ) (was s : State) → was.transport ≡ Tcp → stream_at to was ≡ Some stream → 0 < length piece
     → PieceEnds stream piece now (with_bytes stream.local [] was) s → RecvEnds to piece now was s
@@ -85,9 +72,7 @@ piece-ends to stream piece now was s over e some (inr (control, ends)) =
 broken-mode : (mode : Mode) (to : SocketAddr) (stream : Stream) (piece : List ℕ) (now : ℕ) (s : State) → is_broken mode ≡ true → stream.local ≡ to
     → piece_step (record stream { mode = mode }) piece now s ≡ broken_piece_step to now s
 broken-mode Broken to stream piece now s broken e = rw e refl
-broken-mode Control to stream piece now s broken e = cc
-broken-mode Waiting to stream piece now s broken e = cc
-broken-mode (Bound peer) to stream piece now s broken e = cc
+broken-mode mode to stream piece now s broken e = cc
 
 -- it is dropped, or all other streams are processed
 pub piece-broken : (to : SocketAddr) (piece : List ℕ) (now : ℕ) (s : State) → option_map_or (λ (x : Stream). is_broken x.mode) (stream_at to s) false ≡ true → 0 < length piece
@@ -102,9 +87,7 @@ piece-broken to (b ∷ bs) now s e some = by (stream_at to s) refl e
 others-broken : (to : SocketAddr) (mode : Mode) (stream : Stream) (piece : List ℕ) (now : ℕ) (was s : State) → stream_at to was ≡ Some (record stream { mode = mode }) → is_broken mode ≡ true
     → stream.local ≡ to → same_address to was.local ≡ true → EndsAfterSteps now was s → IsSomeAnd (before_others to piece now was) (λ t. EndsAfterSteps now t s)
 others-broken to Broken stream piece now was s e broken local here ends = rw (e, local, here) ends
-others-broken to Control stream piece now was s e broken local here ends = cc
-others-broken to Waiting stream piece now was s e broken local here ends = cc
-others-broken to (Bound peer) stream piece now was s e broken local here ends = cc
+others-broken to mode stream piece now was s e broken local here ends = cc
 
 pub broken-ends : (to : SocketAddr) (piece : List ℕ) (now : ℕ) (was s : State) → was.transport ≡ Tcp → option_map_or (λ (x : Stream). is_broken x.mode) (stream_at to was) false ≡ true
     → 0 < length piece
@@ -114,11 +97,6 @@ broken-ends to piece now was s over e some (here, ends) = by (stream_at to was) 
     by : (o : Option Stream) → stream_at to was ≡ o → option_map_or (λ (x : Stream). is_broken x.mode) o false ≡ true → RecvEnds to piece now was s
     by None f g = cc
     by (Some stream) f g = inr (over, some-piece piece some, others-broken to stream.mode stream piece now was s f g (stream_at-local to was stream f) here ends)
-
--- a consequence of what holds on an error holds there too
-pub err-then : {T E A B : Type 0} (r : Result T E) → (A → B) → OnErr r A → OnErr r B
-err-then (Ok x) f h = tt
-err-then (Err e) f h = f h
 
 -- ---- the end of a stream
 

@@ -42,12 +42,7 @@ not_bound-otherwise d message now s = by (bind_judgement s d.local message) refl
   where
     by : (j : Judgement) → bind_judgement s d.local message ≡ j → (kind_of (bind_judgement s d.local message) ≡ Challenged → ⊥) → (kind_of (bind_judgement s d.local message) ≡ SignedSuccess → ⊥)
         → (kind_of (bind_judgement s d.local message) ≡ SignedError → ⊥) → bind_answered d message now s ≡ not_bound d s
-    by J.Unrelated e = rw e (λ a b c. refl)
     by (J.Challenged challenge) e = rw e (λ a b c. absurd (a refl))
-    by J.Fatal e = rw e (λ a b c. refl)
-    by J.LateResponse e = rw e (λ a b c. refl)
-    by J.DataIndication e = rw e (λ a b c. refl)
-    by J.ConnectionAttempt e = rw e (λ a b c. refl)
-    by J.SignedRequest e = rw e (λ a b c. refl)
     by J.SignedSuccess e = rw e (λ a b c. absurd (b refl))
     by J.SignedError e = rw e (λ a b c. absurd (c refl))
+    by j e = rw e (λ a b c. refl)

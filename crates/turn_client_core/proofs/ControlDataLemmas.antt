@@ -1,53 +1,42 @@
 -- Data at the front of the control stream: it is what the next step of the streams gives.
-use Rattle.std.proofs.Common.{◌≡◌, ℕ, Bool, true, false, cond, List, [], ◌∷◌, length, drop, Option, Some, None, IsSome, refl, subst, sym, ap, ◌∙◌}
+use Rattle.std.proofs.Common.{◌≡◌, ℕ, Bool, true, false, cond, List, [], ◌∷◌, length, Option, Some, None, IsSome, refl, subst, sym, ap, ◌∙◌}
 use Rattle.std.specs.Prelude.{find, is_some}
 use Rattle.std.specs.Option.{option_map_or}
 use Rattle.std.specs.declared.net.socket_addr.SocketAddr.{SocketAddr}
 use Rattle.turn_types.specs.Channel.{Channel, channel_data_at}
-use Rattle.turn_types.specs.Frames.{begins_message, begins_no_frame, frame_len}
+use Rattle.turn_types.specs.Frames.{begins_message, frame_len}
 use Rattle.turn_client_api.specs.Answers.{EndsAfterSteps}
 use Rattle.turn_client_api.specs.Grants.{channel_peer, first_in}
 use Rattle.turn_client_api.specs.Payloads.{Payload, channel_sent}
 use Rattle.turn_client_api.specs.State.{State}
 use Rattle.turn_client_api.specs.Streams.{detached_frame_step, frame_step, framed_stream_step, is_ready, next_frame_step, poll_recv_step, put_back, with_bytes}
 use Rattle.turn_client_api.specs.declared.state.Mode.{Mode}
-use Rattle.turn_client_api.specs.declared.state.Mode.TheVariants.{Control, Waiting, Bound, Broken}
+use Rattle.turn_client_api.specs.declared.state.Mode.TheVariants.{Control}
 use Rattle.turn_client_api.specs.declared.state.Stream.{Stream}
 use Rattle.turn_client_laws.proofs.TurnFrameLemmas.{bytes-twice}
 use Rattle.turn_client_streams.specs.Buffered.{front_frame, is_control_mode, passed}
 use Rattle.turn_client_streams.specs.Held.{control_passed, control_stream}
 use Rattle.turn_client_core.specs.ControlData.{channel_data, control_data, control_ended, data_from, stream_data}
 use Rattle.turn_client_core.specs.StreamSteps.{owned_payload}
+use Rattle.turn_client_core.proofs.PieceLemmas.{front-begins, passed-local}
 use Rattle.turn_client_core.proofs.TurnLemmas.{first-Rests, framed-some, rests-some, stays-led}
 
 -- ---- the control stream
 
 is-control : (m : Mode) → is_control_mode m ≡ true → m ≡ Control
 is-control Control e = refl
-is-control Waiting e = cc
-is-control (Bound peer) e = cc
-is-control Broken e = cc
-
--- a stream with a whole first frame begins one
-begins-frame : (stream : Stream) (frame : List ℕ) → front_frame stream ≡ Some frame → begins_no_frame stream.bytes ≡ false
-begins-frame stream frame e = by (begins_no_frame stream.bytes) refl
-  where
-    by : (b : Bool) → begins_no_frame stream.bytes ≡ b → begins_no_frame stream.bytes ≡ false
-    by true f = let none : None ≡ Some frame = rw f at e in cc
-    by false f = f
+is-control m e = cc
 
 -- the control stream with a whole first frame is ready
 ready : (stream : Stream) (frame : List ℕ) → stream.mode ≡ Control → front_frame stream ≡ Some frame → is_ready stream ≡ true
 ready stream frame control e = by (frame_len stream.bytes) refl
   where
-    begins : begins_no_frame stream.bytes ≡ false
-    begins = begins-frame stream frame e
-
     by : (o : Option ℕ) → frame_len stream.bytes ≡ o → is_ready stream ≡ true
     by None f = let none : None ≡ Some frame = rw f at e in cc
     by (Some len) f =
         ap (λ (m : Mode). is_ready (record stream { mode = m })) control
-        ∙ (ap (λ (b : Bool). is_some (cond {A = Option ℕ} b (Some (length stream.bytes)) (frame_len stream.bytes))) begins ∙ ap is_some f)
+        ∙ (ap (λ (b : Bool). is_some (cond {A = Option ℕ} b (Some (length stream.bytes)) (frame_len stream.bytes))) (front-begins stream frame (sym e))
+        ∙ ap is_some f)
 
 -- what is known of the control stream and its first frame, if they give data
 record Given (s : State) (payload : Payload) : Type 0 where
@@ -89,13 +78,6 @@ first-ready (x ∷ xs) stream frame e front = by (is_control_mode x.mode) refl
         (rw (same, ready stream frame control front) refl, control)
     by false f = let none : None ≡ Some stream = rw f at e in cc
 
-passed-local : (stream : Stream) → (passed stream).local ≡ stream.local
-passed-local stream = by (frame_len stream.bytes)
-  where
-    by : (o : Option ℕ) → (option_map_or (λ len. record stream { bytes = drop len stream.bytes }) o stream).local ≡ stream.local
-    by None = refl
-    by (Some len) = refl
-
 -- its step gives the data, and drops the frame
 module _ (now : ℕ) (s : State) (payload : Payload) (g : Given s payload) where
   found : find is_ready s.streams ≡ Some g.stream
@@ -111,7 +93,7 @@ module _ (now : ℕ) (s : State) (payload : Payload) (g : Given s payload) where
   step-is =
       let t : State = with_bytes g.stream.local [] s in
       let mode : g.stream.mode ≡ Control = (first-ready s.streams g.stream g.frame g.control g.front).1 in
-      let begins = begins-frame g.stream g.frame g.front in
+      let begins = front-begins g.stream g.frame (sym g.front) in
       ap (λ (m : Mode). detached_frame_step (record g.stream { mode = m }) now t) mode
       ∙ (ap (λ (m : Mode). framed_stream_step (record g.stream { mode = m }) now t) (sym mode)
       ∙ (framed-some g.stream g.frame now t begins (sym g.front)

@@ -1,15 +1,16 @@
 -- The result of a Data indication, by what is found in it.
-use Rattle.std.proofs.Common.{◌≡◌, ℕ, ◌+◌, Bool, true, false, if◌then◌else◌, List, length, take, drop, Option, Some, None, IfSome, refl, subst, sym, ap, ◌∙◌, arith}
+use Rattle.std.proofs.Common.{◌≡◌, ℕ, ◌+◌, Bool, true, false, if◌then◌else◌, List, length, take, drop, Option, Some, None, IfSome, option_and_then, refl, subst, sym, ap, ◌∙◌, arith}
 use Rattle.std.proofs.lemmas.List.{take-append-drop, take_at}
 use Rattle.std.specs.List.{slice_range}
 use Rattle.std.specs.Option.{option_map, option_map_or}
 use Rattle.std.specs.Net.Socket.{socket_ip}
 use Rattle.std.specs.declared.net.socket_addr.SocketAddr.{SocketAddr}
 use Rattle.std.specs.declared.ops.Range.{Range}
-use Rattle.turn_stun.specs.Message.{Attribute, HoldsValue}
+use Rattle.turn_stun.specs.Message.{Attribute, HoldsValue, id_of}
 use Rattle.turn_stun.specs.Number.{u16_at}
+use Rattle.turn_stun.specs.XorAddress.{xor_addr}
 use Rattle.turn_types.specs.Channel.{Channel, channel_data_at as channel_frame_at}
-use Rattle.turn_types.specs.Send.{data_kind}
+use Rattle.turn_types.specs.Send.{data_kind, peer_kind}
 use Rattle.turn_types.specs.declared.attribute.icmp_report.Icmp.{Icmp}
 use Rattle.turn_client_api.specs.Grants.{channel_peer, first_in, has_active_permission}
 use Rattle.turn_client_api.specs.Judgement.{has_unknown, last_icmp_in, last_in, last_peer_in}
@@ -19,6 +20,11 @@ use Rattle.turn_client_core.specs.Indication.{if_permitted, value_place}
 use Rattle.turn_client_core.specs.ProtocolRecv.{outcome_in}
 use Rattle.turn_client_core.specs.declared.protocol_recv.TurnProtocolRecv.{TurnProtocolRecv}
 use Rattle.turn_client_core.specs.declared.protocol_recv.TurnProtocolRecv.TheVariants as T
+
+-- the peer that is read is the last one of the message
+pub peer-read : (message : List ℕ) (id : ℕ) (found : Option Attribute) (read peer : Option SocketAddr) → id ≡ id_of message → found ≡ last_in peer_kind message
+    → read ≡ option_and_then (λ a. xor_addr a.value id) found → read ≡ peer → last_peer_in message ≡ peer
+peer-read message id found read peer named is says e = rw (← is, ← named) (sym says ∙ e)
 
 module _ (s : State) (message : List ℕ) where
   outcome-if_permitted : (has_active_permission : Bool) (told : TurnProtocolRecv)

@@ -1,6 +1,6 @@
 -- Whole frames of a stream.
-use Rattle.std.proofs.Common.{◌≡◌, ◌+◌, ◌∙◌, ℕ, Bool, true, false, List, Some, None, arith, length, refl, sym}
-use Rattle.std.proofs.lemmas.Bool.{le-ltb, leb-false, ltb-false}
+use Rattle.std.proofs.Common.{◌≡◌, ◌+◌, ◌∙◌, ℕ, true, false, List, Some, None, arith, length, sym}
+use Rattle.std.proofs.lemmas.Bool.{le-ltb, leb-false, ltb-false, true_from_ne_false}
 use Rattle.turn_stun.specs.Message.{padded_len}
 use Rattle.turn_stun.specs.Number.{u16_at}
 use Rattle.turn_stun.proofs.GrammarLemmas.{padded_len-ge}
@@ -24,11 +24,8 @@ whole-channel frame whole e =
 
 -- a whole frame that is no ChannelData message begins like a STUN message
 pub message-begins : (frame : List ℕ) (fault : ChannelParseError) → frame_len frame ≡ Some (length frame) → channel_fault_of frame ≡ Some fault → begins_message frame ≡ true
-message-begins frame fault whole refused = by (begins_message frame) refl
-  where
-    by : (b : Bool) → begins_message frame ≡ b → begins_message frame ≡ true
-    by true e = e
-    by false e = let no : None ≡ Some fault = sym (PassesTests-no_fault frame (whole-channel frame whole e)) ∙ refused in cc
+message-begins frame fault whole refused =
+    true_from_ne_false _ (λ e. let no : None ≡ Some fault = sym (PassesTests-no_fault frame (whole-channel frame whole e)) ∙ refused in cc)
 
 -- a ChannelData message begins otherwise
 pub channel-begins : (frame : List ℕ) (id : ℕ) (payload rest : List ℕ) → IsChannel frame id payload rest → begins_message frame ≡ false

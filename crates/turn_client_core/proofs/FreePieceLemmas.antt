@@ -1,7 +1,7 @@
 -- Pieces that allocate no memory.
 use Rattle.std.proofs.Common.{◌≡◌, ◌⊎◌, ◌∙◌, ℕ, ◌++◌, Bool, true, false, cond, not, arith, drop, eqb, length, map, take, List, [], ◌∷◌, Option, Some, None, ap, inl, inr, refl, subst, sym}
 use Rattle.std.proofs.Math.Seq.{drop-length, take-length}
-use Rattle.std.proofs.lemmas.Bool.{eqb-true, ltb-false}
+use Rattle.std.proofs.lemmas.Bool.{and_from, and_parts, cond_both, eqb-true, false_from_ne_true, ltb-false, not-false, not-true, or_parts}
 use Rattle.std.specs.Prelude.{◌&&◌, ◌||◌, find, is_none, is_some, nat_lt}
 use Rattle.std.specs.Option.{option_map, option_map_or}
 use Rattle.std.specs.declared.net.socket_addr.SocketAddr.{SocketAddr}
@@ -17,31 +17,19 @@ use Rattle.turn_client_laws.specs.Handled.{stream_with_piece}
 use Rattle.turn_client_api.specs.Judgement as J
 use Rattle.turn_client_api.specs.Judgement.{Judgement, connection_id_in, judgement_of, peer_in}
 use Rattle.turn_client_api.specs.Memory.{challenge_takes_memory, frame_takes_memory, is_free_frame, is_whole_frame, message_takes_memory, packet_takes_memory}
-use Rattle.turn_client_api.specs.Payloads.{Outcome, Handled, Ignored, PeerData, PeerIcmp, challenge_step, is_message, message_step}
+use Rattle.turn_client_api.specs.Payloads.{Outcome, Handled, Ignored, challenge_step, is_message, message_step}
 use Rattle.turn_client_api.specs.Retry.{retried}
 use Rattle.turn_client_api.specs.State.{State}
 use Rattle.turn_client_api.specs.Streams.{control_frame_step, framed_stream_step, is_bound, is_ready, stream_at, with_bytes}
-use Rattle.turn_client_api.specs.declared.grant.Purpose.{Purpose}
 use Rattle.turn_client_api.specs.declared.state.Mode.{Mode}
-use Rattle.turn_client_api.specs.declared.state.Mode.TheVariants.{Control, Waiting, Bound, Broken}
+use Rattle.turn_client_api.specs.declared.state.Mode.TheVariants.{Control, Broken}
 use Rattle.turn_client_api.specs.declared.state.Stream.{Stream}
 use Rattle.turn_client_laws.proofs.StreamDrainLemmas.{ready-waits}
 use Rattle.turn_client_streams.specs.Buffered.{broken, front_frame, passed, without_front}
 use Rattle.turn_client_core.specs.StreamSteps.{EndsBehind, fed_frame_step, is_broken, piece_takes_none}
 use Rattle.turn_client_core.proofs.PieceLemmas.{front-begins, passed-local, passed-mode}
+use Rattle.turn_client_core.proofs.ResultLemmas.{none-is, none-some_not}
 use Rattle.turn_client_core.proofs.TurnLemmas.{framed-some, turns-none}
-
-both : (a b : Bool) → (a && b) ≡ true → (a ≡ true) × (b ≡ true)
-both true true e = (refl, refl)
-both true false e = let no : false ≡ true = e in cc
-both false b e = let no : false ≡ true = e in cc
-
-join : {a b : Bool} → a ≡ true → b ≡ true → (a && b) ≡ true
-join e f = rw (e, f) refl
-
-not-true : (b : Bool) → not b ≡ true → b ≡ false
-not-true true e = let no : false ≡ true = e in cc
-not-true false e = refl
 
 waits-none : (bytes : List ℕ) → not (nat_lt 0 (length bytes)) ≡ true → bytes ≡ []
 waits-none [] e = refl
@@ -59,24 +47,22 @@ free-either to piece s stream found free = by (is_free_piece piece stream) refl 
 
 -- the stream is bound, and holds no bytes
 pub free-bound : (piece : List ℕ) (stream : Stream) → is_free_piece piece stream ≡ true → is_bound stream.mode ≡ true
-free-bound piece stream free = (both _ _ (both _ _ free).0).0
+free-bound piece stream free = (and_parts _ _ (and_parts _ _ free).0).0
 
 pub free-waits : (piece : List ℕ) (stream : Stream) → is_free_piece piece stream ≡ true → stream.bytes ≡ []
-free-waits piece stream free = waits-none stream.bytes (both _ _ free).1
+free-waits piece stream free = waits-none stream.bytes (and_parts _ _ free).1
 
 broken-unbound : (m : Mode) → is_broken m ≡ true → is_bound m ≡ true → ⊥
-broken-unbound Control broken bound = cc
-broken-unbound Waiting broken bound = cc
-broken-unbound (Bound peer) broken bound = cc
 broken-unbound Broken broken bound = cc
+broken-unbound m broken bound = cc
 
 -- ---- one whole frame
 
-record IsFree (piece : List ℕ) (s : State) (stream : Stream) : Type 0 where
-  waits : stream.bytes ≡ []
-  whole : frame_len piece ≡ Some (length piece)
-  rest : find is_ready s.streams ≡ None
-  takes : frame_takes_memory stream piece s ≡ false
+pub record IsFree (piece : List ℕ) (s : State) (stream : Stream) : Type 0 where
+  pub waits : stream.bytes ≡ []
+  pub whole : frame_len piece ≡ Some (length piece)
+  pub rest : find is_ready s.streams ≡ None
+  pub takes : frame_takes_memory stream piece s ≡ false
 
 whole-is : (piece : List ℕ) → is_whole_frame piece ≡ true → frame_len piece ≡ Some (length piece)
 whole-is piece = by (frame_len piece)
@@ -85,15 +71,11 @@ whole-is piece = by (frame_len piece)
     by None e = let no : false ≡ true = e in cc
     by (Some len) e = ap Some (eqb-true len (length piece) e)
 
-none-is : {A : Type 0} (o : Option A) → is_none o ≡ true → o ≡ None
-none-is None e = refl
-none-is (Some x) e = let no : false ≡ true = e in cc
-
-free-is : (piece : List ℕ) (s : State) (stream : Stream) → is_free_frame piece s stream ≡ true → IsFree piece s stream
+pub free-is : (piece : List ℕ) (s : State) (stream : Stream) → is_free_frame piece s stream ≡ true → IsFree piece s stream
 free-is piece s stream free =
-    let (three, takes) = both _ _ free in
-    let (two, rest) = both _ _ three in
-    let (whole, waits) = both _ _ two in
+    let (three, takes) = and_parts _ _ free in
+    let (two, rest) = and_parts _ _ three in
+    let (whole, waits) = and_parts _ _ two in
     record {
       waits = waits-none stream.bytes waits;
       whole = whole-is piece whole;
@@ -107,19 +89,11 @@ emptied : SocketAddr → Stream → Stream
 emptied local x = cond (same_address x.local local) (record x { bytes = [] }) x
 
 empty-unready : (x : Stream) → is_ready (record x { bytes = [] }) ≡ false
-empty-unready x = by (is_ready (record x { bytes = [] })) refl
-  where
-    by : (b : Bool) → is_ready (record x { bytes = [] }) ≡ b → b ≡ false
-    by false e = refl
-    by true e = absurd (omega (arith, ready-waits x.mode x [] e))
+empty-unready x = false_from_ne_true _ (λ e. omega (arith, ready-waits x.mode x [] e))
 
 emptied-unready : (local : SocketAddr) (x : Stream) → is_ready x ≡ false → is_ready (emptied local x) ≡ false
 unfolding emptied
-emptied-unready local x e = by (same_address x.local local)
-  where
-    by : (b : Bool) → is_ready (cond b (record x { bytes = [] }) x) ≡ false
-    by true = empty-unready x
-    by false = e
+emptied-unready local x e = cond_both (same_address x.local local) (record x { bytes = [] }) x (λ y. is_ready y ≡ false) (λ f. empty-unready x) (λ f. e)
 
 none-emptied : (local : SocketAddr) (xs : List Stream) → find is_ready xs ≡ None → find is_ready (map (emptied local) xs) ≡ None
 none-emptied local [] e = refl
@@ -154,31 +128,23 @@ message-out : (message : List ℕ) (local : SocketAddr) (bytes : List ℕ) (s : 
 message-out message local bytes s = by (judgement_of s message) refl
   where
     by : (j : Judgement) → judgement_of s message ≡ j → message_takes_memory message (with_bytes local bytes s) ≡ message_takes_memory message s
-    by J.Unrelated e = rw e refl
-    by (J.Challenged challenge) e = rw e refl
-    by J.Fatal e = rw e refl
-    by J.LateResponse e = rw e refl
-    by J.DataIndication e = rw e refl
     by J.ConnectionAttempt e = rw e (attempt-out message local bytes s)
-    by J.SignedRequest e = rw e refl
-    by J.SignedSuccess e = rw e refl
-    by J.SignedError e = rw e refl
+    by j e = rw e refl
 
 frame-out : (stream : Stream) (frame : List ℕ) (local : SocketAddr) (bytes : List ℕ) (s : State) → frame_takes_memory stream frame (with_bytes local bytes s) ≡ frame_takes_memory stream frame s
 frame-out stream frame local bytes s = by stream.mode
   where
     by : (mode : Mode) → frame_takes_memory (record stream { mode = mode }) frame (with_bytes local bytes s) ≡ frame_takes_memory (record stream { mode = mode }) frame s
     by Control = ap (λ b. is_message frame && b) (message-out frame local bytes s)
-    by Waiting = refl
-    by (Bound peer) = refl
-    by Broken = refl
+    by mode = refl
 
 -- a stream that is taken out processes the same piece in the same way
 pub free-out : (piece : List ℕ) (s : State) (stream : Stream) (local : SocketAddr) → is_free_frame piece s stream ≡ true → is_free_frame piece (with_bytes local [] s) stream ≡ true
 free-out piece s stream local free =
-    let three = both (is_whole_frame piece && not (nat_lt 0 (length stream.bytes)) && is_none (find is_ready s.streams)) (not (frame_takes_memory stream piece s)) free in
-    let two = both (is_whole_frame piece && not (nat_lt 0 (length stream.bytes))) (is_none (find is_ready s.streams)) three.0 in
-    join (join two.0 (ap is_none (emptied-rest local s (none-is (find is_ready s.streams) two.1)))) (ap not (frame-out stream piece local [] s) ∙ three.1)
+    let three = and_parts (is_whole_frame piece && not (nat_lt 0 (length stream.bytes)) && is_none (find is_ready s.streams)) (not (frame_takes_memory stream piece s)) free in
+    let two = and_parts (is_whole_frame piece && not (nat_lt 0 (length stream.bytes))) (is_none (find is_ready s.streams)) three.0 in
+    let rest = ap is_none (emptied-rest local s (none-is (find is_ready s.streams) two.1)) in
+    and_from _ _ (and_from _ _ two.0 rest) (ap not (frame-out stream piece local [] s) ∙ three.1)
 
 -- ---- no step is left to end in
 
@@ -191,38 +157,26 @@ rests-end now s t rest (u, (n, led), broken) =
 pub rests-behind : (now : ℕ) (outcome : Outcome) (s t : State) → find is_ready s.streams ≡ None → EndsBehind now (outcome, s) t → ⊥
 rests-behind now Handled s t rest ends = rests-end now s t rest ends
 rests-behind now Ignored s t rest ends = rests-end now s t rest ends
-rests-behind now (PeerData payload) s t rest ends = ends
-rests-behind now (PeerIcmp transport peer icmp) s t rest ends = ends
+rests-behind now outcome s t rest ends = ends
 
 -- ---- a message that allocates no memory changes nothing
 
-unlisted-none : (o : Option Purpose) (few : Bool) → (is_some o || not few) ≡ false → (o ≡ None) × (few ≡ true)
-unlisted-none None true e = (refl, refl)
-unlisted-none None false e = let no : true ≡ false = e in cc
-unlisted-none (Some purpose) few e = let no : true ≡ false = e in cc
-
 challenge-stays : (message : List ℕ) (challenge : Challenge) (now : ℕ) (s : State) → challenge_takes_memory message s ≡ false → (challenge_step message challenge now s).1 ≡ s
 challenge-stays message challenge now s free =
-    let (unlisted, few) = unlisted-none (retried (purposes_of (id_of message) s)) (nat_lt s.challenges s.config.max_stale_nonces) free in
-    rw (few, unlisted) refl
-
-some-not : {A : Type 0} (o : Option A) → is_some o ≡ false → o ≡ None
-some-not None e = refl
-some-not (Some x) e = let no : true ≡ false = e in cc
+    let parts = or_parts (is_some (retried (purposes_of (id_of message) s))) (not (nat_lt s.challenges s.config.max_stale_nonces)) free in
+    rw (not-false _ parts.1, none-some_not _ parts.0) refl
 
 message-stays : (message : List ℕ) (now : ℕ) (s : State) → message_takes_memory message s ≡ false → (message_step message now s).1 ≡ s
 message-stays message now s = by (judgement_of s message) refl
   where
     by : (j : Judgement) → judgement_of s message ≡ j → message_takes_memory message s ≡ false → (message_step message now s).1 ≡ s
-    by J.Unrelated e = rw e (λ free. refl)
     by (J.Challenged challenge) e = rw e (λ free. challenge-stays message challenge now s free)
     by J.Fatal e = rw e (λ free. let no : true ≡ false = free in cc)
-    by J.LateResponse e = rw e (λ free. refl)
-    by J.DataIndication e = rw e (λ free. refl)
-    by J.ConnectionAttempt e = rw e (λ free. rw (some-not (attempt_indicated message s) free) refl)
+    by J.ConnectionAttempt e = rw e (λ free. rw (none-some_not (attempt_indicated message s) free) refl)
     by J.SignedRequest e = rw e (λ free. rw free refl)
     by J.SignedSuccess e = rw e (λ free. let no : true ≡ false = free in cc)
     by J.SignedError e = rw e (λ free. let no : true ≡ false = free in cc)
+    by j e = rw e (λ free. refl)
 
 control-stays : (frame : List ℕ) (now : ℕ) (s : State) → packet_takes_memory frame s ≡ false → (control_frame_step frame now s).1 ≡ s
 control-stays frame now s free = by (begins_message frame) (is_message frame) refl refl
@@ -259,13 +213,6 @@ free-front stream piece frame t free front takes =
     ∙ (ap (λ bytes. frame_takes_memory stream bytes t) same ∙ is.takes))) in
     cc
 
--- the whole piece comes first
-pub free-whole : (piece : List ℕ) (t : State) (stream : Stream) → is_free_frame piece t stream ≡ true → (stream.bytes ≡ []) × (frame_len piece ≡ Some (length piece))
-free-whole piece t stream free = let is = free-is piece t stream free in (is.waits, is.whole)
-
-pub free-rest : (piece : List ℕ) (t : State) (stream : Stream) → is_free_frame piece t stream ≡ true → find is_ready t.streams ≡ None
-free-rest piece t stream free = (free-is piece t stream free).rest
-
 -- then no stream is ready
 control-rests : (stream : Stream) (piece : List ℕ) (now : ℕ) (t : State) → frame_len piece ≡ Some (length piece) → find is_ready t.streams ≡ None → packet_takes_memory piece t ≡ false
     → find is_ready (framed_stream_step (record stream { mode = Control; bytes = piece }) now t).1.streams ≡ None
@@ -288,10 +235,7 @@ free-rests stream piece now t control free = let is = free-is piece t stream fre
         → frame_takes_memory (record stream { mode = mode; bytes = bytes }) piece t ≡ false
         → find is_ready (fed_frame_step (record stream { mode = mode; bytes = bytes }) piece now t).1.streams ≡ None
     by Control [] m e whole rest takes = control-rests stream piece now t whole rest takes
-    by Control (b ∷ bytes) m e whole rest takes = cc
-    by Waiting bytes m e whole rest takes = cc
-    by (Bound peer) bytes m e whole rest takes = cc
-    by Broken bytes m e whole rest takes = cc
+    by mode bytes m e whole rest takes = cc
 
 -- ---- a broken stream
 
@@ -302,7 +246,7 @@ free-broken to piece s broken free = by (stream_at to s) refl broken
   where
     of : (stream : Stream) → is_broken stream.mode ≡ true → (is_free_piece piece stream ≡ true) ⊎ (is_free_frame piece s stream ≡ true) → find is_ready s.streams ≡ None
     of stream is (inl bound) = absurd (broken-unbound stream.mode is (free-bound piece stream bound))
-    of stream is (inr frame) = free-rest piece s stream frame
+    of stream is (inr frame) = (free-is piece s stream frame).rest
 
     by : (o : Option Stream) → stream_at to s ≡ o → option_map_or (λ (x : Stream). is_broken x.mode) o false ≡ true → find is_ready s.streams ≡ None
     by None e is = let no : false ≡ true = is in cc

@@ -1,7 +1,8 @@
 -- IDs that are tried one after the other.
-use Rattle.std.proofs.Common.{◌≡◌, ℕ, zero, ◌+◌, ◌-◌, ◌%◌, ◌<◌, ◌≤◌, ◌^◌, Bool, true, false, not, suc, List, map, refl, sym, ap, arith}
+use Rattle.std.proofs.Common.{◌≡◌, ℕ, zero, ◌+◌, ◌-◌, ◌%◌, ◌<◌, ◌≤◌, ◌^◌, Bool, false, not, suc, List, map, refl, sym, ap, arith}
+use Rattle.std.proofs.lemmas.Bool.{or_parts}
 use Rattle.std.specs.List.{list_any, range_with_len}
-use Rattle.std.specs.Prelude.{◌==◌, ◌||◌, find, Some, unwrap_or, if◌then◌else◌}
+use Rattle.std.specs.Prelude.{◌==◌, find, Some, unwrap_or, if◌then◌else◌}
 use Rattle.turn_agent.specs.Agent.{is_outstanding}
 use Rattle.turn_agent.specs.TransactionIds.{next_id}
 use Rattle.turn_client_laws.proofs.NewIdLemmas.{counted-small, fresh-free}
@@ -16,10 +17,6 @@ find-counted p f a b less =
 
 pub counted-on : (first n : ℕ) → ((first + n) % 2 ^ 96 + 1) % 2 ^ 96 ≡ (first + (n + 1)) % 2 ^ 96
 counted-on first n = omega arith
-
-either-false : (a b : Bool) → (a || b) ≡ false → (a ≡ false) × (b ≡ false)
-either-false true b e = cc
-either-false false b e = (refl, e)
 
 -- so many IDs, fewer than 2^96, are counted up modulo 2^96
 same-ids : (first place count : ℕ) → place + count ≤ 2 ^ 96 → map (counted_up first) (range_with_len place count) ≡ map (λ n. (first + n) % 2 ^ 96) (range_with_len place count)
@@ -37,9 +34,9 @@ fresh-is s few =
     (sym (same-ids (next_id s.ids) 0 (max_ids_taken s + 1) (omega (arith, few))))
 
 pub fresh-unsent : (s : State) → is_outstanding (fresh_id s) s.transactions ≡ false
-fresh-unsent s = (either-false (is_outstanding (fresh_id s) s.transactions) (is_listed (fresh_id s) s) (fresh-free s)).0
+fresh-unsent s = (or_parts (is_outstanding (fresh_id s) s.transactions) (is_listed (fresh_id s) s) (fresh-free s)).0
 
 pub fresh-unlisted : (s : State) → list_any (λ l. l.id == fresh_id s) s.listed ≡ false
 fresh-unlisted s =
-    let listed = (either-false (is_outstanding (fresh_id s) s.transactions) (is_listed (fresh_id s) s) (fresh-free s)).1 in
-    (either-false (list_any (λ l. l.id == fresh_id s) s.listed) (list_any (is_of_request (fresh_id s)) s.grants) listed).0
+    let listed = (or_parts (is_outstanding (fresh_id s) s.transactions) (is_listed (fresh_id s) s) (fresh-free s)).1 in
+    (or_parts (list_any (λ l. l.id == fresh_id s) s.listed) (list_any (is_of_request (fresh_id s)) s.grants) listed).0

@@ -3,11 +3,11 @@ use Rattle.std.proofs.Common.{◌≡◌, ◌∙◌, ◌==◌, ℕ, Bool, true, f
 use Rattle.turn_auth.specs.LongTerm.{Challenge}
 use Rattle.turn_auth.specs.Validation.{validation_of}
 use Rattle.turn_auth.specs.declared.validation.Validation.{Validation}
-use Rattle.turn_auth.specs.declared.validation.Validation.TheVariants.{Validated, ResendRequest, Refused}
+use Rattle.turn_auth.specs.declared.validation.Validation.TheVariants.{Validated, Refused}
 use Rattle.turn_agent.specs.Agent.{is_outstanding}
 use Rattle.turn_stun.specs.Message.{id_of}
 use Rattle.turn_stun.specs.declared.message.header.MessageClass.{MessageClass}
-use Rattle.turn_stun.specs.declared.message.header.MessageClass.TheVariants.{Request, Indication, Success, Error}
+use Rattle.turn_stun.specs.declared.message.header.MessageClass.TheVariants.{Indication}
 use Rattle.turn_client_api.specs.Judgement as J
 use Rattle.turn_client_api.specs.Judgement.{Judgement, answers_allocate, answers_one, authenticating_judgement, by_class, challenge_in, challenged_or, class_in, judgement_of, method_in}
 use Rattle.turn_client_api.specs.Answers.{is_data_indication}
@@ -44,29 +44,15 @@ IsPlain Challenged = ⊥
 IsPlain _ = Unit {0}
 
 plain-is : (j : Judgement) → IsPlain (kind_of j) → j ≡ plain (kind_of j)
-plain-is J.Unrelated h = refl
 plain-is (J.Challenged challenge) h = absurd h
-plain-is J.Fatal h = refl
-plain-is J.LateResponse h = refl
-plain-is J.DataIndication h = refl
-plain-is J.ConnectionAttempt h = refl
-plain-is J.SignedRequest h = refl
-plain-is J.SignedSuccess h = refl
-plain-is J.SignedError h = refl
+plain-is j h = refl
 
 pub judged-is : (j : Judgement) (kind : Judged) → kind_of j ≡ kind → IsPlain kind → j ≡ plain kind
 judged-is j kind e h = plain-is j (rw e h) ∙ ap plain e
 
 pub challenged-is : (j : Judgement) → kind_of j ≡ Challenged → (challenge : Challenge) × (j ≡ J.Challenged challenge)
-challenged-is J.Unrelated e = cc
 challenged-is (J.Challenged challenge) e = (challenge, refl)
-challenged-is J.Fatal e = cc
-challenged-is J.LateResponse e = cc
-challenged-is J.DataIndication e = cc
-challenged-is J.ConnectionAttempt e = cc
-challenged-is J.SignedRequest e = cc
-challenged-is J.SignedSuccess e = cc
-challenged-is J.SignedError e = cc
+challenged-is j e = cc
 
 -- ---- what else holds for a signed message
 
@@ -83,12 +69,11 @@ pub request-signs : (s : State) (message : List ℕ) → judgement_of s message 
 request-signs s message = by s.phase refl
   where
     by : (p : Phase) → s.phase ≡ p → judgement_of s message ≡ J.SignedRequest → CanSign s.phase
-    by New e = rw e (λ h. cc)
     by Requesting e = rw e (λ h. let no : J.Fatal ≡ J.SignedRequest = challenged_or-plain J.Fatal (challenge_in s message) J.SignedRequest (λ c e. cc)
         (cond-first (answers_one s message) _ J.Unrelated J.SignedRequest (λ e. cc) h).1 in cc)
     by Authenticating e = rw e (λ h. tt)
     by Allocated e = rw e (λ h. tt)
-    by Closed e = rw e (λ h. cc)
+    by p e = rw e (λ h. cc)
 
 -- a signed error response to an ALLOCATE answers an outstanding one
 authenticating-outstanding : (s : State) (message : List ℕ) → authenticating_judgement s message ≡ J.SignedError → is_outstanding (id_of message) s.transactions ≡ true
@@ -102,52 +87,31 @@ authenticating-outstanding s message = by (validation_of (auth_of s) message) re
     by : (v : Validation) → validation_of (auth_of s) message ≡ v → authenticating_judgement s message ≡ J.SignedError → is_outstanding (id_of message) s.transactions ≡ true
     by (Validated algorithm) e = rw e (λ h. (cond-first (is_outstanding (id_of message) s.transactions) (by_class (class_in message)) J.LateResponse J.SignedError (λ e. cc) (once _ h)).0)
     by (Refused true) e = rw e (λ h. let no : J.Fatal ≡ J.SignedError = once J.Fatal h in cc)
-    by (Refused false) e = rw e (λ h. let no : J.Unrelated ≡ J.SignedError = once J.Unrelated h in cc)
-    by (ResendRequest algorithm) e = rw e (λ h. let no : J.Unrelated ≡ J.SignedError = once J.Unrelated h in cc)
+    by v e = rw e (λ h. let no : J.Unrelated ≡ J.SignedError = once J.Unrelated h in cc)
 
 pub error-answers : (s : State) (message : List ℕ) → judgement_of s message ≡ J.SignedError → s.phase ≡ Authenticating → is_outstanding (id_of message) s.transactions ≡ true
 error-answers s message h e = authenticating-outstanding s message (rw e at h)
 
 -- ---- signed replies, by the phase of the client
 
+pub authenticating-is : (phase : Phase) → is_authenticating phase ≡ true → phase ≡ Authenticating
+authenticating-is Authenticating h = refl
+authenticating-is phase h = cc
+
 pub granted-step : (message : List ℕ) (now : ℕ) (s : State) → is_authenticating s.phase ≡ true
     → signed_step true message now s ≡ (Handled, allocate_granted message now (transaction_ended (id_of message) s))
-granted-step message now s = by s.phase refl
-  where
-    by : (p : Phase) → s.phase ≡ p → is_authenticating s.phase ≡ true → signed_step true message now s ≡ (Handled, allocate_granted message now (transaction_ended (id_of message) s))
-    by New e = rw e (λ h. cc)
-    by Requesting e = rw e (λ h. cc)
-    by Authenticating e = rw e (λ h. refl)
-    by Allocated e = rw e (λ h. cc)
-    by Closed e = rw e (λ h. cc)
+granted-step message now s h = rw (authenticating-is s.phase h) refl
 
 pub denied-step : (message : List ℕ) (now : ℕ) (s : State) → is_authenticating s.phase ≡ true
     → signed_step false message now s ≡ (Handled, allocate_denied (fresh_id s) message now (transaction_ended (id_of message) s))
-denied-step message now s = by s.phase refl
-  where
-    by : (p : Phase) → s.phase ≡ p → is_authenticating s.phase ≡ true → signed_step false message now s ≡ (Handled, allocate_denied (fresh_id s) message now (transaction_ended (id_of message) s))
-    by New e = rw e (λ h. cc)
-    by Requesting e = rw e (λ h. cc)
-    by Authenticating e = rw e (λ h. refl)
-    by Allocated e = rw e (λ h. cc)
-    by Closed e = rw e (λ h. cc)
+denied-step message now s h = rw (authenticating-is s.phase h) refl
 
 pub other-step : (is_granted : Bool) (message : List ℕ) (now : ℕ) (s : State) → is_authenticating s.phase ≡ false → signed_step is_granted message now s ≡ response_step is_granted message now s
 other-step is_granted message now s = by s.phase refl
   where
     by : (p : Phase) → s.phase ≡ p → is_authenticating s.phase ≡ false → signed_step is_granted message now s ≡ response_step is_granted message now s
-    by New e = rw e (λ h. refl)
-    by Requesting e = rw e (λ h. refl)
     by Authenticating e = rw e (λ h. cc)
-    by Allocated e = rw e (λ h. refl)
-    by Closed e = rw e (λ h. refl)
-
-pub authenticating-is : (phase : Phase) → is_authenticating phase ≡ true → phase ≡ Authenticating
-authenticating-is New h = cc
-authenticating-is Requesting h = cc
-authenticating-is Authenticating h = refl
-authenticating-is Allocated h = cc
-authenticating-is Closed h = cc
+    by p e = rw e (λ h. refl)
 
 -- ---- Data indications
 
@@ -155,10 +119,8 @@ indication-is : (message : List ℕ) → is_data_indication message ≡ true →
 indication-is message = by (class_in message) refl
   where
     by : (class : MessageClass) → class_in message ≡ class → is_data_indication message ≡ true → (class_in message ≡ Indication) × ((method_in message == data_method) ≡ true)
-    by Request e = rw e (λ h. cc)
     by Indication e = rw e (λ h. (refl, h))
-    by Success e = rw e (λ h. cc)
-    by Error e = rw e (λ h. cc)
+    by k e = rw e (λ h. cc)
 
 -- nothing is required of a client
 abbrev pub IsIdle : Judged → Type 0
@@ -171,10 +133,9 @@ data-idle s message h = let (class, method) = indication-is message h in by clas
   where
     by : class_in message ≡ Indication → (method_in message == data_method) ≡ true → (p : Phase) → s.phase ≡ p → IsIdle (kind_of (judgement_of s message))
     by class method New e = rw e tt
-    by class method Requesting e = rw (e, class) tt
-    by class method Authenticating e = rw (e, class) tt
-    by class method Allocated e = rw (e, class, method) tt
     by class method Closed e = rw e tt
+    by class method Allocated e = rw (e, class, method) tt
+    by class method p e = rw (e, class) tt
 
 -- a Data indication is nothing else
 pub data-judged : (s : State) (message : List ℕ) → is_data_indication message ≡ true → (kind : Judged) → kind_of (judgement_of s message) ≡ kind → IsIdle kind

@@ -1,6 +1,6 @@
 -- Which bytes with the header of a message are one.
 use Rattle.std.proofs.Common.{◌≡◌, ◌∙◌, ℕ, ◌+◌, ◌==◌, Bool, true, false, not, List, length, drop, None, Some, is_none, is_some, ap, refl, sym, arith, Option, IfSome, fold, nat_lt}
-use Rattle.std.proofs.lemmas.Bool.{eq-eqb, eqb-true}
+use Rattle.std.proofs.lemmas.Bool.{eq-eqb, eqb-true, false_from_ne_true}
 use Rattle.std.specs.List.{list_any}
 use Rattle.turn_stun.proofs.FaultLemmas.{fault_of-none, guard_none}
 use Rattle.turn_stun.proofs.PlaceLemmas.{seen_of-values, seen_of-within}
@@ -12,11 +12,8 @@ use Rattle.std.specs.Prelude.{IfNone}
 use Rattle.turn_client_api.specs.Judgement.{has_unknown, is_unknown, last_in, later_of}
 use Rattle.turn_client_api.specs.Payloads.{is_message}
 use Rattle.turn_client_core.proofs.IndicationLemmas.{last-all}
+use Rattle.turn_client_core.proofs.ResultLemmas.{none-is}
 use Rattle.turn_client_core.proofs.SeenLemmas.{all-seen, unknown-seen}
-
-none-is : {A : Type 0} (o : Option A) → is_none o ≡ true → o ≡ None
-none-is None h = refl
-none-is (Some x) h = cc
 
 not-none : {A : Type 0} (o : Option A) → is_some o ≡ true → is_none o ≡ false
 not-none None h = cc
@@ -53,11 +50,8 @@ other-message bytes headed other =
     rw (long, stun, other) refl
 
 pub other-length : (bytes : List ℕ) (len : ℕ) → header_fault_of bytes ≡ None → len ≡ length_of bytes → (20 + len ≡ length bytes → ⊥) → is_message bytes ≡ false
-other-length bytes len headed is other = other-message bytes headed (by (20 + length_of bytes == length bytes) refl)
-  where
-    by : (b : Bool) → (20 + length_of bytes == length bytes) ≡ b → (20 + length_of bytes == length bytes) ≡ false
-    by false e = e
-    by true e = absurd (other (omega (arith, is, eqb-true (20 + length_of bytes) (length bytes) e)))
+other-length bytes len headed is other =
+    other-message bytes headed (false_from_ne_true _ (λ e. other (omega (arith, is, eqb-true (20 + length_of bytes) (length bytes) e))))
 
 -- ---- what the walk says of the message
 

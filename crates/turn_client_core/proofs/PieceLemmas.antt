@@ -26,9 +26,7 @@ use Rattle.turn_client_core.proofs.TurnLemmas.{framed-some}
 
 pub part-IsWithin : (bytes : List ℕ) (was s : State) (told : TurnProtocolRecv) → IsPart bytes was s told → IsRangeWithin bytes told
 part-IsWithin bytes was s (T.PeerData transport peer range) is = (is.0, is.1)
-part-IsWithin bytes was s T.Handled is = tt
-part-IsWithin bytes was s T.Ignored is = tt
-part-IsWithin bytes was s (T.PeerIcmp transport peer icmp) is = tt
+part-IsWithin bytes was s told is = tt
 
 -- in the front of some bytes a part is where it is in all of them
 slice-front : (xs : List ℕ) (end a b : ℕ) → end ≤ length xs → a ≤ b → b ≤ length (take end xs) → slice_range (take end xs) a b ≡ slice_range xs a b
@@ -41,9 +39,7 @@ slice-front xs end a b inside ordered within =
 front-outcome : (bytes : List ℕ) (end : ℕ) (told : TurnProtocolRecv) → end ≤ length bytes → IsRangeWithin (take end bytes) told → outcome_in bytes told ≡ outcome_in (take end bytes) told
 front-outcome bytes end (T.PeerData transport peer range) inside is =
     ap (λ part. PeerData (record { transport = transport; peer = peer; bytes = part; place = Some range })) (sym (slice-front bytes end range.start range.end inside is.0 is.1))
-front-outcome bytes end T.Handled inside is = refl
-front-outcome bytes end T.Ignored inside is = refl
-front-outcome bytes end (T.PeerIcmp transport peer icmp) inside is = refl
+front-outcome bytes end told inside is = refl
 
 -- a range at the front
 part-front : (bytes : List ℕ) (range : Range ℕ) → range.start ≡ 0 → bytes_in_range bytes range ≡ take range.end bytes
@@ -63,24 +59,18 @@ module _ {T : Type 0} (items : T → List ℕ) where
   pub comes-IsFront : (waited : List ℕ) (came : Transmit T) (front : IncomingTcp T) → ComesWith items waited came front → IsFront items front
   comes-IsFront waited came (CompleteMessage transmit range) is = (is.2, rw is.1 is.3)
   comes-IsFront waited came (CompleteChannel transmit range) is = (is.2, rw is.1 is.3)
-  comes-IsFront waited came (StoredMessage frame transmit) is = tt
-  comes-IsFront waited came (StoredChannel frame transmit) is = tt
+  comes-IsFront waited came front is = tt
 
   pub comes-with : (waited : List ℕ) (came : Transmit T) (front : IncomingTcp T) → ComesWith items waited came front → came_with front ≡ came
   comes-with waited came (CompleteMessage transmit range) is = is.1
-  comes-with waited came (CompleteChannel transmit range) is = is.1
-  comes-with waited came (StoredMessage frame transmit) is = is.1
-  comes-with waited came (StoredChannel frame transmit) is = is.1
+  comes-with waited came front is = is.1
 
   pub comes-given : (waited : List ℕ) (came : Transmit T) (front : IncomingTcp T) (outcome : Outcome) → ComesWith items waited came front → given_as front outcome ≡ place_kept waited outcome
-  comes-given [] came (CompleteMessage transmit range) outcome is = refl
-  comes-given [] came (CompleteChannel transmit range) outcome is = refl
   comes-given [] came (StoredMessage frame transmit) outcome is = absurd (omega (arith, is.0))
   comes-given [] came (StoredChannel frame transmit) outcome is = absurd (omega (arith, is.0))
   comes-given (b ∷ waited) came (CompleteMessage transmit range) outcome is = let clash : b ∷ waited ≡ [] = is.0 in cc
   comes-given (b ∷ waited) came (CompleteChannel transmit range) outcome is = let clash : b ∷ waited ≡ [] = is.0 in cc
-  comes-given (b ∷ waited) came (StoredMessage frame transmit) outcome is = refl
-  comes-given (b ∷ waited) came (StoredChannel frame transmit) outcome is = refl
+  comes-given waited came front outcome is = refl
 
 -- ---- a step of a stream
 

@@ -13,7 +13,7 @@ use Rattle.turn_client_api.specs.Poll.{answer_by, answer_step, timed_out_step, s
 use Rattle.turn_client_api.specs.State.{State, max_time, later_by}
 use Rattle.turn_client_api.specs.declared.grant.Relay.{Relay}
 use Rattle.turn_client_api.specs.declared.state.Phase.{Phase}
-use Rattle.turn_client_api.specs.declared.state.Phase.TheVariants.{New, Requesting, Authenticating, Allocated, Closed}
+use Rattle.turn_client_api.specs.declared.state.Phase.TheVariants.{Requesting, Allocated}
 use Rattle.turn_client_api.specs.declared.poll.TurnPollRet.{TurnPollRet}
 use Rattle.turn_client_api.specs.declared.poll.TurnPollRet.TheVariants as Do
 use Rattle.turn_client_grants.specs.Due.{times_of}
@@ -80,11 +80,7 @@ none_closed s t same after =
 let_go-by : (p : Phase) (relays : List Relay) (given : Option ℕ) (now : ℕ) (s : State) → (is_allocated p && is_none (slice_get relays 0)) ≡ true
     → ◌≡◌ {A = Answer} (Do.Closed, s) (answer_by [] p relays given now s)
 let_go-by Allocated [] given now s e = refl
-let_go-by Allocated (a ∷ relays) given now s e = cc
-let_go-by New relays given now s e = cc
-let_go-by Requesting relays given now s e = cc
-let_go-by Authenticating relays given now s e = cc
-let_go-by Closed relays given now s e = cc
+let_go-by p relays given now s e = cc
 
 pub let_go-is : (given : Option ℕ) (now : ℕ) (s : State) → s.closes ≡ [] → is_without_allocation s ≡ true → ◌≡◌ {A = Answer} (Do.Closed, s) (answer_step given now s)
 let_go-is given now s none gone =
@@ -94,11 +90,7 @@ let_go-is given now s none gone =
 waits-by : (p : Phase) (relays : List Relay) (given : Option ℕ) (now : ℕ) (s : State) → (is_allocated p && is_none (slice_get relays 0)) ≡ false
     → ◌≡◌ {A = Answer} (Do.WaitUntil (next_wakeup (is_some given) now s), s) (answer_by [] p relays given now s)
 waits-by Allocated [] given now s e = cc
-waits-by Allocated (a ∷ relays) given now s e = refl
-waits-by New relays given now s e = refl
-waits-by Requesting relays given now s e = refl
-waits-by Authenticating relays given now s e = refl
-waits-by Closed relays given now s e = refl
+waits-by p relays given now s e = refl
 
 pub waits-is : (given : Option ℕ) (now : ℕ) (s : State) → s.closes ≡ [] → is_without_allocation s ≡ false
     → ◌≡◌ {A = Answer} (Do.WaitUntil (next_wakeup (is_some given) now s), s) (answer_step given now s)

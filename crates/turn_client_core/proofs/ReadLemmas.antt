@@ -1,5 +1,6 @@
 -- Attributes that are read while they are checked.
-use Rattle.std.proofs.Common.{◌≡◌, ℕ, ◌+◌, ◌<◌, ◌≤◌, ◌∙◌, ◌||◌, Bool, true, false, List, [], ◌∷◌, length, drop, fold, Option, Some, None, is_some, unwrap_or, ap, refl, sym, arith}
+use Rattle.std.proofs.Common.{◌≡◌, ℕ, ◌+◌, ◌<◌, ◌≤◌, ◌∙◌, ◌||◌, Bool, true, List, [], ◌∷◌, length, drop, fold, Option, Some, None, is_some, unwrap_or, ap, refl, sym, arith}
+use Rattle.std.proofs.Math.Bool.{or_assoc}
 use Rattle.std.specs.List.{list_any}
 use Rattle.std.specs.Option.{option_map}
 use Rattle.turn_stun.specs.Message.{Attribute, attribute_at, attribute_size, attributes_from}
@@ -10,14 +11,10 @@ folded : {A : Type 0} (f : A → Attribute → A) (before : A) (a : Attribute) (
 folded f before a None = refl
 folded f before a (Some later) = refl
 
-or-assoc : (x y z : Bool) → (x || (y || z)) ≡ ((x || y) || z)
-or-assoc true y z = refl
-or-assoc false y z = refl
-
 any-folded : (p : Attribute → Bool) (before : Bool) (a : Attribute) (found : Option (List Attribute))
     → option_map (λ l. before || list_any p l) (option_map (λ later. a ∷ later) found) ≡ option_map (λ l. (before || p a) || list_any p l) found
 any-folded p before a None = refl
-any-folded p before a (Some later) = ap Some (or-assoc before (p a) (list_any p later))
+any-folded p before a (Some later) = ap Some (sym (or_assoc before (p a) (list_any p later)))
 
 -- what is read of the attributes that are left, after the first one
 pub fold-whole : {A : Type 0} (f : A → Attribute → A) (before : A) (at : ℕ) (bytes : List ℕ) → 0 < length bytes → attribute_size bytes ≤ length bytes
@@ -75,7 +72,3 @@ pub step-any : (p : Attribute → Bool) (before after : Bool) (at next : ℕ) (b
     → a ≡ attribute_at at bytes → after ≡ (before || p a) → next ≡ attribute_size bytes → later ≡ drop next bytes
     → option_map (λ l. before || list_any p l) (attributes_from 0 at bytes) ≡ r → option_map (λ l. after || list_any p l) (attributes_from 0 (at + next) later) ≡ r
 step-any p before after at next bytes later a r some whole is read size rest h = rw (rest, size, read, is) (sym (any-whole p before at bytes some whole) ∙ h)
-
-pub or-none : (x : Bool) → x ≡ (x || false)
-or-none true = refl
-or-none false = refl

@@ -1,6 +1,6 @@
 -- Requests that are made in place of another one.
-use Rattle.std.proofs.Common.{◌≡◌, ◌∙◌, ℕ, Bool, true, false, List, [], ◌∷◌, ◌++◌, Some, None, ap, refl, sym, map}
-use Rattle.std.proofs.lemmas.Bool.{eqb-true, lt-ltb}
+use Rattle.std.proofs.Common.{◌≡◌, ◌∙◌, ℕ, Bool, true, false, List, [], ◌∷◌, ◌++◌, Some, None, ap, cond, refl, sym, map}
+use Rattle.std.proofs.lemmas.Bool.{eqb-true, false_from_ne_true, lt-ltb, or_parts}
 use Rattle.std.specs.List.{list_any}
 use Rattle.std.specs.Prelude.{◌==◌, ◌+◌, ◌<◌, filter}
 use Rattle.std.specs.declared.net.socket_addr.SocketAddr.{SocketAddr}
@@ -42,44 +42,32 @@ again-is s id fresh from text purpose challenge now is sent next = rw (is, sent,
 
 none-found : {A : Type 0} (p : A → Bool) (xs : List A) → list_any p xs ≡ false → filter p xs ≡ []
 none-found p [] none = refl
-none-found p (x ∷ xs) none = by (p x) refl (none-found p xs)
-  where
-    by : (b : Bool) → p x ≡ b → (list_any p xs ≡ false → filter p xs ≡ []) → filter p (x ∷ xs) ≡ []
-    by true e rest = let no : true ≡ false = rw e at none in cc
-    by false e rest = rw e (rest (rw e at none))
+none-found p (x ∷ xs) none = let parts = or_parts (p x) (list_any p xs) none in rw parts.0 (none-found p xs parts.1)
 
 pub none-filtered : {A : Type 0} (p q : A → Bool) (xs : List A) → list_any p xs ≡ false → list_any p (filter q xs) ≡ false
 none-filtered p q [] none = refl
-none-filtered p q (x ∷ xs) none = by (p x) (q x) refl refl (none-filtered p q xs)
+none-filtered p q (x ∷ xs) none = by (q x) (or_parts (p x) (list_any p xs) none) (none-filtered p q xs)
   where
-    by : (a b : Bool) → p x ≡ a → q x ≡ b → (list_any p xs ≡ false → list_any p (filter q xs) ≡ false) → list_any p (filter q (x ∷ xs)) ≡ false
-    by true b e f rest = let no : true ≡ false = rw e at none in cc
-    by false true e f rest = rw (f, e) (rest (rw e at none))
-    by false false e f rest = rw f (rest (rw e at none))
+    by : (kept : Bool) → (p x ≡ false) × (list_any p xs ≡ false) → (list_any p xs ≡ false → list_any p (filter q xs) ≡ false)
+        → list_any p (cond kept (x ∷ filter q xs) (filter q xs)) ≡ false
+    by true parts rest = rw (parts.0, rest parts.1) refl
+    by false parts rest = rest parts.1
 
 -- a request that is made again is listed, and a fresh one is not
 pub asked-other : (id fresh : ℕ) (listed : List Listing) (purpose : Purpose) → list_any (λ l. l.id == fresh) listed ≡ false
     → retried (map (λ l. l.purpose) (filter (λ l. l.id == id) listed)) ≡ Some purpose → (fresh == id) ≡ false
-asked-other id fresh listed purpose unlisted request_started = by (fresh == id) refl
-  where
-    by : (b : Bool) → (fresh == id) ≡ b → (fresh == id) ≡ false
-    by false e = e
-    by true e =
-        let same : fresh ≡ id = eqb-true fresh id e in
-        let none : list_any (λ l. l.id == id) listed ≡ false = rw same at unlisted in
-        let no : None ≡ Some purpose = rw (none-found (λ l. l.id == id) listed none) at request_started in
-        cc
+asked-other id fresh listed purpose unlisted request_started = false_from_ne_true _ (λ e.
+    let same : fresh ≡ id = eqb-true fresh id e in
+    let none : list_any (λ l. l.id == id) listed ≡ false = rw same at unlisted in
+    let no : None ≡ Some purpose = rw (none-found (λ l. l.id == id) listed none) at request_started in
+    cc)
 
 -- a request that is answered is outstanding, and a fresh one is not
 pub answered-other : (id fresh : ℕ) (transactions : List Transaction) → is_outstanding fresh transactions ≡ false → is_outstanding id transactions ≡ true → (fresh == id) ≡ false
-answered-other id fresh transactions unsent outstanding = by (fresh == id) refl
-  where
-    by : (b : Bool) → (fresh == id) ≡ b → (fresh == id) ≡ false
-    by false e = e
-    by true e =
-        let same : fresh ≡ id = eqb-true fresh id e in
-        let no : true ≡ false = sym outstanding ∙ (rw same at unsent) in
-        cc
+answered-other id fresh transactions unsent outstanding = false_from_ne_true _ (λ e.
+    let same : fresh ≡ id = eqb-true fresh id e in
+    let no : true ≡ false = sym outstanding ∙ (rw same at unsent) in
+    cc)
 
 -- ---- a challenge is answered, or concerns no request
 

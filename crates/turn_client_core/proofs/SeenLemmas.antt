@@ -1,24 +1,16 @@
 -- An integrity attribute is unknown in a Data indication, so what is seen up to the first unknown attribute is all.
 use Rattle.std.proofs.Common.{◌≡◌, ◌∙◌, Bool, true, false, ◌||◌, List, [], ◌∷◌, ap, refl}
-use Rattle.std.proofs.lemmas.Bool.{eqb-true, or_parts}
+use Rattle.std.proofs.lemmas.Bool.{eqb-true, false_from_ne_true, or_parts}
 use Rattle.std.specs.List.{list_any}
 use Rattle.turn_stun.specs.Attributes.{is_sha1, is_sha256, seen_after}
 use Rattle.turn_stun.specs.Message.{Attribute}
 use Rattle.turn_client_api.specs.Judgement.{is_unknown}
 
 no-sha1 : (a : Attribute) → is_unknown a ≡ false → is_sha1 a.kind ≡ false
-no-sha1 a known = by (is_sha1 a.kind) refl
-  where
-    by : (b : Bool) → is_sha1 a.kind ≡ b → is_sha1 a.kind ≡ false
-    by false e = e
-    by true e = let same : a.kind ≡ 0x0008 = eqb-true a.kind 0x0008 e in let no : true ≡ false = rw same at known in cc
+no-sha1 a known = false_from_ne_true _ (λ e. let same : a.kind ≡ 0x0008 = eqb-true a.kind 0x0008 e in let no : true ≡ false = rw same at known in cc)
 
 no-sha256 : (a : Attribute) → is_unknown a ≡ false → is_sha256 a.kind ≡ false
-no-sha256 a known = by (is_sha256 a.kind) refl
-  where
-    by : (b : Bool) → is_sha256 a.kind ≡ b → is_sha256 a.kind ≡ false
-    by false e = e
-    by true e = let same : a.kind ≡ 0x001c = eqb-true a.kind 0x001c e in let no : true ≡ false = rw same at known in cc
+no-sha256 a known = false_from_ne_true _ (λ e. let same : a.kind ≡ 0x001c = eqb-true a.kind 0x001c e in let no : true ≡ false = rw same at known in cc)
 
 seen-first : (a : Attribute) (later : List Attribute) → is_unknown a ≡ false → seen_after false false (a ∷ later) ≡ a ∷ seen_after false false later
 unfolding seen_after

@@ -1,7 +1,7 @@
 -- Data connections that the caller opens.
-use Rattle.std.proofs.Common.{◌≡◌, ◌∙◌, ℕ, Bool, true, false, List, [], ◌∷◌, Some, None, ap, refl}
+use Rattle.std.proofs.Common.{◌≡◌, ◌∙◌, ℕ, true, List, [], ◌∷◌, ap, refl}
 use Rattle.std.proofs.lemmas.List.{append-nil}
-use Rattle.std.specs.Prelude.{◌||◌, Option, is_some}
+use Rattle.std.specs.Prelude.{Option}
 use Rattle.std.specs.declared.net.socket_addr.SocketAddr.{SocketAddr}
 use Rattle.turn_client_api.specs.Calls.{answered_with, socket_opened, with_stream}
 use Rattle.turn_client_api.specs.Requests.{accepted_reply, request_started, fresh_id, queued, request_for}
@@ -14,11 +14,6 @@ use Rattle.turn_client_grants.specs.Asked.{Asks, with_opened}
 use Rattle.turn_client_grants.specs.Ledger.{Ledger, with_ledger}
 use Rattle.turn_client_streams.specs.Held.{with_streams}
 use Rattle.turn_client_core.specs.Opened.{answer_to, opened_with, with_reply}
-
-pub free-none : {X : Type 0} (a : Bool) (found : Option X) → (a || is_some found) ≡ false → found ≡ None
-free-none false None e = refl
-free-none false (Some x) e = cc
-free-none true found e = cc
 
 -- the reply is the answer to the server
 pub answered-is : (text : ℕ → List ℕ) (origin : Origin) (s : State) → with_reply (answer_to text origin) s ≡ answered_with text origin s

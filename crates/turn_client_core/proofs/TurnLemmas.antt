@@ -13,9 +13,9 @@ use Rattle.turn_client_api.specs.Answers.{EndsAfterSteps, LeadsTo}
 use Rattle.turn_client_api.specs.Effect.{closed}
 use Rattle.turn_client_api.specs.State.{State}
 use Rattle.turn_client_api.specs.declared.state.Mode.{Mode}
-use Rattle.turn_client_api.specs.declared.state.Mode.TheVariants.{Control, Waiting, Bound, Broken}
+use Rattle.turn_client_api.specs.declared.state.Mode.TheVariants.{Bound, Broken}
 use Rattle.turn_client_api.specs.declared.state.Stream.{Stream}
-use Rattle.turn_client_api.specs.Payloads.{Payload, Outcome, Handled, Ignored, PeerData, PeerIcmp}
+use Rattle.turn_client_api.specs.Payloads.{Payload, Outcome, Handled, PeerData}
 use Rattle.turn_client_api.specs.Streams.{broken_at, detached_frame_step, first_ready_step, frame_step, framed_by}
 use Rattle.turn_client_api.specs.Streams.{framed_stream_step, go_on, is_bound, is_ready, max_steps, next_frame_step, poll_recv_step}
 use Rattle.turn_client_api.specs.Streams.{put_back, sent_by, steps_until_payload, with_bytes}
@@ -73,15 +73,11 @@ framed-none s now t stuck e =
 
 given-none : (next : State → Option Payload × State) (p : Outcome × State) → owned_payload p.0 ≡ None → go_on next p ≡ next p.1
 given-none next (PeerData payload, t) e = cc
-given-none next (Handled, t) e = refl
-given-none next (Ignored, t) e = refl
-given-none next (PeerIcmp transport peer icmp, t) e = refl
+given-none next (outcome, t) e = refl
 
 given-some : (next : State → Option Payload × State) (p : Outcome × State) (payload : Payload) → owned_payload p.0 ≡ Some payload → go_on next p ≡ (Some payload, p.1)
 given-some next (PeerData payload, t) given e = let same : record payload { place = None } ≡ given = cc in rw same refl
-given-some next (Handled, t) given e = cc
-given-some next (Ignored, t) given e = cc
-given-some next (PeerIcmp transport peer icmp, t) given e = cc
+given-some next (outcome, t) given e = cc
 
 -- a step first: the others are as if it had been made before
 pub turns-first : (n now : ℕ) (s : State) (stream : Stream) → find is_ready s.streams ≡ Some stream
@@ -105,9 +101,7 @@ one-more (suc n) now was s t led last = by (find is_ready was.streams) refl (λ 
         → go_on (steps_until_payload n now) p ≡ (None, s)
         → go_on (steps_until_payload (suc n) now) p ≡ (None, t)
     on (PeerData payload, u) more f = let clash : Some (record payload { place = None }) ≡ None = ap (λ p. p.0) f in cc
-    on (Handled, u) more f = more u f last
-    on (Ignored, u) more f = more u f last
-    on (PeerIcmp transport peer icmp, u) more f = more u f last
+    on (outcome, u) more f = more u f last
 
     by : (o : Option Stream) → find is_ready was.streams ≡ o
         → ((u : State) → steps_until_payload n now u ≡ (None, s) → steps_until_payload 1 now s ≡ (None, t) → steps_until_payload (suc n) now u ≡ (None, t))
@@ -189,10 +183,8 @@ bound-gives : (stream : Stream) (now : ℕ) (t : State) → is_bound stream.mode
 bound-gives stream now t e = by stream.mode e
   where
     by : (m : Mode) → is_bound m ≡ true → (payload : Payload) × (owned_payload (detached_frame_step (record stream { mode = m }) now t).0 ≡ Some payload)
-    by Control e = absurd (false≢true e)
-    by Waiting e = absurd (false≢true e)
     by (Bound peer) e = (sent_by peer stream.bytes None, refl)
-    by Broken e = absurd (false≢true e)
+    by m e = absurd (false≢true e)
 
 -- its bytes are given by the first step: steps that gave nothing have not begun
 pub bound-first : (now : ℕ) (was s : State) (stream : Stream) → find is_ready s.streams ≡ Some stream → LeadsTo now was s → IsBoundFirst was → is_bound stream.mode ≡ true

@@ -5,7 +5,7 @@ use Rattle.turn_client_api.specs.State.{State}
 use Rattle.turn_client_api.specs.declared.grant.Grant.{Grant}
 use Rattle.turn_client_api.specs.declared.grant.Progress.TheVariants.{Pending}
 use Rattle.turn_client_api.specs.declared.state.Phase.{Phase}
-use Rattle.turn_client_api.specs.declared.state.Phase.TheVariants.{New, Requesting, Authenticating, Allocated, Closed}
+use Rattle.turn_client_api.specs.declared.state.Phase.TheVariants.{Requesting, Authenticating, Allocated, Closed}
 use Rattle.turn_client_api.specs.declared.state.Stream.{Stream}
 use Rattle.turn_client_api.specs.Answers.{LeadsTo}
 use Rattle.turn_client_api.specs.Calls.{is_offer_of, without_first}
@@ -30,29 +30,22 @@ abbrev Stays : State → State → Type 0
 Stays s t = (HasNoneBefore s → HasNoneBefore t) × Keeps s t
 
 granted-rank : (p : Phase) → (IsUngranted p → ⊥) → 3 ≤ rank p
-granted-rank New granted = absurd (granted tt)
-granted-rank Requesting granted = absurd (granted tt)
-granted-rank Authenticating granted = absurd (granted tt)
 granted-rank Allocated granted = omega arith
 granted-rank Closed granted = omega arith
+granted-rank p granted = absurd (granted tt)
 
 rank-granted : (p : Phase) → 3 ≤ rank p → IsUngranted p → ⊥
-rank-granted New far ungranted = absurd (omega (arith, far))
-rank-granted Requesting far ungranted = absurd (omega (arith, far))
-rank-granted Authenticating far ungranted = absurd (omega (arith, far))
 rank-granted Allocated far ungranted = ungranted
 rank-granted Closed far ungranted = ungranted
+rank-granted p far ungranted = absurd (omega (arith, far))
 
 -- a client to which the server granted an allocation stays one
 stays-granted : (s t : State) → GoesOn s t → (IsUngranted s.phase → ⊥) → IsUngranted t.phase → ⊥
 stays-granted s t on granted = rank-granted t.phase (omega (arith, granted-rank s.phase granted, on.0))
 
 before-after : (p : Phase) → IsUngranted (phase_after p) → IsUngranted p
-before-after New u = u
 before-after Requesting u = tt
-before-after Authenticating u = u
-before-after Allocated u = u
-before-after Closed u = u
+before-after p u = u
 
 empty-outline : (gs : List Grant) → map outline gs ≡ [] → gs ≡ []
 empty-outline [] e = refl

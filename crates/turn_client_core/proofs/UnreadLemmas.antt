@@ -5,7 +5,7 @@ use Rattle.std.specs.Prelude.{if◌then◌else◌, nat_lt, nat_le, ◌<◌}
 use Rattle.turn_auth.specs.LongTerm.{Challenge}
 use Rattle.turn_auth.specs.Validation.{judged, validation_of}
 use Rattle.turn_auth.specs.declared.validation.Validation.{Validation}
-use Rattle.turn_auth.specs.declared.validation.Validation.TheVariants.{Validated, ResendRequest, Refused}
+use Rattle.turn_auth.specs.declared.validation.Validation.TheVariants.{Validated}
 use Rattle.turn_agent.specs.Agent.{is_outstanding}
 use Rattle.turn_stun.proofs.FaultLemmas.{IsMessage-no_fault, guard_none}
 use Rattle.turn_stun.specs.Message.{IsMessage, attributes_of, cookie_of, fault_of, header_fault_of, id_of, is_stun_header, type_of}
@@ -22,16 +22,13 @@ use Rattle.turn_client_api.specs.Requests.{connection_attempt_method, data_metho
 use Rattle.turn_client_api.specs.Retry.{retried}
 use Rattle.turn_client_api.specs.State.{State, auth_of}
 use Rattle.turn_client_api.specs.declared.state.Phase.{Phase}
-use Rattle.turn_client_api.specs.declared.state.Phase.TheVariants.{New, Requesting, Authenticating, Allocated, Closed}
+use Rattle.turn_client_api.specs.declared.state.Phase.TheVariants.{Allocated}
 use Rattle.turn_client_core.specs.Unread.{indicates_data, is_ignored_unread}
 use Rattle.turn_client_core.proofs.MessageLemmas.{unheaded}
+use Rattle.turn_client_core.proofs.ResultLemmas.{none-some_not}
 use Rattle.turn_client_core.proofs.RetryLemmas.{unknown-is}
 use Rattle.turn_client_core.specs.ProtocolRecv.{outcome_in}
 use Rattle.turn_client_core.specs.declared.protocol_recv.TurnProtocolRecv.{TurnProtocolRecv}
-
-none-is : {A : Type 0} (o : Option A) → is_some o ≡ false → o ≡ None
-none-is None h = refl
-none-is (Some x) h = cc
 
 module _ (s : State) (message : List ℕ) (now : ℕ) where
   -- ---- what is ignored, by its judgement
@@ -53,8 +50,7 @@ module _ (s : State) (message : List ℕ) (now : ℕ) where
     where
       by : (v : Validation) → validation_of (auth_of s) message ≡ v → message_step message now s ≡ (Ignored, s)
       by (Validated algorithm) e = request-step other (rw (phase, class, e, class) refl)
-      by (Refused integrity) e = unrelated-step (rw (phase, class, e) refl)
-      by (ResendRequest algorithm) e = unrelated-step (rw (phase, class, e) refl)
+      by v e = unrelated-step (rw (phase, class, e) refl)
 
   of-indication : s.phase ≡ Allocated → class_in message ≡ Indication → (method_in message == data_method) ≡ false → (method_in message == connection_attempt_method) ≡ false
       → message_step message now s ≡ (Ignored, s)
@@ -65,8 +61,7 @@ module _ (s : State) (message : List ℕ) (now : ℕ) where
     where
       by : (v : Validation) → validation_of (auth_of s) message ≡ v → message_step message now s ≡ (Ignored, s)
       by (Validated algorithm) e = unrelated-step (rw (phase, class, e, class, ended) refl)
-      by (Refused integrity) e = unrelated-step (rw (phase, class, e) refl)
-      by (ResendRequest algorithm) e = unrelated-step (rw (phase, class, e) refl)
+      by v e = unrelated-step (rw (phase, class, e) refl)
 
   of-error : s.phase ≡ Allocated → class_in message ≡ Error → is_outstanding (id_of message) s.transactions ≡ false → retried (purposes_of (id_of message) s) ≡ None
       → s.challenges < s.config.max_stale_nonces → message_step message now s ≡ (Ignored, s)
@@ -75,16 +70,12 @@ module _ (s : State) (message : List ℕ) (now : ℕ) where
       by : (o : Option Challenge) → challenge_in s message ≡ o → (v : Validation) → judged (Some s.config.credentials) s.held message ≡ v → message_step message now s ≡ (Ignored, s)
       by (Some challenge) g v f = challenged-step challenge few none (rw (phase, class, g) refl)
       by None g (Validated algorithm) f = unrelated-step (rw (phase, class, g, f, class, ended) refl)
-      by None g (Refused integrity) f = unrelated-step (rw (phase, class, g, f) refl)
-      by None g (ResendRequest algorithm) f = unrelated-step (rw (phase, class, g, f) refl)
+      by None g v f = unrelated-step (rw (phase, class, g, f) refl)
 
   pub ignored-is : is_ignored_unread (class_in message) (method_in message) (id_of message) s ≡ true → message_step message now s ≡ (Ignored, s)
   ignored-is = by s.phase refl (class_in message) refl
     where
       by : (p : Phase) → s.phase ≡ p → (k : MessageClass) → class_in message ≡ k → is_ignored_unread k (method_in message) (id_of message) s ≡ true → message_step message now s ≡ (Ignored, s)
-      by New e k f h = let no : false ≡ true = rw e at h in cc
-      by Requesting e k f h = let no : false ≡ true = rw e at h in cc
-      by Authenticating e k f h = let no : false ≡ true = rw e at h in cc
       by Allocated e Request f h =
           let ignored : not (method_in message == connection_attempt_method) ≡ true = rw e at h in
           of-request e f (not-true _ ignored)
@@ -103,8 +94,8 @@ module _ (s : State) (message : List ℕ) (now : ℕ) where
           let first = and_parts (ended && once) few ignored in
           let both = and_parts ended once first.0 in
           of-error e f (not-true (is_outstanding (id_of message) s.transactions) both.0)
-          (none-is (retried (purposes_of (id_of message) s)) (not-true _ both.1)) (ltb-true s.challenges s.config.max_stale_nonces first.1)
-      by Closed e k f h = let no : false ≡ true = rw e at h in cc
+          (none-some_not (retried (purposes_of (id_of message) s)) (not-true _ both.1)) (ltb-true s.challenges s.config.max_stale_nonces first.1)
+      by p e k f h = let no : false ≡ true = rw e at h in cc
 
 -- ---- datagrams with the header of a message
 
@@ -130,18 +121,12 @@ ignored-datagram bytes now s headed ignored = by (is_message bytes) refl
 pub ignored-headed : (bytes : List ℕ) (now : ℕ) (s : State) (class : MessageClass) (method id : ℕ) → header_fault_of bytes ≡ None → class ≡ class_in bytes → method ≡ method_in bytes → id ≡ id_of bytes
     → is_ignored_unread class method id s ≡ true → datagram_step bytes now s ≡ (Ignored, s)
 ignored-headed bytes now s class method id headed is named same ignored =
-    ignored-datagram bytes now s headed
-    (subst (λ k. is_ignored_unread k (method_in bytes) (id_of bytes) s ≡ true) is
-    (subst (λ m. is_ignored_unread class m (id_of bytes) s ≡ true) named
-    (subst (λ i. is_ignored_unread class method i s ≡ true) same ignored)))
+    ignored-datagram bytes now s headed (rw (is, named, same) at ignored)
 
 pub ignored-message : (message : List ℕ) (now : ℕ) (s : State) (class : MessageClass) (method id : ℕ) → class ≡ class_in message → method ≡ method_in message → id ≡ id_of message
     → is_ignored_unread class method id s ≡ true → message_step message now s ≡ (Ignored, s)
 ignored-message message now s class method id is named same ignored =
-    ignored-is s message now
-    (subst (λ k. is_ignored_unread k (method_in message) (id_of message) s ≡ true) is
-    (subst (λ m. is_ignored_unread class m (id_of message) s ≡ true) named
-    (subst (λ i. is_ignored_unread class method i s ≡ true) same ignored)))
+    ignored-is s message now (rw (is, named, same) at ignored)
 
 -- what has the header of a message and is none
 pub cut-datagram : (bytes : List ℕ) (now : ℕ) (s : State) (fault : ParseError) → header_fault_of bytes ≡ None → fault_of bytes ≡ Some fault → datagram_step bytes now s ≡ (Ignored, s)
@@ -150,26 +135,13 @@ cut-datagram bytes now s fault headed cut =
     rw (none, no-channel bytes headed) refl
 
 -- what has no header of one
-pub frame-outcome : (bytes : List ℕ) (now : ℕ) (s : State) (fault : ParseError) → header_fault_of bytes ≡ Some fault
-    → (if is_channel_frame bytes then channel_sent s bytes else Ignored) ≡ (datagram_step bytes now s).0
-frame-outcome bytes now s fault unread = by (is_channel_frame bytes) refl
+pub frame-step : (bytes : List ℕ) (now : ℕ) (s : State) (fault : ParseError) → header_fault_of bytes ≡ Some fault
+    → datagram_step bytes now s ≡ (if is_channel_frame bytes then channel_sent s bytes else Ignored, s)
+frame-step bytes now s fault unread = by (is_channel_frame bytes) refl
   where
-    none : is_message bytes ≡ false
-    none = unheaded bytes fault unread
-
-    by : (b : Bool) → is_channel_frame bytes ≡ b → (if is_channel_frame bytes then channel_sent s bytes else Ignored) ≡ (datagram_step bytes now s).0
-    by true e = rw (none, e) refl
-    by false e = rw (none, e) refl
-
-pub frame-after : (bytes : List ℕ) (now : ℕ) (s : State) (fault : ParseError) → header_fault_of bytes ≡ Some fault → s ≡ (datagram_step bytes now s).1
-frame-after bytes now s fault unread = by (is_channel_frame bytes) refl
-  where
-    none : is_message bytes ≡ false
-    none = unheaded bytes fault unread
-
-    by : (b : Bool) → is_channel_frame bytes ≡ b → s ≡ (datagram_step bytes now s).1
-    by true e = rw (none, e) refl
-    by false e = rw (none, e) refl
+    by : (b : Bool) → is_channel_frame bytes ≡ b → datagram_step bytes now s ≡ (if is_channel_frame bytes then channel_sent s bytes else Ignored, s)
+    by true e = rw (unheaded bytes fault unread, e) refl
+    by false e = rw (unheaded bytes fault unread, e) refl
 
 -- ---- Data indications
 
@@ -178,14 +150,8 @@ data-judged : (s : State) (message : List ℕ) → indicates_data s.phase (class
 data-judged s message = by s.phase refl (class_in message) refl
   where
     by : (p : Phase) → s.phase ≡ p → (k : MessageClass) → class_in message ≡ k → indicates_data p k (method_in message) ≡ true → judgement_of s message ≡ J.DataIndication
-    by New e k f h = cc
-    by Requesting e k f h = cc
-    by Authenticating e k f h = cc
-    by Allocated e Request f h = cc
     by Allocated e Indication f h = rw (e, f, h) refl
-    by Allocated e Success f h = cc
-    by Allocated e Error f h = cc
-    by Closed e k f h = cc
+    by p e k f h = cc
 
 data-headed : (bytes : List ℕ) (now : ℕ) (s : State) → header_fault_of bytes ≡ None → judgement_of s bytes ≡ J.DataIndication
     → datagram_step bytes now s ≡ (if is_message bytes then data_indicated s bytes else Ignored, s)
@@ -198,9 +164,7 @@ data-headed bytes now s headed judged = by (is_message bytes) refl
 pub data-datagram : (bytes : List ℕ) (now : ℕ) (s : State) (class : MessageClass) (method : ℕ) → header_fault_of bytes ≡ None → class ≡ class_in bytes → method ≡ method_in bytes
     → indicates_data s.phase class method ≡ true → datagram_step bytes now s ≡ (if is_message bytes then data_indicated s bytes else Ignored, s)
 data-datagram bytes now s class method headed is named sent =
-    data-headed bytes now s headed (data-judged s bytes
-    (subst (λ k. indicates_data s.phase k (method_in bytes) ≡ true) is
-    (subst (λ m. indicates_data s.phase class m ≡ true) named sent)))
+    data-headed bytes now s headed (data-judged s bytes (rw (is, named) at sent))
 
 -- of bytes that are a message
 pub data-message : (s : State) (bytes message : List ℕ) (told : TurnProtocolRecv) → bytes ≡ message → IsMessage message (type_of message) (id_of message) (attributes_of message)

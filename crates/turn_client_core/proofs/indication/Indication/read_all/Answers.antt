@@ -1,4 +1,5 @@
 use Rattle.std.proofs.Common.{◌≡◌, ◌+◌, ◌<◌, ◌∙◌, ◌||◌, length, length-drop, drop, fold, None, ap, arith, refl, sym}
+use Rattle.std.proofs.Math.Bool.{or-false}
 use Rattle.std.proofs.lemmas.Bool.{eqb-false, eqb-true}
 use Rattle.std.proofs.lemmas.List.{take_rest}
 use Rattle.std.specs.List.{list_any}
@@ -8,7 +9,7 @@ use Rattle.turn_stun.specs.Message.{attribute_at, attribute_size, attributes_fro
 use Rattle.turn_types.specs.Send.{data_kind, peer_kind}
 use Rattle.turn_client_api.specs.Judgement.{is_unknown, later_of}
 use Rattle.turn_client_api.specs.Requests.{icmp_kind}
-use Rattle.turn_client_core.proofs.ReadLemmas.{cut-all, cut-none, end-some, or-none, read-all, step-any, step-fold, walked-all}
+use Rattle.turn_client_core.proofs.ReadLemmas.{cut-all, cut-none, end-some, read-all, step-any, step-fold, walked-all}
 use Rattle.turn_client_core.proofs.indication.Indication.read_all.Goals as goal
 
 pub returns-in_err-raw-clause-cut : goal.returns-in_err-raw-clause-cut
@@ -36,28 +37,20 @@ loop-rest-preserved c =
       unknown = step-any is_unknown _ _ c.loop-rest.offset c.size-size.result rest _ _ _ left whole first c.read.ensures.unknown size later c.loop-rest.invariant.unknown;
     }
 
-pub returns-clause-whole : goal.returns-clause-whole
-returns-clause-whole c =
-    walked-all _ _ (attributes_from 0 20 (drop 20 c.args.bytes.now)) _
-    c.loop-rest.invariant.peer (end-some _ c.loop-rest.rest.now (eqb-true _ _ (sym c.loop-rest-test.ensures)))
-
-pub returns-clause-peer : goal.returns-clause-peer
-returns-clause-peer c =
-    read-all (fold (later_of peer_kind) (option_map placed c.loop-rest.found.peer)) (fold (later_of peer_kind) None) (attributes_from 0 20 (drop 20 c.args.bytes.now)) _
-    c.loop-rest.invariant.peer (end-some _ c.loop-rest.rest.now (eqb-true _ _ (sym c.loop-rest-test.ensures)))
-
-pub returns-clause-payload : goal.returns-clause-payload
-returns-clause-payload c =
-    read-all (fold (later_of data_kind) (option_map placed c.loop-rest.found.«data»)) (fold (later_of data_kind) None) (attributes_from 0 20 (drop 20 c.args.bytes.now)) _
-    c.loop-rest.invariant.payload (end-some _ c.loop-rest.rest.now (eqb-true _ _ (sym c.loop-rest-test.ensures)))
-
-pub returns-clause-icmp : goal.returns-clause-icmp
-returns-clause-icmp c =
-    read-all (fold (later_of icmp_kind) (option_map placed c.loop-rest.found.icmp)) (fold (later_of icmp_kind) None) (attributes_from 0 20 (drop 20 c.args.bytes.now)) _
-    c.loop-rest.invariant.icmp (end-some _ c.loop-rest.rest.now (eqb-true _ _ (sym c.loop-rest-test.ensures)))
-
-pub returns-clause-unknown : goal.returns-clause-unknown
-returns-clause-unknown c =
-    or-none c.loop-rest.found.has_unknown
-    ∙ read-all (λ l. c.loop-rest.found.has_unknown || list_any is_unknown l) (list_any is_unknown) (attributes_from 0 20 (drop 20 c.args.bytes.now)) _
-    c.loop-rest.invariant.unknown (end-some _ c.loop-rest.rest.now (eqb-true _ _ (sym c.loop-rest-test.ensures)))
+pub returns : goal.returns
+returns c =
+    let all = attributes_from 0 20 (drop 20 c.args.bytes.now) in
+    let ended = end-some c.loop-rest.offset c.loop-rest.rest.now (eqb-true _ _ (sym c.loop-rest-test.ensures)) in
+    record {
+      cut = tt;
+      whole = walked-all _ _ all _ c.loop-rest.invariant.peer ended;
+      id = c.loop-rest.invariant.same;
+      peer = read-all (fold (later_of peer_kind) (option_map placed c.loop-rest.found.peer))
+          (fold (later_of peer_kind) None) all _ c.loop-rest.invariant.peer ended;
+      payload = read-all (fold (later_of data_kind) (option_map placed c.loop-rest.found.«data»))
+          (fold (later_of data_kind) None) all _ c.loop-rest.invariant.payload ended;
+      icmp = read-all (fold (later_of icmp_kind) (option_map placed c.loop-rest.found.icmp))
+          (fold (later_of icmp_kind) None) all _ c.loop-rest.invariant.icmp ended;
+      unknown = sym (or-false c.loop-rest.found.has_unknown)
+          ∙ read-all (λ l. c.loop-rest.found.has_unknown || list_any is_unknown l) (list_any is_unknown) all _ c.loop-rest.invariant.unknown ended;
+    }

@@ -1,6 +1,6 @@
+use Rattle.std.proofs.lemmas.Result.{on_err_weaker}
 use Rattle.turn_client_laws.specs.Handled.{stream_with_piece}
 use Rattle.turn_client_api.specs.Answers.{outcome_of}
-use Rattle.turn_client_core.proofs.ArrivalLemmas.{err-then}
 use Rattle.turn_client_core.proofs.FreePieceLemmas.{free-rests, rests-behind}
 use Rattle.turn_client_core.proofs.ResultLemmas.{no-err}
 use Rattle.turn_client_core.proofs.UngrantedLemmas.{framed-none-before}
@@ -20,6 +20,6 @@ pub returns-clause-free : goal.returns-clause-free
 returns-clause-free g c = λ free.
     let rest = free-rests c.args.stream (g.T.AsSlice.items c.args.transmit.payload) c.args.now c.args.self.now c.requires.control free in
     no-err c.then_all.result
-    (err-then c.then_all.result
+    (on_err_weaker c.then_all.result
     (rests-behind c.args.now (outcome_of c.in_ok-first.first) c.framed_piece.new.self c.then_all.new.self (rw c.in_ok-first.ensures.after rest))
     c.then_all.ensures.no_memory)

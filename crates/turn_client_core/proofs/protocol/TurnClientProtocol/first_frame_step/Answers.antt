@@ -1,5 +1,6 @@
 use Rattle.std.proofs.Common.{◌≡◌, ◌∙◌, ℕ, List, Some, ap, false, subst, sym, true}
 use Rattle.std.specs.Prelude.{IfOk, OnErr}
+use Rattle.std.proofs.lemmas.Result.{on_err_weaker}
 use Rattle.turn_types.specs.Incoming.{ComesWith, incoming_bytes}
 use Rattle.turn_client_api.specs.Answers.{outcome_of}
 use Rattle.turn_client_laws.specs.Handled.{stream_with_piece}
@@ -9,8 +10,7 @@ use Rattle.turn_client_api.specs.Receive.{place_kept}
 use Rattle.turn_client_api.specs.Streams.{frame_step}
 use Rattle.turn_client_api.specs.declared.state.Stream.{Stream}
 use Rattle.turn_client_streams.specs.Buffered.{front_frame, without_front}
-use Rattle.turn_client_core.proofs.ArrivalLemmas.{err-then}
-use Rattle.turn_client_core.proofs.FreePieceLemmas.{free-front, free-whole}
+use Rattle.turn_client_core.proofs.FreePieceLemmas.{free-front, free-is}
 use Rattle.turn_client_core.proofs.PieceLemmas.{comes-given, fed-some}
 use Rattle.turn_client_core.proofs.ResultLemmas.{no-err}
 use Rattle.turn_client_core.proofs.TurnLemmas.{front-whole}
@@ -37,8 +37,8 @@ returns-clause-answer g c =
 
 pub returns-in_err-front-clause-free : goal.returns-in_err-front-clause-free
 returns-in_err-front-clause-free g c = λ free.
-    let (waits, whole) = free-whole (g.T.AsSlice.items c.args.transmit.payload) c.args.self.now c.args.stream free in
-    let no : false ≡ true = rw c.in_err-front.was at (c.incoming_tcp.ensures.whole waits whole) in
+    let is = free-is (g.T.AsSlice.items c.args.transmit.payload) c.args.self.now c.args.stream free in
+    let no : false ≡ true = rw c.in_err-front.was at (c.incoming_tcp.ensures.whole is.waits is.whole) in
     cc
 
 pub returns-clause-free : goal.returns-clause-free
@@ -50,4 +50,4 @@ returns-clause-free g c = λ free.
     let front : Some frame ≡ front_frame all = rw c.in-Some.is at c.in_ok-front.ensures.frame in
     let left : c.incoming_tcp.new.self ≡ without_front all = c.in_ok-front.ensures.after in
     let asks = subst (λ (u : Stream). OnErr c.first_frame.result (frame_takes_memory u frame t ≡ true)) left c.first_frame.ensures.wanted in
-    no-err c.first_frame.result (err-then c.first_frame.result (free-front c.args.stream (items c.args.transmit.payload) frame t free front) asks)
+    no-err c.first_frame.result (on_err_weaker c.first_frame.result (free-front c.args.stream (items c.args.transmit.payload) frame t free front) asks)

@@ -1,12 +1,11 @@
 use Rattle.std.proofs.Common.{◌≡◌, ◌∙◌, IfSome, ap, false, length, option_and_then, subst, sym}
 use Rattle.std.specs.Option.{option_map}
 use Rattle.turn_stun.specs.Iterator.{placed}
-use Rattle.turn_stun.specs.Message.{IsWithin, id_of}
-use Rattle.turn_stun.specs.XorAddress.{xor_addr}
+use Rattle.turn_stun.specs.Message.{IsWithin}
 use Rattle.turn_types.specs.Icmp.{icmp_of}
 use Rattle.turn_client_api.specs.Judgement.{has_unknown}
 use Rattle.turn_client_core.specs.contracts.protocol.TurnClientProtocol.{the_view}
-use Rattle.turn_client_core.proofs.DataLemmas.{data-is, icmp-is, no_peer-is, unknown-is}
+use Rattle.turn_client_core.proofs.DataLemmas.{data-is, icmp-is, no_peer-is, peer-read, unknown-is}
 use Rattle.turn_client_core.proofs.protocol.TurnClientProtocol.found_indicated.Goals as goal
 
 pub returns-then-has_unknown-clause-outcome : goal.returns-then-has_unknown-clause-outcome
@@ -15,10 +14,7 @@ returns-then-has_unknown-clause-outcome c = unknown-is c.args.self.now c.args.by
 pub returns-in_default-clause-outcome : goal.returns-in_default-clause-outcome
 returns-in_default-clause-outcome c =
     let known : has_unknown c.args.bytes.now ≡ false = sym c.requires.unknown ∙ (sym c.has_unknown.ensures ∙ c.if-has_unknown.false) in
-    no_peer-is c.args.self.now c.args.bytes.now known
-    (ap (option_and_then (λ a. xor_addr a.value (id_of c.args.bytes.now))) (sym (c.requires.peer known))
-    ∙ (ap (λ id. option_and_then (λ a. xor_addr a.value id) (option_map placed c.args.found.now.peer)) (sym c.requires.id)
-    ∙ (sym c.peer.ensures ∙ c.in_default.is)))
+    no_peer-is c.args.self.now c.args.bytes.now known (peer-read c.args.bytes.now _ _ _ _ c.requires.id (c.requires.peer known) c.peer.ensures c.in_default.is)
 
 pub data_place-requires : goal.data_place-requires
 data_place-requires c =
@@ -28,10 +24,7 @@ data_place-requires c =
 pub returns-in-Some-data_place-clause-outcome : goal.returns-in-Some-data_place-clause-outcome
 returns-in-Some-data_place-clause-outcome c =
     let known : has_unknown c.args.bytes.now ≡ false = sym c.requires.unknown ∙ (sym c.has_unknown.ensures ∙ c.if-has_unknown.false) in
-    let peer =
-    ap (option_and_then (λ a. xor_addr a.value (id_of c.args.bytes.now))) (sym (c.requires.peer known))
-    ∙ (ap (λ id. option_and_then (λ a. xor_addr a.value id) (option_map placed c.args.found.now.peer)) (sym c.requires.id)
-    ∙ (sym c.peer.ensures ∙ c.in-Some.is)) in
+    let peer = peer-read c.args.bytes.now _ _ _ _ c.requires.id (c.requires.peer known) c.peer.ensures c.in-Some.is in
     rw (c.if_permitted.ensures, c.transport.ensures, ← c.self.view_is) (data-is (the_view c.self.inside) c.args.bytes.now c.in-Some.peer known peer
     (option_map placed c.args.found.now.«data») c.in-Some-data_place.place (c.requires.payload known) c.requires.value
     (sym c.data_place.ensures ∙ c.in-Some-data_place.is))
@@ -39,10 +32,7 @@ returns-in-Some-data_place-clause-outcome c =
 pub returns-in-None-clause-outcome : goal.returns-in-None-clause-outcome
 returns-in-None-clause-outcome c =
     let known : has_unknown c.args.bytes.now ≡ false = sym c.requires.unknown ∙ (sym c.has_unknown.ensures ∙ c.if-has_unknown.false) in
-    let peer =
-    ap (option_and_then (λ a. xor_addr a.value (id_of c.args.bytes.now))) (sym (c.requires.peer known))
-    ∙ (ap (λ id. option_and_then (λ a. xor_addr a.value id) (option_map placed c.args.found.now.peer)) (sym c.requires.id)
-    ∙ (sym c.peer.ensures ∙ c.in-Some.is)) in
+    let peer = peer-read c.args.bytes.now _ _ _ _ c.requires.id (c.requires.peer known) c.peer.ensures c.in-Some.is in
     rw c.icmp_indicated.ensures (icmp-is c.args.self.now c.args.bytes.now c.in-Some.peer known peer
     c.icmp.result (option_map placed c.args.found.now.«data») (c.requires.payload known)
     (sym c.data_place.ensures ∙ c.in-None.is)

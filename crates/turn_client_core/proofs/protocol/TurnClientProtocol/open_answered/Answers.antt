@@ -1,4 +1,5 @@
 use Rattle.std.proofs.Common.{◌≡◌, ◌∙◌, None, ap, sym}
+use Rattle.std.proofs.lemmas.Bool.{or_parts}
 use Rattle.turn_agent.specs.Agent.{same_address}
 use Rattle.turn_client_api.specs.Connections.{connection_at}
 use Rattle.turn_client_api.specs.Requests.{fresh_id, request_for}
@@ -8,8 +9,8 @@ use Rattle.turn_client_streams.specs.Held.{with_streams}
 use Rattle.turn_client_core.specs.Opened.{opened_with}
 use Rattle.turn_client_core.specs.contracts.protocol.TurnClientProtocol.{the_view}
 use Rattle.turn_client_core.proofs.AskLemmas.{with_outbox}
-use Rattle.turn_client_core.proofs.ResultLemmas.{on-err}
-use Rattle.turn_client_core.proofs.SocketLemmas.{free-none, opens-is}
+use Rattle.turn_client_core.proofs.ResultLemmas.{none-some_not, on-err}
+use Rattle.turn_client_core.proofs.SocketLemmas.{opens-is}
 use Rattle.turn_client_core.proofs.protocol.TurnClientProtocol.open_answered.Goals as goal
 
 pub returns-in_err-reserve-clause-err : goal.returns-in_err-reserve-clause-err
@@ -21,7 +22,8 @@ returns-in_err-ask_over-clause-err c =
 
 pub opened-requires-clause-new : goal.opened-requires-clause-new
 opened-requires-clause-new c =
-    let free : connection_at c.args.local c.args.self.now ≡ None = free-none (same_address c.args.local c.args.self.now.local) (connection_at c.args.local c.args.self.now) c.requires.free in
+    let free : connection_at c.args.local c.args.self.now ≡ None =
+    none-some_not _ (or_parts (same_address c.args.local c.args.self.now.local) _ c.requires.free).1 in
     let same = ap (λ s. s.grants) (c.reserve.ensures.same (the_view c.self.inside) ∙ c.self.view_is) in
     rw same free
 
