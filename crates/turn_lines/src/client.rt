@@ -30,8 +30,7 @@ pub fn new_client(alloc: Global, head: Head) -> Result<TurnClient, AllocError>
     TurnClient::allocate(alloc, ends.transport, ends.local, ends.remote, config, seed)
 }
 
-/// Drops a client. A program that drops its client so, and not at the end of a scope, does not prove again how each part of
-/// a client is dropped.
+/// Drops a client. A function that calls this is proved much sooner than one at the end of whose scope a client is dropped.
 pub fn drop_client(client: TurnClient) {
     drop(client);
 }
