@@ -46,7 +46,10 @@ pub fn replayed_text(alloc: Global, head: Head, calls: &[Call]) -> Result<String
         seed,
         calls,
     )?;
-    answers_text(alloc, replayed.replies.as_slice())
+    let text = answers_text(alloc, replayed.replies.as_slice());
+    // the end of a scope that drops a client takes long to prove
+    drop(replayed);
+    text
 }
 
 /// A line for each answer.

@@ -13,4 +13,4 @@ returns c =
     c.as_slice.ensures.value
     ∙ c.in_ok-replayed.ensures.replies
     ∙ ap (λ configured. (run head.ends.transport head.ends.local head.ends.remote configured head.seed c.args.calls.now).0) c.configuration-config.ensures in
-    subst (λ (replies : List Reply). IfOk c.answers_text.result (λ text. string_bytes text ≡ answers_text replies)) same c.answers_text.ensures
+    subst (λ (replies : List Reply). IfOk c.answers_text-text.result (λ text. string_bytes text ≡ answers_text replies)) same c.answers_text-text.ensures
