@@ -9,6 +9,7 @@ use crate::fixture::{
 use crate::server::{Signer, message};
 use std::alloc::{AllocError, Global};
 use std::net::SocketAddr;
+use std::process::Abort;
 use std::test::Fail;
 use turn_client_api::{Socket5Tuple, TurnClientApi, TurnEvent, TurnPollRet, TurnRecvRet};
 use turn_client_proto::client::TurnClient;
@@ -267,14 +268,26 @@ fn frames_are_heard(client: &mut TurnClient, alloc: Global, seed: u32) -> Result
     Ok(heard.is(OVER_UDP, &[]))
 }
 
+/// Asserts that the frames have the expected payloads, however they are cut.
+fn all_frames_are_heard(
+    rt: &impl Abort,
+    alloc: Global,
+    client: &mut TurnClient,
+) -> Result<(), AllocError> {
+    for seed in 0..SEEDS + 2 {
+        let is_so = frames_are_heard(client, alloc, seed)?;
+        check(rt, is_so, seed);
+    }
+    Ok(())
+}
+
 #[test]
 fn frames_come_in_any_pieces(rt: HostRuntime) -> Result<(), Fail> {
     let mut client = TurnClient::from(client_with_channel(rt.alloc())?);
-    for seed in 0..SEEDS + 2 {
-        let is_so = frames_are_heard(&mut client, rt.alloc(), seed)?;
-        check(&rt, is_so, seed);
-    }
-    Ok(())
+    let heard = all_frames_are_heard(&rt, rt.alloc(), &mut client);
+    // a scope at whose end a client is dropped takes minutes to prove
+    drop(client);
+    Ok(heard?)
 }
 
 /// A client with a permission for 10.0.0.3, for TCP connections with peers.
@@ -337,12 +350,23 @@ fn both_are_heard(client: &mut TurnClient, alloc: Global, seed: u32) -> Result<b
     Ok(heard.is(OVER_TCP, BYTES) && ends(client, now)?)
 }
 
+/// Asserts that frames and data connection have the expected payloads, however they are cut.
+fn all_connections_are_heard(
+    rt: &impl Abort,
+    alloc: Global,
+    client: &mut TurnClient,
+) -> Result<(), Fail> {
+    for seed in 0..SEEDS + 2 {
+        let is_so = both_are_heard(client, alloc, seed)?;
+        check(rt, is_so, seed);
+    }
+    Ok(())
+}
+
 #[test]
 fn connections_come_in_any_pieces(rt: HostRuntime) -> Result<(), Fail> {
     let mut client = TurnClient::from(client_with_permission(rt.alloc())?);
-    for seed in 0..SEEDS + 2 {
-        let is_so = both_are_heard(&mut client, rt.alloc(), seed)?;
-        check(&rt, is_so, seed);
-    }
-    Ok(())
+    let heard = all_connections_are_heard(&rt, rt.alloc(), &mut client);
+    drop(client);
+    heard
 }

@@ -416,6 +416,7 @@ mod memory {
     use super::{RELAYED, Want, are_addresses, permitted};
     use crate::exchange::PEER;
     use crate::fixture::{IPV4, client_for};
+    use std::alloc::{AllocError, Global};
     use std::process::Abort;
     use std::test::Fail;
     use turn_client_api::TurnClientApi;
@@ -444,23 +445,32 @@ mod memory {
         Ok(())
     }
 
-    #[test]
-    fn candidates_are_told_or_refused(rt: HostRuntime) -> Result<(), Fail> {
-        let Ok(mut client) = client_for(rt.alloc(), IPV4) else {
-            return Ok(());
-        };
-        if permitted(rt.alloc(), &mut client).is_err() {
+    /// Asserts that the candidates are told at the second try, unless they are at the first one.
+    fn tell<C: TurnClientApi>(
+        rt: &impl Abort,
+        alloc: Global,
+        mut client: C,
+    ) -> Result<(), AllocError> {
+        if permitted(alloc, &mut client).is_err() {
             return Ok(());
         }
-        let gatherer = Gatherer::new(rt.alloc(), client);
-        let first = gatherer.candidates(rt.alloc());
+        let gatherer = Gatherer::new(alloc, client);
+        let first = gatherer.candidates(alloc);
         if let Ok(found) = &first {
             assert!(rt; are_addresses(found.as_slice(), &Want::Addresses(&[RELAYED])));
             return Ok(());
         }
         // the next call succeeds, and the client has lost nothing
-        let found = gatherer.candidates(rt.alloc())?;
+        let found = gatherer.candidates(alloc)?;
         assert!(rt; are_addresses(found.as_slice(), &Want::Addresses(&[RELAYED])));
         Ok(())
+    }
+
+    #[test]
+    fn candidates_are_told_or_refused(rt: HostRuntime) -> Result<(), Fail> {
+        let Ok(client) = client_for(rt.alloc(), IPV4) else {
+            return Ok(());
+        };
+        Ok(tell(&rt, rt.alloc(), client)?)
     }
 }
