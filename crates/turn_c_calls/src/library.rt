@@ -51,6 +51,5 @@ pub fn step(
 
 /// Drops a session.
 pub fn finish(session: Box<Session>) {
-    // the end of a scope that drops a client takes long to prove
     drop(session);
 }

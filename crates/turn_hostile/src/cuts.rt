@@ -12,7 +12,7 @@ use turn_client_proto::runs::reply_to;
 use turn_hostile_net::draws::Draws;
 use turn_hostile_net::fault::{Fault, expect};
 use turn_hostile_net::world::{Kind, number_of};
-use turn_lines::client::{drop_client, new_client};
+use turn_lines::client::new_client;
 use turn_stun::data::Data;
 use turn_stun::instant::Instant;
 use turn_stun::transport::Transmit;
@@ -73,7 +73,7 @@ fn payloads_of(
     let head = head_of(alloc, kind, seed)?;
     let mut client = new_client(alloc, head)?;
     let payloads = payloads_through(alloc, &mut client, trace, pieces);
-    drop_client(client);
+    drop(client);
     payloads
 }
 

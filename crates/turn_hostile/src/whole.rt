@@ -7,7 +7,7 @@ use std::alloc::Global;
 use turn_client_api::TurnClientApi;
 use turn_hostile_net::fault::{Fault, expect};
 use turn_hostile_net::world::Kind;
-use turn_lines::client::{drop_client, new_client};
+use turn_lines::client::new_client;
 use turn_types::TransportType;
 
 /// The least number of calls of a run.
@@ -68,7 +68,7 @@ fn driven(alloc: Global, kind: Kind, seed: u64) -> Result<Drive, Fault> {
     let head = head_of(alloc, kind, seed)?;
     let mut client = new_client(alloc, head)?;
     let drive = drive_through(alloc, kind, seed, &mut client);
-    drop_client(client);
+    drop(client);
     drive
 }
 

@@ -29,8 +29,3 @@ pub fn new_client(alloc: Global, head: Head) -> Result<TurnClient, AllocError>
     let config = configuration(alloc, request, credentials, waits);
     TurnClient::allocate(alloc, ends.transport, ends.local, ends.remote, config, seed)
 }
-
-/// Drops a client. A function that calls this is proved much sooner than one at the end of whose scope a client is dropped.
-pub fn drop_client(client: TurnClient) {
-    drop(client);
-}

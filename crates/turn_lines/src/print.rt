@@ -47,7 +47,7 @@ pub fn replayed_text(alloc: Global, head: Head, calls: &[Call]) -> Result<String
         calls,
     )?;
     let text = answers_text(alloc, replayed.replies.as_slice());
-    // the end of a scope that drops a client takes long to prove
+    // a scope at whose end a client is dropped can take minutes to prove
     drop(replayed);
     text
 }

@@ -39,7 +39,11 @@ pub fn hold_session<R: BufRead, W: Write>(
     let client = new_client(alloc, head)?;
     match end {
         LineEnd::Feed => answer_calls(alloc, client, relays, reader, writer),
-        LineEnd::Input => Ok(()),
+        LineEnd::Input => {
+            // a scope at whose end a client is dropped can take minutes to prove
+            drop(client);
+            Ok(())
+        }
     }
 }
 

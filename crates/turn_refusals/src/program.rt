@@ -6,7 +6,7 @@ use crate::seen::{Seen, Stop, report};
 use std::alloc::Global;
 use std::io::{ErrorKind, Read, Write};
 use std::process::ExitCode;
-use turn_lines::client::{drop_client, new_client};
+use turn_lines::client::new_client;
 use turn_lines::parts::Parts;
 
 /// Reads a row, makes its calls, and writes one line that says what was seen.
@@ -25,7 +25,7 @@ fn look<R: Read, W: Write>(alloc: Global, reader: &mut R, writer: &mut W) -> Res
     let head = head_of(alloc, lines.next().ok_or(Stop::Malformed)?)?;
     let mut client = new_client(alloc, head)?;
     let seen = follow(alloc, &mut client, &mut lines, writer);
-    drop_client(client);
+    drop(client);
     seen
 }
 

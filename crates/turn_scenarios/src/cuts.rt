@@ -285,7 +285,7 @@ fn all_frames_are_heard(
 fn frames_come_in_any_pieces(rt: HostRuntime) -> Result<(), Fail> {
     let mut client = TurnClient::from(client_with_channel(rt.alloc())?);
     let heard = all_frames_are_heard(&rt, rt.alloc(), &mut client);
-    // a scope at whose end a client is dropped takes minutes to prove
+    // a scope at whose end a client is dropped can take minutes to prove
     drop(client);
     Ok(heard?)
 }
