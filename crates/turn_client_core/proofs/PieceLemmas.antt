@@ -1,5 +1,5 @@
 -- Pieces of streams that are taken out.
-use Rattle.std.proofs.Common.{◌≡◌, ℕ, ◌≤◌, ◌+◌, ◌-◌, false, cond, List, [], ◌∷◌, drop, length, take, Option, Some, None, refl, sym, subst, ap, ◌∙◌, arith}
+use Rattle.std.proofs.Common.{◌≡◌, ℕ, ◌≤◌, ◌+◌, ◌-◌, ◌⊎◌, Bool, true, false, cond, List, [], ◌∷◌, drop, length, take, Option, Some, None, inl, inr, refl, sym, subst, ap, ◌∙◌, arith}
 use Rattle.std.specs.Prelude.{slice_range}
 use Rattle.std.specs.Option.{option_map, option_map_or}
 use Rattle.std.proofs.lemmas.List.{drop-take, length-take, take-take}
@@ -10,17 +10,18 @@ use Rattle.turn_types.specs.Incoming.{ComesWith}
 use Rattle.turn_types.specs.declared.tcp.incoming.IncomingTcp.{IncomingTcp}
 use Rattle.turn_types.specs.declared.tcp.incoming.IncomingTcp.TheVariants.{CompleteMessage, CompleteChannel, StoredMessage, StoredChannel}
 use Rattle.turn_types.proofs.FrameLemmas.{frame_len-IsWhole}
-use Rattle.turn_client_api.specs.Payloads.{Outcome, PeerData}
+use Rattle.turn_client_api.specs.Payloads.{Outcome, Handled, PeerData}
 use Rattle.turn_client_api.specs.Receive.{place_kept}
 use Rattle.turn_client_api.specs.State.{State}
 use Rattle.turn_client_api.specs.Streams.{frame_step, framed_stream_step, with_bytes}
+use Rattle.turn_client_api.specs.declared.state.Mode.TheVariants.{Control, Waiting}
 use Rattle.turn_client_api.specs.declared.state.Stream.{Stream}
 use Rattle.turn_client_streams.specs.Buffered.{broken, front_frame, passed, without_front}
 use Rattle.turn_client_core.specs.ProtocolRecv.{IsPart, IsRangeWithin, outcome_in}
 use Rattle.turn_client_core.specs.declared.protocol_recv.TurnProtocolRecv.{TurnProtocolRecv}
 use Rattle.turn_client_core.specs.declared.protocol_recv.TurnProtocolRecv.TheVariants as T
-use Rattle.turn_client_core.specs.StreamSteps.{IsFront, came_with, given_as, left_by, bytes_in_range}
-use Rattle.turn_client_core.proofs.TurnLemmas.{framed-some}
+use Rattle.turn_client_core.specs.StreamSteps.{IsFront, came_with, given_as, left_by, bytes_in_range, put_or_broken}
+use Rattle.turn_client_core.proofs.TurnLemmas.{framed-none, framed-some}
 
 -- ---- a part of a part
 
@@ -109,3 +110,25 @@ fed-some s frame now t e =
     framed-some s frame now t begins e
     ∙ (ap (λ p. (p.0, with_bytes (passed s).local (passed s).bytes p.1)) (sym (frame-by s (passed s) frame now t (passed-mode s) (passed-local s)))
     ∙ ap (λ (u : Stream). ((frame_step u frame now t).0, left_by u (frame_step u frame now t).1)) (sym same))
+
+pub handled-kept : (waited : List ℕ) → place_kept waited Handled ≡ Handled
+handled-kept [] = refl
+handled-kept (b ∷ waited) = refl
+
+-- a stream of frames without a whole first frame waits for the rest, or is broken
+pub fed-none : (s : Stream) (now : ℕ) (t : State) → (s.mode ≡ Control) ⊎ (s.mode ≡ Waiting) → None ≡ front_frame s → framed_stream_step s now t ≡ (Handled, put_or_broken (without_front s) t)
+fed-none s now t framed e = by (begins_no_frame s.bytes) refl
+  where
+    unpassed : (o : Option ℕ) → None ≡ option_map (λ len. take len s.bytes) o → option_map_or (λ len. record s { bytes = drop len s.bytes }) o s ≡ s
+    unpassed None f = refl
+    unpassed (Some len) f = cc
+
+    put : (s.mode ≡ Control) ⊎ (s.mode ≡ Waiting) → put_or_broken s t ≡ left_by s t
+    put (inl control) = rw control refl
+    put (inr waiting) = rw waiting refl
+
+    by : (b : Bool) → begins_no_frame s.bytes ≡ b → framed_stream_step s now t ≡ (Handled, put_or_broken (without_front s) t)
+    by true f = rw f refl
+    by false f =
+        let same : without_front s ≡ s = ap (λ b. cond b (broken s) (passed s)) f ∙ unpassed (frame_len s.bytes) e in
+        framed-none s now t f e ∙ ap (λ (x : State). (Handled, x)) (sym (ap (λ (u : Stream). put_or_broken u t) same ∙ put framed))

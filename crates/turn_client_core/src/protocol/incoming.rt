@@ -1,7 +1,7 @@
 //! Messages of the server, from a datagram to what it changes: datagram or frame, message, judgement, then a response, data of a peer, or a connection attempt.
 
 mod allocate_success;
-mod challenge;
+pub(crate) mod challenge;
 mod connection_attempt;
 mod datagram;
 mod fatal;

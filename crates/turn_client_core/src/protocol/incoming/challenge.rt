@@ -1,23 +1,39 @@
 //! A challenge is answered: the request is made again, signed as the server requires (RFC 8489, section
 //! 9.2.5).
 
-ghost use Rattle.std.specs.Prelude.{◌≡◌, ◌<◌, IfOk, IsSome, OnErr, OnOk, Some, true};
+ghost use Rattle.std.specs.Prelude.{◌≡◌, ◌<◌, ◌≤◌, false, IfOk, IsSome, OnErr, OnOk, Some, true};
+ghost use Rattle.turn_agent.specs.Agent.{is_outstanding};
+ghost use Rattle.turn_auth.specs.Challenge.{MayTake, challenge_of};
+ghost use Rattle.turn_auth.specs.LongTerm.{with_challenge};
 ghost use Rattle.turn_client_api.specs.Grants.{purposes_of};
 ghost use Rattle.turn_client_api.specs.Judgement.{challenge_in};
 ghost use Rattle.turn_client_api.specs.Memory.{challenge_takes_memory};
 ghost use Rattle.turn_client_api.specs.Retry.{phase_after, retried};
+ghost use Rattle.turn_client_api.specs.State.{State};
 ghost use Rattle.turn_client_core.specs.Challenges.{AsksAgain, MeetsChallenge, TellsOfChallenge};
+ghost use Rattle.turn_client_core.specs.Outgoing.{request_queued, with_room};
 ghost use Rattle.turn_client_core.specs.ProtocolRecv.{IsPart};
+ghost use Rattle.turn_client_grants.specs.Ledger.{SameRoomBut, with_ledger};
+ghost use Rattle.turn_client_requests.specs.RequestAttributes.{IsRequestFor};
 ghost use Rattle.turn_stun.specs.Message.{id_of};
 
 use crate::answered_purposes::retried;
+use crate::outbox::Outbox;
 use crate::protocol::TurnClientProtocol;
 use crate::protocol_recv::TurnProtocolRecv;
-use std::alloc::AllocError;
+use std::alloc::{AllocError, Global};
+use std::net::SocketAddr;
+use turn_auth::long_term::LongTermClientAuth;
+use turn_auth::server_challenge::ServerChallenge;
 use turn_client_api::{Phase, Purpose};
+use turn_client_grants::GrantLedger;
 use turn_client_requests::request_under;
+use turn_stun::data::Data;
 use turn_stun::instant::Instant;
 use turn_stun::message::Message;
+use turn_stun::transaction::TransactionId;
+use turn_stun::transport::TransportType;
+use turn_types::AddressFamily;
 
 impl TurnClientProtocol {
     /// Answers the challenge, or ends the client if it is one too many. A challenge that concerns no
@@ -93,23 +109,19 @@ impl TurnClientProtocol {
         ensures ok { AsksAgain purpose.now message.now now self.old self.new result }
         ensures err { OnErr result (self.new ≡ self.old) }
     {
-        let Some(challenge) = self.auth.challenge_in(message)? else {
-            unreachable!();
-        };
         let id = message.transaction_id();
         let fresh = self.fresh_id();
-        let text = request_under(
+        let signed = request_again(
             self.alloc,
             &self.auth,
-            &challenge,
             self.ledger.transport(),
             self.families.as_slice(),
+            message,
             purpose,
             fresh,
         )?;
-        self.ledger.reserve(0, 2, 0)?;
         let from = self.outbox.local_addr();
-        self.outbox.ask(fresh, text, from, now)?;
+        let challenge = queue_again(&mut self.ledger, &mut self.outbox, fresh, signed, from, now)?;
         self.outbox.end(id);
         self.ledger.ask_again(id, fresh);
         self.auth.accept(challenge);
@@ -117,6 +129,61 @@ impl TurnClientProtocol {
         self.challenges += 1;
         Ok(())
     }
+}
+
+/// The challenge in the message, and the request with this ID for the purpose, signed as it requires.
+///
+/// # Errors
+///
+/// `AllocError` if memory allocation fails.
+pub(crate) fn request_again(
+    alloc: Global,
+    auth: &LongTermClientAuth,
+    transport: TransportType,
+    families: &[AddressFamily],
+    message: &Message<'_>,
+    purpose: &Purpose,
+    id: TransactionId,
+) -> Result<(ServerChallenge, Data), AllocError>
+    requires credentials { IsSome auth.now.credentials }
+    requires challenge { IsSome (challenge_of auth.now message.now) }
+    ensures exact { IfOk result (λ signed. challenge_of auth.now message.now ≡ Some signed.0) }
+    ensures fits { IfOk result (λ signed. MayTake auth.now signed.0) }
+    ensures text { IfOk result (λ signed. IsRequestFor (with_challenge signed.0 auth.now) transport families.now purpose.now id signed.1) }
+{
+    let Some(challenge) = auth.challenge_in(message)? else {
+        unreachable!();
+    };
+    let text = request_under(alloc, auth, &challenge, transport, families, purpose, id)?;
+    Ok((challenge, text))
+}
+
+/// Makes room for two listings, and queues a signed request with this ID, the next one, to be sent from
+/// this local address. Returns the challenge under which it is signed.
+///
+/// # Errors
+///
+/// `AllocError` if memory allocation fails. Only the room may change then.
+pub(crate) fn queue_again(
+    ledger: &mut GrantLedger,
+    outbox: &mut Outbox,
+    id: TransactionId,
+    signed: (ServerChallenge, Data),
+    from: SocketAddr,
+    now: Instant,
+) -> Result<ServerChallenge, AllocError>
+    requires { is_outstanding id outbox.old.transactions ≡ false }
+    ensures challenge { IfOk result (λ challenge. challenge ≡ signed.0) }
+    ensures same { (s : State) → with_ledger ledger.new s ≡ with_ledger ledger.old s }
+    ensures listing_room { OnOk result (2 ≤ ledger.new.listing_room) }
+    ensures room { SameRoomBut 0 0 ledger.old ledger.new }
+    ensures ok { OnOk result (outbox.new ≡ with_room outbox.new.room (request_queued id from signed.1 now outbox.old)) }
+    ensures err { OnErr result (outbox.new ≡ with_room outbox.new.room outbox.old) }
+{
+    let (challenge, text) = signed;
+    ledger.reserve(0, 2, 0)?;
+    outbox.ask(id, text, from, now)?;
+    Ok(challenge)
 }
 
 /// The phase after the answer to a challenge: the first ALLOCATE is signed then.

@@ -10,11 +10,11 @@ ghost use Rattle.turn_client_core.specs.Challenges.{BindsAgain};
 ghost use Rattle.turn_stun.specs.Message.{id_of};
 
 use crate::protocol::TurnClientProtocol;
+use crate::protocol::incoming::challenge::{queue_again, request_again};
 use crate::protocol::incoming::judge::Judged;
 use std::alloc::AllocError;
 use std::net::SocketAddr;
 use turn_client_api::{DataConnection, Mode, Purpose};
-use turn_client_requests::request_under;
 use turn_stun::instant::Instant;
 use turn_stun::message::Message;
 use turn_types::message::CONNECTION_BIND;
@@ -163,22 +163,18 @@ impl TurnClientProtocol {
         ensures ok { BindsAgain connection.now message.now now self.old self.new result }
         ensures err { OnErr result (self.new ≡ self.old) }
     {
-        let Some(challenge) = self.auth.challenge_in(message)? else {
-            unreachable!();
-        };
         let fresh = self.fresh_id();
         let from = self.sent_from(purpose);
-        let text = request_under(
+        let signed = request_again(
             self.alloc,
             &self.auth,
-            &challenge,
             self.ledger.transport(),
             self.families.as_slice(),
+            message,
             purpose,
             fresh,
         )?;
-        self.ledger.reserve(0, 2, 0)?;
-        self.outbox.ask(fresh, text, from, now)?;
+        let challenge = queue_again(&mut self.ledger, &mut self.outbox, fresh, signed, from, now)?;
         self.ledger
             .bind_again(connection.local, fresh, *purpose, now);
         self.auth.accept(challenge);

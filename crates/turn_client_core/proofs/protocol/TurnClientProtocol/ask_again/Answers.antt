@@ -19,17 +19,17 @@ use Rattle.turn_client_core.proofs.ResultLemmas.{on-err}
 use Rattle.turn_client_core.proofs.RetryLemmas.{again-is, asked-other, taken, without-other}
 use Rattle.turn_client_core.proofs.protocol.TurnClientProtocol.ask_again.Goals as goal
 
-pub returns-in_err-reserve-clause-err : goal.returns-in_err-reserve-clause-err
-returns-in_err-reserve-clause-err c = on-err _ (c.reserve.ensures.same (the_view c.self.inside) ∙ c.self.view_is)
-
-pub returns-in_err-ask-clause-err : goal.returns-in_err-ask-clause-err
-returns-in_err-ask-clause-err c =
-    rw c.in_err-ask.ensures.err (on-err _ (c.reserve.ensures.same (the_view c.self.inside) ∙ c.self.view_is))
+pub returns-in_err-challenge-clause-err : goal.returns-in_err-challenge-clause-err
+returns-in_err-challenge-clause-err c =
+    rw c.in_err-challenge.ensures.err (on-err _ (c.queue_again.ensures.same (the_view c.self.inside) ∙ c.self.view_is))
 
 pub ask_again-requires-clause-new_id : goal.ask_again-requires-clause-new_id
 ask_again-requires-clause-new_id c =
-    let same = ap (λ s. s.listed) (c.reserve.ensures.same (the_view c.self.inside) ∙ c.self.view_is) in
+    let same = ap (λ s. s.listed) (c.queue_again.ensures.same (the_view c.self.inside) ∙ c.self.view_is) in
     rw same c.fresh_id-fresh.ensures.unlisted
+
+pub accept-requires : goal.accept-requires
+accept-requires c = rw c.in_ok-challenge.ensures.challenge c.in_ok-signed.ensures.fits
 
 pub returns-clause-ok : goal.returns-clause-ok
 returns-clause-ok c = λ challenge is.
@@ -37,8 +37,8 @@ returns-clause-ok c = λ challenge is.
     let id = c.transaction_id-id.result in
     let fresh = c.fresh_id-fresh.result in
     let from = c.local_addr-from.result in
-    let text = c.in_ok-text.text in
-    let given = c.in-Some.challenge in
+    let text = c.in_ok-signed.signed.1 in
+    let given = c.in_ok-signed.signed.0 in
     let purpose = c.args.purpose.now in
     let now = c.args.now in
     let t = taken s id given in
@@ -46,14 +46,14 @@ returns-clause-ok c = λ challenge is.
     let own = sym (auth-is s c.self.inside.auth c.self.invariant.credentials c.self.invariant.supported c.self.invariant.anonymous refl) in
     let other : (fresh == id) ≡ false = rw c.transaction_id-id.ensures (asked-other
     (id_of c.args.message.now) fresh c.args.self.now.listed purpose c.fresh_id-fresh.ensures.unlisted c.requires.asked) in
-    let same : given ≡ challenge = same_Some given challenge (sym c.in-Some.is ∙ (c.in_ok-challenge.ensures.exact
-    ∙ (ap (λ auth. challenge_of auth c.args.message.now) (own ∙ ap auth_of c.self.view_is) ∙ is))) in
+    let same : given ≡ challenge = same_Some given challenge (sym c.in_ok-signed.ensures.exact
+    ∙ (ap (λ auth. challenge_of auth c.args.message.now) (own ∙ ap auth_of c.self.view_is) ∙ is)) in
     let all : with_asked_families c.transport.result c.as_slice.result.now t ≡ t = rw (c.transport.ensures, c.as_slice.ensures) refl in
-    let written : text ≡ request_for t purpose fresh = c.in_ok-text.ensures t (sym (ap (with_challenge given) own)) ∙ ap (λ u. request_for u purpose fresh) all in
-    rw (c.accept.ensures.taken, c.after_challenge-self-inside.ensures)
-    (ap (λ o. with_ledger c.ask_again.new.self (with_outbox o t)) (c.end.ensures ∙ ap (λ (o : Outgoing). record o { transactions = without_transaction id o.transactions }) c.in_ok-ask.ensures.ok)
+    let written : text ≡ request_for t purpose fresh = c.in_ok-signed.ensures.text t (sym (ap (with_challenge given) own)) ∙ ap (λ u. request_for u purpose fresh) all in
+    rw (c.accept.ensures.taken, c.in_ok-challenge.ensures.challenge, c.after_challenge-self-inside.ensures)
+    (ap (λ o. with_ledger c.ask_again.new.self (with_outbox o t)) (c.end.ensures ∙ ap (λ (o : Outgoing). record o { transactions = without_transaction id o.transactions }) c.in_ok-challenge.ensures.ok)
     ∙ (ap (λ ts. queued true from text (with_ledger c.ask_again.new.self (record (id_used t) { transactions = ts }))) (without-other id new s.transactions other)
-    ∙ (ap (queued true from text) (c.ask_again.ensures.state t text now ∙ ap (λ u. request_started fresh text (purposes_of id u) now u) (c.reserve.ensures.same t))
+    ∙ (ap (queued true from text) (c.ask_again.ensures.state t text now ∙ ap (λ u. request_started fresh text (purposes_of id u) now u) (c.queue_again.ensures.same t))
     ∙ (again-is s id fresh from text purpose given now written c.local_addr-from.ensures (c.fresh_id-fresh.ensures.id ∙ ap fresh_id (sym c.self.view_is))
     ∙ (ap (λ u. state_after_retry u id purpose given now) c.self.view_is
     ∙ (ap (λ i. state_after_retry c.args.self.now i purpose given now) c.transaction_id-id.ensures

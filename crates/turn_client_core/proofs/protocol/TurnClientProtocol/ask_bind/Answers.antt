@@ -20,17 +20,17 @@ use Rattle.turn_client_core.proofs.BindLemmas.{bind-asked}
 use Rattle.turn_client_core.proofs.ResultLemmas.{on-err}
 use Rattle.turn_client_core.proofs.protocol.TurnClientProtocol.ask_bind.Goals as goal
 
-pub returns-in_err-reserve-clause-err : goal.returns-in_err-reserve-clause-err
-returns-in_err-reserve-clause-err c = on-err _ (c.reserve.ensures.same (the_view c.self.inside) ∙ c.self.view_is)
-
-pub returns-in_err-ask-clause-err : goal.returns-in_err-ask-clause-err
-returns-in_err-ask-clause-err c =
-    rw c.in_err-ask.ensures.err (on-err _ (c.reserve.ensures.same (the_view c.self.inside) ∙ c.self.view_is))
+pub returns-in_err-challenge-clause-err : goal.returns-in_err-challenge-clause-err
+returns-in_err-challenge-clause-err c =
+    rw c.in_err-challenge.ensures.err (on-err _ (c.queue_again.ensures.same (the_view c.self.inside) ∙ c.self.view_is))
 
 pub bind_again-requires-clause-new_id : goal.bind_again-requires-clause-new_id
 bind_again-requires-clause-new_id c =
-    let same = ap (λ s. s.listed) (c.reserve.ensures.same (the_view c.self.inside) ∙ c.self.view_is) in
+    let same = ap (λ s. s.listed) (c.queue_again.ensures.same (the_view c.self.inside) ∙ c.self.view_is) in
     rw same c.fresh_id-fresh.ensures.unlisted
+
+pub accept-requires : goal.accept-requires
+accept-requires c = rw c.in_ok-challenge.ensures.challenge c.in_ok-signed.ensures.fits
 
 pub returns-clause-ok : goal.returns-clause-ok
 returns-clause-ok c = λ challenge is.
@@ -39,21 +39,21 @@ returns-clause-ok c = λ challenge is.
     let id = id_of c.args.message.now in
     let fresh = c.fresh_id-fresh.result in
     let from = c.sent_from-from.result in
-    let text = c.in_ok-text.text in
-    let given = c.in-Some.challenge in
+    let text = c.in_ok-signed.signed.1 in
+    let given = c.in_ok-signed.signed.0 in
     let purpose = c.args.purpose.now in
     let now = c.args.now in
     let t = with_held given s in
     let own = sym (auth-is s c.self.inside.auth c.self.invariant.credentials c.self.invariant.supported c.self.invariant.anonymous refl) in
-    let same : given ≡ challenge = same_Some given challenge (sym c.in-Some.is ∙ (c.in_ok-challenge.ensures.exact
-    ∙ (ap (λ auth. challenge_of auth c.args.message.now) (own ∙ ap auth_of c.self.view_is) ∙ is))) in
+    let same : given ≡ challenge = same_Some given challenge (sym c.in_ok-signed.ensures.exact
+    ∙ (ap (λ auth. challenge_of auth c.args.message.now) (own ∙ ap auth_of c.self.view_is) ∙ is)) in
     let all : with_asked_families c.transport.result c.as_slice.result.now t ≡ t = rw (c.transport.ensures, c.as_slice.ensures) refl in
-    let written : text ≡ request_for t purpose fresh = c.in_ok-text.ensures t (sym (ap (with_challenge given) own)) ∙ ap (λ u. request_for u purpose fresh) all in
+    let written : text ≡ request_for t purpose fresh = c.in_ok-signed.ensures.text t (sym (ap (with_challenge given) own)) ∙ ap (λ u. request_for u purpose fresh) all in
     let listed : find (is_bind_of d.local) (purposes_of id s) ≡ Some purpose = ap (λ u. find (is_bind_of d.local) (purposes_of id u)) c.self.view_is ∙ c.requires.asked in
     let sent : from ≡ sent_from s purpose = c.sent_from-from.ensures ∙ ap (λ u. sent_from u purpose) (sym c.self.view_is) in
-    rw c.accept.ensures.taken
-    (ap (λ o. with_ledger c.bind_again.new.self (with_outbox o t)) c.in_ok-ask.ensures.ok
-    ∙ (ap (queued true from text) (c.bind_again.ensures.state t text ∙ ap (λ u. request_started fresh text (purpose ∷ []) now (bind_retried d.local now u)) (c.reserve.ensures.same t))
+    rw (c.accept.ensures.taken, c.in_ok-challenge.ensures.challenge)
+    (ap (λ o. with_ledger c.bind_again.new.self (with_outbox o t)) c.in_ok-challenge.ensures.ok
+    ∙ (ap (queued true from text) (c.bind_again.ensures.state t text ∙ ap (λ u. request_started fresh text (purpose ∷ []) now (bind_retried d.local now u)) (c.queue_again.ensures.same t))
     ∙ (bind-asked s d id fresh from text purpose given now listed written sent (c.fresh_id-fresh.ensures.id ∙ ap fresh_id (sym c.self.view_is))
     ∙ (ap (λ u. bind_again d id given now u) c.self.view_is
     ∙ ap (λ ch. bind_again d id ch now c.args.self.now) same))))

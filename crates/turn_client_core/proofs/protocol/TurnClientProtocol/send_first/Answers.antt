@@ -1,4 +1,4 @@
-use Rattle.std.proofs.Common.{◌∙◌, ap, sym, List, ℕ}
+use Rattle.std.proofs.Common.{◌∙◌, ap, rules, sym, List, ℕ}
 use Rattle.turn_client_api.specs.Requests.{fresh_id}
 use Rattle.turn_client_api.specs.State.{State}
 use Rattle.turn_client_api.specs.Transmit.{sent_at_once}
@@ -20,6 +20,10 @@ pub ask-requires-clause-new_id : goal.ask-requires-clause-new_id
 ask-requires-clause-new_id c =
     let same = ap (λ s. s.listed) (c.reserve.ensures.same (the_view c.self.inside) ∙ c.self.view_is) in
     rw same c.fresh_id-id.ensures.unlisted
+
+-- the room for the failure events of all families was made
+pub invariant_of-self-2 : goal.invariant_of-self-2
+invariant_of-self-2 c = search rules
 
 pub returns-clause-step : goal.returns-clause-step
 returns-clause-step c =
