@@ -1,16 +1,14 @@
-//! A client, its server, their packets, and runs written as tables.
+//! A client, its server and their packets.
 
 ghost use Rattle.std.specs.Prelude.{◌≡◌, ◌≤◌, ◌^◌, All, IfOk};
 ghost use Rattle.turn_client_proto.specs.Run.{IsCallable};
 
-use crate::fixture::{check, config, same};
+use crate::fixture::{check, config};
 use std::alloc::{AllocError, Global};
 use std::net::{IpAddr, Ipv4Addr, SocketAddr};
 use std::process::Abort;
-use std::test::Fail;
-use std::time::Duration;
 use turn_auth::credentials::CredentialsError;
-use turn_client_api::{TurnConfig, TurnEvent, TurnPollRet, TurnRecvRet};
+use turn_client_api::{TurnConfig, TurnPollRet, TurnRecvRet};
 use turn_client_proto::api::TurnClientApi;
 use turn_client_proto::runs::{Call, Replayed, Reply, replay};
 use turn_client_proto::udp::TurnClientUdp;
@@ -57,58 +55,17 @@ pub fn called_at(nanos: u64) -> Instant
     Instant::from_nanos(nanos.min(LATEST_CALL))
 }
 
-/// What a client requests, and its retransmission times.
-#[derive(Clone, Copy)]
-pub struct Setup {
-    /// It requests relayed addresses of these families, or of one of them if both are the same.
-    pub first: AddressFamily,
-    pub second: AddressFamily,
-    pub waits: Option<Waits>,
-}
-
-/// Retransmission times, in nanoseconds, and how often the first request is sent.
-#[derive(Clone, Copy)]
-pub struct Waits {
-    pub initial: u64,
-    pub longest: u64,
-    pub sends: u32,
-    pub last: u64,
-}
-
-/// An IPv4 allocation, with the default times.
-pub const IPV4: Setup = Setup {
-    first: AddressFamily::IPV4,
-    second: AddressFamily::IPV4,
-    waits: None,
-};
-
-/// The configuration of `user` with the password `pass`, with this setup.
-pub fn config_for(alloc: Global, setup: Setup) -> Result<TurnConfig, CredentialsError>
-    ensures { IfOk result (λ config. config.allocation_transport ≡ TransportType.Udp) }
-{
-    let mut config = config(alloc)?;
-    config.set_address_family(setup.first);
-    config.add_address_family(setup.second);
-    if let Some(waits) = setup.waits {
-        config.set_request_retransmits(
-            Duration::from_nanos(waits.initial),
-            Duration::from_nanos(waits.longest),
-            waits.sends,
-            Duration::from_nanos(waits.last),
-        );
-    }
-    Ok(config)
-}
-
 /// A new client of the seed of zeros, for an IPv4 address.
 pub fn client(alloc: Global) -> Result<TurnClientUdp, CredentialsError> {
     let config = config(alloc)?;
     Ok(TurnClientUdp::allocate(alloc, local(), server(), config, [0; 32])?)
 }
 
-/// The same with this setup.
-pub fn client_for(alloc: Global, setup: Setup) -> Result<TurnClientUdp, CredentialsError> {
-    let config = config_for(alloc, setup)?;
+/// The same for an IPv6 address and an IPv4 address.
+pub fn client_for_both(alloc: Global) -> Result<TurnClientUdp, CredentialsError> {
+    let mut config = config(alloc)?;
+    config.set_address_family(AddressFamily::IPV6);
+    config.add_address_family(AddressFamily::IPV4);
     Ok(TurnClientUdp::allocate(alloc, local(), server(), config, [0; 32])?)
 }
 
@@ -152,87 +109,6 @@ pub fn is_closed<C: TurnClientApi>(
     Ok(())
 }
 
-/// A call of a run.
-#[derive(Clone, Copy)]
-pub enum Ask<'a> {
-    Poll(u64),
-    Transmit(u64),
-    Event,
-    /// These bytes from the server.
-    Recv(u64, &'a [u8]),
-    Error,
-}
-
-/// The expected answer.
-#[derive(Clone, Copy)]
-pub enum Want<'a> {
-    Wait(u64),
-    Closed,
-    /// No packet, or no event.
-    Nothing,
-    /// These bytes to the server.
-    Send(&'a [u8]),
-    Failed(AddressFamily),
-    Handled,
-    Ignored,
-    Done,
-}
-
-/// A row of a run: a call, and its expected answer.
-pub type Row<'a> = (Ask<'a>, Want<'a>);
-
-/// These bytes from the server.
-fn from_server(alloc: Global, bytes: &[u8]) -> Result<Transmit<Data>, AllocError> {
-    let data = Data::from(bytes.to_vec(alloc)?);
-    Ok(Transmit::new(data, TransportType::Udp, server(), local()))
-}
-
-fn call(alloc: Global, ask: Ask<'_>) -> Result<Call, AllocError>
-    ensures { IfOk result (IsCallable TransportType.Udp) }
-{
-    match ask {
-        Ask::Poll(now) => Ok(Call::Poll {
-            now: called_at(now),
-        }),
-        Ask::Transmit(now) => Ok(Call::PollTransmit {
-            now: called_at(now),
-        }),
-        Ask::Event => Ok(Call::PollEvent),
-        Ask::Recv(now, bytes) => Ok(Call::Recv {
-            transmit: from_server(alloc, bytes)?,
-            now: called_at(now),
-        }),
-        Ask::Error => Ok(Call::ProtocolError),
-    }
-}
-
-fn is_wanted(reply: &Reply, want: Want<'_>) -> bool {
-    match (reply, want) {
-        (Reply::Poll(TurnPollRet::WaitUntil(told)), Want::Wait(time)) => *told == at(time),
-        (Reply::Poll(TurnPollRet::Closed), Want::Closed) => true,
-        (Reply::Transmit(None), Want::Nothing) => true,
-        (Reply::Transmit(Some(packet)), Want::Send(bytes)) => sends(packet, bytes),
-        (Reply::Event(None), Want::Nothing) => true,
-        (Reply::Event(Some(event)), Want::Failed(family)) => {
-            *event == TurnEvent::AllocationCreateFailed(family)
-        }
-        (Reply::Handled, Want::Handled) => true,
-        (Reply::Ignored, Want::Ignored) => true,
-        (Reply::Done, Want::Done) => true,
-        _ => false,
-    }
-}
-
-fn calls_of(alloc: Global, rows: &[Row<'_>]) -> Result<Vec<Call>, AllocError>
-    ensures { IfOk result (λ calls. All (IsCallable TransportType.Udp) calls.items) }
-{
-    let mut calls = Vec::new(alloc);
-    for (ask, _) in rows {
-        calls.push(call(alloc, *ask)?)?;
-    }
-    Ok(calls)
-}
-
 /// The answers of a new client of the seed of zeros to these calls.
 pub fn replies_of(
     alloc: Global,
@@ -253,27 +129,4 @@ pub fn replies_of(
     )?;
     drop(client);
     Ok(replies)
-}
-
-/// The first row with an unexpected answer, counted from 0.
-fn first_unwanted(replies: &[Reply], rows: &[Row<'_>]) -> Option<usize> {
-    for (row, (reply, (_, want))) in replies.iter().zip(rows).enumerate() {
-        if !is_wanted(reply, *want) {
-            return Some(row);
-        }
-    }
-    None
-}
-
-fn are_wanted(rt: &impl Abort, replies: &[Reply], rows: &[Row<'_>]) {
-    check(rt, replies.len() == rows.len());
-    same(rt, first_unwanted(replies, rows), None);
-}
-
-/// Makes the calls on a new client of the seed of zeros with this setup, and compares each answer.
-pub fn follow(rt: &impl Abort, alloc: Global, setup: Setup, rows: &[Row<'_>]) -> Result<(), Fail> {
-    let calls = calls_of(alloc, rows)?;
-    let replies = replies_of(alloc, config_for(alloc, setup)?, calls.as_slice())?;
-    are_wanted(rt, replies.as_slice(), rows);
-    Ok(())
 }

@@ -4,7 +4,7 @@
 
 use crate::fixture::{check, config};
 use crate::proto::fixture::{
-    BAD_REQUEST, MS, Setup, at, called_at, client, client_for, is_closed, is_first_request, local,
+    BAD_REQUEST, MS, at, called_at, client, client_for_both, is_closed, is_first_request, local,
     replies_of, server,
 };
 use std::process::Abort;
@@ -107,16 +107,10 @@ fn sends_and_ends<C: TurnClientApi>(rt: &impl Abort, mut client: C, refused: boo
     }
 }
 
-const BOTH: Setup = Setup {
-    first: AddressFamily::IPV6,
-    second: AddressFamily::IPV4,
-    waits: None,
-};
-
 #[test]
 fn an_end_tells_each_failure_or_finds_no_memory(rt: HostRuntime) {
     for refused in [false, true] {
-        if let Ok(client) = client_for(rt.alloc(), BOTH) {
+        if let Ok(client) = client_for_both(rt.alloc()) {
             sends_and_ends(&rt, client, refused);
         }
     }
