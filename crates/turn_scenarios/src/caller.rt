@@ -25,27 +25,14 @@ pub(crate) struct Caller {
     coming: Vec<(u32, Vec<u8>)>,
     /// How many of these have arrived.
     came: usize,
-    /// The client's events, each with the time at which it was reported.
-    told: Vec<(u32, TurnEvent)>,
-    /// How many of these have been read.
-    seen: usize,
+    /// The client's first event, with the time at which it was reported.
+    pub(crate) first_event: Option<(u32, TurnEvent)>,
     /// How many packets the client sent.
     pub(crate) sent: u32,
     /// How many responses the client ignored.
     pub(crate) ignored: u32,
-    /// How often the caller woke up at the wake-up time without anything due.
-    pub(crate) idle: u32,
     /// Whether the client has ended.
     pub(crate) has_ended: bool,
-}
-
-/// The result of one iteration of the caller's loop.
-#[derive(Clone, Copy)]
-struct Iteration {
-    /// Whether there was a packet, an input or an event.
-    has_done: bool,
-    /// The time until which nothing is due, in milliseconds.
-    until: u32,
 }
 
 impl Caller {
@@ -61,27 +48,10 @@ impl Caller {
             delay,
             coming: Vec::new(alloc),
             came: 0,
-            told: Vec::new(alloc),
-            seen: 0,
+            first_event: None,
             sent: 0,
             ignored: 0,
-            idle: 0,
             has_ended: false,
-        }
-    }
-
-    /// The next event that the client has reported by now, with its time, if there is one.
-    pub(crate) fn next_event(&mut self) -> Option<(u32, TurnEvent)> {
-        let event = *self.told.as_slice().get(self.seen)?;
-        self.seen = self.seen.saturating_add(1);
-        Some(event)
-    }
-
-    /// The last response of the server.
-    pub(crate) fn last_answer(&self) -> &[u8] {
-        match self.coming.as_slice().last() {
-            Some((_, bytes)) => bytes.as_slice(),
-            None => &[],
         }
     }
 
@@ -92,44 +62,32 @@ impl Caller {
         rules: &[Rule<'_>],
         time: u32,
     ) -> Result<(), AllocError> {
-        let mut slept = false;
         for _ in 0..MANY {
-            let iteration = self.iterate(client, rules)?;
-            if slept && iteration.until > self.now && !iteration.has_done && !self.has_ended {
-                self.idle = self.idle.saturating_add(1);
-            }
-            if self.has_ended {
-                self.draw_events(client)?;
+            let until = self.iterate(client, rules)?;
+            if self.has_ended || until > time {
                 break;
             }
-            if iteration.until > time {
-                break;
-            }
-            slept = iteration.until > self.now;
-            self.now = iteration.until;
+            self.now = until;
         }
         self.now = time;
         Ok(())
     }
 
-    /// Runs one iteration of the loop, at the current time.
+    /// Runs one iteration of the loop, at the current time, and returns the time until which nothing is due.
     fn iterate<C: TurnClientApi>(
         &mut self,
         client: &mut C,
         rules: &[Rule<'_>],
-    ) -> Result<Iteration, AllocError> {
-        let came = self.receive(client)?;
-        let sent = self.send(client, rules)?;
-        let told = self.draw_events(client)?;
+    ) -> Result<u32, AllocError> {
+        self.receive(client)?;
+        self.send(client, rules)?;
+        self.draw_events(client);
         let wait = self.poll(client)?;
         let until = match self.coming.as_slice().get(self.came) {
             Some((comes, _)) => wait.min(*comes),
             None => wait,
         };
-        Ok(Iteration {
-            has_done: came || sent || told,
-            until: until.max(self.now),
-        })
+        Ok(until.max(self.now))
     }
 
     /// The wake-up time that the client returns.
@@ -147,8 +105,8 @@ impl Caller {
         }
     }
 
-    /// Passes in the packets that have arrived, and returns whether there were any.
-    fn receive<C: TurnClientApi>(&mut self, client: &mut C) -> Result<bool, AllocError> {
+    /// Passes in the packets that have arrived.
+    fn receive<C: TurnClientApi>(&mut self, client: &mut C) -> Result<(), AllocError> {
         let first = self.came;
         for (comes, bytes) in self.coming.as_slice().iter().skip(first) {
             if *comes > self.now {
@@ -160,23 +118,22 @@ impl Caller {
             }
             self.came = self.came.saturating_add(1);
         }
-        Ok(self.came > first)
+        Ok(())
     }
 
-    /// Sends the due packets, and returns whether there were any.
+    /// Sends the due packets.
     fn send<C: TurnClientApi>(
         &mut self,
         client: &mut C,
         rules: &[Rule<'_>],
-    ) -> Result<bool, AllocError> {
-        let before = self.sent;
+    ) -> Result<(), AllocError> {
         for _ in 0..MANY {
             match client.poll_transmit(at(self.now))? {
                 Some(packet) => self.carry(&packet, rules)?,
                 None => break,
             }
         }
-        Ok(self.sent > before)
+        Ok(())
     }
 
     /// Takes a packet to the server, whose response is then on its way.
@@ -191,15 +148,13 @@ impl Caller {
         Ok(())
     }
 
-    /// Reads the client's events, and returns whether there were any.
-    fn draw_events<C: TurnClientApi>(&mut self, client: &mut C) -> Result<bool, AllocError> {
-        let before = self.told.len();
+    /// Reads the client's events.
+    fn draw_events<C: TurnClientApi>(&mut self, client: &mut C) {
         for _ in 0..MANY {
             match client.poll_event() {
-                Some(event) => self.told.push((self.now, event))?,
+                Some(event) => self.first_event = self.first_event.or(Some((self.now, event))),
                 None => break,
             }
         }
-        Ok(self.told.len() > before)
     }
 }

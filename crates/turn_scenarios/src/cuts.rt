@@ -2,11 +2,11 @@
 //! 4.5).
 
 use crate::caller::Caller;
-use crate::exchange::{GENEROUS, PEER};
 use crate::fixture::{
-    IPV4, at, check, client_over_tcp, client_with_connections, data_end, local, server,
+    at, check, client_over_tcp, client_with_connections, data_end, local, server,
 };
-use crate::server::{Signer, message};
+use crate::messages::{GENEROUS, PEER};
+use crate::server::{CONNECTION_BIND, success};
 use std::alloc::{AllocError, Global};
 use std::net::SocketAddr;
 use std::process::Abort;
@@ -250,7 +250,7 @@ fn heard_of(
 
 /// A client with a channel to 10.0.0.3:9000, with the number 4000.
 fn client_with_channel(alloc: Global) -> Result<TurnClientTcp, Fail> {
-    let mut client = client_over_tcp(alloc, IPV4)?;
+    let mut client = client_over_tcp(alloc)?;
     let mut caller = Caller::new(alloc);
     caller.wait(&mut client, GENEROUS, 200)?;
     client.bind_channel(TransportType::Udp, PEER.address(), at(200))?;
@@ -319,7 +319,7 @@ fn opened<C: TurnClientApi>(client: &mut C, alloc: Global, now: u32) -> Result<V
         .split_first_chunk::<8>()
         .ok_or("there is no ID")?;
     let id = id.first_chunk::<12>().ok_or("there is no ID")?;
-    let mut stream = message(alloc, 0x010b, *id, &[], Signer::Server)?;
+    let mut stream = success(alloc, CONNECTION_BIND, *id, &[])?;
     stream.extend_from_slice(BYTES)?;
     Ok(stream)
 }

@@ -6,8 +6,8 @@ ghost use Rattle.std.specs.Prelude.{◌≡◌, All, IfOk, length};
 ghost use Rattle.turn_gather.specs.Drive.{IsCallable};
 
 use crate::caller::Caller;
-use crate::exchange::{DATA, GENEROUS, OTHER, PEER, RELAYED};
-use crate::fixture::{IPV4, Place, at, client_for, client_over_tcp, local, server};
+use crate::fixture::{Place, at, client_over_tcp, client_over_udp, local, server};
+use crate::messages::{DATA, GENEROUS, OTHER, PEER, RELAYED};
 use std::alloc::{AllocError, Global};
 use std::net::SocketAddr;
 use std::process::Abort;
@@ -23,7 +23,7 @@ use turn_types::transmit::DelayedTransmitBuild;
 const NOW: u32 = 500;
 
 /// The peer's other port.
-const OTHER_PORT: Place = Place::V4(3, 9_001);
+const OTHER_PORT: Place = Place(3, 9_001);
 
 /// The maximum number of checked pairs.
 const MOST: u16 = 1_024;
@@ -230,25 +230,25 @@ fn follow<C: TurnClientApi>(
 
 #[test]
 fn only_checked_pairs_are_heard(rt: HostRuntime) -> Result<(), Fail> {
-    follow(&rt, rt.alloc(), client_for(rt.alloc(), IPV4)?, ROWS)
+    follow(&rt, rt.alloc(), client_over_udp(rt.alloc())?, ROWS)
 }
 
 #[test]
 fn only_checked_pairs_are_heard_over_tcp(rt: HostRuntime) -> Result<(), Fail> {
-    follow(&rt, rt.alloc(), client_over_tcp(rt.alloc(), IPV4)?, ROWS)
+    follow(&rt, rt.alloc(), client_over_tcp(rt.alloc())?, ROWS)
 }
 
 #[test]
 fn only_checked_pairs_are_heard_of_either_client(rt: HostRuntime) -> Result<(), Fail> {
-    let over_udp = TurnClient::from(client_for(rt.alloc(), IPV4)?);
+    let over_udp = TurnClient::from(client_over_udp(rt.alloc())?);
     follow(&rt, rt.alloc(), over_udp, ROWS)?;
-    let over_tcp = TurnClient::from(client_over_tcp(rt.alloc(), IPV4)?);
+    let over_tcp = TurnClient::from(client_over_tcp(rt.alloc())?);
     follow(&rt, rt.alloc(), over_tcp, ROWS)
 }
 
 #[test]
 fn what_is_no_turn_is_ignored(rt: HostRuntime) -> Result<(), Fail> {
-    follow(&rt, rt.alloc(), client_for(rt.alloc(), IPV4)?, NOISE_ROWS)
+    follow(&rt, rt.alloc(), client_over_udp(rt.alloc())?, NOISE_ROWS)
 }
 
 fn greeting(alloc: Global) -> Result<Data, AllocError>
@@ -359,19 +359,19 @@ fn drive_all<C: TurnClientApi>(
 
 #[test]
 fn a_list_of_calls_hears_only_checked_pairs(rt: HostRuntime) -> Result<(), Fail> {
-    drive_all(&rt, rt.alloc(), client_for(rt.alloc(), IPV4)?, ROWS)
+    drive_all(&rt, rt.alloc(), client_over_udp(rt.alloc())?, ROWS)
 }
 
 #[test]
 fn a_list_of_calls_hears_only_checked_pairs_over_tcp(rt: HostRuntime) -> Result<(), Fail> {
-    drive_all(&rt, rt.alloc(), client_over_tcp(rt.alloc(), IPV4)?, ROWS)
+    drive_all(&rt, rt.alloc(), client_over_tcp(rt.alloc())?, ROWS)
 }
 
 #[test]
 fn a_list_of_calls_hears_only_checked_pairs_of_either_client(rt: HostRuntime) -> Result<(), Fail> {
-    let over_udp = TurnClient::from(client_for(rt.alloc(), IPV4)?);
+    let over_udp = TurnClient::from(client_over_udp(rt.alloc())?);
     drive_all(&rt, rt.alloc(), over_udp, ROWS)?;
-    let over_tcp = TurnClient::from(client_over_tcp(rt.alloc(), IPV4)?);
+    let over_tcp = TurnClient::from(client_over_tcp(rt.alloc())?);
     drive_all(&rt, rt.alloc(), over_tcp, ROWS)
 }
 
@@ -381,13 +381,13 @@ fn fills<C: TurnClientApi>(rt: &impl Abort, alloc: Global, client: C) -> Result<
     let udp = TransportType::Udp;
     let mut gatherer = Gatherer::new(alloc, client);
     for port in 0..MOST {
-        gatherer.check(udp, Place::V4(3, port).address())?;
+        gatherer.check(udp, Place(3, port).address())?;
     }
     let refused = [
-        gatherer.check(udp, Place::V4(3, MOST).address()),
-        gatherer.check(TransportType::Tcp, Place::V4(3, 0).address()),
-        gatherer.check(udp, Place::V4(3, 0).address()),
-        gatherer.check(udp, Place::V4(3, MOST - 1).address()),
+        gatherer.check(udp, Place(3, MOST).address()),
+        gatherer.check(TransportType::Tcp, Place(3, 0).address()),
+        gatherer.check(udp, Place(3, 0).address()),
+        gatherer.check(udp, Place(3, MOST - 1).address()),
     ];
     assert_eq!(rt;
         refused,
@@ -399,8 +399,8 @@ fn fills<C: TurnClientApi>(rt: &impl Abort, alloc: Global, client: C) -> Result<
         ]
     );
     let checked = [
-        gatherer.is_checked(udp, Place::V4(3, MOST).address()),
-        gatherer.is_checked(udp, Place::V4(3, MOST - 1).address()),
+        gatherer.is_checked(udp, Place(3, MOST).address()),
+        gatherer.is_checked(udp, Place(3, MOST - 1).address()),
     ];
     assert_eq!(rt; checked, [false, true]);
     Ok(())
@@ -408,14 +408,14 @@ fn fills<C: TurnClientApi>(rt: &impl Abort, alloc: Global, client: C) -> Result<
 
 #[test]
 fn no_pair_is_checked_past_the_last_place(rt: HostRuntime) -> Result<(), Fail> {
-    Ok(fills(&rt, rt.alloc(), client_for(rt.alloc(), IPV4)?)?)
+    Ok(fills(&rt, rt.alloc(), client_over_udp(rt.alloc())?)?)
 }
 
 /// Accepts each failed memory allocation as an answer, and asserts the state after it.
 mod memory {
     use super::{RELAYED, Want, are_addresses, permitted};
-    use crate::exchange::PEER;
-    use crate::fixture::{IPV4, client_for};
+    use crate::fixture::client_over_udp;
+    use crate::messages::PEER;
     use std::alloc::{AllocError, Global};
     use std::process::Abort;
     use std::test::Fail;
@@ -435,7 +435,7 @@ mod memory {
 
     #[test]
     fn a_pair_is_checked_or_refused(rt: HostRuntime) -> Result<(), Fail> {
-        let Ok(client) = client_for(rt.alloc(), IPV4) else {
+        let Ok(client) = client_over_udp(rt.alloc()) else {
             return Ok(());
         };
         let mut gatherer = Gatherer::new(rt.alloc(), client);
@@ -468,7 +468,7 @@ mod memory {
 
     #[test]
     fn candidates_are_told_or_refused(rt: HostRuntime) -> Result<(), Fail> {
-        let Ok(client) = client_for(rt.alloc(), IPV4) else {
+        let Ok(client) = client_over_udp(rt.alloc()) else {
             return Ok(());
         };
         Ok(tell(&rt, rt.alloc(), client)?)

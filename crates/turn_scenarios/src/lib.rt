@@ -1,4 +1,5 @@
-//! Whole lives of a client over UDP or over TCP, against a server that is a table, with a simulated clock.
+//! Lives of a client over UDP or over TCP, against a server that is a table, with a simulated clock: those that no transcript can
+//! say.
 //!
 //! ```text
 //!  Caller: a clock, and what is on its way <--calls, answers--> client
@@ -19,28 +20,16 @@ mod caller;
 #[cfg(test)]
 mod cuts;
 #[cfg(test)]
-mod exchange;
-#[cfg(test)]
-mod families;
-#[cfg(test)]
 mod fixture;
 #[cfg(test)]
 mod gathered;
-#[cfg(test)]
-mod hostile;
 #[cfg(test)]
 mod looped;
 #[cfg(test)]
 mod memory;
 #[cfg(test)]
-mod run;
+mod messages;
 #[cfg(test)]
 mod server;
 #[cfg(test)]
-mod silence;
-#[cfg(test)]
-mod stale;
-#[cfg(test)]
-mod streams;
-#[cfg(test)]
-mod upkeep;
+mod slow_link;

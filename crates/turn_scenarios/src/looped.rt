@@ -3,8 +3,8 @@
 //! A response arrives 20 ms after its request, and requests are sent 50 ms apart. Times were added up by hand. An
 //! iteration that may poll the client only once has the same result as one that may poll it often.
 
-use crate::exchange::{DATA, GENEROUS, PEER, RELAYED, SEND};
-use crate::fixture::{IPV4, Place, at, client_for, client_over_tcp, local, server};
+use crate::fixture::{Place, at, client_over_tcp, client_over_udp, local, server};
+use crate::messages::{DATA, GENEROUS, PEER, RELAYED, SEND};
 use crate::server::Server;
 use std::alloc::{AllocError, Global};
 use std::net::SocketAddr;
@@ -267,7 +267,7 @@ const TWICE: &[u8] = &[
 #[test]
 fn the_loop_carries_datagrams(rt: HostRuntime) -> Result<(), Fail> {
     for most in [1, 64] {
-        let client = client_for(rt.alloc(), IPV4)?;
+        let client = client_over_udp(rt.alloc())?;
         loops(&rt, rt.alloc(), client, most, DATAGRAMS, OVER_UDP)?;
     }
     Ok(())
@@ -276,7 +276,7 @@ fn the_loop_carries_datagrams(rt: HostRuntime) -> Result<(), Fail> {
 #[test]
 fn the_loop_carries_a_stream(rt: HostRuntime) -> Result<(), Fail> {
     for most in [1, 64] {
-        let client = client_over_tcp(rt.alloc(), IPV4)?;
+        let client = client_over_tcp(rt.alloc())?;
         loops(&rt, rt.alloc(), client, most, &[TWICE], OVER_TCP)?;
     }
     Ok(())

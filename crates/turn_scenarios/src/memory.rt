@@ -3,8 +3,8 @@
 //!
 //! The messages were signed by other means than this client, for the IDs of the seed of zeros.
 
-use crate::exchange::{PEER, RELAYED};
 use crate::fixture::{at, check, client_with_connections, data_end, local, server};
+use crate::messages::{PEER, RELAYED};
 use std::net::SocketAddr;
 use std::test::Fail;
 use turn_client_api::{
