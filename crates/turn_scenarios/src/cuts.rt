@@ -13,7 +13,6 @@ use std::process::Abort;
 use std::test::Fail;
 use turn_client_api::{Socket5Tuple, TurnClientApi, TurnEvent, TurnPollRet, TurnRecvRet};
 use turn_client_proto::client::TurnClient;
-use turn_client_proto::tcp::TurnClientTcp;
 use turn_stun::transport::{Transmit, TransportType};
 
 /// `hello` over channel 4000, `to` of 10.0.0.3:9001, nothing over channel 4000, a byte over a channel that is not
@@ -248,9 +247,8 @@ fn heard_of(
     Ok(heard)
 }
 
-/// A client with a channel to 10.0.0.3:9000, with the number 4000.
-fn client_with_channel(alloc: Global) -> Result<TurnClientTcp, Fail> {
-    let mut client = client_over_tcp(alloc)?;
+/// This client with a channel to 10.0.0.3:9000, with the number 4000.
+fn with_channel<C: TurnClientApi>(alloc: Global, mut client: C) -> Result<C, Fail> {
     let mut caller = Caller::new(alloc);
     caller.wait(&mut client, GENEROUS, 200)?;
     client.bind_channel(TransportType::Udp, PEER.address(), at(200))?;
@@ -283,16 +281,15 @@ fn all_frames_are_heard(
 
 #[test]
 fn frames_come_in_any_pieces(rt: HostRuntime) -> Result<(), Fail> {
-    let mut client = TurnClient::from(client_with_channel(rt.alloc())?);
+    let mut client = TurnClient::from(with_channel(rt.alloc(), client_over_tcp(rt.alloc())?)?);
     let heard = all_frames_are_heard(&rt, rt.alloc(), &mut client);
     // a scope at whose end a client is dropped can take minutes to prove
     drop(client);
     Ok(heard?)
 }
 
-/// A client with a permission for 10.0.0.3, for TCP connections with peers.
-fn client_with_permission(alloc: Global) -> Result<TurnClientTcp, Fail> {
-    let mut client = client_with_connections(alloc)?;
+/// This client with a permission for 10.0.0.3, for TCP connections with peers.
+fn with_permission<C: TurnClientApi>(alloc: Global, mut client: C) -> Result<C, Fail> {
     let mut caller = Caller::new(alloc);
     caller.wait(&mut client, GENEROUS, 200)?;
     client.create_permission(TransportType::Tcp, PEER.ip(), at(200))?;
@@ -365,7 +362,10 @@ fn all_connections_are_heard(
 
 #[test]
 fn connections_come_in_any_pieces(rt: HostRuntime) -> Result<(), Fail> {
-    let mut client = TurnClient::from(client_with_permission(rt.alloc())?);
+    let mut client = TurnClient::from(with_permission(
+        rt.alloc(),
+        client_with_connections(rt.alloc())?,
+    )?);
     let heard = all_connections_are_heard(&rt, rt.alloc(), &mut client);
     drop(client);
     heard

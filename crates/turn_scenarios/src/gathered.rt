@@ -212,7 +212,26 @@ fn holds<C: TurnClientApi>(
     }
 }
 
-/// Asserts that a gatherer over this client answers each row as expected.
+/// Asserts that this row has the expected answer.
+fn check_row(rt: &impl Abort, number: usize, is_so: bool) {
+    assert_eq!(rt; (number, is_so), (number, true));
+}
+
+/// Asserts that a gatherer answers each row as expected.
+fn follows<C: TurnClientApi>(
+    rt: &impl Abort,
+    alloc: Global,
+    gatherer: &mut Gatherer<C>,
+    rows: &[Row<'_>],
+) -> Result<(), AllocError> {
+    for (number, row) in rows.iter().enumerate() {
+        let is_so = holds(alloc, gatherer, row)?;
+        check_row(rt, number, is_so);
+    }
+    Ok(())
+}
+
+/// The same for a gatherer over this client.
 fn follow<C: TurnClientApi>(
     rt: &impl Abort,
     alloc: Global,
@@ -221,11 +240,9 @@ fn follow<C: TurnClientApi>(
 ) -> Result<(), Fail> {
     permitted(alloc, &mut client)?;
     let mut gatherer = Gatherer::new(alloc, client);
-    for (number, row) in rows.iter().enumerate() {
-        let is_so = holds(alloc, &mut gatherer, row)?;
-        assert_eq!(rt; (number, is_so), (number, true));
-    }
-    Ok(())
+    let followed = follows(rt, alloc, &mut gatherer, rows);
+    drop(gatherer);
+    Ok(followed?)
 }
 
 #[test]
@@ -352,7 +369,7 @@ fn drive_all<C: TurnClientApi>(
     drop(gatherer);
     assert_eq!(rt; replies.len(), rows.len());
     for (number, (reply, row)) in replies.as_slice().iter().zip(rows.iter()).enumerate() {
-        assert_eq!(rt; (number, is_wanted(reply, &row.1)), (number, true));
+        check_row(rt, number, is_wanted(reply, &row.1));
     }
     Ok(())
 }
@@ -375,14 +392,17 @@ fn a_list_of_calls_hears_only_checked_pairs_of_either_client(rt: HostRuntime) ->
     drive_all(&rt, rt.alloc(), over_tcp, ROWS)
 }
 
-/// Checks the maximum number of pairs, and asserts that no other is accepted, and that each of them is accepted
-/// again.
-fn fills<C: TurnClientApi>(rt: &impl Abort, alloc: Global, client: C) -> Result<(), GatherError> {
-    let udp = TransportType::Udp;
-    let mut gatherer = Gatherer::new(alloc, client);
+/// Checks the maximum number of pairs.
+fn fill<C: TurnClientApi>(gatherer: &mut Gatherer<C>) -> Result<(), GatherError> {
     for port in 0..MOST {
-        gatherer.check(udp, Place(3, port).address())?;
+        gatherer.check(TransportType::Udp, Place(3, port).address())?;
     }
+    Ok(())
+}
+
+/// Asserts that no other pair is accepted, and that each of them is accepted again.
+fn is_full<C: TurnClientApi>(rt: &impl Abort, gatherer: &mut Gatherer<C>) {
+    let udp = TransportType::Udp;
     let refused = [
         gatherer.check(udp, Place(3, MOST).address()),
         gatherer.check(TransportType::Tcp, Place(3, 0).address()),
@@ -403,7 +423,15 @@ fn fills<C: TurnClientApi>(rt: &impl Abort, alloc: Global, client: C) -> Result<
         gatherer.is_checked(udp, Place(3, MOST - 1).address()),
     ];
     assert_eq!(rt; checked, [false, true]);
-    Ok(())
+}
+
+/// Asserts it for a gatherer over this client, once the pairs are checked.
+fn fills<C: TurnClientApi>(rt: &impl Abort, alloc: Global, client: C) -> Result<(), GatherError> {
+    let mut gatherer = Gatherer::new(alloc, client);
+    let filled = fill(&mut gatherer);
+    is_full(rt, &mut gatherer);
+    drop(gatherer);
+    filled
 }
 
 #[test]
@@ -433,19 +461,35 @@ mod memory {
         }
     }
 
+    /// Asserts it twice, since a failure is not stored.
+    fn check_twice<C: TurnClientApi>(rt: &impl Abort, mut gatherer: Gatherer<C>) {
+        check(rt, &mut gatherer);
+        check(rt, &mut gatherer);
+    }
+
     #[test]
-    fn a_pair_is_checked_or_refused(rt: HostRuntime) -> Result<(), Fail> {
-        let Ok(client) = client_over_udp(rt.alloc()) else {
-            return Ok(());
+    fn a_pair_is_checked_or_refused(rt: HostRuntime) {
+        if let Ok(client) = client_over_udp(rt.alloc()) {
+            check_twice(&rt, Gatherer::new(rt.alloc(), client));
+        }
+    }
+
+    /// Asserts that the candidates are told at the second try, unless they are at the first one: the client has lost
+    /// nothing.
+    fn are_told<C: TurnClientApi>(
+        rt: &impl Abort,
+        alloc: Global,
+        gatherer: &Gatherer<C>,
+    ) -> Result<(), AllocError> {
+        let found = match gatherer.candidates(alloc) {
+            Ok(found) => found,
+            Err(_) => gatherer.candidates(alloc)?,
         };
-        let mut gatherer = Gatherer::new(rt.alloc(), client);
-        check(&rt, &mut gatherer);
-        // a failure is not stored
-        check(&rt, &mut gatherer);
+        assert!(rt; are_addresses(found.as_slice(), &Want::Addresses(&[RELAYED])));
         Ok(())
     }
 
-    /// Asserts that the candidates are told at the second try, unless they are at the first one.
+    /// The same for a gatherer over this client, once it has its relayed address.
     fn tell<C: TurnClientApi>(
         rt: &impl Abort,
         alloc: Global,
@@ -454,23 +498,14 @@ mod memory {
         if permitted(alloc, &mut client).is_err() {
             return Ok(());
         }
-        let gatherer = Gatherer::new(alloc, client);
-        let first = gatherer.candidates(alloc);
-        if let Ok(found) = &first {
-            assert!(rt; are_addresses(found.as_slice(), &Want::Addresses(&[RELAYED])));
-            return Ok(());
-        }
-        // the next call succeeds, and the client has lost nothing
-        let found = gatherer.candidates(alloc)?;
-        assert!(rt; are_addresses(found.as_slice(), &Want::Addresses(&[RELAYED])));
-        Ok(())
+        are_told(rt, alloc, &Gatherer::new(alloc, client))
     }
 
     #[test]
     fn candidates_are_told_or_refused(rt: HostRuntime) -> Result<(), Fail> {
-        let Ok(client) = client_over_udp(rt.alloc()) else {
-            return Ok(());
-        };
-        Ok(tell(&rt, rt.alloc(), client)?)
+        match client_over_udp(rt.alloc()) {
+            Ok(client) => Ok(tell(&rt, rt.alloc(), client)?),
+            Err(_) => Ok(()),
+        }
     }
 }

@@ -224,6 +224,25 @@ fn greets<C: TurnClientApi>(alloc: Global, client: &mut C, now: u32) -> Result<b
     }
 }
 
+/// Runs the loop while these pieces arrive, and returns whether `hello` is sent to the peer.
+fn runs<C: TurnClientApi>(
+    looped: &mut Looped<'_>,
+    client: &mut C,
+    pieces: &[&[u8]],
+) -> Result<bool, AllocError> {
+    looped.wait(client, 200)?;
+    let _ = client.create_permission(TransportType::Udp, PEER.ip(), at(200));
+    looped.wait(client, 300)?;
+    for piece in pieces {
+        looped.hear(piece)?;
+    }
+    looped.wait(client, 400)?;
+    let greeted = greets(looped.alloc, client, 400)?;
+    client.protocol_error()?;
+    looped.wait(client, 500)?;
+    Ok(greeted)
+}
+
 /// Asserts that the loop returns the tasks of the rows, and nothing else, and that it ends with its client.
 fn loops<C: TurnClientApi>(
     rt: &impl Abort,
@@ -234,16 +253,7 @@ fn loops<C: TurnClientApi>(
     rows: &[Row<'_>],
 ) -> Result<(), Fail> {
     let mut looped = Looped::new(alloc, most, rows);
-    looped.wait(&mut client, 200)?;
-    let _ = client.create_permission(TransportType::Udp, PEER.ip(), at(200));
-    looped.wait(&mut client, 300)?;
-    for piece in pieces {
-        looped.hear(piece)?;
-    }
-    looped.wait(&mut client, 400)?;
-    let greeted = greets(alloc, &mut client, 400)?;
-    client.protocol_error()?;
-    looped.wait(&mut client, 500)?;
+    let greeted = runs(&mut looped, &mut client, pieces)?;
     assert_eq!(rt;
         (looped.done, looped.wrong, greeted, looped.has_ended),
         (rows.len(), 0, true, true)
@@ -266,18 +276,14 @@ const TWICE: &[u8] = &[
 
 #[test]
 fn the_loop_carries_datagrams(rt: HostRuntime) -> Result<(), Fail> {
-    for most in [1, 64] {
-        let client = client_over_udp(rt.alloc())?;
-        loops(&rt, rt.alloc(), client, most, DATAGRAMS, OVER_UDP)?;
-    }
-    Ok(())
+    let alloc = rt.alloc();
+    loops(&rt, alloc, client_over_udp(alloc)?, 1, DATAGRAMS, OVER_UDP)?;
+    loops(&rt, alloc, client_over_udp(alloc)?, 64, DATAGRAMS, OVER_UDP)
 }
 
 #[test]
 fn the_loop_carries_a_stream(rt: HostRuntime) -> Result<(), Fail> {
-    for most in [1, 64] {
-        let client = client_over_tcp(rt.alloc())?;
-        loops(&rt, rt.alloc(), client, most, &[TWICE], OVER_TCP)?;
-    }
-    Ok(())
+    let alloc = rt.alloc();
+    loops(&rt, alloc, client_over_tcp(alloc)?, 1, &[TWICE], OVER_TCP)?;
+    loops(&rt, alloc, client_over_tcp(alloc)?, 64, &[TWICE], OVER_TCP)
 }
