@@ -10,6 +10,7 @@ use std::alloc::{AllocError, Global};
 use std::net::{IpAddr, Ipv4Addr};
 use std::process::Abort;
 use std::test::Fail;
+use turn_auth::credentials::CredentialsError;
 use turn_auth::{LongTermClientAuth, ServerChallenge, TurnCredentials};
 use turn_client_api::{Data, Purpose};
 use turn_client_requests::{
@@ -49,18 +50,25 @@ fn the_first_allocate_is_not_signed(rt: HostRuntime) {
     is_text(&rt, text, FIRST_ALLOCATE);
 }
 
-/// A client with the credentials `user` and `pass`, and its view of the challenge.
-fn challenged(alloc: Global) -> Result<(LongTermClientAuth, ServerChallenge), Fail>
-    ensures known { IfOk result (λ found. IsSome found.0.credentials) }
-    ensures fits { IfOk result (λ found. MayTake found.0 found.1) }
+/// A client with the credentials `user` and `pass`.
+fn client(alloc: Global) -> Result<LongTermClientAuth, CredentialsError>
+    ensures { IfOk result (λ auth. IsSome auth.credentials) }
 {
+    let credentials = TurnCredentials::new(alloc, b"user", b"pass")?;
     let mut auth = LongTermClientAuth::new(alloc);
-    auth.set_credentials(TurnCredentials::new(alloc, b"user", b"pass")?);
+    auth.set_credentials(credentials);
+    Ok(auth)
+}
+
+/// Its view of the challenge.
+fn challenge_to(auth: &LongTermClientAuth) -> Result<ServerChallenge, Fail>
+    ensures { IfOk result (MayTake auth.now) }
+{
     let message = Message::from_bytes(vectors::CHALLENGE)?;
-    let Some(challenge) = auth.challenge_in(&message)? else {
-        return Err(Fail::from("no challenge"));
-    };
-    Ok((auth, challenge))
+    match auth.challenge_in(&message)? {
+        Some(challenge) => Ok(challenge),
+        None => Err(Fail::from("no challenge")),
+    }
 }
 
 /// The request of a client that holds the challenge.
@@ -76,54 +84,73 @@ fn asks_for_each(rt: &impl Abort, alloc: Global, auth: &LongTermClientAuth)
 {
     let refresh = Purpose::ForRefresh(AddressFamily::IPV4, 1_800);
     let permission = Purpose::ForPermission(IpAddr::V4(Ipv4Addr::new(10, 0, 0, 3)));
-    for (purpose, want) in [
-        (Purpose::ForAllocation, vectors::ALLOCATE),
-        (refresh, vectors::REFRESH),
-        (permission, vectors::CREATE_PERMISSION),
-        (Purpose::ForChannel(0x4000, peer()), vectors::CHANNEL_BIND),
-        (Purpose::ForConnect(peer()), vectors::CONNECT),
-        (
-            Purpose::ForBind(peer(), peer(), 9),
-            vectors::CONNECTION_BIND,
-        ),
-    ] {
-        asks(rt, alloc, auth, purpose, want);
-    }
+    let channel = Purpose::ForChannel(0x4000, peer());
+    let bind = Purpose::ForBind(peer(), peer(), 9);
+    asks(rt, alloc, auth, Purpose::ForAllocation, vectors::ALLOCATE);
+    asks(rt, alloc, auth, refresh, vectors::REFRESH);
+    asks(rt, alloc, auth, permission, vectors::CREATE_PERMISSION);
+    asks(rt, alloc, auth, channel, vectors::CHANNEL_BIND);
+    asks(
+        rt,
+        alloc,
+        auth,
+        Purpose::ForConnect(peer()),
+        vectors::CONNECT,
+    );
+    asks(rt, alloc, auth, bind, vectors::CONNECTION_BIND);
     is_text(rt, delete_request(alloc, auth, id()), vectors::DELETE);
+}
+
+/// The refusal of a client that holds the challenge.
+fn refuses(
+    rt: &impl Abort,
+    alloc: Global,
+    auth: &LongTermClientAuth,
+    refusal: AttemptRefusal,
+    want: &[u8],
+)
+    requires { IsSome auth.now.held }
+{
+    is_text(rt, refused_reply(alloc, auth, refusal, id()), want);
 }
 
 fn replies(rt: &impl Abort, alloc: Global, auth: &LongTermClientAuth)
     requires { IsSome auth.now.held }
 {
+    let exists = AttemptRefusal::ConnectionAlreadyExists;
+    let timed_out = AttemptRefusal::ConnectionTimeoutOrFailure;
     is_text(rt, accepted_reply(alloc, auth, id()), vectors::ACCEPTED);
-    for (refusal, want) in [
-        (AttemptRefusal::BadRequest, vectors::BAD_REQUEST),
-        (
-            AttemptRefusal::ConnectionAlreadyExists,
-            vectors::ALREADY_EXISTS,
-        ),
-        (
-            AttemptRefusal::ConnectionTimeoutOrFailure,
-            vectors::TIMED_OUT,
-        ),
-    ] {
-        is_text(rt, refused_reply(alloc, auth, refusal, id()), want);
-    }
+    refuses(
+        rt,
+        alloc,
+        auth,
+        AttemptRefusal::BadRequest,
+        vectors::BAD_REQUEST,
+    );
+    refuses(rt, alloc, auth, exists, vectors::ALREADY_EXISTS);
+    refuses(rt, alloc, auth, timed_out, vectors::TIMED_OUT);
+}
+
+/// The ALLOCATE of a client under a challenge that it does not hold yet.
+fn asks_under(
+    rt: &impl Abort,
+    alloc: Global,
+    auth: &LongTermClientAuth,
+    challenge: &ServerChallenge,
+)
+    requires { IsSome auth.now.credentials }
+{
+    let purpose = Purpose::ForAllocation;
+    let udp = TransportType::Udp;
+    let text = request_under(alloc, auth, challenge, udp, IPV4, &purpose, id());
+    is_text(rt, text, vectors::ALLOCATE);
 }
 
 #[test]
 fn each_request_and_reply_is_signed(rt: HostRuntime) -> Result<(), Fail> {
-    let (mut auth, challenge) = challenged(rt.alloc())?;
-    let under = request_under(
-        rt.alloc(),
-        &auth,
-        &challenge,
-        TransportType::Udp,
-        IPV4,
-        &Purpose::ForAllocation,
-        id(),
-    );
-    is_text(&rt, under, vectors::ALLOCATE);
+    let mut auth = client(rt.alloc())?;
+    let challenge = challenge_to(&auth)?;
+    asks_under(&rt, rt.alloc(), &auth, &challenge);
     auth.accept(challenge);
     asks_for_each(&rt, rt.alloc(), &auth);
     replies(&rt, rt.alloc(), &auth);
