@@ -20,112 +20,136 @@ fn says(rt: &impl Abort, alloc: Global, error: &impl Error, want: &str) {
 #[test]
 fn errors_of_bind_channel_say_what_is_wrong(rt: HostRuntime) {
     let until = Instant::from_nanos(900_100_000_000);
-    for (error, want) in [
-        (
-            BindChannelError::AlreadyExists,
-            "The channel identifier already exists and cannot be recreated.",
-        ),
-        (
-            BindChannelError::ExpiredChannelExists(until),
-            "The channel for requested peer address has expired and cannot be recreated until 900.100000000s.",
-        ),
-        (
-            BindChannelError::NoAllocation,
-            "There is no connection to the TURN server that can handle this channel.",
-        ),
-        (BindChannelError::OutOfMemory, "out of memory"),
-    ] {
-        says(&rt, rt.alloc(), &error, want);
-    }
+    says(
+        &rt,
+        rt.alloc(),
+        &BindChannelError::AlreadyExists,
+        "The channel identifier already exists and cannot be recreated.",
+    );
+    says(
+        &rt,
+        rt.alloc(),
+        &BindChannelError::ExpiredChannelExists(until),
+        "The channel for requested peer address has expired and cannot be recreated until 900.100000000s.",
+    );
+    says(
+        &rt,
+        rt.alloc(),
+        &BindChannelError::NoAllocation,
+        "There is no connection to the TURN server that can handle this channel.",
+    );
+    says(
+        &rt,
+        rt.alloc(),
+        &BindChannelError::OutOfMemory,
+        "out of memory",
+    );
 }
 
 #[test]
 fn errors_of_create_permission_say_what_is_wrong(rt: HostRuntime) {
-    for (error, want) in [
-        (
-            CreatePermissionError::AlreadyExists,
-            "The permission already exists and cannot be recreated.",
-        ),
-        (
-            CreatePermissionError::NoAllocation,
-            "There is no connection to the TURN server that can handle this permission",
-        ),
-        (CreatePermissionError::OutOfMemory, "out of memory"),
-    ] {
-        says(&rt, rt.alloc(), &error, want);
-    }
+    says(
+        &rt,
+        rt.alloc(),
+        &CreatePermissionError::AlreadyExists,
+        "The permission already exists and cannot be recreated.",
+    );
+    says(
+        &rt,
+        rt.alloc(),
+        &CreatePermissionError::NoAllocation,
+        "There is no connection to the TURN server that can handle this permission",
+    );
+    says(
+        &rt,
+        rt.alloc(),
+        &CreatePermissionError::OutOfMemory,
+        "out of memory",
+    );
 }
 
 #[test]
 fn errors_of_delete_say_what_is_wrong(rt: HostRuntime) {
-    for (error, want) in [
-        (
-            DeleteError::NoAllocation,
-            "There is no connection to the TURN server",
-        ),
-        (DeleteError::OutOfMemory, "out of memory"),
-    ] {
-        says(&rt, rt.alloc(), &error, want);
-    }
+    says(
+        &rt,
+        rt.alloc(),
+        &DeleteError::NoAllocation,
+        "There is no connection to the TURN server",
+    );
+    says(&rt, rt.alloc(), &DeleteError::OutOfMemory, "out of memory");
 }
 
 #[test]
 fn errors_of_send_to_say_what_is_wrong(rt: HostRuntime) {
-    for (error, want) in [
-        (
-            SendError::NoAllocation,
-            "There is no connection to the TURN server",
-        ),
-        (
-            SendError::NoPermission,
-            "There is no permission installed for the requested peer",
-        ),
-        (
-            SendError::NoTcpSocket,
-            "There is no local TCP socket for the requested peer",
-        ),
-        (SendError::OutOfMemory, "out of memory"),
-    ] {
-        says(&rt, rt.alloc(), &error, want);
-    }
+    says(
+        &rt,
+        rt.alloc(),
+        &SendError::NoAllocation,
+        "There is no connection to the TURN server",
+    );
+    says(
+        &rt,
+        rt.alloc(),
+        &SendError::NoPermission,
+        "There is no permission installed for the requested peer",
+    );
+    says(
+        &rt,
+        rt.alloc(),
+        &SendError::NoTcpSocket,
+        "There is no local TCP socket for the requested peer",
+    );
+    says(&rt, rt.alloc(), &SendError::OutOfMemory, "out of memory");
 }
 
 #[test]
 fn errors_of_tcp_connect_say_what_is_wrong(rt: HostRuntime) {
-    for (error, want) in [
-        (
-            TcpConnectError::AlreadyExists,
-            "The TCP connection already exists and cannot be recreated.",
-        ),
-        (
-            TcpConnectError::NoAllocation,
-            "There is no connection to the TURN server that can handle this TCP socket.",
-        ),
-        (
-            TcpConnectError::NoPermission,
-            "There is no permission installed for the requested peer",
-        ),
-        (TcpConnectError::OutOfMemory, "out of memory"),
-    ] {
-        says(&rt, rt.alloc(), &error, want);
-    }
+    says(
+        &rt,
+        rt.alloc(),
+        &TcpConnectError::AlreadyExists,
+        "The TCP connection already exists and cannot be recreated.",
+    );
+    says(
+        &rt,
+        rt.alloc(),
+        &TcpConnectError::NoAllocation,
+        "There is no connection to the TURN server that can handle this TCP socket.",
+    );
+    says(
+        &rt,
+        rt.alloc(),
+        &TcpConnectError::NoPermission,
+        "There is no permission installed for the requested peer",
+    );
+    says(
+        &rt,
+        rt.alloc(),
+        &TcpConnectError::OutOfMemory,
+        "out of memory",
+    );
 }
 
 #[test]
 fn errors_of_tcp_allocate_say_what_is_wrong(rt: HostRuntime) {
-    for (error, want) in [
-        (
-            TcpAllocateError::AlreadyExists,
-            "The TCP connection already exists and cannot be recreated.",
-        ),
-        (
-            TcpAllocateError::NoAllocation,
-            "There is no connection to the TURN server that can handle this TCP socket.",
-        ),
-        (TcpAllocateError::OutOfMemory, "out of memory"),
-    ] {
-        says(&rt, rt.alloc(), &error, want);
-    }
+    says(
+        &rt,
+        rt.alloc(),
+        &TcpAllocateError::AlreadyExists,
+        "The TCP connection already exists and cannot be recreated.",
+    );
+    says(
+        &rt,
+        rt.alloc(),
+        &TcpAllocateError::NoAllocation,
+        "There is no connection to the TURN server that can handle this TCP socket.",
+    );
+    says(
+        &rt,
+        rt.alloc(),
+        &TcpAllocateError::OutOfMemory,
+        "out of memory",
+    );
 }
 
 /// The bytes of `user`, and not those of `pass`.
