@@ -95,7 +95,9 @@ fn each_client_keeps_to_its_server(rt: HostRuntime) -> Result<(), Fail> {
 #[test]
 fn a_client_over_udp_has_nothing_to_lend(rt: HostRuntime) -> Result<(), Fail> {
     let mut client = client(rt.alloc())?;
-    let read = client.poll_recv_with(called_at(0), |_, _, payload| payload.len())?;
-    check(&rt, read.is_none());
+    let read = client.poll_recv_with(called_at(0), |_, _, payload| payload.len());
+    // a scope at whose end a client is dropped can take minutes to prove
+    drop(client);
+    check(&rt, read?.is_none());
     Ok(())
 }

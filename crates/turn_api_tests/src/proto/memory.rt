@@ -11,7 +11,7 @@ use std::process::Abort;
 use std::test::Fail;
 use turn_client_api::{TurnEvent, TurnPollRet, TurnRecvRet};
 use turn_client_proto::api::TurnClientApi;
-use turn_client_proto::runs::{Call, Reply};
+use turn_client_proto::{Call, Reply};
 use turn_stun::transport::{Transmit, TransportType};
 use turn_types::AddressFamily;
 
@@ -109,16 +109,24 @@ fn sends_and_ends<C: TurnClientApi>(rt: &impl Abort, mut client: C, refused: boo
 
 #[test]
 fn an_end_tells_each_failure_or_finds_no_memory(rt: HostRuntime) {
-    for refused in [false, true] {
-        if let Ok(client) = client_for_both(rt.alloc()) {
-            sends_and_ends(&rt, client, refused);
-        }
+    if let Ok(client) = client_for_both(rt.alloc()) {
+        sends_and_ends(&rt, client, false);
+    }
+    if let Ok(client) = client_for_both(rt.alloc()) {
+        sends_and_ends(&rt, client, true);
     }
 }
 
-/// Whether these are a packet and no event.
-fn are_both_told(replies: &[Reply]) -> bool {
-    matches!(replies, [Reply::Transmit(Some(_)), Reply::Event(None)])
+/// Whether these are to call again at once, a packet, and no event.
+fn are_first(replies: &[Reply]) -> bool {
+    match replies {
+        [
+            Reply::Poll(told),
+            Reply::Transmit(Some(_)),
+            Reply::Event(None),
+        ] => { *told == TurnPollRet::WaitUntil(at(0)) }
+        _ => false,
+    }
 }
 
 #[test]
@@ -126,9 +134,12 @@ fn a_refused_run_gives_no_answers(rt: HostRuntime) {
     let Ok(config) = config(rt.alloc()) else {
         return;
     };
-    let calls = [Call::PollTransmit { now: called_at(0) }, Call::PollEvent];
-    let Ok(replies) = replies_of(rt.alloc(), config, &calls) else {
-        return;
-    };
-    check(&rt, are_both_told(replies.as_slice()));
+    let calls = [
+        Call::Poll { now: called_at(0) },
+        Call::PollTransmit { now: called_at(0) },
+        Call::PollEvent,
+    ];
+    if let Ok(replies) = replies_of(rt.alloc(), config, &calls) {
+        check(&rt, are_first(replies.as_slice()));
+    }
 }

@@ -44,6 +44,7 @@ fn packets(
         turn_stun::TransportType,
         turn_stun::Instant,
         turn_stun::Instant,
+        turn_stun::Instant,
     ),
 ) -> (
     stun::agent::Transmit<stun::types::data::Data>,
@@ -51,6 +52,7 @@ fn packets(
     stun::types::TransportType,
     types::TransportType,
     stun::Instant,
+    stun::instant::Instant,
     types::Instant,
 ) {
     items
