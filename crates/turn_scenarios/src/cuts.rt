@@ -224,27 +224,39 @@ fn note_returned(client: &mut TurnClient, now: u32, heard: &mut Heard) -> Result
     Ok(true)
 }
 
-/// The payloads of these streams if they are cut and read as the seed says.
-fn heard_of(
+/// Reads these streams, cut and read as the seed says.
+fn read(
     client: &mut TurnClient,
-    alloc: Global,
     mut streams: Streams<'_>,
     seed: u32,
     now: u32,
-) -> Result<Heard, AllocError> {
-    let mut heard = Heard::new(alloc);
+    heard: &mut Heard,
+) -> Result<(), AllocError> {
     let mut draws = Draws::new(seed);
     for _ in 0..MANY {
         let Some((to, piece)) = streams.next(Cut::of(seed), &mut draws) else {
             break;
         };
-        hear(client, to, piece, now, &mut heard)?;
+        hear(client, to, piece, now, heard)?;
         if draws.draw() % 2 == 0 {
-            drain(client, now, &mut draws, &mut heard)?;
+            drain(client, now, &mut draws, heard)?;
         }
     }
-    drain(client, now, &mut draws, &mut heard)?;
-    Ok(heard)
+    drain(client, now, &mut draws, heard)
+}
+
+/// Whether these are the payloads of the streams.
+fn are_heard(
+    client: &mut TurnClient,
+    alloc: Global,
+    streams: Streams<'_>,
+    seed: u32,
+    now: u32,
+    want: (&[u8], &[u8]),
+) -> Result<bool, AllocError> {
+    let mut heard = Heard::new(alloc);
+    read(client, streams, seed, now, &mut heard)?;
+    Ok(heard.is(want.0, want.1))
 }
 
 /// This client with a channel to 10.0.0.3:9000, with the number 4000.
@@ -262,8 +274,7 @@ fn frames_are_heard(client: &mut TurnClient, alloc: Global, seed: u32) -> Result
         control: FRAMES,
         data: &[],
     };
-    let heard = heard_of(client, alloc, streams, seed, 1_000)?;
-    Ok(heard.is(OVER_UDP, &[]))
+    are_heard(client, alloc, streams, seed, 1_000, (OVER_UDP, &[]))
 }
 
 /// Asserts that the frames have the expected payloads, however they are cut.
@@ -297,8 +308,16 @@ fn with_permission<C: TurnClientApi>(alloc: Global, mut client: C) -> Result<C, 
     Ok(client)
 }
 
-/// Opens the offered data connection, and returns the bytes that it carries: the response that binds it, and the
-/// data.
+/// The bytes that a data connection carries after this request: the response that binds it, and the data.
+fn bytes_after(alloc: Global, request: &[u8]) -> Result<Vec<u8>, Fail> {
+    let (_, rest) = request.split_first_chunk::<8>().ok_or("there is no ID")?;
+    let id = rest.first_chunk::<12>().ok_or("there is no ID")?;
+    let mut stream = success(alloc, CONNECTION_BIND, *id, &[])?;
+    stream.extend_from_slice(BYTES)?;
+    Ok(stream)
+}
+
+/// Opens the offered data connection, and returns the bytes that it carries.
 fn opened<C: TurnClientApi>(client: &mut C, alloc: Global, now: u32) -> Result<Vec<u8>, Fail> {
     let control = Socket5Tuple {
         transport: TransportType::Tcp,
@@ -307,18 +326,10 @@ fn opened<C: TurnClientApi>(client: &mut C, alloc: Global, now: u32) -> Result<V
     };
     hear(client, local(), OFFER, now, &mut Heard::new(alloc))?;
     client.allocated_tcp_socket(9, control, PEER.address(), Some(data_end()), at(now))?;
-    let request = client
-        .poll_transmit(at(now))?
-        .ok_or("nothing is asked for")?;
-    let (_, id) = request
-        .payload
-        .as_bytes()
-        .split_first_chunk::<8>()
-        .ok_or("there is no ID")?;
-    let id = id.first_chunk::<12>().ok_or("there is no ID")?;
-    let mut stream = success(alloc, CONNECTION_BIND, *id, &[])?;
-    stream.extend_from_slice(BYTES)?;
-    Ok(stream)
+    match client.poll_transmit(at(now))? {
+        Some(request) => bytes_after(alloc, request.payload.as_bytes()),
+        None => Err(Fail::from("nothing is asked for")),
+    }
 }
 
 /// Whether one data connection was bound, and is to be closed after the server has ended it.
@@ -343,8 +354,7 @@ fn both_are_heard(client: &mut TurnClient, alloc: Global, seed: u32) -> Result<b
         control: FRAMES,
         data: data.as_slice(),
     };
-    let heard = heard_of(client, alloc, streams, seed, now)?;
-    Ok(heard.is(OVER_TCP, BYTES) && ends(client, now)?)
+    Ok(are_heard(client, alloc, streams, seed, now, (OVER_TCP, BYTES))? && ends(client, now)?)
 }
 
 /// Asserts that frames and data connection have the expected payloads, however they are cut.

@@ -355,6 +355,26 @@ fn is_wanted(reply: &GatherReply, want: &Want<'_>) -> bool {
     }
 }
 
+/// The answers of a gatherer to the calls of the rows.
+fn replies_of<C: TurnClientApi>(
+    alloc: Global,
+    gatherer: Gatherer<C>,
+    rows: &[Row<'_>],
+) -> Result<Vec<GatherReply>, AllocError> {
+    let calls = calls_of(alloc, &gatherer, rows)?;
+    let Driven { replies, gatherer } = drive(alloc, gatherer, calls.as_slice())?;
+    drop(gatherer);
+    Ok(replies)
+}
+
+/// Asserts that each row has the expected answer.
+fn are_wanted(rt: &impl Abort, replies: &[GatherReply], rows: &[Row<'_>]) {
+    assert_eq!(rt; replies.len(), rows.len());
+    for (number, (reply, row)) in replies.iter().zip(rows.iter()).enumerate() {
+        check_row(rt, number, is_wanted(reply, &row.1));
+    }
+}
+
 /// Asserts that a gatherer over this client answers a list of calls row by row.
 fn drive_all<C: TurnClientApi>(
     rt: &impl Abort,
@@ -363,14 +383,8 @@ fn drive_all<C: TurnClientApi>(
     rows: &[Row<'_>],
 ) -> Result<(), Fail> {
     permitted(alloc, &mut client)?;
-    let gatherer = Gatherer::new(alloc, client);
-    let calls = calls_of(alloc, &gatherer, rows)?;
-    let Driven { replies, gatherer } = drive(alloc, gatherer, calls.as_slice())?;
-    drop(gatherer);
-    assert_eq!(rt; replies.len(), rows.len());
-    for (number, (reply, row)) in replies.as_slice().iter().zip(rows.iter()).enumerate() {
-        check_row(rt, number, is_wanted(reply, &row.1));
-    }
+    let replies = replies_of(alloc, Gatherer::new(alloc, client), rows)?;
+    are_wanted(rt, replies.as_slice(), rows);
     Ok(())
 }
 

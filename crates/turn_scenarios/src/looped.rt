@@ -121,13 +121,20 @@ impl<'a> Looped<'a> {
 
     /// One iteration of the loop.
     fn iterate<C: TurnClientApi>(&mut self, client: &mut C) -> Result<Rest, AllocError> {
-        let mut tasks = Vec::new(self.alloc);
         let came = self.next_packet(client)?;
-        let rest = drive_client(client, came, at(self.now), self.most, &mut tasks)?;
+        let mut tasks = Vec::new(self.alloc);
+        let rest = drive_client(client, came, at(self.now), self.most, &mut tasks);
+        let carried = self.carry_out_all(tasks.as_slice());
+        drop(tasks);
+        carried?;
+        Ok(rest?)
+    }
+
+    fn carry_out_all(&mut self, tasks: &[Task]) -> Result<(), AllocError> {
         for task in tasks {
-            self.carry_out(&task)?;
+            self.carry_out(task)?;
         }
-        Ok(rest)
+        Ok(())
     }
 
     /// The next packet that has arrived, if there is one. While work may be left, it is not passed in.
