@@ -247,25 +247,17 @@ fn follow<C: TurnClientApi>(
 
 #[test]
 fn only_checked_pairs_are_heard(rt: HostRuntime) -> Result<(), Fail> {
-    follow(&rt, rt.alloc(), client_over_udp(rt.alloc())?, ROWS)
-}
-
-#[test]
-fn only_checked_pairs_are_heard_over_tcp(rt: HostRuntime) -> Result<(), Fail> {
-    follow(&rt, rt.alloc(), client_over_tcp(rt.alloc())?, ROWS)
+    let alloc = rt.alloc();
+    follow(&rt, alloc, client_over_udp(alloc)?, ROWS)?;
+    follow(&rt, alloc, client_over_udp(alloc)?, NOISE_ROWS)?;
+    follow(&rt, alloc, client_over_tcp(alloc)?, ROWS)
 }
 
 #[test]
 fn only_checked_pairs_are_heard_of_either_client(rt: HostRuntime) -> Result<(), Fail> {
-    let over_udp = TurnClient::from(client_over_udp(rt.alloc())?);
-    follow(&rt, rt.alloc(), over_udp, ROWS)?;
-    let over_tcp = TurnClient::from(client_over_tcp(rt.alloc())?);
-    follow(&rt, rt.alloc(), over_tcp, ROWS)
-}
-
-#[test]
-fn what_is_no_turn_is_ignored(rt: HostRuntime) -> Result<(), Fail> {
-    follow(&rt, rt.alloc(), client_over_udp(rt.alloc())?, NOISE_ROWS)
+    let alloc = rt.alloc();
+    follow(&rt, alloc, TurnClient::from(client_over_udp(alloc)?), ROWS)?;
+    follow(&rt, alloc, TurnClient::from(client_over_tcp(alloc)?), ROWS)
 }
 
 fn greeting(alloc: Global) -> Result<Data, AllocError>
@@ -390,20 +382,16 @@ fn drive_all<C: TurnClientApi>(
 
 #[test]
 fn a_list_of_calls_hears_only_checked_pairs(rt: HostRuntime) -> Result<(), Fail> {
-    drive_all(&rt, rt.alloc(), client_over_udp(rt.alloc())?, ROWS)
-}
-
-#[test]
-fn a_list_of_calls_hears_only_checked_pairs_over_tcp(rt: HostRuntime) -> Result<(), Fail> {
-    drive_all(&rt, rt.alloc(), client_over_tcp(rt.alloc())?, ROWS)
+    let alloc = rt.alloc();
+    drive_all(&rt, alloc, client_over_udp(alloc)?, ROWS)?;
+    drive_all(&rt, alloc, client_over_tcp(alloc)?, ROWS)
 }
 
 #[test]
 fn a_list_of_calls_hears_only_checked_pairs_of_either_client(rt: HostRuntime) -> Result<(), Fail> {
-    let over_udp = TurnClient::from(client_over_udp(rt.alloc())?);
-    drive_all(&rt, rt.alloc(), over_udp, ROWS)?;
-    let over_tcp = TurnClient::from(client_over_tcp(rt.alloc())?);
-    drive_all(&rt, rt.alloc(), over_tcp, ROWS)
+    let alloc = rt.alloc();
+    drive_all(&rt, alloc, TurnClient::from(client_over_udp(alloc)?), ROWS)?;
+    drive_all(&rt, alloc, TurnClient::from(client_over_tcp(alloc)?), ROWS)
 }
 
 /// Checks the maximum number of pairs.
