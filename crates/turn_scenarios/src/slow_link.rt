@@ -54,7 +54,7 @@ const ROWS: &[Row] = &[
     (400_000, 76, true),
 ];
 
-/// The IP address of the peer of this number.
+/// The peer of this number.
 fn peer(number: u8) -> Place {
     Place(number.saturating_add(100), 9_000)
 }
