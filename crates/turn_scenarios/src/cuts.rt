@@ -3,7 +3,7 @@
 
 use crate::caller::Caller;
 use crate::fixture::{
-    at, check, client_over_tcp, client_with_connections, data_end, local, server,
+    at, check, client_with_connections, data_end, either_over_tcp, local, server,
 };
 use crate::messages::{GENEROUS, PEER};
 use crate::server::{CONNECTION_BIND, success};
@@ -11,6 +11,7 @@ use std::alloc::{AllocError, Global};
 use std::net::SocketAddr;
 use std::process::Abort;
 use std::test::Fail;
+use turn_auth::credentials::CredentialsError;
 use turn_client_api::{Socket5Tuple, TurnClientApi, TurnEvent, TurnPollRet, TurnRecvRet};
 use turn_client_proto::client::TurnClient;
 use turn_stun::transport::{Transmit, TransportType};
@@ -260,7 +261,11 @@ fn are_heard(
 }
 
 /// This client with a channel to 10.0.0.3:9000, with the number 4000.
-fn with_channel<C: TurnClientApi>(alloc: Global, mut client: C) -> Result<C, Fail> {
+fn with_channel<C: TurnClientApi>(
+    alloc: Global,
+    client: Result<C, CredentialsError>,
+) -> Result<C, Fail> {
+    let mut client = client?;
     let mut caller = Caller::new(alloc);
     caller.wait(&mut client, GENEROUS, 200)?;
     client.bind_channel(TransportType::Udp, PEER.address(), at(200))?;
@@ -292,7 +297,7 @@ fn all_frames_are_heard(
 
 #[test]
 fn frames_come_in_any_pieces(rt: HostRuntime) -> Result<(), Fail> {
-    let mut client = TurnClient::from(with_channel(rt.alloc(), client_over_tcp(rt.alloc())?)?);
+    let mut client = with_channel(rt.alloc(), either_over_tcp(rt.alloc()))?;
     let heard = all_frames_are_heard(&rt, rt.alloc(), &mut client);
     // a scope at whose end a client is dropped can take minutes to prove
     drop(client);
@@ -300,7 +305,11 @@ fn frames_come_in_any_pieces(rt: HostRuntime) -> Result<(), Fail> {
 }
 
 /// This client with a permission for 10.0.0.3, for TCP connections with peers.
-fn with_permission<C: TurnClientApi>(alloc: Global, mut client: C) -> Result<C, Fail> {
+fn with_permission<C: TurnClientApi>(
+    alloc: Global,
+    client: Result<C, CredentialsError>,
+) -> Result<C, Fail> {
+    let mut client = client?;
     let mut caller = Caller::new(alloc);
     caller.wait(&mut client, GENEROUS, 200)?;
     client.create_permission(TransportType::Tcp, PEER.ip(), at(200))?;
@@ -374,7 +383,7 @@ fn all_connections_are_heard(
 fn connections_come_in_any_pieces(rt: HostRuntime) -> Result<(), Fail> {
     let mut client = TurnClient::from(with_permission(
         rt.alloc(),
-        client_with_connections(rt.alloc())?,
+        client_with_connections(rt.alloc()),
     )?);
     let heard = all_connections_are_heard(&rt, rt.alloc(), &mut client);
     drop(client);

@@ -9,6 +9,7 @@ use std::process::Abort;
 use std::time::Duration;
 use turn_auth::credentials::{CredentialsError, TurnCredentials};
 use turn_client_api::TurnConfig;
+use turn_client_proto::client::TurnClient;
 use turn_client_proto::tcp::TurnClientTcp;
 use turn_client_proto::udp::TurnClientUdp;
 use turn_stun::instant::Instant;
@@ -62,7 +63,12 @@ pub(crate) fn client_over_udp(alloc: Global) -> Result<TurnClientUdp, Credential
     Ok(TurnClientUdp::allocate(alloc, local(), server(), config, [0; 32])?)
 }
 
-/// The same for a slow link: it waits for 3 s before it sends a request again, and answers so many challenges in a row.
+/// The same as either of the two clients.
+pub(crate) fn either_over_udp(alloc: Global) -> Result<TurnClient, CredentialsError> {
+    Ok(TurnClient::from(client_over_udp(alloc)?))
+}
+
+/// A new client over UDP for a slow link: it waits for 3 s before it sends a request again, and answers so many challenges in a row.
 pub(crate) fn client_over_slow_link(
     alloc: Global,
     max_stale_nonces: NonZeroU16,
@@ -74,13 +80,18 @@ pub(crate) fn client_over_slow_link(
     Ok(TurnClientUdp::allocate(alloc, local(), server(), config, [0; 32])?)
 }
 
-/// The same over TCP.
+/// A new client over TCP of the seed of zeros.
 pub(crate) fn client_over_tcp(alloc: Global) -> Result<TurnClientTcp, CredentialsError> {
     let config = config(alloc)?;
     Ok(TurnClientTcp::allocate(alloc, local(), server(), config, [0; 32])?)
 }
 
-/// The same, with an allocation for TCP connections of its peers (RFC 6062, section 4.1).
+/// The same as either of the two clients.
+pub(crate) fn either_over_tcp(alloc: Global) -> Result<TurnClient, CredentialsError> {
+    Ok(TurnClient::from(client_over_tcp(alloc)?))
+}
+
+/// A new client over TCP, with an allocation for TCP connections of its peers (RFC 6062, section 4.1).
 pub(crate) fn client_with_connections(alloc: Global) -> Result<TurnClientTcp, CredentialsError> {
     let mut config = config(alloc)?;
     config.set_allocation_transport(TransportType::Tcp);

@@ -6,14 +6,16 @@ ghost use Rattle.std.specs.Prelude.{◌≡◌, All, IfOk, length};
 ghost use Rattle.turn_gather.specs.Drive.{IsCallable};
 
 use crate::caller::Caller;
-use crate::fixture::{Place, at, client_over_tcp, client_over_udp, local, server};
+use crate::fixture::{
+    Place, at, client_over_tcp, client_over_udp, either_over_tcp, either_over_udp, local, server,
+};
 use crate::messages::{DATA, GENEROUS, OTHER, PEER, RELAYED};
 use std::alloc::{AllocError, Global};
 use std::net::SocketAddr;
 use std::process::Abort;
 use std::test::Fail;
+use turn_auth::credentials::CredentialsError;
 use turn_client_api::{CreatePermissionError, SendError, TurnClientApi};
-use turn_client_proto::client::TurnClient;
 use turn_gather::{Driven, GatherCall, GatherError, GatherRecv, GatherReply, Gatherer, drive};
 use turn_stun::data::Data;
 use turn_stun::transport::{Transmit, TransportType};
@@ -235,9 +237,10 @@ fn follows<C: TurnClientApi>(
 fn follow<C: TurnClientApi>(
     rt: &impl Abort,
     alloc: Global,
-    mut client: C,
+    client: Result<C, CredentialsError>,
     rows: &[Row<'_>],
 ) -> Result<(), Fail> {
+    let mut client = client?;
     permitted(alloc, &mut client)?;
     let mut gatherer = Gatherer::new(alloc, client);
     let followed = follows(rt, alloc, &mut gatherer, rows);
@@ -248,16 +251,16 @@ fn follow<C: TurnClientApi>(
 #[test]
 fn only_checked_pairs_are_heard(rt: HostRuntime) -> Result<(), Fail> {
     let alloc = rt.alloc();
-    follow(&rt, alloc, client_over_udp(alloc)?, ROWS)?;
-    follow(&rt, alloc, client_over_udp(alloc)?, NOISE_ROWS)?;
-    follow(&rt, alloc, client_over_tcp(alloc)?, ROWS)
+    follow(&rt, alloc, client_over_udp(alloc), ROWS)?;
+    follow(&rt, alloc, client_over_udp(alloc), NOISE_ROWS)?;
+    follow(&rt, alloc, client_over_tcp(alloc), ROWS)
 }
 
 #[test]
 fn only_checked_pairs_are_heard_of_either_client(rt: HostRuntime) -> Result<(), Fail> {
     let alloc = rt.alloc();
-    follow(&rt, alloc, TurnClient::from(client_over_udp(alloc)?), ROWS)?;
-    follow(&rt, alloc, TurnClient::from(client_over_tcp(alloc)?), ROWS)
+    follow(&rt, alloc, either_over_udp(alloc), ROWS)?;
+    follow(&rt, alloc, either_over_tcp(alloc), ROWS)
 }
 
 fn greeting(alloc: Global) -> Result<Data, AllocError>
@@ -371,9 +374,10 @@ fn are_wanted(rt: &impl Abort, replies: &[GatherReply], rows: &[Row<'_>]) {
 fn drive_all<C: TurnClientApi>(
     rt: &impl Abort,
     alloc: Global,
-    mut client: C,
+    client: Result<C, CredentialsError>,
     rows: &[Row<'_>],
 ) -> Result<(), Fail> {
+    let mut client = client?;
     permitted(alloc, &mut client)?;
     let replies = replies_of(alloc, Gatherer::new(alloc, client), rows)?;
     are_wanted(rt, replies.as_slice(), rows);
@@ -383,15 +387,15 @@ fn drive_all<C: TurnClientApi>(
 #[test]
 fn a_list_of_calls_hears_only_checked_pairs(rt: HostRuntime) -> Result<(), Fail> {
     let alloc = rt.alloc();
-    drive_all(&rt, alloc, client_over_udp(alloc)?, ROWS)?;
-    drive_all(&rt, alloc, client_over_tcp(alloc)?, ROWS)
+    drive_all(&rt, alloc, client_over_udp(alloc), ROWS)?;
+    drive_all(&rt, alloc, client_over_tcp(alloc), ROWS)
 }
 
 #[test]
 fn a_list_of_calls_hears_only_checked_pairs_of_either_client(rt: HostRuntime) -> Result<(), Fail> {
     let alloc = rt.alloc();
-    drive_all(&rt, alloc, TurnClient::from(client_over_udp(alloc)?), ROWS)?;
-    drive_all(&rt, alloc, TurnClient::from(client_over_tcp(alloc)?), ROWS)
+    drive_all(&rt, alloc, either_over_udp(alloc), ROWS)?;
+    drive_all(&rt, alloc, either_over_tcp(alloc), ROWS)
 }
 
 /// Checks the maximum number of pairs.
@@ -428,17 +432,21 @@ fn is_full<C: TurnClientApi>(rt: &impl Abort, gatherer: &mut Gatherer<C>) {
 }
 
 /// Asserts it for a gatherer over this client, once the pairs are checked.
-fn fills<C: TurnClientApi>(rt: &impl Abort, alloc: Global, client: C) -> Result<(), GatherError> {
-    let mut gatherer = Gatherer::new(alloc, client);
+fn fills<C: TurnClientApi>(
+    rt: &impl Abort,
+    alloc: Global,
+    client: Result<C, CredentialsError>,
+) -> Result<(), Fail> {
+    let mut gatherer = Gatherer::new(alloc, client?);
     let filled = fill(&mut gatherer);
     is_full(rt, &mut gatherer);
     drop(gatherer);
-    filled
+    Ok(filled?)
 }
 
 #[test]
 fn no_pair_is_checked_past_the_last_place(rt: HostRuntime) -> Result<(), Fail> {
-    Ok(fills(&rt, rt.alloc(), client_over_udp(rt.alloc())?)?)
+    fills(&rt, rt.alloc(), client_over_udp(rt.alloc()))
 }
 
 /// Accepts each failed memory allocation as an answer, and asserts the state after it.
@@ -449,6 +457,7 @@ mod memory {
     use std::alloc::{AllocError, Global};
     use std::process::Abort;
     use std::test::Fail;
+    use turn_auth::credentials::CredentialsError;
     use turn_client_api::TurnClientApi;
     use turn_gather::{GatherError, Gatherer};
     use turn_stun::transport::TransportType;
@@ -464,16 +473,21 @@ mod memory {
     }
 
     /// Asserts it twice, since a failure is not stored.
-    fn check_twice<C: TurnClientApi>(rt: &impl Abort, mut gatherer: Gatherer<C>) {
-        check(rt, &mut gatherer);
-        check(rt, &mut gatherer);
+    fn check_twice<C: TurnClientApi>(
+        rt: &impl Abort,
+        alloc: Global,
+        client: Result<C, CredentialsError>,
+    ) {
+        if let Ok(client) = client {
+            let mut gatherer = Gatherer::new(alloc, client);
+            check(rt, &mut gatherer);
+            check(rt, &mut gatherer);
+        }
     }
 
     #[test]
     fn a_pair_is_checked_or_refused(rt: HostRuntime) {
-        if let Ok(client) = client_over_udp(rt.alloc()) {
-            check_twice(&rt, Gatherer::new(rt.alloc(), client));
-        }
+        check_twice(&rt, rt.alloc(), client_over_udp(rt.alloc()));
     }
 
     /// Asserts that the candidates are told at the second try, unless they are at the first one: the client has lost
@@ -495,8 +509,11 @@ mod memory {
     fn tell<C: TurnClientApi>(
         rt: &impl Abort,
         alloc: Global,
-        mut client: C,
+        client: Result<C, CredentialsError>,
     ) -> Result<(), AllocError> {
+        let Ok(mut client) = client else {
+            return Ok(());
+        };
         if permitted(alloc, &mut client).is_err() {
             return Ok(());
         }
@@ -505,9 +522,6 @@ mod memory {
 
     #[test]
     fn candidates_are_told_or_refused(rt: HostRuntime) -> Result<(), Fail> {
-        match client_over_udp(rt.alloc()) {
-            Ok(client) => Ok(tell(&rt, rt.alloc(), client)?),
-            Err(_) => Ok(()),
-        }
+        Ok(tell(&rt, rt.alloc(), client_over_udp(rt.alloc()))?)
     }
 }

@@ -10,6 +10,7 @@ use std::alloc::{AllocError, Global};
 use std::net::SocketAddr;
 use std::process::Abort;
 use std::test::Fail;
+use turn_auth::credentials::CredentialsError;
 use turn_client_api::{TurnClientApi, TurnEvent};
 use turn_driver::{Rest, Task, drive_client};
 use turn_stun::transport::{Transmit, TransportType};
@@ -254,11 +255,12 @@ fn runs<C: TurnClientApi>(
 fn loops<C: TurnClientApi>(
     rt: &impl Abort,
     alloc: Global,
-    mut client: C,
+    client: Result<C, CredentialsError>,
     most: u32,
     pieces: &[&[u8]],
     rows: &[Row<'_>],
 ) -> Result<(), Fail> {
+    let mut client = client?;
     let mut looped = Looped::new(alloc, most, rows);
     let greeted = runs(&mut looped, &mut client, pieces)?;
     assert_eq!(rt;
@@ -284,13 +286,13 @@ const TWICE: &[u8] = &[
 #[test]
 fn the_loop_carries_datagrams(rt: HostRuntime) -> Result<(), Fail> {
     let alloc = rt.alloc();
-    loops(&rt, alloc, client_over_udp(alloc)?, 1, DATAGRAMS, OVER_UDP)?;
-    loops(&rt, alloc, client_over_udp(alloc)?, 64, DATAGRAMS, OVER_UDP)
+    loops(&rt, alloc, client_over_udp(alloc), 1, DATAGRAMS, OVER_UDP)?;
+    loops(&rt, alloc, client_over_udp(alloc), 64, DATAGRAMS, OVER_UDP)
 }
 
 #[test]
 fn the_loop_carries_a_stream(rt: HostRuntime) -> Result<(), Fail> {
     let alloc = rt.alloc();
-    loops(&rt, alloc, client_over_tcp(alloc)?, 1, &[TWICE], OVER_TCP)?;
-    loops(&rt, alloc, client_over_tcp(alloc)?, 64, &[TWICE], OVER_TCP)
+    loops(&rt, alloc, client_over_tcp(alloc), 1, &[TWICE], OVER_TCP)?;
+    loops(&rt, alloc, client_over_tcp(alloc), 64, &[TWICE], OVER_TCP)
 }

@@ -11,6 +11,7 @@ use std::alloc::{AllocError, Global};
 use std::num::NonZeroU16;
 use std::process::Abort;
 use std::test::Fail;
+use turn_auth::credentials::CredentialsError;
 use turn_client_api::{TurnClientApi, TurnEvent};
 use turn_stun::transport::TransportType;
 
@@ -108,7 +109,12 @@ fn follows<C: TurnClientApi>(
 }
 
 /// Asserts that a client goes on, and keeps its relayed address.
-fn goes_on<C: TurnClientApi>(rt: &impl Abort, alloc: Global, mut client: C) -> Result<(), Fail> {
+fn goes_on<C: TurnClientApi>(
+    rt: &impl Abort,
+    alloc: Global,
+    client: Result<C, CredentialsError>,
+) -> Result<(), Fail> {
+    let mut client = client?;
     let mut caller = Caller::over_slow_link(alloc, 700);
     follows(rt, &mut client, &mut caller)?;
     check(rt, relays(&client), 400_000);
@@ -123,5 +129,5 @@ fn goes_on<C: TurnClientApi>(rt: &impl Abort, alloc: Global, mut client: C) -> R
 #[test]
 fn thirty_peers_over_a_slow_link_are_kept_by_a_higher_limit(rt: HostRuntime) -> Result<(), Fail> {
     let limit = NonZeroU16::new(256).ok_or("zero")?;
-    goes_on(&rt, rt.alloc(), client_over_slow_link(rt.alloc(), limit)?)
+    goes_on(&rt, rt.alloc(), client_over_slow_link(rt.alloc(), limit))
 }
