@@ -2,13 +2,14 @@
 
 use crate::fixture::check;
 use crate::proto::fixture::{
-    BAD_REQUEST, at, called_at, client, is_closed, is_first_request, local, refuse, server,
+    BAD_REQUEST, at, called_at, client, either_client, is_closed, is_first_request, local, refuse,
+    server,
 };
 use std::net::SocketAddr;
 use std::process::Abort;
 use std::test::Fail;
+use turn_auth::credentials::CredentialsError;
 use turn_client_api::{TurnEvent, TurnPollRet, TurnRecvRet};
-use turn_client_proto::client::TurnClient;
 use turn_client_proto::prelude::TurnClientApi;
 use turn_stun::transport::{Transmit, TransportType};
 use turn_types::AddressFamily;
@@ -33,9 +34,7 @@ fn is_handed_back(
     match answer {
         TurnRecvRet::Ignored(back) => {
             back.payload == BAD_REQUEST
-                && back.transport == transport
-                && back.from == from
-                && back.to == to
+                && (back.transport, back.from, back.to) == (transport, from, to)
         }
         _ => false,
     }
@@ -80,7 +79,11 @@ fn are_ignored<C: TurnClientApi>(rt: &impl Abort, client: &mut C) -> Result<(), 
 
 /// Sends the first request, and passes its error response in with wrong transports and addresses, and then the
 /// right ones.
-fn is_refused<C: TurnClientApi>(rt: &impl Abort, mut client: C) -> Result<(), Fail> {
+fn is_refused<C: TurnClientApi>(
+    rt: &impl Abort,
+    client: Result<C, CredentialsError>,
+) -> Result<(), Fail> {
+    let mut client = client?;
     sends_its_request(rt, &mut client)?;
     are_ignored(rt, &mut client)?;
     ends_when_refused(rt, &mut client)
@@ -88,8 +91,8 @@ fn is_refused<C: TurnClientApi>(rt: &impl Abort, mut client: C) -> Result<(), Fa
 
 #[test]
 fn each_client_keeps_to_its_server(rt: HostRuntime) -> Result<(), Fail> {
-    is_refused(&rt, client(rt.alloc())?)?;
-    is_refused(&rt, TurnClient::from(client(rt.alloc())?))
+    is_refused(&rt, client(rt.alloc()))?;
+    is_refused(&rt, either_client(rt.alloc()))
 }
 
 #[test]

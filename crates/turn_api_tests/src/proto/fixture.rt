@@ -10,6 +10,7 @@ use std::process::Abort;
 use turn_auth::credentials::CredentialsError;
 use turn_client_api::{TurnConfig, TurnPollRet, TurnRecvRet};
 use turn_client_proto::api::TurnClientApi;
+use turn_client_proto::client::TurnClient;
 use turn_client_proto::udp::TurnClientUdp;
 use turn_client_proto::{Call, Replayed, Reply, replay};
 use turn_stun::data::Data;
@@ -61,6 +62,11 @@ pub fn client(alloc: Global) -> Result<TurnClientUdp, CredentialsError> {
     Ok(TurnClientUdp::allocate(alloc, local(), server(), config, [0; 32])?)
 }
 
+/// The same as either of the two clients.
+pub fn either_client(alloc: Global) -> Result<TurnClient, CredentialsError> {
+    Ok(TurnClient::from(client(alloc)?))
+}
+
 /// The same for an IPv6 address and an IPv4 address.
 pub fn client_for_both(alloc: Global) -> Result<TurnClientUdp, CredentialsError> {
     let mut config = config(alloc)?;
@@ -69,14 +75,13 @@ pub fn client_for_both(alloc: Global) -> Result<TurnClientUdp, CredentialsError>
     Ok(TurnClientUdp::allocate(alloc, local(), server(), config, [0; 32])?)
 }
 
-// Functions take a client as a type parameter: a proof then opens none of its parts, and ends far sooner.
+// Functions take a client as a type parameter, or whether there is one: a proof then opens none of its parts, and ends far
+// sooner.
 
 /// Whether a packet has these bytes and goes to the server.
 fn sends(packet: &Transmit<Data>, bytes: &[u8]) -> bool {
-    packet.payload.as_bytes() == bytes
-        && packet.transport == TransportType::Udp
-        && packet.from == local()
-        && packet.to == server()
+    let ends = (packet.transport, packet.from, packet.to);
+    packet.payload.as_bytes() == bytes && ends == (TransportType::Udp, local(), server())
 }
 
 /// Compares a packet with the first request.

@@ -9,13 +9,20 @@ use crate::proto::fixture::{
 };
 use std::process::Abort;
 use std::test::Fail;
+use turn_auth::credentials::CredentialsError;
 use turn_client_api::{TurnEvent, TurnPollRet, TurnRecvRet};
 use turn_client_proto::api::TurnClientApi;
 use turn_client_proto::{Call, Reply};
 use turn_stun::transport::{Transmit, TransportType};
 use turn_types::AddressFamily;
 
-fn sends_or_ends<C: TurnClientApi>(rt: &impl Abort, mut client: C) -> Result<(), Fail> {
+fn sends_or_ends<C: TurnClientApi>(
+    rt: &impl Abort,
+    client: Result<C, CredentialsError>,
+) -> Result<(), Fail> {
+    let Ok(mut client) = client else {
+        return Ok(());
+    };
     match client.poll_transmit(called_at(0)) {
         Ok(packet) => is_first_request(rt, packet),
         Err(_) => {
@@ -28,10 +35,7 @@ fn sends_or_ends<C: TurnClientApi>(rt: &impl Abort, mut client: C) -> Result<(),
 
 #[test]
 fn a_refused_first_request_ends_the_client(rt: HostRuntime) -> Result<(), Fail> {
-    match client(rt.alloc()) {
-        Ok(client) => sends_or_ends(&rt, client),
-        Err(_) => Ok(()),
-    }
+    sends_or_ends(&rt, client(rt.alloc()))
 }
 
 fn sends_again_or_ends<C: TurnClientApi>(rt: &impl Abort, client: &mut C) -> Result<(), Fail> {
@@ -53,7 +57,13 @@ fn sends_again_or_ends<C: TurnClientApi>(rt: &impl Abort, client: &mut C) -> Res
 }
 
 /// Sends the first request, and retransmits it when that is due.
-fn sends_twice<C: TurnClientApi>(rt: &impl Abort, mut client: C) -> Result<(), Fail> {
+fn sends_twice<C: TurnClientApi>(
+    rt: &impl Abort,
+    client: Result<C, CredentialsError>,
+) -> Result<(), Fail> {
+    let Ok(mut client) = client else {
+        return Ok(());
+    };
     match client.poll_transmit(called_at(0)) {
         Ok(_) => sends_again_or_ends(rt, &mut client),
         Err(_) => Ok(()),
@@ -62,10 +72,7 @@ fn sends_twice<C: TurnClientApi>(rt: &impl Abort, mut client: C) -> Result<(), F
 
 #[test]
 fn a_refused_resend_ends_the_client_and_is_still_due(rt: HostRuntime) -> Result<(), Fail> {
-    match client(rt.alloc()) {
-        Ok(client) => sends_twice(&rt, client),
-        Err(_) => Ok(()),
-    }
+    sends_twice(&rt, client(rt.alloc()))
 }
 
 fn tells_a_failure<C: TurnClientApi>(rt: &impl Abort, client: &mut C, family: AddressFamily) {
@@ -101,20 +108,22 @@ fn ends<C: TurnClientApi>(rt: &impl Abort, client: &mut C, refused: bool) {
     );
 }
 
-fn sends_and_ends<C: TurnClientApi>(rt: &impl Abort, mut client: C, refused: bool) {
-    if client.poll_transmit(called_at(0)).is_ok() {
-        ends(rt, &mut client, refused);
+fn sends_and_ends<C: TurnClientApi>(
+    rt: &impl Abort,
+    client: Result<C, CredentialsError>,
+    refused: bool,
+) {
+    if let Ok(mut client) = client {
+        if client.poll_transmit(called_at(0)).is_ok() {
+            ends(rt, &mut client, refused);
+        }
     }
 }
 
 #[test]
 fn an_end_tells_each_failure_or_finds_no_memory(rt: HostRuntime) {
-    if let Ok(client) = client_for_both(rt.alloc()) {
-        sends_and_ends(&rt, client, false);
-    }
-    if let Ok(client) = client_for_both(rt.alloc()) {
-        sends_and_ends(&rt, client, true);
-    }
+    sends_and_ends(&rt, client_for_both(rt.alloc()), false);
+    sends_and_ends(&rt, client_for_both(rt.alloc()), true);
 }
 
 /// Whether these are to call again at once, a packet, and no event.
