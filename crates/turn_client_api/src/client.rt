@@ -233,12 +233,12 @@ pub trait TurnClientApi: Debug + Drop {
     /// whole frames that were processed before keep their effect.
     ///
     /// Over UDP only a message allocates memory, and only one that is answered or that changes the
-    /// client: a signed reply to an outstanding request, a challenge to one, a message that ends
-    /// the client, and a ConnectionAttempt that is accepted or signed. A late reply allocates none,
-    /// nor does an indication that is not accepted, or any other request. The same holds for one
-    /// whole frame over TCP if no stream holds bytes to process; bytes of a bound connection whose
-    /// stream is empty allocate none either. An empty slice may allocate memory for the close that
-    /// `poll` is to report, and no frame is processed before.
+    /// client: a signed reply to an outstanding request, a challenge to one or to one that was made
+    /// again, a message that ends the client, and a ConnectionAttempt that is accepted or signed. A
+    /// late reply allocates none, nor does an indication that is not accepted, or any other
+    /// request. The same holds for one whole frame over TCP if no stream holds bytes to process;
+    /// bytes of a bound connection whose stream is empty allocate none either. An empty slice may
+    /// allocate memory for the close that `poll` is to report, and no frame is processed before.
     fn recv<T: AsSlice<u8> + Debug + Drop>(
         &mut self,
         transmit: Transmit<T>,
