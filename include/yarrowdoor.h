@@ -410,7 +410,8 @@ static inline yarrowdoor_settings yarrowdoor_settings_of(uint32_t transport, con
    YARROWDOOR_ALLOCATE_TCP_SOCKET: open a connection from any port of this host to answer->to over answer->transport,
    and pass it to yarrowdoor_allocated_tcp_socket with the id and the addresses of the answer. YARROWDOOR_TCP_CLOSE:
    close the connection from answer->from to answer->to. YARROWDOOR_CLOSED: the client has ended; poll the events
-   that are left. There is none where nobody answers, or the password is wrong: 39.5 s after the start by default. */
+   that are left. By default that is 39.5 s after the start where nobody answers, with an event for each family, or where
+   the user name or the password is wrong, with none. */
 static inline uint32_t yarrowdoor_poll(yarrowdoor *client, uint64_t now, yarrowdoor_answer *answer)
 {
     yarrowdoor_request request = yarrowdoor_request_of(YARROWDOOR_CALL_POLL, now);
