@@ -97,8 +97,8 @@ pub trait TurnClientApi: Debug + Drop {
     ///
     /// # Errors
     ///
-    /// `NoAllocation` if the server has not granted an allocation yet, or if the client has ended.
-    /// `OutOfMemory`. Nothing changes then.
+    /// `NoAllocation` if the server has not granted an allocation yet, or if the client has ended other
+    /// than by the expiry of its allocations. `OutOfMemory`. Nothing changes then.
     fn delete(&mut self, now: Instant) -> Result<(), DeleteError>
         requires now_in_range { now ≤ 2 ^ 62 }
         ensures step { Deletes result (state self.old) (state self.new) (delete_step now (state self.old)) };

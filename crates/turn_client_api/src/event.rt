@@ -10,7 +10,8 @@ use turn_types::{AddressFamily, TransportType};
 pub enum TurnEvent {
     /// The server allocated this relayed address.
     AllocationCreated(TransportType, SocketAddr),
-    /// The server allocated no address of this family, and the client no longer requests one.
+    /// The client has no address of this family, and no longer requests one: the server refused, or did
+    /// not answer the first request, or the client has ended.
     AllocationCreateFailed(AddressFamily),
     /// Peers of this IP address are permitted from now on, whatever their port (RFC 8656, section
     /// 9).

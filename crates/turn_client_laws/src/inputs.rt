@@ -24,8 +24,8 @@ pub fn inputs_are_frames()
 {}
 
 /// `recv` and `poll_recv` process their inputs one after the other, each in the state that the one before
-/// left, apart from the bytes of the streams; or the server closed a stream. If memory allocation fails,
-/// the call processed the first of these inputs and then ended the client.
+/// left, apart from the streams, of which none becomes bound; or the server closed a stream. If memory
+/// allocation fails, the call processed the first of these inputs and then ended the client.
 pub fn calls_process_inputs()
     ensures found { (call : Call) (s : State) → TakesInput call → ProcessesInputs call s }
     ensures none { (call : Call) (s t : State) → TakesInput call → EndsWithoutMemory call s t → EndsAmidInputs call s t }

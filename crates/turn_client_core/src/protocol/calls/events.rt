@@ -18,7 +18,8 @@ impl TurnClientProtocol {
         self.ledger.next_event()
     }
 
-    /// Reports that the control connection failed: all that is pending fails, and the client has ended.
+    /// Reports that the control connection failed: each address family that is still requested fails,
+    /// and the client has ended.
     ///
     /// # Errors
     ///
