@@ -4,9 +4,11 @@ import contextlib
 import ssl
 import time
 import unittest
-from typing import AsyncIterator
+import unittest.mock
+from typing import AsyncIterator, Awaitable, Callable
 
 from yarrowdoor import Clock, ConnectFailed, PermissionFailed, TurnClient, WrongCredentials
+from yarrowdoor.link import Link
 
 from . import coturn as server
 
@@ -166,6 +168,35 @@ class Coturn(unittest.IsolatedAsyncioTestCase):
 
     async def test_streams_over_tls(self) -> None:
         await self.streams(self.server.uri("turns:localhost:{tls_port}"), 16384, ssl=self.tls())
+
+    async def connect_failed(self, open_one: Callable[..., Awaitable[Link]]) -> ConnectFailed:
+        """How connecting to a peer fails where data connections are opened so. The client goes on."""
+        peers = await asyncio.start_server(echo_stream, "127.0.0.1", 0)
+        uri = self.server.uri("turn:127.0.0.1:{port}?transport=tcp")
+        async with peers, TurnClient(uri, "user", "pass", relay="tcp") as relay:
+            opens = relay._connect
+            with unittest.mock.patch.object(relay, "_connect", lambda *them: open_one(opens, *them)):
+                with self.assertRaises(ConnectFailed) as failed:
+                    await asyncio.wait_for(relay.connect(peers.sockets[0].getsockname()), 10)
+            self.assertFalse(relay.closed)
+        return failed.exception
+
+    async def test_a_data_connection_that_does_not_open(self) -> None:
+        async def no_socket(opens: Callable[..., Awaitable[Link]], *them: object) -> Link:
+            raise OSError("too many open files")
+
+        failed = await self.connect_failed(no_socket)
+        self.assertIsInstance(failed.__cause__, OSError)
+        self.assertIn("too many open files", str(failed))
+
+    async def test_a_data_connection_that_ends_before_it_is_bound(self) -> None:
+        """It is asked for once more, and then coturn says that it has a connection to this peer (RFC 6062, section 5.2)."""
+        async def one_that_ends(opens: Callable[..., Awaitable[Link]], *them: object) -> Link:
+            link = await opens(*them)
+            link.close()
+            return link
+
+        self.assertEqual((await self.connect_failed(one_that_ends)).code, 446)
 
     async def test_two_relays(self) -> None:
         async with TurnClient(self.server.uri(), "user", "pass") as one, TurnClient(self.server.uri(), "user", "pass") as other:

@@ -203,6 +203,16 @@ class ThroughASocket(unittest.IsolatedAsyncioTestCase):
             self.assertEqual(failed.exception.code, 403)
             self.assertEqual(list(relay.lost), [])
 
+    async def test_a_request_that_failed_is_made_again(self) -> None:
+        endpoint = await self.serve(denied=("10.1.0.2",))
+        async with TurnClient(endpoint.uri, "user", "pass") as relay:
+            with self.assertRaises(PermissionFailed):
+                await relay.permit("10.1.0.2")
+            endpoint.server.denied = ()
+            await relay.permit("10.1.0.2")
+            await relay.send(b"hello", ("10.1.0.2", 9000))
+            self.assertEqual(await asyncio.wait_for(relay.receive(), 5), (b"hello", ("10.1.0.2", 9000)))
+
     async def test_a_wrong_password_is_told_soon(self) -> None:
         endpoint = await self.serve()
         start = time.monotonic()

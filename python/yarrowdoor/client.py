@@ -52,8 +52,8 @@ _REASONS = {1: "already-exists", 2: "no-allocation", 3: "no-permission", 4: "no-
 class Times:
     """How long a request waits for its answer, as whole numbers of nanoseconds (RFC 8489, section 6.2.1).
 
-    Over UDP it is transmitted `count` times: the second time after `initial`, and each further time after twice the wait
-    before, but at most `longest`. It fails `last` after the last one: by default after 0.5 + 1 + 2 + 4 + 8 + 16 + 8 = 39.5 s.
+    Over UDP it is transmitted `count` times: the second time `initial` after it was made, and each further time after twice the
+    wait before, but at most `longest`. It fails `last` after the last one: by default after 0.5 + 1 + 2 + 4 + 8 + 16 + 8 = 39.5 s.
     Over TCP and TLS it is transmitted once, and fails as late. Each request has this time for itself, and entering a
     `TurnClient` makes two. Three seconds for each:
 
@@ -61,7 +61,7 @@ class Times:
     """
 
     initial: int = 500_000_000
-    """from the first transmission to the second, in nanoseconds; then it doubles"""
+    """from when the request is made to the second transmission, in nanoseconds; then it doubles"""
     longest: int = 1 << 62
     """the longest wait between two transmissions, in nanoseconds"""
     last: int = 8_000_000_000
@@ -168,7 +168,7 @@ class AllocationCreated:
 
 @dataclass
 class AllocationCreateFailed:
-    """The server relays no address of this family, 4 or 6."""
+    """There is no relayed address of this family, 4 or 6, for whatever reason."""
 
     __slots__ = ("family",)
     family: int
@@ -316,8 +316,8 @@ class Client:
     `local` and `remote` are the addresses of the socket and of the server. `user` and `password` are bytes, or text that is
     encoded as UTF-8 (typed text has to be prepared before; RFC 8489, section 14.3). `transport` is that to the server, and
     `allocation` that between server and peers: `"tcp"` (RFC 6062) needs a `transport` of `"tcp"`. `families` are those of
-    the relayed addresses: 4, 6 or both. `algorithms` sign requests, the preferred one first (RFC 8489, section 14.5 and
-    14.6). `anonymous` hides the user name (section 14.4). The transaction IDs are drawn from `seed`: 32 bytes that nobody
+    the relayed addresses: 4, 6 or both. `algorithms` are those that may sign requests (RFC 8489, sections 14.5 and
+    14.6): of both, SHA-256 does if the server offers it. `anonymous` hides the user name (section 14.4). The transaction IDs are drawn from `seed`: 32 bytes that nobody
     else knows; the system's random numbers by default. The client answers `max_stale_nonces` challenges in a row, 1 to 65,535,
     and the next one ends it (`docs/REAL-SERVERS.md` in the repository). A client that nothing refers to any more is freed.
 
@@ -408,7 +408,7 @@ class Client:
         return PeerData(data, unpacked(answer.peer), _TRANSPORT_NAMES[answer.transport], None)
 
     def send_to(self, peer: Address, data: Buffer, now: int, *, transport: Optional[str] = None) -> Packet:
-        """The packet that carries data to `peer`, which needs a permission, or over TCP a data connection.
+        """The packet that carries data to `peer`, which needs a permission, and over TCP a data connection too.
 
         `Refused` (`no-permission`, `no-socket`). `ValueError` for over 65,504 bytes where the allocation is over UDP.
         """
@@ -448,6 +448,8 @@ class Client:
     def allocated_tcp_socket(self, wanted: AllocateTcpSocket, local: Optional[Address], now: int) -> None:
         """Passes in the connection that `poll` asked for, by its local address, or None where there is none.
 
+        An event says that it is bound, or that it failed; there is none with None, nor where the connection ends before.
+
         `Refused`: `no-allocation` where no such connection is offered, `already-exists` where another has this address.
         """
         own = c.NO_ADDRESS if local is None else packed(local)
@@ -455,18 +457,20 @@ class Client:
                   from_=packed(wanted.local), to=packed(wanted.remote), peer=packed(wanted.peer), local=own)
 
     def tcp_closed(self, local: Address, remote: Address, now: int) -> None:
-        """Reports that the connection from `local` to `remote` was closed, or broke."""
+        """Reports that the data connection from `local` to `remote` was closed, or broke: `poll` answers `TcpClose` for it then."""
         self._ask(now, c.TCP_CLOSED, from_=packed(local), to=packed(remote))
 
     def delete(self, now: int) -> None:
-        """Requests that the server delete the allocations (RFC 8656, section 8): poll and transmit until `Closed`.
+        """Requests that the server delete the allocations (RFC 8656, section 8): poll and transmit until `Closed`, for as long as
+        you care to wait: where the server answers with an error other than 437 it does not come.
 
         `Refused`: `no-allocation`.
         """
         self._ask(now, c.DELETE)
 
     def protocol_error(self) -> None:
-        """Reports an error of a layer between client and server, as TLS: what is pending fails, and the client has ended."""
+        """Reports an error of a layer between client and server, as TLS: each family that is still requested fails, and the client
+        has ended."""
         self._ask(0, c.PROTOCOL_ERROR)
 
     # What there is

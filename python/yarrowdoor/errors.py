@@ -24,7 +24,8 @@ class Busy(YarrowdoorError, RuntimeError):
 
 
 class Refused(YarrowdoorError):
-    """The client refuses a call, and is as it was.
+    """The client refuses a call, and is as it was (but that `no-allocation` for an allocation past its expiry marks it: it is not
+    used again).
 
     `reason` is one of `already-exists` (it is active, or requested already), `no-allocation`, `no-permission` (the peer has
     none), `no-socket` (there is no data connection to the peer) and `expired` (the peer had a channel, and may have another

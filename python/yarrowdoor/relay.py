@@ -62,8 +62,8 @@ class TurnClient:
     waits for its answer (`Times`). At most `queue` packets of peers wait to be taken; a further one is dropped and counted. With
     `receiver` there is no queue: it is called with data and peer, in the event loop, and must neither block nor raise.
     `anonymous` hides the user name (RFC 8489, section 14.4): `"required"` always, `"disabled"` never, and `"auto"` never so far.
-    `max_stale_nonces` is how many challenges in a row are answered, at least as many as peers have permissions and channels:
-    their refreshes may all be challenged at once.
+    `max_stale_nonces` is how many challenges in a row are answered, more than peers have permissions and channels: their refreshes
+    may all be challenged at once, and that of the relayed address.
 
     Peers are IP addresses with ports; names are not resolved. What is counted and told:
 
@@ -77,10 +77,12 @@ class TurnClient:
     and TLS the connection comes before: the system gives up on it after about two minutes, and asyncio on the handshake of TLS
     after 60 s. `asyncio.wait_for(client.open(), seconds)` limits it all. It is used in one event loop.
 
-    Over UDP nothing tells that the server is gone until a request to it has no answer: refreshes come every few minutes, and
-    one fails after 39.5 s (`times`). Until then `closed` is False. `address` keeps its last value.
+    Over UDP little tells that the server is gone: a permission that is not renewed is told by `on_lost`, at most five minutes
+    after it was, and `closed` becomes True when the server's allocation expires, up to half an hour later. Until then what is
+    sent is lost. `address` keeps its last value.
 
-    Making it raises `ValueError` or `TypeError`, which names the argument.
+    Making it raises `ValueError` or `TypeError`, which says what is wrong; for `anonymous` and `max_stale_nonces`, and for a user
+    or password that is too long, opening it does.
     """
 
     def __init__(self, uri: Union[str, TurnUri], user: Union[str, bytes], password: Union[str, bytes], *, relay: str = "udp",
@@ -260,7 +262,8 @@ class TurnClient:
         """Gives a peer a channel, and a permission: its packets then have 4 bytes of header (RFC 8656, section 12).
 
         Waits for the server's answer. `ChannelFailed`, `Ended`; `Refused` where the peer's earlier channel is still reserved
-        (`expired`), and where it has another family than the relayed address (`no-allocation`).
+        (`expired`), where all 4,096 numbers are taken (`already-exists`), and where it has another family than the relayed address
+        (`no-allocation`).
         """
         peer = sans_io.unpacked(sans_io.packed(peer))
         self._open()
@@ -568,10 +571,10 @@ class TurnClient:
                 self.on_lost(lost)
 
     async def _request(self, what: str, about: Union[str, Address], make: Callable[[int], None]) -> None:
-        """Makes a request, and waits for the event that says how it went. Who asks for a pending one waits for that."""
+        """Makes a request, and waits for the event that says how it went. Who asks for one that is under way waits for that."""
         key = (what, about)
         waiter = self._pending.get(key)
-        if waiter is None:
+        if waiter is None or waiter.done():
             waiter = self._pending[key] = self._loop.create_future()
             self._spawn(self._make_request(key, waiter, make))
         await asyncio.shield(waiter)
@@ -590,7 +593,8 @@ class TurnClient:
         except Exception as error:
             _settle(waiter, error)
         finally:
-            del self._pending[key]
+            if self._pending.get(key) is waiter:
+                del self._pending[key]
             if waiter.done() and not waiter.cancelled():
                 waiter.exception()  # Nobody has to wait for it any more.
 

@@ -127,7 +127,9 @@ class Streams:
                     raise ConnectFailed(f"the connection to {peer} has ended")
                 return stream.pair
             except ConnectFailed as error:
-                if attempt == 2 or error.code is not None:
+                # A second CONNECT helps neither where the server says why, nor where no data connection opens: the server keeps
+                # the peer's connection for 30 s then (RFC 6062, section 5.2), and refuses another.
+                if attempt == 2 or error.code is not None or error.__cause__ is not None:
                     raise
             finally:
                 self._wanted.pop(peer, None)
@@ -143,7 +145,7 @@ class Streams:
 
     async def open(self, wanted: sans_io.AllocateTcpSocket) -> None:
         """Opens the data connection that the client wants: asked for by `connect`, or offered by a peer."""
-        link = None
+        link, failure = None, None
         is_offer = wanted.peer not in self._wanted
         if not is_offer or len(self._offered) + self._accepted.qsize() < BACKLOG:
             if is_offer:
@@ -152,12 +154,17 @@ class Streams:
                 link = await self.relay._connect(self._received, self._lost)
                 self._links.append(link)
                 self._add(link, wanted.peer)
-            except OSError:
+            except OSError as error:
                 self._offered.discard(wanted.peer)
+                failure = ConnectFailed(f"no data connection to the server for {wanted.peer}: {error}")
+                failure.__cause__ = error
         try:
             self.client.allocated_tcp_socket(wanted, link.local if link else None, self.now())
         except (Ended, Refused):
             self._forget(link)
+        if failure is not None:
+            # The client has no event for it.
+            self.relay._settle("connect", wanted.peer, failure)
         self.relay._drive()
 
     def _add(self, link: Link, peer: Address) -> None:
