@@ -110,8 +110,8 @@ enum yarrowdoor_kind {
 
     /* of yarrowdoor_recv and yarrowdoor_poll_recv */
     YARROWDOOR_HANDLED = 15,         /* the bytes were for the client itself */
-    YARROWDOOR_IGNORED = 16,         /* the bytes change nothing: they are not shown to be the server's (as a 401 to a
-                                        wrong password), or not for this client */
+    YARROWDOOR_IGNORED = 16,         /* the bytes, over TCP the first message in them, are not shown to be the server's
+                                        (as a 401 to a wrong password), or not for this client */
     YARROWDOOR_PEER_DATA = 17,       /* peer sent data over transport: len bytes in the buffer, and left more to read */
     YARROWDOOR_PEER_DATA_RANGE = 34, /* peer sent data over transport: len of the bytes passed in, from start on */
     YARROWDOOR_PEER_ICMP = 18, /* an ICMP packet came for data to peer: transport, icmp_type, icmp_code, icmp_data */
@@ -140,8 +140,8 @@ enum yarrowdoor_kind {
     YARROWDOOR_BAD_SEED = 33         /* the seed has not 32 bytes */
 };
 
-/* Why a client refuses a call, as the error of YARROWDOOR_REFUSED. The client is as it was, unless the call says
-   otherwise. */
+/* Why a client refuses a call, as the error of YARROWDOOR_REFUSED. The client is as it was, but that
+   YARROWDOOR_ERROR_NO_ALLOCATION for an allocation past its expiry marks it: it is not used again. */
 enum yarrowdoor_error {
     YARROWDOOR_ERROR_ALREADY_EXISTS = 1, /* it is active, or requested already */
     YARROWDOOR_ERROR_NO_ALLOCATION = 2,  /* there is no allocation for it */
@@ -168,13 +168,13 @@ typedef struct yarrowdoor_settings {
                               first one may be held back by the 50 ms between requests, and these count */
     uint64_t wait_max;     /* the longest wait between two transmissions, in nanoseconds */
     uint64_t wait_last;    /* the wait after the last transmission, in nanoseconds */
-    uint32_t wait_count;   /* how often a request is transmitted in all; less often if it was held back for longer */
+    uint32_t wait_count;   /* how often a request is transmitted over UDP in all; once where wait_initial is at most 1 ms */
     uint32_t has_waits;    /* 0: the waits of RFC 8489, section 6.2.1, and the four above are not read */
     uint32_t transport;    /* between client and server */
     uint32_t allocation_transport; /* between server and peers; over TCP only where transport is TCP (RFC 6062) */
     uint32_t family;               /* of the relayed address: YARROWDOOR_IPV4 or YARROWDOOR_IPV6 */
     uint32_t other_family;         /* of a second relayed address, or 0 */
-    uint32_t algorithm;            /* that the client prefers */
+    uint32_t algorithm;            /* that the client accepts. Of two it uses SHA-256, if the server offers that */
     uint32_t other_algorithm;      /* that it accepts too, or 0 */
     uint32_t anonymous;            /* YARROWDOOR_AUTO, YARROWDOOR_REQUIRED or YARROWDOOR_DISABLED */
     uint16_t max_stale_nonces;     /* that are answered in a row; the next challenge ends the client. 0: nine */
@@ -410,16 +410,17 @@ static inline yarrowdoor_settings yarrowdoor_settings_of(uint32_t transport, con
    YARROWDOOR_ALLOCATE_TCP_SOCKET: open a connection from any port of this host to answer->to over answer->transport,
    and pass it to yarrowdoor_allocated_tcp_socket with the id and the addresses of the answer. YARROWDOOR_TCP_CLOSE:
    close the connection from answer->from to answer->to. YARROWDOOR_CLOSED: the client has ended; poll the events
-   that are left. By default that is 39.5 s after the start where nobody answers, with an event for each family, or where
-   the user name or the password is wrong, with none. */
+   that are left, and close its data connections. By default that is 39.5 s after the start where nobody answers, with
+   an event for each family, and 39.5 s after the challenge where the user name or the password is wrong, with none. */
 static inline uint32_t yarrowdoor_poll(yarrowdoor *client, uint64_t now, yarrowdoor_answer *answer)
 {
     yarrowdoor_request request = yarrowdoor_request_of(YARROWDOOR_CALL_POLL, now);
     return yarrowdoor_call_plain(client, &request, answer);
 }
 
-/* The next packet that is due. Requests start at least 50 ms apart (RFC 8489, section 6.2.1), so that an allocation
-   with its challenge and a permission take 100 ms or more. YARROWDOOR_PACKET: send the answer->len bytes in the
+/* The next packet that is due. Requests start at least 50 ms apart (our choice, in place of the RTO of RFC 8489,
+   section 6.2.1), so that an allocation with its challenge and a permission take 100 ms or more; retransmissions do not
+   wait. YARROWDOOR_PACKET: send the answer->len bytes in the
    buffer. YARROWDOOR_NOTHING: none is due. YARROWDOOR_UNREAD_BYTES: read the rest of an earlier answer first.
    YARROWDOOR_SMALL_BUFFER: the buffer has under YARROWDOOR_MAX_PACKET bytes, which is more than any packet has. */
 static inline uint32_t yarrowdoor_poll_transmit(yarrowdoor *client, uint64_t now, uint8_t *buffer, size_t buffer_len,
@@ -445,7 +446,7 @@ static inline uint32_t yarrowdoor_poll_event(yarrowdoor *client, yarrowdoor_answ
    server, and data of peers over UDP, take no memory. Data that does not fit into the buffer takes none either, so
    none of it is lost. Over TCP call yarrowdoor_poll_recv afterwards. Over UDP the buffer is not used, and may be null.
    `from` and `to` are compared with the settings' remote and local addresses, so these are to be those of the socket
-   (connect it, and ask getsockname). */
+   (connect it, and ask getsockname); `to` may also be the local address of a data connection. */
 static inline uint32_t yarrowdoor_recv(yarrowdoor *client, uint32_t transport, const yarrowdoor_address *from,
                                        const yarrowdoor_address *to, const uint8_t *bytes, size_t bytes_len,
                                        uint64_t now, uint8_t *buffer, size_t buffer_len, yarrowdoor_answer *answer)
@@ -494,8 +495,8 @@ static inline uint32_t yarrowdoor_send_to(yarrowdoor *client, uint32_t transport
 }
 
 /* Requests a permission for the IP address of `peer`, whatever its port (RFC 8656, section 9): data may be sent to
-   it and received from it. YARROWDOOR_DONE: an event reports what the server says, YARROWDOOR_PERMISSION_CREATED or
-   YARROWDOOR_PERMISSION_CREATE_FAILED. YARROWDOOR_REFUSED: YARROWDOOR_ERROR_NO_ALLOCATION, or
+   it and received from it. YARROWDOOR_DONE: an event reports the outcome, unless the client ends before,
+   YARROWDOOR_PERMISSION_CREATED or YARROWDOOR_PERMISSION_CREATE_FAILED. YARROWDOOR_REFUSED: YARROWDOOR_ERROR_NO_ALLOCATION, or
    YARROWDOOR_ERROR_ALREADY_EXISTS. */
 static inline uint32_t yarrowdoor_create_permission(yarrowdoor *client, uint32_t transport,
                                                     const yarrowdoor_address *peer, uint64_t now,
@@ -518,8 +519,8 @@ static inline uint32_t yarrowdoor_have_permission(yarrowdoor *client, uint32_t t
 }
 
 /* Requests a channel to `peer`, and with it a permission (RFC 8656, section 12): its data then has four bytes of
-   header, and not 36 or 48. YARROWDOOR_DONE: an event reports what the server says, YARROWDOOR_CHANNEL_CREATED or
-   YARROWDOOR_CHANNEL_CREATE_FAILED. YARROWDOOR_REFUSED: YARROWDOOR_ERROR_NO_ALLOCATION;
+   header, and not 36 or 48. YARROWDOOR_DONE: an event reports the outcome, unless the client ends before,
+   YARROWDOOR_CHANNEL_CREATED or YARROWDOOR_CHANNEL_CREATE_FAILED, and another that of a permission that it requested. YARROWDOOR_REFUSED: YARROWDOOR_ERROR_NO_ALLOCATION;
    YARROWDOOR_ERROR_ALREADY_EXISTS, also where all 4,096 numbers are taken; YARROWDOOR_ERROR_EXPIRED, up to
    answer->time. */
 static inline uint32_t yarrowdoor_bind_channel(yarrowdoor *client, uint32_t transport, const yarrowdoor_address *peer,
@@ -532,8 +533,8 @@ static inline uint32_t yarrowdoor_bind_channel(yarrowdoor *client, uint32_t tran
 }
 
 /* Requests that the server connect to `peer`, which needs a permission, from an allocation over TCP (RFC 6062,
-   section 4.3). YARROWDOOR_DONE: yarrowdoor_poll answers YARROWDOOR_ALLOCATE_TCP_SOCKET, or an event
-   YARROWDOOR_TCP_CONNECT_FAILED. YARROWDOOR_REFUSED: YARROWDOOR_ERROR_NO_ALLOCATION, YARROWDOOR_ERROR_NO_PERMISSION
+   section 4.3). YARROWDOOR_DONE: unless the client ends before, yarrowdoor_poll answers
+   YARROWDOOR_ALLOCATE_TCP_SOCKET, or an event YARROWDOOR_TCP_CONNECT_FAILED. YARROWDOOR_REFUSED: YARROWDOOR_ERROR_NO_ALLOCATION, YARROWDOOR_ERROR_NO_PERMISSION
    or YARROWDOOR_ERROR_ALREADY_EXISTS. */
 static inline uint32_t yarrowdoor_tcp_connect(yarrowdoor *client, const yarrowdoor_address *peer, uint64_t now,
                                               yarrowdoor_answer *answer)
@@ -545,7 +546,8 @@ static inline uint32_t yarrowdoor_tcp_connect(yarrowdoor *client, const yarrowdo
 
 /* Passes in the data connection that YARROWDOOR_ALLOCATE_TCP_SOCKET asked for: its id, transport, from, to and peer,
    and `local`, the address of the new socket, or null where no connection could be opened. YARROWDOOR_DONE: an event
-   reports YARROWDOOR_TCP_CONNECTED or YARROWDOOR_TCP_CONNECT_FAILED. YARROWDOOR_REFUSED:
+   reports YARROWDOOR_TCP_CONNECTED or YARROWDOOR_TCP_CONNECT_FAILED; there is none where `local` is null, nor where the
+   connection ends before it is bound: then YARROWDOOR_TCP_CLOSE alone tells it. YARROWDOOR_REFUSED:
    YARROWDOOR_ERROR_NO_ALLOCATION where no such connection is offered, or YARROWDOOR_ERROR_ALREADY_EXISTS where
    another has this local address. */
 static inline uint32_t yarrowdoor_allocated_tcp_socket(yarrowdoor *client, uint32_t id, uint32_t transport,
@@ -565,7 +567,9 @@ static inline uint32_t yarrowdoor_allocated_tcp_socket(yarrowdoor *client, uint3
     return yarrowdoor_call_plain(client, &request, answer);
 }
 
-/* Reports that the connection from `local` to `remote` was closed, or broke: YARROWDOOR_DONE. */
+/* Reports that the data connection from `local` to `remote` was closed, or broke: YARROWDOOR_DONE, and
+   YARROWDOOR_TCP_CLOSE follows. The end of the control connection is a yarrowdoor_recv of no bytes, and a
+   yarrowdoor_protocol_error. */
 static inline uint32_t yarrowdoor_tcp_closed(yarrowdoor *client, const yarrowdoor_address *local,
                                              const yarrowdoor_address *remote, uint64_t now, yarrowdoor_answer *answer)
 {
@@ -576,7 +580,8 @@ static inline uint32_t yarrowdoor_tcp_closed(yarrowdoor *client, const yarrowdoo
 }
 
 /* Requests that the server delete the allocations (RFC 8656, section 8). YARROWDOOR_DONE: poll and transmit until
-   YARROWDOOR_CLOSED. YARROWDOOR_REFUSED: YARROWDOOR_ERROR_NO_ALLOCATION. To give up before there is one, free the
+   YARROWDOOR_CLOSED, for as long as you care to wait: where the server answers with an error other than 437 it does not
+   come. YARROWDOOR_REFUSED: YARROWDOOR_ERROR_NO_ALLOCATION. To give up before there is one, free the
    client: what the server may still grant ends there by its lifetime. */
 static inline uint32_t yarrowdoor_delete(yarrowdoor *client, uint64_t now, yarrowdoor_answer *answer)
 {
@@ -585,7 +590,7 @@ static inline uint32_t yarrowdoor_delete(yarrowdoor *client, uint64_t now, yarro
 }
 
 /* Reports an error of a layer between client and server, as TLS, after which nothing can be sent: YARROWDOOR_DONE.
-   What is pending fails, by its events, and the client has ended. */
+   Each family that is still requested fails, by its event; what else is pending has none. The client has ended. */
 static inline uint32_t yarrowdoor_protocol_error(yarrowdoor *client, yarrowdoor_answer *answer)
 {
     yarrowdoor_request request = yarrowdoor_request_of(YARROWDOOR_CALL_PROTOCOL_ERROR, 0);

@@ -81,7 +81,8 @@ pub trait TurnClientApi: Debug + Send {
     ///
     /// # Errors
     ///
-    /// `NoAllocation`: the server has not granted an allocation yet, or the client has ended.
+    /// `NoAllocation`: the server has not granted an allocation yet, or the client has ended (not by the expiry of its
+    /// allocations).
     fn delete(&mut self, now: Instant) -> Result<(), DeleteError>;
 
     /// Requests a permission for a peer, whatever its port (RFC 8656, section 9). An event reports what the server says.
@@ -138,7 +139,8 @@ pub trait TurnClientApi: Debug + Send {
         now: Instant,
     ) -> Result<(), TcpAllocateError>;
 
-    /// Reports that a TCP connection was closed, or broke.
+    /// Reports that a data connection was closed, or broke: `poll` returns [`TurnPollRet::TcpClose`] for it then. The end of
+    /// the control connection is a `recv` of no bytes, and a `protocol_error`.
     fn tcp_closed(&mut self, local_addr: SocketAddr, remote_addr: SocketAddr, now: Instant);
 
     /// Makes the packet that carries data to a peer, over the transport of the allocation. It is always `Some`.

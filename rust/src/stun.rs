@@ -53,7 +53,7 @@ pub mod auth {
     /// Whether something that a server may lack is used.
     #[derive(Clone, Copy, Debug, Default, PartialEq, Eq)]
     pub enum Feature {
-        /// Where the server offers it.
+        /// As the client sees the server offer it: never, so far.
         #[default]
         Auto,
         /// Always.

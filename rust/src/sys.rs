@@ -27,7 +27,7 @@ numbers! {
     REQUIRED: u32 = 1;
     DISABLED: u32 = 2;
 
-    /// The greatest length of a packet of `poll_transmit`, in bytes.
+    /// What the buffer of `poll_transmit` needs, in bytes: every packet is shorter.
     MAX_PACKET: usize = 65_556;
     /// What the packet of `send_to` may have beyond its data, in bytes.
     MAX_OVERHEAD: usize = 64;

@@ -135,17 +135,17 @@ impl TurnConfig {
         &self.credentials
     }
 
-    /// Offers the server this algorithm too. One that is offered already is ignored.
+    /// Accepts this algorithm too. One that is accepted already is ignored.
     pub fn add_supported_integrity(&mut self, integrity: IntegrityAlgorithm) {
         add(&mut self.supported_integrity, integrity);
     }
 
-    /// Offers the server this algorithm, and no other.
+    /// Accepts this algorithm, and no other.
     pub fn set_supported_integrity(&mut self, integrity: IntegrityAlgorithm) {
         self.supported_integrity = vec![integrity];
     }
 
-    /// The algorithms that are offered, the preferred one first.
+    /// The algorithms that the client accepts. In any order it uses SHA-256 if the server offers that, and else SHA-1.
     pub fn supported_integrity(&self) -> &[IntegrityAlgorithm] {
         &self.supported_integrity
     }
@@ -162,7 +162,7 @@ impl TurnConfig {
 
     /// Sets when requests are retransmitted (RFC 8489, section 6.2.1). Without this call they are by the RFC's times.
     ///
-    /// - `initial`: from the first transmission to the second; it is doubled for each further one.
+    /// - `initial`: from when the request is made to the second transmission; it is doubled for each further one.
     /// - `max`: the longest time between two transmissions.
     /// - `retransmits`: the number of transmissions, with the first.
     /// - `final_retransmit_timeout`: from the last transmission to the end of the request.
@@ -184,8 +184,9 @@ impl TurnConfig {
         });
     }
 
-    /// Sets how many challenges in a row the client answers: the next one ends it. The count begins anew with the next
-    /// signed reply to an outstanding request. By default they are 9. The original crate has no such setter.
+    /// Sets how many challenges in a row the client answers: the next one ends it. The count begins anew with a signed reply
+    /// for a permission, a channel or a CONNECT, or a refresh that takes effect, and not with the allocation. By default they
+    /// are 9. The original crate has no such setter.
     ///
     /// Set more for many peers over a slow link: refreshes that leave before the first answer returns have one nonce,
     /// and if the server has changed it, each of them is challenged and counts.

@@ -1,4 +1,5 @@
-//! Why a client refuses a call: one enum for each call. A refused call leaves the client as it was.
+//! Why a client refuses a call: one enum for each call. A refused call leaves the client as it was, but that `NoAllocation`
+//! for an allocation past its expiry marks it: it is not used again.
 
 use crate::stun::Instant;
 use std::error::Error;
@@ -52,7 +53,7 @@ error! {
 error! {
     /// Why the allocations are not deleted.
     DeleteError {
-        /// The server has not granted an allocation yet, or the client has ended.
+        /// The server has not granted an allocation yet, or the client has ended (not by the expiry of its allocations).
         NoAllocation => "There is no connection to the TURN server",
     }
 }

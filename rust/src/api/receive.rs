@@ -11,7 +11,7 @@ use std::ops::Range;
 pub enum TurnRecvRet<T: AsRef<[u8]> + Debug> {
     /// The bytes were for the client itself.
     Handled,
-    /// The bytes were not for this client: here they are.
+    /// The bytes, over TCP the first message in them, are not shown to be the server's, or not for this client: here they are.
     Ignored(Transmit<T>),
     /// A peer sent data.
     PeerData(TurnPeerData<T>),
