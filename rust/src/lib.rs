@@ -30,6 +30,9 @@
 //! - [`api::SendError`] has the variant `PayloadTooLong`: data of over 65,504 bytes fits into no datagram to the server.
 //! - A packet of `send_to` is built by the call: [`api::DelayedMessageOrChannelSend`] holds its bytes.
 //! - `allocate_with_seed` takes the seed of the transaction IDs; `allocate` draws one from the system.
+//! - [`stun`] and [`types`] have only what a caller of a client uses. `DelayedTransmit`, and two variants of
+//!   [`api::DelayedMessageOrChannelSend`], are left out.
+//! - What a client does differently is in the repository's `docs/DIFFERENCES.md`, under *Behaviour*.
 //! - Where memory allocation fails the process ends, as everywhere in Rust (`std::alloc::handle_alloc_error`).
 //! - A client is `Send`, by an argument that nothing proves (`handle.rs`), and not `Sync`:
 //!
