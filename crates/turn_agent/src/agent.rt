@@ -37,8 +37,8 @@ pub enum StunAgentPollRet {
     /// Nothing is due before this time. If it is not later than now, a request is to be retransmitted
     /// now, unless now is the greatest time, 2^63 - 1 ns.
     WaitUntil(Instant),
-    /// The request with this ID was sent as often as configured, and no response was received. It is
-    /// no longer outstanding.
+    /// The last wait of the request with this ID has ended, and no response was accepted. It is no
+    /// longer outstanding.
     TransactionTimedOut(TransactionId),
 }
 
@@ -241,7 +241,8 @@ impl StunAgent {
     ///
     /// # Errors
     ///
-    /// If memory allocation for the copy fails. The outstanding requests are unchanged then.
+    /// If memory allocation fails, for the copy or for its place among the requests. Nothing changes
+    /// then.
     pub fn send_request<T: AsSlice<u8> + Drop>(
         &mut self,
         id: TransactionId,

@@ -14,8 +14,8 @@ const SHORTEST_INITIAL_NANOS: u64 = 1_000_000;
 /// The longest wait that can be distinguished from a longer one: all sums of times saturate there.
 const GREATEST_WAIT: u128 = 0x7fff_ffff_ffff_ffff;
 
-/// How often a request is sent, and how long a response is awaited after each send (RFC 8489,
-/// section 6.2.1).
+/// How often a request is sent over UDP, and how long a response is awaited after each send (RFC
+/// 8489, section 6.2.1). Over TCP it is sent once, and awaited for the sum of the waits (6.2.2).
 ///
 /// A wait of 2^64 ns or more is kept as 2^64 - 1 ns. No `Instant` is so far ahead, so no call can
 /// distinguish them (our choice).

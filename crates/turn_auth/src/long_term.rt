@@ -215,8 +215,8 @@ impl LongTermClientAuth {
 
     /// Signs the message. To a request it adds the user, the realm, the nonce, with SHA-256 the password
     /// algorithms, and the integrity, in this order; to any other message the integrity alone (RFC 8489,
-    /// section 9.2.4). The bytes before it stay. For a message with the room that `message_signature_bytes`
-    /// and `reply_signature_bytes` return, no memory is allocated.
+    /// section 9.2.4). The bytes before it stay, but for the length in the header. For a message with the
+    /// room that `message_signature_bytes` and `reply_signature_bytes` return, no memory is allocated.
     ///
     /// # Errors
     ///

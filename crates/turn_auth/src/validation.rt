@@ -7,7 +7,8 @@ use crate::integrity::IntegrityAlgorithm;
 pub enum Validation {
     /// It is signed with the key that is held, using this algorithm.
     Validated(IntegrityAlgorithm),
-    /// It is a challenge, which names this algorithm: accept it, and make the request again.
+    /// It is a challenge, after which this algorithm is used: accept it, and make the request
+    /// again.
     ResendRequest(IntegrityAlgorithm),
     /// It is neither: act on nothing that it contains.
     Refused {

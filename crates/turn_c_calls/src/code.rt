@@ -113,7 +113,7 @@ pub const ALLOCATE_TCP_SOCKET: u32 = 11;
 /// The data connection from `from` to `to` is to be closed.
 pub const TCP_CLOSE: u32 = 12;
 
-/// The client has ended.
+/// The client has ended. Events may be left, and its data connections are to be closed.
 pub const CLOSED: u32 = 13;
 
 /// The bytes are a packet to send over `transport`, from `from` to `to`.
@@ -122,7 +122,7 @@ pub const PACKET: u32 = 14;
 /// The input was for the client.
 pub const HANDLED: u32 = 15;
 
-/// The input was not for the client.
+/// The input, over TCP its first frame, was not for the client.
 pub const IGNORED: u32 = 16;
 
 /// The bytes are data that `peer` sent over `transport`.
@@ -152,13 +152,13 @@ pub const ALLOCATION_CREATE_FAILED: u32 = 24;
 /// An event: the IP address of `peer` has a permission, over `transport`.
 pub const PERMISSION_CREATED: u32 = 25;
 
-/// An event: the IP address of `peer` got no permission, over `transport`.
+/// An event: the IP address of `peer` has no permission, or no longer, over `transport`.
 pub const PERMISSION_CREATE_FAILED: u32 = 26;
 
 /// An event: `peer` has a channel, over `transport`.
 pub const CHANNEL_CREATED: u32 = 27;
 
-/// An event: `peer` got no channel, over `transport`.
+/// An event: `peer` has no channel, or no longer, over `transport`.
 pub const CHANNEL_CREATE_FAILED: u32 = 28;
 
 /// An event: a data connection to `peer` is bound.
@@ -173,7 +173,7 @@ pub const PEER_DATA_RANGE: u32 = 34;
 
 // ---- the errors of methods
 
-/// What the call requests is active, or is requested already.
+/// What the call requests is active, or is requested already; no channel number is free; or the local address is in use.
 pub const ERROR_ALREADY_EXISTS: u32 = 1;
 
 /// There is no allocation for it.
@@ -208,7 +208,7 @@ pub const SHA1: u32 = 1;
 /// An integrity algorithm: HMAC-SHA256.
 pub const SHA256: u32 = 2;
 
-/// The user name is hidden if the server supports it (USERHASH; RFC 8489, section 14.4).
+/// The user name is not hidden: no offer of the server is read, so this is as [`DISABLED`] (RFC 8489, section 14.4).
 pub const AUTO: u32 = 0;
 
 /// The user name is always hidden.

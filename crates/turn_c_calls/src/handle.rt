@@ -25,7 +25,7 @@ const MAX_PAYLOAD: usize = 65_504;
 /// The most bytes that a packet adds to the data that it carries to a peer.
 const MAX_FRAME: usize = 64;
 
-/// The most bytes of a message, with its header.
+/// What a buffer for any message with its header needs, in bytes.
 const MAX_MESSAGE: usize = 65_556;
 
 /// Answers a request with its data, for a client whose allocation is over `relays`.

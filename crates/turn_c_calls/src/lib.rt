@@ -7,8 +7,8 @@
 //!
 //! A [`Session`](session::Session) is a client, with the bytes that did not fit into a buffer and are to be read. Each
 //! [`Request`](request::Request) is a call of the client, and its [`Answer`](answer::Answer) says the reply of the machine's
-//! step; a request that is refused changes nothing but the answer's kind. [`library`] has the three functions that a C
-//! library exports, and [`code`] the numbers.
+//! step; a request that is not made (kinds 2 to 6) changes nothing but the answer's kind. [`library`] has the three
+//! functions that a C library exports, and [`code`] the numbers.
 #![tactic(auto)]
 
 pub mod address;

@@ -58,8 +58,8 @@ abbrev pub AllHaveAllocation : State → Type 0
 AllHaveAllocation s = All (HasAllocation s) s.grants
 
 -- What holds for every client that `poll` is called on. The pause begins with the first packet: in `New`
--- none was sent, and later a request is queued only after one was sent. No grant exists before the server
--- allocated.
+-- none was sent, and later a request is queued only after one was sent. No grant exists while an ALLOCATE
+-- awaits its response.
 pub record FitsPhaseForPoll (s : State) : Type 0 where
   pub nothing_sent : s.phase ≡ New → s.last_send ≡ None
   pub sent_before : s.phase ≢ New → has_queued_request s ≡ true → IsSome s.last_send

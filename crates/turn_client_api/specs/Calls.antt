@@ -144,7 +144,7 @@ bind_channel number peer now s =
     ∷ []
     ) s
 
--- by the times until which the peer is reserved, by whether the server allocated an address, and by the
+-- by the times until which the peer is reserved, by whether the client is in `Allocated`, and by the
 -- number that is free
 abbrev pub bound_by : SocketAddr → ℕ → State → List ℕ → Bool → Option ℕ → Result Unit BindChannelError × State
 bound_by peer now s (until ∷ others) _ _ = (Err (Bind.ExpiredChannelExists until), s)
@@ -270,7 +270,7 @@ protocol_error_step s = if is_closed s.phase then s else closed (fail_all s)
 
 -- ---- data for a peer (RFC 8656, sections 11.1 and 12.5; RFC 6062, section 4.3)
 
--- the local address of a bound connection to the peer
+-- the connection is bound to the peer
 abbrev pub bound_to : SocketAddr → DataConnection → Bool
 bound_to peer c = is_none c.deadline && same_address c.peer peer
 

@@ -22,7 +22,8 @@ abbrev pub challenge_takes_memory : List ℕ → State → Bool
 challenge_takes_memory message s = is_some (retried (purposes_of (id_of message) s)) || not (nat_lt s.challenges s.config.max_stale_nonces)
 
 -- Only a message that the client answers, or that changes it, allocates memory: none that is not for it, no
--- late reply, no DATA indication, no ConnectionAttempt that is not accepted, and no other request.
+-- late reply, no DATA indication, no ConnectionAttempt indication that is not accepted, and no other
+-- request.
 abbrev pub message_takes_memory : List ℕ → State → Bool
 message_takes_memory message s = by (judgement_of s message)
   where

@@ -45,7 +45,7 @@ data_of s peer offset bytes = PeerData (record {
 })
 
 -- A DATA indication of a peer whose IP address has a permission, whether or not its allocation is expired:
--- data, or an ICMP packet if there is no data (RFC 8656, section 11.6).
+-- data, or an ICMP packet if there is no data (RFC 8656, sections 11.4 and 11.6).
 abbrev pub data_indicated : State → List ℕ → Outcome
 data_indicated s message = if has_unknown message then Ignored else by (last_peer_in message) (last_in data_kind message) (last_icmp_in message)
   where

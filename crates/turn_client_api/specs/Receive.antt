@@ -1,4 +1,4 @@
--- What a client makes of received bytes (RFC 8656, section 11.6; over TCP RFC 6062).
+-- What a client makes of received bytes (RFC 8656, sections 11.4 and 11.6; over TCP RFC 6062).
 use Rattle.std.specs.Prelude.{ℕ, Bool, ◌&&◌, if◌then◌else◌, List, [], ◌∷◌, ◌++◌, Option, Some, None, is_some}
 use Rattle.std.specs.declared.ops.Range.{Range}
 use Rattle.std.specs.declared.net.socket_addr.SocketAddr.{SocketAddr}

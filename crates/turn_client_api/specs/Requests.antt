@@ -145,7 +145,7 @@ transport_attribute s = attribute requested_transport_kind (transport_value s.co
 abbrev pub peer_attribute : SocketAddr → ℕ → Addition
 peer_attribute peer id = attribute peer_kind (xor_value peer id)
 
--- a permission has no port: it is written as 0 (RFC 8656, section 9.1)
+-- a permission has no port: it is written as 0 (RFC 8656, section 10.1)
 abbrev pub without_port : IpAddr → SocketAddr
 without_port (Ip.V4 a) = V4 (xor_v4 (ipv4_octets a) 0)
 without_port (Ip.V6 a) = V6 (xor_v6 (ipv6_segments a) 0)

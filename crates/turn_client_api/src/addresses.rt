@@ -9,7 +9,7 @@ use std::net::{IpAddr, SocketAddr};
 use turn_types::{AddressFamily, TransportType};
 
 /// The relayed addresses of a client with their transports, in the order in which the server
-/// granted them. Expired allocations are skipped. Allocates no memory.
+/// granted them. Allocations that are marked as expired are skipped. Allocates no memory.
 #[derive(Debug, Drop)]
 pub struct RelayedAddressesIter<'a> {
     transport: TransportType,

@@ -78,13 +78,14 @@ pub trait TurnClientApi: Debug + Drop {
         ensures { result ≡ (state self.now).remote };
 
     /// The relayed addresses of the client with their transports, in the order in which the server
-    /// granted them (RFC 8656, section 7.3). Expired allocations are skipped.
+    /// granted them (RFC 8656, section 7.3). Allocations that are marked as expired are skipped;
+    /// expiries are not checked.
     fn relayed_addresses(&self) -> RelayedAddressesIter<'_>
         ensures { relayed_left result ≡ relayed_addresses_of (state self.now) };
 
-    /// The peer IP addresses that have a permission in the allocation with this relayed address, in
-    /// the order in which the server granted them (RFC 8656, section 9). None if no allocation has
-    /// this relayed address, or if it is expired.
+    /// The peer IP addresses that have a permission in the allocation with this relayed address, in the
+    /// order in which the server granted them (RFC 8656, section 9). None if no allocation over this
+    /// transport has this relayed address, or if it is marked as expired.
     fn permissions(
         &self,
         transport: TransportType,
@@ -121,8 +122,8 @@ pub trait TurnClientApi: Debug + Drop {
         requires now_in_range { now ≤ 2 ^ 62 }
         ensures step { CreatesPermission result (state self.old) (state self.new) (create_permission_step transport peer_addr now (state self.old)) };
 
-    /// Whether this peer IP address has an active permission. Expired allocations are skipped; the
-    /// expiry of the permission is not checked.
+    /// Whether this peer IP address has an active permission. Allocations that are marked as expired
+    /// are skipped; expiries are not checked.
     fn have_permission(&self, transport: TransportType, to: IpAddr) -> bool
         ensures { result ≡ can_send_to transport to (state self.now) };
 
@@ -181,8 +182,9 @@ pub trait TurnClientApi: Debug + Drop {
         ensures step { TakesSocket result (state self.old) (state self.new)
             (allocated_tcp_socket_step id five_tuple peer_addr local_addr now (state self.old)) };
 
-    /// Reports that this data connection was closed. `poll` then reports that the caller is to
-    /// close its end. Data received over it can still be polled.
+    /// Reports that this data connection was closed. Unless the client has ended, `poll` then reports
+    /// that the caller is to close its end. Data received over it can still be polled. Without such a
+    /// connection nothing changes.
     ///
     /// # Errors
     ///
@@ -197,16 +199,17 @@ pub trait TurnClientApi: Debug + Drop {
         ensures ok { OnOk result (state self.new ≡ tcp_closed_step local_addr remote_addr (state self.old)) }
         ensures err { OnErr result (state self.new ≡ state self.old) };
 
-    /// Makes the packet that carries the data to this peer: over UDP a ChannelData message if a
-    /// channel to the peer is active, and else a Send indication (RFC 8656, sections 11.1 and
-    /// 12.5); over TCP the data unchanged, on a data connection that is bound to the peer (RFC
-    /// 6062, section 4.3). The result is always a packet, which is built when it is sent. Allocates
-    /// no memory.
+    /// Makes the packet that carries the data to this peer: over UDP a ChannelData message if the first
+    /// active channel to the peer is not past its expiry, and else a Send indication (RFC 8656,
+    /// sections 11.1 and 12.5); over TCP the data unchanged, on a data connection that is bound to the
+    /// peer (RFC 6062, section 4.3). The result is always a packet, which is built when it is sent. If
+    /// the allocation relays over UDP, the data has at most 65,504 bytes. Allocates no memory.
     ///
     /// # Errors
     ///
     /// In this order: `NoPermission` if the peer has none over this transport, or the allocation is
-    /// expired; `NoTcpSocket` if no data connection is bound to the peer. Nothing changes then.
+    /// marked as expired; `NoTcpSocket` if no data connection is bound to the peer. Nothing changes
+    /// then.
     fn send_to<T: AsSlice<u8> + Debug + Drop>(
         &mut self,
         transport: TransportType,
@@ -223,14 +226,15 @@ pub trait TurnClientApi: Debug + Drop {
     /// Processes a datagram, or bytes read from a stream. An empty slice reports the end of the
     /// stream.
     ///
-    /// Data of a peer is returned as a range of the bytes passed in, or as owned bytes if it was
-    /// joined from several pieces. Input that is not for the client is returned unchanged. Over TCP
-    /// more payloads may be buffered: call `poll_recv` until it returns none.
+    /// Data of a peer is returned as a range of the bytes passed in, or as owned bytes: over TCP it may
+    /// be joined from several pieces, or lie behind another frame. Input that is not for the client is
+    /// returned unchanged; over TCP that is said of its first frame alone, and the client keeps what
+    /// follows it. More payloads may be buffered: call `poll_recv` until it returns none.
     ///
     /// # Errors
     ///
-    /// If memory allocation fails. The client has ended then, and the stream delivers nothing more;
-    /// whole frames that were processed before keep their effect.
+    /// If memory allocation fails. The client has ended then, and the stream that was being read
+    /// delivers nothing more; whole frames that were processed before keep their effect.
     ///
     /// Over UDP only a message allocates memory, and only one that is answered or that changes the
     /// client: a signed reply to an outstanding request, a challenge to one or to one that was made
@@ -254,13 +258,14 @@ pub trait TurnClientApi: Debug + Drop {
         ensures free { takes_no_memory transmit.transport transmit.from transmit.to (T.items transmit.payload) (state self.old) ≡ true → IsOk result };
 
     /// The next payload of a peer that the streams hold, in the order in which they were opened, or
-    /// none. All other frames before it are processed.
+    /// none. All other frames before it are processed; ICMP reports among them are dropped.
     ///
     /// # Errors
     ///
     /// If memory allocation fails. The client has ended then, and the stream that was read delivers
-    /// nothing more; whole frames that were processed before keep their effect. If no stream holds
-    /// a whole frame or data of its peer, the call allocates no memory.
+    /// nothing more; whole frames that were processed before keep their effect. If no stream is ready
+    /// (it holds a whole frame, data of its peer, or bytes that begin no frame), the call allocates no
+    /// memory.
     fn poll_recv(&mut self, now: Instant) -> Result<Option<TurnPeerData<Vec<u8>>>, AllocError>
         requires now_in_range { now ≤ 2 ^ 62 }
         ensures answer { IfOk result (λ given. option_map given_payload given ≡ (poll_recv_step now (state self.old)).0) }
@@ -270,7 +275,7 @@ pub trait TurnClientApi: Debug + Drop {
         ensures no_memory { OnErr result (EndsAfterSteps now (state self.old) (state self.new)) };
 
     /// Handles expired timers and returns what to do next: wait until a time, open or close a data
-    /// connection, or nothing more.
+    /// connection, or that the client has ended.
     ///
     /// If the returned time is later than now, nothing is due before it: no packet is due, no
     /// event, offer or close is pending, no request times out and no grant expires. If that time is

@@ -56,7 +56,7 @@ impl Model for TurnConfig {
 
 impl TurnConfig {
     /// The configuration of a client with these credentials: it requests an IPv4 address that
-    /// relays over UDP, supports integrity with SHA-1, hides its user name as `Feature::Auto` says,
+    /// relays over UDP, supports integrity with SHA-1, does not hide its user name (`Feature::Auto`),
     /// retransmits at the times of RFC 8489, section 6.2.1, and answers nine challenges in a row.
     /// Allocates no memory.
     pub fn new(alloc: Global, credentials: TurnCredentials) -> TurnConfig

@@ -15,8 +15,8 @@ pub enum BindChannelError {
     /// The peer had a channel, and may have another only after this time (RFC 8656, section 12).
     #[error("The channel for requested peer address has expired and cannot be recreated until {0}.")]
     ExpiredChannelExists(Instant),
-    /// No allocation relays over this transport to addresses of the peer's IP version, or it has
-    /// expired.
+    /// No allocation relays over this transport to addresses of the peer's IP version, it has
+    /// expired, or the client has ended.
     #[error("There is no connection to the TURN server that can handle this channel.")]
     NoAllocation,
     /// Memory allocation for the request failed.
@@ -30,8 +30,8 @@ pub enum CreatePermissionError {
     /// The permission is active or pending.
     #[error("The permission already exists and cannot be recreated.")]
     AlreadyExists,
-    /// No allocation relays over this transport to addresses of the peer's IP version, or it has
-    /// expired.
+    /// No allocation relays over this transport to addresses of the peer's IP version, it has
+    /// expired, or the client has ended.
     #[error("There is no connection to the TURN server that can handle this permission")]
     NoAllocation,
     /// Memory allocation for the request failed.
@@ -57,7 +57,7 @@ pub enum SendError {
     /// There is no allocation. The clients of this project return `NoPermission` then (our choice).
     #[error("There is no connection to the TURN server")]
     NoAllocation,
-    /// No allocation of this transport has a permission for the peer.
+    /// No allocation of this transport has a permission for the peer, or it is marked as expired.
     #[error("There is no permission installed for the requested peer")]
     NoPermission,
     /// The allocation relays over TCP, and no data connection to the peer is bound (RFC 6062, section
@@ -76,7 +76,8 @@ pub enum TcpConnectError {
     /// A data connection to the peer exists, is pending, or is offered to the caller.
     #[error("The TCP connection already exists and cannot be recreated.")]
     AlreadyExists,
-    /// No allocation relays over TCP to addresses of the peer's IP version, or it has expired.
+    /// No allocation relays over TCP to addresses of the peer's IP version, it has expired, or the
+    /// client has ended.
     #[error("There is no connection to the TURN server that can handle this TCP socket.")]
     NoAllocation,
     /// The allocation has no permission for the peer.
@@ -93,7 +94,7 @@ pub enum TcpAllocateError {
     /// The local address is that of the control connection or of another data connection.
     #[error("The TCP connection already exists and cannot be recreated.")]
     AlreadyExists,
-    /// The client has no such connection offer.
+    /// The client has no such offer over this control connection, or has ended.
     #[error("There is no connection to the TURN server that can handle this TCP socket.")]
     NoAllocation,
     /// Memory allocation for the request failed.

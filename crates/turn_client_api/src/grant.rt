@@ -27,11 +27,11 @@ pub struct Relay {
     /// The lifetime that the server gave first, in nanoseconds. It never changes, and decides how
     /// long before its expiry the allocation is refreshed.
     pub first_lifetime: u64,
-    /// When it expires. A successful refresh extends it, and `delete` sets it to the time of that
-    /// call.
+    /// When it expires. A refresh that gives at least 600 s extends it, and `delete` sets it to the
+    /// time of that call.
     pub expiry: Instant,
     /// Set when a call finds that the expiry of the allocation has passed, or deletes it, and never
-    /// cleared: nothing is sent over it any more.
+    /// cleared: no data is sent over it, and it is not refreshed any more.
     pub is_expired: bool,
 }
 
@@ -114,7 +114,8 @@ pub enum Purpose {
 }
 
 /// A purpose for which a request with this ID was made. A request with several purposes is listed
-/// once for each, and one that is made again after a challenge is listed under both IDs.
+/// once for each, and one that is made again after a challenge is listed under both IDs, but a
+/// CONNECTION_BIND under the new one alone.
 #[derive(Clone, Copy, Debug, PartialEq, Eq)]
 pub struct Listing {
     /// The transaction ID of the request.

@@ -38,6 +38,6 @@ pub enum TurnPollRet {
         /// The server's address of the connection.
         remote_addr: SocketAddr,
     },
-    /// Nothing more: the client has ended.
+    /// The client has ended. Poll the events that are left, and close all its data connections.
     Closed,
 }

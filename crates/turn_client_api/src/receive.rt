@@ -18,7 +18,7 @@ use turn_types::TransportType;
 pub enum DataRangeOrOwned<T: AsSlice<u8>> {
     /// A range of the bytes that the caller passed in.
     Range(DataRange<T>),
-    /// Bytes that were joined from several pieces.
+    /// Bytes of their own: joined from several pieces, from behind another frame, or copied.
     Owned(Vec<u8>),
 }
 
@@ -148,7 +148,8 @@ impl<T: AsSlice<u8>> AsSlice<u8> for TurnPeerData<T> {
 pub enum TurnRecvRet<T: AsSlice<u8>> {
     /// It was for the client, and is consumed. The calls that poll the client report its effects.
     Handled,
-    /// It was not for the client, and is returned unchanged.
+    /// It was not for the client, and is returned unchanged. Over TCP this is said of its first
+    /// frame alone: the client keeps what follows it, so do not process these bytes.
     Ignored(Transmit<T>),
     /// It carried data of a peer.
     PeerData(TurnPeerData<T>),

@@ -10,7 +10,8 @@ use turn_stun::transport::Transmit;
 /// New --first ALLOCATE--> Requesting --challenge--> Authenticating --success--> Allocated
 /// ```
 ///
-/// A refusal, a timeout, an allocation failure and `protocol_error` lead to `Closed`.
+/// An ALLOCATE without an address, a deletion, one challenge too many, an allocation failure in a
+/// call that polls or in `recv`, and `protocol_error` lead to `Closed`.
 #[derive(Clone, Copy, Debug, PartialEq, Eq)]
 pub enum Phase {
     /// No packet was sent yet.
@@ -19,7 +20,7 @@ pub enum Phase {
     Requesting,
     /// A signed ALLOCATE awaits its response (RFC 8489, section 9.2.5).
     Authenticating,
-    /// The server allocated an address, or one of each requested family.
+    /// The server allocated at least one address.
     Allocated,
     /// The client has ended.
     Closed,

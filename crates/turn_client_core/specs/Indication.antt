@@ -1,4 +1,4 @@
--- The result of a Data indication (RFC 8656, section 11.6).
+-- The result of a Data indication (RFC 8656, sections 11.4 and 11.6).
 use Rattle.std.specs.Prelude.{ℕ, ◌+◌, Bool, if◌then◌else◌, length, Option}
 use Rattle.std.specs.Net.Socket.{socket_ip}
 use Rattle.std.specs.Option.{option_map_or}

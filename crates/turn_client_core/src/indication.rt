@@ -1,4 +1,4 @@
-//! The contents of a Data indication (RFC 8656, section 11.6).
+//! The contents of a Data indication (RFC 8656, sections 11.4 and 11.6).
 
 ghost use Rattle.std.specs.Prelude.{◌≡◌, ◌≤◌, ◌||◌, length, drop, false, fold, is_some, None, option_and_then, true, IfNone, IfSome};
 ghost use Rattle.std.specs.List.{list_any};

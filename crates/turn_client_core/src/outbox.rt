@@ -33,7 +33,8 @@ pub(crate) struct Outbox {
     agent: StunAgent,
     ids: NumberSource,
     queue: Queue,
-    /// When a request was last sent or retransmitted: the pause between two requests starts then.
+    /// When a packet was last sent, except a reply within the pause: the pause between two requests
+    /// starts then.
     last_send: Option<Instant>,
 }
 

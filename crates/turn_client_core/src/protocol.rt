@@ -33,7 +33,7 @@ pub struct TurnClientProtocol {
     auth: LongTermClientAuth,
     ledger: GrantLedger,
     outbox: Outbox,
-    /// Challenges answered since the server last accepted a request. It stops a server that always
+    /// Challenges answered since a signed reply last reset the count. It stops a server that always
     /// challenges.
     challenges: u32,
     streams: Streams,

@@ -20,7 +20,7 @@ pub enum TurnProtocolRecv {
     /// It was not for the client. Nothing changed, except that a request may no longer be outstanding.
     Ignored,
     /// Data of this peer, which its allocation relayed over this transport: this range of the received
-    /// bytes (RFC 8656, sections 11.6 and 12.6).
+    /// bytes (RFC 8656, sections 11.4, 11.6 and 12.6).
     PeerData(TransportType, SocketAddr, Range<usize>),
     /// An ICMP packet about data that was sent to this peer over this transport (RFC 8656, section 11.6).
     PeerIcmp(TransportType, SocketAddr, Icmp),

@@ -4,7 +4,7 @@
 //! ```text
 //!  ask --> pending --granted--> active --expiry--> removed; a channel is reserved for a while first
 //!             |                    |
-//!             +--refused, timeout--+--refused--> removed, and an event reports it
+//!             +--refused, timeout--+--refused--> removed (a channel that was active: reserved), and an event reports it
 //! ```
 //!
 //! Begin with [`GrantLedger`], by which all changes are made. Reads are made on its [`GrantTable`];

@@ -111,7 +111,7 @@ impl GrantTable {
         key::reserve(&mut self.found, keys)
     }
 
-    /// Adds a grant, which must be new (`is_new`), after all others.
+    /// Adds a grant, which must be new (`has_no_double`), after all others.
     pub(crate) fn push(&mut self, grant: &Grant)
         requires room { 0 < self.old.grant_room }
         requires numbered { is_numbered grant.now ≡ true }

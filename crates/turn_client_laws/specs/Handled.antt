@@ -1,6 +1,6 @@
 -- What a call processes: whole datagrams, and whole frames of streams, each in the state in which it is
--- processed; and the payloads of peers among them (RFC 8656, sections 11.6 and 12.6; RFC 6062, section
--- 4.3).
+-- processed; and the payloads of peers among them (RFC 8656, sections 11.4, 11.6 and 12.6; RFC 6062,
+-- section 4.3).
 use Rattle.std.specs.Prelude.{ℕ, zero, suc, Bool, true, false, if◌then◌else◌, List, [], ◌∷◌, ◌++◌, filter_map, find, take, Option, Some, None}
 use Rattle.std.specs.declared.net.socket_addr.SocketAddr.{SocketAddr}
 use Rattle.turn_stun.specs.declared.transport.TransportType.{TransportType}

@@ -15,8 +15,8 @@ use Rattle.turn_client_api.specs.Due.{end_of, has_queued_request, max_wait, paus
 
 -- ---- expiry
 
--- from when on time removes the grant, or its channel's number is free; an expired allocation stays while a
--- request for it is pending
+-- from when on time removes the grant, reserves the active channel, or frees the reserved number; an
+-- expired allocation stays while a request for it is pending
 abbrev pub lapse_of : State → Grant → Option ℕ
 lapse_of s (Allocation a) = if a.is_expired && has_request (Allocation a) s then None else Some a.expiry
 lapse_of s (Permission ip (Active expiry)) = Some expiry

@@ -1,4 +1,5 @@
--- A call does what the inputs do that it processes (RFC 8656, section 12.5; RFC 6062, section 4.3).
+-- `recv` and `poll_recv` do what the inputs do that they process (RFC 8656, section 12.5; RFC 6062, section
+-- 4.3).
 use Rattle.std.specs.Prelude.{◌≡◌, ◌⊎◌, ℕ, List, [], ◌∷◌, ◌++◌, Option, Some, None, ⊤}
 use Rattle.std.specs.List.{Contains}
 use Rattle.std.specs.declared.net.socket_addr.SocketAddr.{SocketAddr}
@@ -66,7 +67,8 @@ pub record DiffersInStreams (s t : State) : Type 0 where
   pub others : t ≡ record s { streams = t.streams }
   pub bound : (local peer : SocketAddr) → IsBoundAt local peer t → IsBoundAt local peer s
 
--- these inputs, each in the state that the one before left, lead from the first state to the second
+-- these inputs, each in the state that the one before left apart from the streams, of which none becomes
+-- bound, lead from the first state to the second, apart from these again
 abbrev pub InputsLead : List Input → State → State → Type 0
 InputsLead [] s t = DiffersInStreams s t
 InputsLead (one ∷ later) s t = DiffersInStreams s one.before × InputsLead later (processed one).1 t

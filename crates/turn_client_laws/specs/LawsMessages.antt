@@ -184,7 +184,7 @@ granted_permission = Permission ip_of_peer (Active (ms 300_100))
 abbrev pub granted_channel : Grant
 granted_channel = Channel 0x4000 peer (Active (ms 600_100))
 
--- it was made for these, and these grants are pending
+-- it was made for these, and there are these grants beside the allocation
 abbrev pub asking : List Purpose → List Grant → SocketAddr → List ℕ → State → State
 asking purposes grants to text s = awaiting purposes to text (granted_at 0 (allocation_of_v4 ∷ grants) s)
 

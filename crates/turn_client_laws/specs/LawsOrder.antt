@@ -19,7 +19,7 @@ IsUngranted _ = ⊤
 
 -- More than `FitsPhaseForPoll`, which it implies: each call keeps it. A new client has sent nothing, and has
 -- nothing to send or to await. One that has begun has sent a packet, and so has one that has a request to
--- send.
+-- send. Before the allocation there are no grants.
 abbrev pub FitsPhase : State → Type 0
 FitsPhase s =
     (s.phase ≡ New → (s.last_send ≡ None) × (s.queue ≡ []) × (s.transactions ≡ []))

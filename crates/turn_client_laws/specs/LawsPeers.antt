@@ -1,4 +1,4 @@
--- The peers whose data is returned (RFC 8656, sections 11.6 and 12.6; RFC 6062, section 4.3).
+-- The peers whose data is returned (RFC 8656, sections 11.4, 11.6 and 12.6; RFC 6062, section 4.3).
 use Rattle.std.specs.Prelude.{◌≡◌, ◌⊎◌, ℕ, true, false, List, Option, Some, None, IfSome, ⊤}
 use Rattle.std.specs.List.{Contains}
 use Rattle.std.specs.Net.Socket.{socket_ip}

@@ -82,7 +82,7 @@ IsAnswer message s purpose = Contains (purposes_of (id_of message) s) purpose
 abbrev pub IsMadeAgain : List ℕ → ℕ → State → State → Transaction → Type 0
 IsMadeAgain message now s t x = (purpose : Purpose) × IsAnswer message s purpose × IsMadeAs purpose now s t x
 
--- the new request is listed for all that the old one was listed for
+-- the new request is listed so, for something that the old one was listed for
 abbrev pub IsListedAgain : List ℕ → ℕ → State → State → Listing → Type 0
 IsListedAgain message now s t l =
     (purpose : Purpose) × IsAnswer message s purpose × IsAnswer message s l.purpose × IsListedAs purpose now s t l

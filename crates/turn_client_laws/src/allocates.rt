@@ -7,11 +7,10 @@ ghost use Rattle.turn_client_laws.specs.LawsAllocates.{AllocatesAsAsked, Allocat
 ghost use Rattle.turn_client_laws.specs.LawsStates.{HoldsAtFirst, StaysInCalls};
 
 /// If an ALLOCATE is listed and outstanding, a request with its ID is for the families of which the client
-/// still requests an address: those that are configured, or IPv6 alone once the server had no address of
-/// one of them (RFC 8656, sections 7.1 and 7.4). Until the allocation nothing else is listed, and after it
-/// no ALLOCATE. This holds for a new client and after every call, even if memory allocation fails. So an
-/// address that is allocated in response to an ALLOCATE is of a family that such a request names in its
-/// bytes.
+/// still requests an address: those that are configured, or IPv6 alone if both are (RFC 8656, sections 7.1
+/// and 7.4). Until the allocation nothing else is listed, and after it no ALLOCATE. This holds for a new
+/// client and after every call, even if memory allocation fails. So an address that is allocated in
+/// response to an ALLOCATE is of a family for which such a request was written.
 pub fn allocates_ask_for_families()
     ensures initial { HoldsAtFirst AllocatesInOrder }
     ensures kept { StaysInCalls AllocatesInOrder }

@@ -18,7 +18,8 @@ ghost use Rattle.turn_client_laws.specs.LawsNumbers.{HasDistinctNumbers};
 /// waits to be bound removes that connection. A `poll` removes some only if it times a transaction out or
 /// the earliest expiry has come, and only those that have expired: an active permission at its expiry, a
 /// channel after it was reserved for 300 s, a connection that was not bound in time, what was requested by
-/// the transaction that timed out, and all grants in an allocation whose expiry has passed. No other call
+/// the transaction that timed out, an offer by a request of the server with the ID of that transaction, and
+/// all grants in an allocation whose expiry has passed. No other call
 /// removes any, and no call removes more if memory allocation fails.
 pub fn grants_go_by_kind()
     ensures call { (call : Call) (s t : State) (g : Grant) → Leaves call s t → Contains s.grants g → IsStillThere t g ⊎ IsTakenBy call s g }

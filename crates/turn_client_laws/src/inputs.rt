@@ -1,4 +1,4 @@
-//! A call does what the inputs do that it processes.
+//! `recv` and `poll_recv` do what the inputs do that they process.
 
 ghost use Rattle.std.specs.Prelude.{ℕ, false, List};
 ghost use Rattle.std.specs.declared.net.socket_addr.SocketAddr.{SocketAddr};
@@ -25,7 +25,8 @@ pub fn inputs_are_frames()
 
 /// `recv` and `poll_recv` process their inputs one after the other, each in the state that the one before
 /// left, apart from the streams, of which none becomes bound; or the server closed a stream. If memory
-/// allocation fails, the call processed the first of these inputs and then ended the client.
+/// allocation fails, the call processed some of these inputs from the first on, or none, and then ended
+/// the client.
 pub fn calls_process_inputs()
     ensures found { (call : Call) (s : State) → TakesInput call → ProcessesInputs call s }
     ensures none { (call : Call) (s t : State) → TakesInput call → EndsWithoutMemory call s t → EndsAmidInputs call s t }

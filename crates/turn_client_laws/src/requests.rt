@@ -15,8 +15,7 @@ ghost use Rattle.turn_client_laws.specs.LawsRequests.{IsListingOf, IsOldOrMade};
 /// or refreshes the first grant that is due, and it retransmits requests. In `recv` and `poll_recv` a
 /// message that is processed causes it: the new request has a purpose of the request that the message
 /// answers, and is listed for purposes of that one alone (RFC 8489, section 9.2.5; RFC 8656, section 7.4).
-/// No other call makes one, and a call whose memory allocation fails makes none except by the inputs that
-/// it processed.
+/// No other call makes one.
 pub fn requests_are_made()
     ensures request { (call : Call) (s t : State) (x : Transaction) → Leaves call s t → Contains t.transactions x → IsOldOrMade call s x }
     ensures listing { (call : Call) (s t : State) (l : Listing) → Leaves call s t → Contains t.listed l → Contains s.listed l ⊎ IsListingOf call s l }

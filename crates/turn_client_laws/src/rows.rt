@@ -17,8 +17,8 @@ ghost use Rattle.turn_client_laws.specs.LawsRows.{giving_back, granted_at, ip_of
 ghost use Rattle.turn_client_api.specs.declared.event.TurnEvent.TheVariants.{ChannelCreateFailed, PermissionCreateFailed};
 ghost use Rattle.turn_client_api.specs.declared.poll.TurnPollRet.TheVariants as Do;
 
-/// The bytes of the first ALLOCATE (RFC 8656, sections 7.1 and 18): for IPv4 no family is named, for
-/// both the additional one is, and for IPv6 alone the requested one.
+/// The bytes of the first ALLOCATE that requests a relay over UDP (RFC 8656, sections 7.1 and 18): for IPv4
+/// no family is named, for both the additional one is, and for IPv6 alone the requested one.
 pub fn first_allocate_is_spelled()
     ensures ipv4 { IsFirstAllocate (IPV4 ∷ []) 0x14 [] }
     ensures both { IsFirstAllocate (IPV4 ∷ IPV6 ∷ []) 0x1c (0x80 ∷ 0x00 ∷ 0x00 ∷ 0x04 ∷ 0x02 ∷ 0x00 ∷ 0x00 ∷ 0x00 ∷ []) }
@@ -71,7 +71,7 @@ pub fn delete_is_one_request()
     ensures empty { (to : SocketAddr) (text : List ℕ) (s : State) → (poll_step 40_500_000_000 (deleted_in_silence to text s)).1.grants ≡ [] }
 {}
 
-/// Failures that the client detects by itself are queued before other events (our choice): of a channel and
+/// Of failures that the client detects by itself the last is queued first (our choice): of a channel and
 /// the permission requested with it, whose request got no response, the failure of the permission is first,
 /// and the time that `poll` returns is not in the future, since both are pending.
 pub fn failures_jump()

@@ -15,7 +15,7 @@ ghost use Rattle.turn_client_laws.specs.LawsMessages.{IfSigned, ms, offer_of, af
 ghost use Rattle.turn_client_laws.specs.LawsPieces.{client, data_end, empty_stream, server, with_waiting};
 ghost use Rattle.turn_client_laws.specs.LawsSockets.{asked_to_connect, asked_without_peer, attempted, control, offered, opened, permission, relaying_tcp};
 
-/// The effects of a peer's connection to the relayed address (RFC 6062, sections 4.4 and 5.4).
+/// The effects of a peer's connection to the relayed address (RFC 6062, sections 4.4 and 5.3).
 pub fn peers_may_connect()
     // With a permission the caller is to open a connection.
     ensures offered { (s : State) → after_message attempted (relaying_tcp (permission ∷ []) s) ≡ (Handled, offered s) }

@@ -24,9 +24,9 @@ use turn_types::message::{
 };
 
 /// The machine's numbers are those that the crates below write and read: its attribute types (RFC 8656,
-/// section 18, and RFC 6062, section 6.2), its error codes (RFC 8489, section 14.8), its methods (RFC 8656,
-/// section 17, and RFC 6062, section 6.1), and both ends of its clock. The methods and these two times are
-/// returned, in the order of the clauses.
+/// section 18, and RFC 6062, section 6.2), its error codes (RFC 8489, section 14.8; RFC 8656, section 19;
+/// RFC 6062, section 6.3), its methods (RFC 8656, section 17, and RFC 6062, section 6.1), and both ends of
+/// its clock. The methods and these two times are returned, in the order of the clauses.
 pub fn numbers_are_the_standards() -> (
     Method,
     Method,

@@ -1,5 +1,5 @@
--- What the replies of a run return of peers (RFC 8656, sections 11.6 and 12.6; RFC 6062, section
--- 4.3).
+-- What the replies of a run return of peers (RFC 8656, sections 11.4, 11.6 and 12.6; RFC 6062,
+-- section 4.3).
 use Rattle.std.specs.Prelude.{◌≡◌, List}
 use Rattle.std.specs.List.{Contains}
 use Rattle.turn_client_api.specs.State.{State}

@@ -73,9 +73,10 @@ impl TurnClientTcp {
     /// returns what `read` returns. If the streams hold none, `read` is not called. It is the payload that
     /// [`TurnClientApi::poll_recv`] would return, and the call leaves what that call would leave.
     ///
-    /// The payload of a ChannelData message on the control connection is lent from where it is buffered (RFC
-    /// 8656, section 12.6). So are all buffered bytes of a data connection (RFC 6062, section 4.3), and no memory
-    /// is allocated for either. The payload of a DATA indication is copied first.
+    /// The payload of a ChannelData message at the front of the control stream is lent from where it is buffered
+    /// (RFC 8656, section 12.6). So are all buffered bytes of a data connection (RFC 6062, section 4.3), and no
+    /// memory is allocated for either. The payload of a DATA indication, and of what lies behind another frame, is
+    /// copied first.
     ///
     /// # Errors
     ///

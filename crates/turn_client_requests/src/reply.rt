@@ -19,7 +19,7 @@ use turn_types::message::CONNECTION_ATTEMPT;
 pub enum AttemptRefusal {
     /// 400: no connection ID, no peer, or no allocation over TCP for that peer.
     BadRequest,
-    /// 446: a connection to this peer exists, or is pending.
+    /// 446: a connection to this peer exists, bound or not, or is offered to the caller.
     ConnectionAlreadyExists,
     /// 447: the caller could not open the data connection.
     ConnectionTimeoutOrFailure,

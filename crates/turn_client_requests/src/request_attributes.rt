@@ -123,7 +123,7 @@ pub(crate) fn add_families(
     }
 }
 
-/// The IP address with the port 0, as in a CREATE_PERMISSION (RFC 8656, section 9.1).
+/// The IP address with the port 0, as in a CREATE_PERMISSION (RFC 8656, section 10.1).
 fn without_port(ip: IpAddr) -> SocketAddr
     ensures { result ≡ without_port ip }
 {

@@ -132,7 +132,7 @@ ComesIn _ one = ⊥
 abbrev pub IsAsked : ℕ → Purpose → ℕ → State → State → Type 0
 IsAsked id p now s t = (request : Purpose) × IsListedFor request p × IsMade request now s t × (id ≡ fresh_id s)
 
--- the input made it, in answer to a request that was made for the same
+-- it was made by this input, between the states just before and just after it
 abbrev pub IsRequestedByInput : ℕ → Purpose → Input → Type 0
 IsRequestedByInput id p one = IsAsked id p one.time one.before (processed one).1
 

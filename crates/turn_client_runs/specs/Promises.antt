@@ -53,7 +53,8 @@ TurnsCameIn first calls =
     (earlier : List Call) (call : Call) (later : List Call) (one : Input) → calls ≡ earlier ++ call ∷ later
     → Contains (handled call (state_after_all first earlier)) one → ComesIn call one × HasArrived (earlier ++ call ∷ []) first one
 
--- each payload is of a permitted peer, and an ICMP report is about a permitted one
+-- each payload is of a permitted peer, an ICMP report is about a permitted one, and what they were read
+-- from had been received
 abbrev pub DeliversOnlyPermitted : State → List Call → Type 0
 DeliversOnlyPermitted first calls =
     InEachPart (λ s middle. ReceivesOnlyPermitted s middle × IcmpIsOfPermitted s middle) first calls × TurnsCameIn first calls

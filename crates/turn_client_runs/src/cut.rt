@@ -28,9 +28,10 @@ pub fn wholes_are_frames()
         → whole_of local now s bytes ≡ ([], s) }
 {}
 
-/// A client over TCP is quiet when it is new, after any calls once it is polled and returns nothing, and
-/// after pieces that were each polled up to the first none. So is any client over TCP whose streams have
-/// distinct local addresses, as those of every client have, once it is polled and returns nothing.
+/// A client over TCP is quiet when it is new, after any calls once it is polled and returns nothing, and,
+/// if it was quiet before, after pieces that were each polled up to the first none. So is any client over
+/// TCP whose streams have distinct local addresses, as those of every client have, once it is polled and
+/// returns nothing.
 pub fn polled_clients_are_quiet()
     ensures initial { (local remote : SocketAddr) (config : Config) (seed : List ℕ) → IsQuiet (initial Tcp local remote config seed) }
     ensures run { (local remote : SocketAddr) (config : Config) (seed : List ℕ) (calls : List Call)
@@ -60,7 +61,7 @@ pub fn runs_give_the_same_for_any_cut()
 /// The results of a few streams, so that the check computes the definitions: a frame that is cut in its
 /// header, and a message after it; less than a frame, which is buffered; a byte with which no frame begins;
 /// bytes of a bound data connection; and a reply to CONNECTION_BIND, cut in two, with data after it, also
-/// with a frame before it, which is ignored, and without the required signature.
+/// with a frame before it, which is ignored, and with a wrong signature.
 pub fn streams_are_worked()
     ensures whole { (s : State) → whole_at client (abc_frame ++ hello_message) (with_channel s) ≡ (abc_and_hello, with_channel s) }
     ensures cut { (s : State) → pieces_at client (half_header ∷ (behind_half ++ hello_message) ∷ []) (with_channel s) ≡ (abc_and_hello, with_channel s) }

@@ -7,7 +7,8 @@
 //! ```
 //!
 //! The functions of this crate do nothing: their contracts are the laws. A proof uses one by calling its
-//! function, or names it.
+//! function, or names it. A law that does not speak of failed memory allocations holds for runs without
+//! one.
 //!
 //! ```rust
 //! replies_count_once_in_runs();

@@ -8,8 +8,8 @@ ghost use Rattle.turn_client_runs.specs.Inputs.{answered_in, payloads_in};
 
 /// Every payload of a run is of a permitted peer: in the state in which the input was processed, the peer's
 /// IP address had an active permission, the peer had an active channel, or the bytes are those of a stream
-/// that was bound to it (RFC 8656, sections 11.6 and 12.6; RFC 6062, section 4.3). It is exactly what the
-/// DATA indication or the ChannelData message carries, or the bytes of the stream.
+/// that was bound to it (RFC 8656, sections 11.4, 11.6 and 12.6; RFC 6062, section 4.3). It is exactly what
+/// the DATA indication or the ChannelData message carries, or the bytes of the stream.
 /// `bound_streams_have_their_success` says which success bound the stream. These payloads are all the data
 /// of peers that `recv` and `poll_recv` return in the run, apart from ICMP reports, and such a report is
 /// about a peer whose IP address had an active permission.

@@ -10,9 +10,9 @@ ghost use Rattle.turn_client_runs.specs.Replies.{EachReply, EndsItsRequest, IsMa
 /// outstanding when the reply is processed and is no longer so after it. However many calls follow, the ID
 /// is outstanding again only if a new request was made under it since. So of two replies with one ID that a
 /// run accepts, in one call or in two, the second is to a new request, which was made between them.
-/// Otherwise a copy of a reply finds no request, and grants nothing (`turn_client_api::replies_count_once`,
-/// `copy`). No ID is outstanding after a run that was not so before it and under which no call of the run
-/// made a request.
+/// Otherwise a copy of a reply finds no request, and grants nothing
+/// (`turn_client_laws::replies_count_once`, `copy`). No ID is outstanding after a run that was not so
+/// before it and under which no call of the run made a request.
 pub fn replies_count_once_in_runs()
     ensures ended { (s : State) (calls : List Call) → EachReply EndsItsRequest s calls }
     ensures again { (s : State) (call : Call) (calls : List Call) (one : Input) → IsReplyInput one → IsMadeSince s call calls one }

@@ -19,9 +19,9 @@ use turn_stun::transport::Transmit;
 ///
 /// # Errors
 ///
-/// Memory allocation failed. Either it failed for the list, and that call of the client was not made; or it
-/// failed in the client, which has then ended as its own docs say. The list keeps what the client returned
-/// before.
+/// Memory allocation failed. Either it failed for the list, and that call of the client was not made (a packet
+/// that was not passed in is dropped then); or it failed in the client, which has then ended as its own docs
+/// say. The list keeps what the client returned before.
 pub fn drive_client<C: TurnClientApi>(
     client: &mut C,
     came: Option<Transmit<Vec<u8>>>,

@@ -24,7 +24,8 @@ pub enum Task {
         /// The other data of the ICMP packet.
         icmp_data: u32,
     },
-    /// Input that was not for the client, returned unchanged.
+    /// Input that was not for the client, returned unchanged: over TCP its first frame, see
+    /// `TurnRecvRet`.
     Other(Transmit<Vec<u8>>),
     /// An event.
     Event(TurnEvent),
@@ -57,6 +58,6 @@ pub enum Rest {
     Until(Instant),
     /// Work may be left: poll again at once, before any other input is passed in.
     Now,
-    /// Nothing more: the client has ended, and has reported all its events.
+    /// The client has ended, and has reported all its events. No packet is due now.
     Ended,
 }

@@ -14,7 +14,7 @@ const TIMES: u64 = 20;
 /// The latest time of a call, in nanoseconds: 2^62.
 const LAST_TIME: u64 = 0x4000_0000_0000_0000;
 
-/// The first expiry of all that is active, or 0 if something active was not granted.
+/// The first expiry of the relayed addresses and permissions in use, or 0 if one was not granted.
 pub fn first_expiry<C: TurnClientApi>(client: &C, facts: &Facts, relays: TransportType) -> u64 {
     let mut first = u64::MAX;
     for (transport, address) in client.relayed_addresses() {

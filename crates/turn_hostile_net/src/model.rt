@@ -36,7 +36,7 @@ pub struct Model {
     answered: Vec<[u8; 12]>,
     /// The allocations are active at least until then, unless they are deleted; 0 if there are none.
     pub allocated: u64,
-    /// How many grants came through.
+    /// How many signed successes came through.
     pub grants: u64,
 }
 

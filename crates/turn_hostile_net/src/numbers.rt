@@ -75,8 +75,8 @@ impl Numbers {
         0
     }
 
-    /// A request names this number and this peer. No call was later than `latest`, and the allocations are active or the request
-    /// pending, at least until `allocated`. Returns whether the number may name the peer.
+    /// A request names this number and this peer. No call was later than `latest`, and the allocations are active and
+    /// the request pending at least until `allocated`. Returns whether the number may name the peer.
     ///
     /// # Errors
     ///

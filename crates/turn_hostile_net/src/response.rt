@@ -64,6 +64,10 @@ pub fn counts_once(purpose: Purpose) -> bool {
 }
 
 /// The packet of a response, which arrives then.
+///
+/// # Errors
+///
+/// If memory allocation fails.
 pub fn packet_of(alloc: Global, kind: Kind, response: Response, due: u64) -> Result<Packet, Fault> {
     let bytes = bytes_of(alloc, kind, response)?;
     Ok(Packet {

@@ -20,6 +20,10 @@ const STRANGER: u8 = 7;
 const FIRST_CHANNEL: u16 = 0x4000;
 
 /// Data of a peer or of a stranger, an offer, or noise.
+///
+/// # Errors
+///
+/// If memory allocation fails.
 pub fn stray_of(
     alloc: Global,
     draws: &mut Draws,

@@ -14,7 +14,8 @@ pub struct BadLine {
 /// An error in a line.
 #[derive(Clone, Copy, Debug, PartialEq, Eq)]
 pub enum BadKind {
-    /// The trace has too many bytes, or this line is one call too many.
+    /// The trace, or in `turn_live` this line, has too many bytes, or this line is one call too
+    /// many.
     Size,
     /// The line is not a head: it does not describe a client.
     Head,

@@ -13,7 +13,8 @@ pub struct WriteError;
 ///
 /// # Errors
 ///
-/// `WriteError` if the writer fails, except by an interruption, after which it writes again.
+/// `WriteError` if the writer fails, except by an interruption of a write, after which it writes
+/// again.
 pub fn write_text<W: Write>(writer: &mut W, text: &str) -> Result<(), WriteError>
     ensures { Writes (W.contents writer.old) (W.contents writer.new) text.now result }
 {

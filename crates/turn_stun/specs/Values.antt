@@ -11,7 +11,7 @@ abbrev pub sized : ℕ → ℕ → List ℕ → Option (List ℕ)
 sized least most value =
     if nat_le least (length value) && nat_le (length value) most then Some value else None
 
--- USERNAME (section 14.3: fewer than 509 bytes)
+-- USERNAME (section 14.3: fewer than 509 bytes; at least one is our choice)
 abbrev pub username_of : List ℕ → Option (List ℕ)
 username_of value = sized 1 508 value
 

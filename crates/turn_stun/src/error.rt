@@ -24,10 +24,10 @@ pub enum ParseError {
 /// Why a message does not return an attribute.
 #[derive(Clone, Copy, Debug, PartialEq, Eq, Error)]
 pub enum AttributeError {
-    /// No seen attribute has the type.
+    /// No seen attribute has the type, or not as many as were asked for.
     #[error("the attribute is absent")]
     Absent,
-    /// The first seen attribute of the type has a value that the type does not allow.
+    /// The seen attribute that was asked for has a value that the type does not allow.
     #[error("the attribute is malformed")]
     Malformed,
 }

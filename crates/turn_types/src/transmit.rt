@@ -29,6 +29,10 @@ pub trait DelayedTransmitBuild {
     }
 
     /// The bytes, `len` of them.
+    ///
+    /// # Errors
+    ///
+    /// `AllocError` if memory allocation fails.
     fn build(self, alloc: Global) -> Result<Vec<u8>, AllocError>
         ensures { IfOk result (λ built. built.items ≡ bytes self) };
 

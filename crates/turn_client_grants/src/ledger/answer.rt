@@ -143,8 +143,8 @@ impl GrantLedger {
     }
 
     /// The server answered for the channel with this number, in reply to a request with this ID. The
-    /// binding grants a permission too, if one was requested with it (RFC 8656, section 12.2), and a
-    /// refusal removes it.
+    /// binding grants a permission too, if one was requested with it (RFC 8656, section 12.2), and the
+    /// refusal of a pending channel removes it.
     pub fn channel_answered(
         &mut self,
         number: u16,

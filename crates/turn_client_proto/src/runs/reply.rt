@@ -31,7 +31,7 @@ pub enum Reply {
     Event(Option<TurnEvent>),
     /// `recv` processed the packet.
     Handled,
-    /// `recv` found that the packet was not for the client.
+    /// `recv` found that the packet, over TCP its first frame, was not for the client.
     Ignored,
     /// `recv` or `poll_recv` returned data of a peer.
     PeerData(PeerData),
@@ -60,7 +60,7 @@ pub enum Reply {
     TcpConnect(Result<(), TcpConnectError>),
     /// `allocated_tcp_socket` accepted the connection, or returned an error.
     AllocatedTcpSocket(Result<(), TcpAllocateError>),
-    /// `delete` deleted the allocations, or returned an error.
+    /// `delete` requested that the allocations be deleted, or returned an error.
     Delete(Result<(), DeleteError>),
     /// `relayed_addresses` returned these addresses.
     RelayedAddresses(RelayedAddresses),

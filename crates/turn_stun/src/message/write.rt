@@ -138,6 +138,10 @@ fn extend<A: AttributeWrite>(
 
 impl MessageWriteVec {
     /// A message of that type and with that transaction ID, which has no attributes yet.
+    ///
+    /// # Errors
+    ///
+    /// `AllocError` if memory allocation fails.
     pub fn builder(
         alloc: Global,
         message_type: MessageType,
@@ -170,6 +174,10 @@ impl MessageWriteVec {
     }
 
     /// A request.
+    ///
+    /// # Errors
+    ///
+    /// `AllocError` if memory allocation fails.
     pub fn builder_request(
         alloc: Global,
         method: Method,
@@ -184,6 +192,10 @@ impl MessageWriteVec {
 
     /// The success response to a request with that method and transaction ID. It does not take the request
     /// (our choice): a reply may be made long after that was dropped.
+    ///
+    /// # Errors
+    ///
+    /// `AllocError` if memory allocation fails.
     pub fn builder_success(
         alloc: Global,
         method: Method,
@@ -197,6 +209,10 @@ impl MessageWriteVec {
     }
 
     /// The error response to a request with that method and transaction ID. It needs an ERROR-CODE.
+    ///
+    /// # Errors
+    ///
+    /// `AllocError` if memory allocation fails.
     pub fn builder_error(
         alloc: Global,
         method: Method,

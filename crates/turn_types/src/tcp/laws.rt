@@ -61,9 +61,9 @@ pub fn frames_are_found()
     ensures channel { (id : ℕ) (payload : List ℕ) → 0x4000 ≤ id → id < 0x8000 → length payload < 2 ^ 16 → IsChannelFrame (channel_frame id payload) }
 {}
 
-/// Over any calls of `TurnTcpBuffer`, the frames that it returns are the frames of all the bytes
-/// received, in order, except those that are still buffered, and it keeps the rest. Once it is broken it
-/// has returned all the frames there are.
+/// Over any calls of `TurnTcpBuffer` that succeed, the frames that it returns are the frames of all the
+/// bytes received, in order, except those that are still buffered, and it keeps the rest. Once bytes
+/// with which no frame begins have broken it, it has returned all the frames there are.
 ///
 /// The calls are `incoming_tcp` (`Piece`), `feed` (`Feed`) and `poll_recv` (`Poll`). `pass` is a `Poll`
 /// too, whose frame is the one that `front` returned before it.

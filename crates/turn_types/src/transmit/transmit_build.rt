@@ -43,6 +43,10 @@ impl<T: DelayedTransmitBuild> TransmitBuild<T> {
     }
 
     /// The packet with its bytes built.
+    ///
+    /// # Errors
+    ///
+    /// `AllocError` if memory allocation fails.
     pub fn build(self, alloc: Global) -> Result<Transmit<Data>, AllocError>
         ensures payload { IfOk result (λ packet. packet.payload ≡ T.bytes self.payload) }
         ensures transport { IfOk result (λ packet. packet.transport ≡ self.transport) }

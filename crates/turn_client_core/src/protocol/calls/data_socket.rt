@@ -256,8 +256,9 @@ impl TurnClientProtocol {
 }
 
 impl TurnClientProtocol {
-    /// Reports that this data connection was closed. `poll` then reports that the caller is to close
-    /// its end. Data received over it can still be polled. Allocates no memory.
+    /// Reports that this data connection was closed. Unless the client has ended, `poll` then reports
+    /// that the caller is to close its end. Data received over it can still be polled. Without such a
+    /// connection nothing changes. Allocates no memory.
     pub fn tcp_closed(&mut self, local_addr: SocketAddr, remote_addr: SocketAddr)
         ensures { self.new ≡ tcp_closed_step local_addr remote_addr self.old }
     {

@@ -19,8 +19,8 @@ impl TurnClientProtocol {
     ///
     /// # Errors
     ///
-    /// `NoAllocation` if the server has not granted an allocation yet, or if the client has ended.
-    /// `OutOfMemory`. Nothing changes then.
+    /// `NoAllocation` if the server has not granted an allocation yet, or if the client has ended
+    /// other than by the expiry of its allocations. `OutOfMemory`. Nothing changes then.
     pub fn delete(&mut self, now: Instant) -> Result<(), DeleteError>
         ensures step { Deletes result self.old self.new (delete_step now self.old) }
     {

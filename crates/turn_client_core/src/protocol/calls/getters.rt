@@ -37,7 +37,7 @@ impl TurnClientProtocol {
     }
 
     /// The relayed addresses of the client with their transports, in the order in which the server
-    /// granted them (RFC 8656, section 7.3). Expired allocations are skipped.
+    /// granted them (RFC 8656, section 7.3). Allocations that are marked as expired are skipped.
     pub fn relayed_addresses(&self) -> RelayedAddressesIter<'_>
         ensures { relayed_left result ≡ relayed_addresses_of self.now }
     {
@@ -45,8 +45,8 @@ impl TurnClientProtocol {
     }
 
     /// The peer IP addresses that have a permission in the allocation with this relayed address, in the
-    /// order in which the server granted them (RFC 8656, section 9). None if no allocation has this
-    /// relayed address, or if it is expired.
+    /// order in which the server granted them (RFC 8656, section 9). None if no allocation over
+    /// this transport has this relayed address, or if it is marked as expired.
     pub fn permissions(
         &self,
         transport: TransportType,
@@ -57,8 +57,8 @@ impl TurnClientProtocol {
         self.ledger.permissions(transport, relayed)
     }
 
-    /// Whether this peer IP address has an active permission. Expired allocations are skipped; the
-    /// expiry of the permission is not checked.
+    /// Whether this peer IP address has an active permission. Allocations that are marked as expired are
+    /// skipped; expiries are not checked.
     pub fn have_permission(&self, transport: TransportType, to: IpAddr) -> bool
         ensures { result ≡ can_send_to transport to self.now }
     {

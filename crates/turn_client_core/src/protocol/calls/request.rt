@@ -21,7 +21,7 @@ use turn_stun::instant::Instant;
 use turn_stun::transaction::TransactionId;
 
 impl TurnClientProtocol {
-    /// Whether the server has granted an allocation. Requests can be signed then.
+    /// Whether the client is in `Allocated`. Requests can be signed then.
     pub(crate) fn is_allocated(&self) -> bool
         ensures value { result ≡ is_allocated self.now.phase }
         ensures phase { IsTrue result ↔ (self.now.phase ≡ Phase.Allocated) }

@@ -19,15 +19,17 @@ use turn_stun::transport::TransportType;
 use turn_types::transmit::{DelayedChannel, DelayedMessage};
 
 impl TurnClientProtocol {
-    /// Makes the packet that carries the data to this peer: over UDP a ChannelData message if a channel
-    /// to the peer is active, and else a Send indication (RFC 8656, sections 11.1 and 12.5); over TCP
-    /// the data unchanged, on a data connection that is bound to the peer (RFC 6062, section 4.3). The
-    /// result is always a packet, which is built when it is sent. Allocates no memory.
+    /// Makes the packet that carries the data to this peer: over UDP a ChannelData message if the first
+    /// active channel to the peer is not past its expiry, and else a Send indication (RFC 8656,
+    /// sections 11.1 and 12.5); over TCP the data unchanged, on a data connection that is bound to the
+    /// peer (RFC 6062, section 4.3). The result is always a packet, which is built when it is sent.
+    /// Allocates no memory.
     ///
     /// # Errors
     ///
     /// In this order: `NoPermission` if the peer has none over this transport, or the allocation is
-    /// expired; `NoTcpSocket` if no data connection is bound to the peer. Nothing changes then.
+    /// marked as expired; `NoTcpSocket` if no data connection is bound to the peer. Nothing changes
+    /// then.
     // As a result of its own, a packet of 160 bytes would be copied at each return on its way to the caller.
     #[inline(always)]
     pub fn send_to<T: AsSlice<u8> + Debug + Drop>(
@@ -51,7 +53,8 @@ impl TurnClientProtocol {
         }
     }
 
-    /// A ChannelData message if a channel to the peer is active, and else a Send indication.
+    /// A ChannelData message if the first active channel to the peer is not past its expiry, and else a
+    /// Send indication.
     fn send_over_udp<T: AsSlice<u8> + Debug + Drop>(
         &mut self,
         to: SocketAddr,

@@ -24,8 +24,8 @@ use turn_stun::transport::TransportType;
 const MAX_INDICATED: usize = 64;
 
 impl TurnClientProtocol {
-    /// A request of the server makes an offer to the caller, or is refused: it is always answered (our
-    /// choice: RFC 6062 has only an indication).
+    /// A request of the server makes an offer to the caller, or is refused. It is answered then, or
+    /// with the offer, unless the allocation ends before (our choice: RFC 6062 has only an indication).
     ///
     /// # Errors
     ///

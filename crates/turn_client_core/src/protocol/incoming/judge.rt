@@ -23,7 +23,7 @@ pub(crate) enum Judged {
     Unrelated,
     /// A challenge: the server requires another signature.
     Challenged,
-    /// It ends the client.
+    /// It ends the client, or the data connection that it came over.
     Fatal,
     /// A signed reply to a request that is no longer outstanding.
     LateResponse,

@@ -1,4 +1,4 @@
-//! Data of peers: Data indications and ChannelData messages (RFC 8656, sections 11.6 and 12.6).
+//! Data of peers: Data indications and ChannelData messages (RFC 8656, sections 11.4, 11.6 and 12.6).
 
 ghost use Rattle.std.specs.Prelude.{◌≡◌, ◌≤◌, ◌+◌, false, if◌then◌else◌, length, IfSome};
 ghost use Rattle.std.specs.Net.Socket.{socket_ip};

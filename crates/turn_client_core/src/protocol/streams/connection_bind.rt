@@ -21,7 +21,8 @@ use turn_types::message::CONNECTION_BIND;
 
 impl TurnClientProtocol {
     /// Processes a message on the data connection from this local address. If there is no such
-    /// connection, or the message has another method than CONNECTION_BIND, nothing changes.
+    /// connection, the message has another method than CONNECTION_BIND, or the client has ended,
+    /// nothing changes.
     ///
     /// # Errors
     ///

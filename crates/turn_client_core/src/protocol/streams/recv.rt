@@ -25,15 +25,16 @@ impl TurnClientProtocol {
     /// empty piece reports the end of the stream. If there is no such stream, the piece is not for the
     /// client.
     ///
-    /// Data of a peer is returned as a range of the bytes passed in, or as owned bytes if it was joined
-    /// from several pieces. A piece that is not for the client is returned unchanged. More payloads may
-    /// be buffered then: call `poll_recv` until it returns none.
+    /// Data of a peer is returned as a range of the bytes passed in, or as owned bytes: it may be
+    /// joined from several pieces, or lie behind another frame. A piece whose first frame is not for
+    /// the client is returned unchanged, and the client keeps what follows that frame. More payloads
+    /// may be buffered: call `poll_recv` until it returns none.
     ///
     /// # Errors
     ///
-    /// If memory allocation fails. The client has ended then, and the stream delivers nothing more;
-    /// whole frames that were processed before keep their effect. Bytes of a bound connection whose
-    /// stream is empty allocate no memory, nor does an empty piece.
+    /// If memory allocation fails. The client has ended then, and the stream that was being read
+    /// delivers nothing more; whole frames that were processed before keep their effect. Bytes of a
+    /// bound connection whose stream is empty allocate no memory, nor does an empty piece.
     pub fn piece<T: AsSlice<u8> + Debug + Drop>(
         &mut self,
         transmit: Transmit<T>,
