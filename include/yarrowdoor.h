@@ -440,8 +440,8 @@ static inline uint32_t yarrowdoor_poll_event(yarrowdoor *client, yarrowdoor_answ
 /* Passes in bytes that were received over `transport`, from the server at `from`, by the client's socket at `to`:
    one datagram, or what one read of a stream gave, or nothing where the stream has ended. YARROWDOOR_HANDLED,
    YARROWDOOR_IGNORED, YARROWDOOR_PEER_ICMP. YARROWDOOR_PEER_DATA_RANGE: data of answer->peer, the answer->len bytes
-   at bytes + answer->start. YARROWDOOR_PEER_DATA: data of answer->peer that came in pieces, answer->len bytes in the
-   buffer and answer->left more, for yarrowdoor_read. YARROWDOOR_UNREAD_BYTES: read the rest of an earlier answer
+   at bytes + answer->start. YARROWDOOR_PEER_DATA: data of answer->peer that came in pieces or behind another message,
+   answer->len bytes in the buffer and answer->left more, for yarrowdoor_read. YARROWDOOR_UNREAD_BYTES: read the rest of an earlier answer
    first. YARROWDOOR_OUT_OF_MEMORY: the client has ended, and a stream gives nothing more; bytes that are not from the
    server, and data of peers over UDP, take no memory. Data that does not fit into the buffer takes none either, so
    none of it is lost. Over TCP call yarrowdoor_poll_recv afterwards. Over UDP the buffer is not used, and may be null.
@@ -568,7 +568,7 @@ static inline uint32_t yarrowdoor_allocated_tcp_socket(yarrowdoor *client, uint3
 }
 
 /* Reports that the data connection from `local` to `remote` was closed, or broke: YARROWDOOR_DONE, and
-   YARROWDOOR_TCP_CLOSE follows. The end of the control connection is a yarrowdoor_recv of no bytes, and a
+   YARROWDOOR_TCP_CLOSE follows, unless the client has ended. The end of the control connection is a yarrowdoor_recv of no bytes, and a
    yarrowdoor_protocol_error. */
 static inline uint32_t yarrowdoor_tcp_closed(yarrowdoor *client, const yarrowdoor_address *local,
                                              const yarrowdoor_address *remote, uint64_t now, yarrowdoor_answer *answer)

@@ -457,7 +457,8 @@ class Client:
                   from_=packed(wanted.local), to=packed(wanted.remote), peer=packed(wanted.peer), local=own)
 
     def tcp_closed(self, local: Address, remote: Address, now: int) -> None:
-        """Reports that the data connection from `local` to `remote` was closed, or broke: `poll` answers `TcpClose` for it then."""
+        """Reports that the data connection from `local` to `remote` was closed, or broke. Unless the client has ended, `poll` answers
+        `TcpClose` for it then."""
         self._ask(now, c.TCP_CLOSED, from_=packed(local), to=packed(remote))
 
     def delete(self, now: int) -> None:

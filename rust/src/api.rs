@@ -139,8 +139,8 @@ pub trait TurnClientApi: Debug + Send {
         now: Instant,
     ) -> Result<(), TcpAllocateError>;
 
-    /// Reports that a data connection was closed, or broke: `poll` returns [`TurnPollRet::TcpClose`] for it then. The end of
-    /// the control connection is a `recv` of no bytes, and a `protocol_error`.
+    /// Reports that a data connection was closed, or broke: `poll` returns [`TurnPollRet::TcpClose`] for it then,
+    /// unless the client has ended. The end of the control connection is a `recv` of no bytes, and a `protocol_error`.
     fn tcp_closed(&mut self, local_addr: SocketAddr, remote_addr: SocketAddr, now: Instant);
 
     /// Makes the packet that carries data to a peer, over the transport of the allocation. It is always `Some`.

@@ -23,6 +23,8 @@ struct Caller {
     start: std::time::Instant,
     peer: SocketAddr,
     text: String,
+    /// When what is awaited is given up, and why: the echo ten seconds after the text was sent, and then the client's end.
+    give_up: Option<(Instant, &'static str)>,
 }
 
 fn resolve(name: &str) -> Result<SocketAddr> {
@@ -56,6 +58,7 @@ impl Caller {
             start: std::time::Instant::now(),
             peer,
             text: text.into(),
+            give_up: None,
         })
     }
 
@@ -86,6 +89,8 @@ impl Caller {
                     let packet = packet.build();
                     self.send(&packet.data);
                 }
+                let until = now + Duration::from_secs(10);
+                self.give_up = Some((until, "the peer sent nothing back within 10 s"));
             }
             TurnEvent::AllocationCreateFailed(_) => Err("the server gives no relayed address")?,
             TurnEvent::PermissionCreateFailed(..) => Err("the server does not permit the peer")?,
@@ -137,8 +142,20 @@ impl Caller {
         if let TurnRecvRet::PeerData(sent) = self.client.recv(packet, now) {
             println!("{}", String::from_utf8_lossy(sent.data()));
             self.client.delete(now)?;
+            // the server's answer ends the client, or 39.5 s without one; where it refuses to delete, nothing does
+            let until = now + Duration::from_secs(40);
+            self.give_up = Some((until, "the server does not delete the allocation"));
         }
         Ok(())
+    }
+
+    /// Goes on up to this time, or until what is awaited is given up.
+    fn wait(&mut self, until: Instant) -> Result<()> {
+        match self.give_up {
+            Some((end, why)) if end <= self.now() => Err(why)?,
+            Some((end, _)) => self.receive(until.min(end)),
+            None => self.receive(until),
+        }
     }
 }
 
@@ -149,7 +166,7 @@ fn main() -> Result<()> {
     };
     let mut caller = Caller::new(server, user, password, peer, text)?;
     while let Some(time) = caller.drive()? {
-        caller.receive(time)?;
+        caller.wait(time)?;
     }
     Ok(())
 }
