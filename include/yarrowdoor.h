@@ -222,18 +222,19 @@ typedef struct yarrowdoor_answer {
    YARROWDOOR_BAD_SETTINGS, YARROWDOOR_BAD_CREDENTIALS and YARROWDOOR_BAD_SEED that holds, or
    YARROWDOOR_OUT_OF_MEMORY. The client sends nothing until it is polled.
 
-   User name and password are bytes; typed text has to be prepared before (RFC 8489, section 14.3). Transaction IDs are
-   drawn from the seed: 32 bytes that nobody else knows, new for each client. A getrandom(2) gives them. */
+   User name and password are bytes; typed text has to be prepared before (RFC 8489, section 14.3). Transaction IDs
+   are drawn from the seed: 32 bytes that nobody else knows, new for each client. A getrandom(2) gives them. */
 uint32_t yarrowdoor_new(const yarrowdoor_settings *settings, const uint8_t *user, size_t user_len,
                         const uint8_t *password, size_t password_len, const uint8_t *seed, size_t seed_len,
                         yarrowdoor **place);
 
-/* Makes a call. Use the functions below, which fill in the request, and set the answer to 0 before: the fields that an
-   answer does not use stay as they were. */
+/* Makes a call. Use the functions below, which fill in the request, and set the answer to 0 before: the fields
+   that an answer does not use stay as they were. */
 uint32_t yarrowdoor_call(yarrowdoor *client, const yarrowdoor_request *request, const uint8_t *bytes, size_t bytes_len,
                          uint8_t *buffer, size_t buffer_len, yarrowdoor_answer *answer);
 
-/* Frees a client, which is not NULL. It sends nothing: yarrowdoor_delete gives the allocations back to the server before. */
+/* Frees a client, which is not NULL. It sends nothing: yarrowdoor_delete gives the allocations back to the server
+   before. */
 void yarrowdoor_free(yarrowdoor *client);
 
 #ifdef __cplusplus
@@ -345,7 +346,8 @@ static inline yarrowdoor_request yarrowdoor_request_of(uint32_t kind, uint64_t n
     return request;
 }
 
-/* Sets an answer to 0, in parts: a memset of so many bytes at once is slower where it becomes a string instruction. */
+/* Sets an answer to 0, in parts: a memset of so many bytes at once is slower where it becomes a string
+   instruction. */
 static inline void yarrowdoor_clear(yarrowdoor_answer *answer)
 {
     memset(answer, 0, offsetof(yarrowdoor_answer, from));
@@ -374,8 +376,8 @@ static inline uint32_t yarrowdoor_call_bytes(yarrowdoor *client, const yarrowdoo
                            buffer_len, answer);
 }
 
-/* The name of a kind of answer, without YARROWDOOR_, to print it: "PACKET" for YARROWDOOR_PACKET. Of a number that is no
-   kind, as the 0 of yarrowdoor_new, it is "no kind". */
+/* The name of a kind of answer, without YARROWDOOR_, to print it: "PACKET" for YARROWDOOR_PACKET. Of a number that
+   is no kind, as the 0 of yarrowdoor_new, it is "no kind". */
 static inline const char *yarrowdoor_kind_name(uint32_t kind)
 {
     /* in the order of their numbers, from 0 */
@@ -407,11 +409,12 @@ static inline yarrowdoor_settings yarrowdoor_settings_of(uint32_t transport, con
 
 /* What is to be done next. YARROWDOOR_WAIT_UNTIL: nothing before answer->time, when to poll again; any other call
    may make it earlier, so poll after it. While an event is to be polled, that time is `now`.
-   YARROWDOOR_ALLOCATE_TCP_SOCKET: open a connection from any port of this host to answer->to over answer->transport,
-   and pass it to yarrowdoor_allocated_tcp_socket with the id and the addresses of the answer. YARROWDOOR_TCP_CLOSE:
-   close the connection from answer->from to answer->to. YARROWDOOR_CLOSED: the client has ended; poll the events
-   that are left, and close its data connections. By default that is 39.5 s after the start where nobody answers, with
-   an event for each family, and 39.5 s after the challenge where the user name or the password is wrong, with none. */
+   YARROWDOOR_ALLOCATE_TCP_SOCKET: open a connection from any port of this host to answer->to over
+   answer->transport, and pass it to yarrowdoor_allocated_tcp_socket with the id and the addresses of the answer.
+   YARROWDOOR_TCP_CLOSE: close the connection from answer->from to answer->to. YARROWDOOR_CLOSED: the client has
+   ended; poll the events that are left, and close its data connections. By default that is 39.5 s after the start
+   where nobody answers, with an event for each family, and 39.5 s after the challenge where the user name or the
+   password is wrong, with none. */
 static inline uint32_t yarrowdoor_poll(yarrowdoor *client, uint64_t now, yarrowdoor_answer *answer)
 {
     yarrowdoor_request request = yarrowdoor_request_of(YARROWDOOR_CALL_POLL, now);
@@ -419,10 +422,10 @@ static inline uint32_t yarrowdoor_poll(yarrowdoor *client, uint64_t now, yarrowd
 }
 
 /* The next packet that is due. Requests start at least 50 ms apart (our choice, in place of the RTO of RFC 8489,
-   section 6.2.1), so that an allocation with its challenge and a permission take 100 ms or more; retransmissions do not
-   wait. YARROWDOOR_PACKET: send the answer->len bytes in the
-   buffer. YARROWDOOR_NOTHING: none is due. YARROWDOOR_UNREAD_BYTES: read the rest of an earlier answer first.
-   YARROWDOOR_SMALL_BUFFER: the buffer has under YARROWDOOR_MAX_PACKET bytes, which is more than any packet has. */
+   section 6.2.1), so that an allocation with its challenge and a permission take 100 ms or more; retransmissions
+   do not wait. YARROWDOOR_PACKET: send the answer->len bytes in the buffer. YARROWDOOR_NOTHING: none is due.
+   YARROWDOOR_UNREAD_BYTES: read the rest of an earlier answer first. YARROWDOOR_SMALL_BUFFER: the buffer has under
+   YARROWDOOR_MAX_PACKET bytes, which is more than any packet has. */
 static inline uint32_t yarrowdoor_poll_transmit(yarrowdoor *client, uint64_t now, uint8_t *buffer, size_t buffer_len,
                                                 yarrowdoor_answer *answer)
 {
@@ -439,14 +442,15 @@ static inline uint32_t yarrowdoor_poll_event(yarrowdoor *client, yarrowdoor_answ
 
 /* Passes in bytes that were received over `transport`, from the server at `from`, by the client's socket at `to`:
    one datagram, or what one read of a stream gave, or nothing where the stream has ended. YARROWDOOR_HANDLED,
-   YARROWDOOR_IGNORED, YARROWDOOR_PEER_ICMP. YARROWDOOR_PEER_DATA_RANGE: data of answer->peer, the answer->len bytes
-   at bytes + answer->start. YARROWDOOR_PEER_DATA: data of answer->peer that came in pieces or behind another message,
-   answer->len bytes in the buffer and answer->left more, for yarrowdoor_read. YARROWDOOR_UNREAD_BYTES: read the rest of an earlier answer
-   first. YARROWDOOR_OUT_OF_MEMORY: the client has ended, and a stream gives nothing more; bytes that are not from the
-   server, and data of peers over UDP, take no memory. Data that does not fit into the buffer takes none either, so
-   none of it is lost. Over TCP call yarrowdoor_poll_recv afterwards. Over UDP the buffer is not used, and may be null.
-   `from` and `to` are compared with the settings' remote and local addresses, so these are to be those of the socket
-   (connect it, and ask getsockname); `to` may also be the local address of a data connection. */
+   YARROWDOOR_IGNORED, YARROWDOOR_PEER_ICMP. YARROWDOOR_PEER_DATA_RANGE: data of answer->peer, the answer->len
+   bytes at bytes + answer->start. YARROWDOOR_PEER_DATA: data of answer->peer that came in pieces or behind another
+   message, answer->len bytes in the buffer and answer->left more, for yarrowdoor_read. YARROWDOOR_UNREAD_BYTES:
+   read the rest of an earlier answer first. YARROWDOOR_OUT_OF_MEMORY: the client has ended, and a stream gives
+   nothing more; bytes that are not from the server, and data of peers over UDP, take no memory. Data that does not
+   fit into the buffer takes none either, so none of it is lost. Over TCP call yarrowdoor_poll_recv afterwards.
+   Over UDP the buffer is not used, and may be null. `from` and `to` are compared with the settings' remote and
+   local addresses, so these are to be those of the socket (connect it, and ask getsockname); `to` may also be the
+   local address of a data connection. */
 static inline uint32_t yarrowdoor_recv(yarrowdoor *client, uint32_t transport, const yarrowdoor_address *from,
                                        const yarrowdoor_address *to, const uint8_t *bytes, size_t bytes_len,
                                        uint64_t now, uint8_t *buffer, size_t buffer_len, yarrowdoor_answer *answer)
@@ -496,8 +500,8 @@ static inline uint32_t yarrowdoor_send_to(yarrowdoor *client, uint32_t transport
 
 /* Requests a permission for the IP address of `peer`, whatever its port (RFC 8656, section 9): data may be sent to
    it and received from it. YARROWDOOR_DONE: an event reports the outcome, unless the client ends before,
-   YARROWDOOR_PERMISSION_CREATED or YARROWDOOR_PERMISSION_CREATE_FAILED. YARROWDOOR_REFUSED: YARROWDOOR_ERROR_NO_ALLOCATION, or
-   YARROWDOOR_ERROR_ALREADY_EXISTS. */
+   YARROWDOOR_PERMISSION_CREATED or YARROWDOOR_PERMISSION_CREATE_FAILED. YARROWDOOR_REFUSED:
+   YARROWDOOR_ERROR_NO_ALLOCATION, or YARROWDOOR_ERROR_ALREADY_EXISTS. */
 static inline uint32_t yarrowdoor_create_permission(yarrowdoor *client, uint32_t transport,
                                                     const yarrowdoor_address *peer, uint64_t now,
                                                     yarrowdoor_answer *answer)
@@ -520,9 +524,9 @@ static inline uint32_t yarrowdoor_have_permission(yarrowdoor *client, uint32_t t
 
 /* Requests a channel to `peer`, and with it a permission (RFC 8656, section 12): its data then has four bytes of
    header, and not 36 or 48. YARROWDOOR_DONE: an event reports the outcome, unless the client ends before,
-   YARROWDOOR_CHANNEL_CREATED or YARROWDOOR_CHANNEL_CREATE_FAILED, and another that of a permission that it requested. YARROWDOOR_REFUSED: YARROWDOOR_ERROR_NO_ALLOCATION;
-   YARROWDOOR_ERROR_ALREADY_EXISTS, also where all 4,096 numbers are taken; YARROWDOOR_ERROR_EXPIRED, up to
-   answer->time. */
+   YARROWDOOR_CHANNEL_CREATED or YARROWDOOR_CHANNEL_CREATE_FAILED, and another that of a permission that it
+   requested. YARROWDOOR_REFUSED: YARROWDOOR_ERROR_NO_ALLOCATION; YARROWDOOR_ERROR_ALREADY_EXISTS, also where all
+   4,096 numbers are taken; YARROWDOOR_ERROR_EXPIRED, up to answer->time. */
 static inline uint32_t yarrowdoor_bind_channel(yarrowdoor *client, uint32_t transport, const yarrowdoor_address *peer,
                                                uint64_t now, yarrowdoor_answer *answer)
 {
@@ -534,8 +538,8 @@ static inline uint32_t yarrowdoor_bind_channel(yarrowdoor *client, uint32_t tran
 
 /* Requests that the server connect to `peer`, which needs a permission, from an allocation over TCP (RFC 6062,
    section 4.3). YARROWDOOR_DONE: unless the client ends before, yarrowdoor_poll answers
-   YARROWDOOR_ALLOCATE_TCP_SOCKET, or an event YARROWDOOR_TCP_CONNECT_FAILED. YARROWDOOR_REFUSED: YARROWDOOR_ERROR_NO_ALLOCATION, YARROWDOOR_ERROR_NO_PERMISSION
-   or YARROWDOOR_ERROR_ALREADY_EXISTS. */
+   YARROWDOOR_ALLOCATE_TCP_SOCKET, or an event YARROWDOOR_TCP_CONNECT_FAILED. YARROWDOOR_REFUSED:
+   YARROWDOOR_ERROR_NO_ALLOCATION, YARROWDOOR_ERROR_NO_PERMISSION or YARROWDOOR_ERROR_ALREADY_EXISTS. */
 static inline uint32_t yarrowdoor_tcp_connect(yarrowdoor *client, const yarrowdoor_address *peer, uint64_t now,
                                               yarrowdoor_answer *answer)
 {
@@ -544,10 +548,10 @@ static inline uint32_t yarrowdoor_tcp_connect(yarrowdoor *client, const yarrowdo
     return yarrowdoor_call_plain(client, &request, answer);
 }
 
-/* Passes in the data connection that YARROWDOOR_ALLOCATE_TCP_SOCKET asked for: its id, transport, from, to and peer,
-   and `local`, the address of the new socket, or null where no connection could be opened. YARROWDOOR_DONE: an event
-   reports YARROWDOOR_TCP_CONNECTED or YARROWDOOR_TCP_CONNECT_FAILED; there is none where `local` is null, nor where the
-   connection ends before it is bound: then YARROWDOOR_TCP_CLOSE alone tells it. YARROWDOOR_REFUSED:
+/* Passes in the data connection that YARROWDOOR_ALLOCATE_TCP_SOCKET asked for: its id, transport, from, to and
+   peer, and `local`, the address of the new socket, or null where no connection could be opened. YARROWDOOR_DONE:
+   an event reports YARROWDOOR_TCP_CONNECTED or YARROWDOOR_TCP_CONNECT_FAILED; there is none where `local` is null,
+   nor where the connection ends before it is bound: then YARROWDOOR_TCP_CLOSE alone tells it. YARROWDOOR_REFUSED:
    YARROWDOOR_ERROR_NO_ALLOCATION where no such connection is offered, or YARROWDOOR_ERROR_ALREADY_EXISTS where
    another has this local address. */
 static inline uint32_t yarrowdoor_allocated_tcp_socket(yarrowdoor *client, uint32_t id, uint32_t transport,
@@ -568,8 +572,8 @@ static inline uint32_t yarrowdoor_allocated_tcp_socket(yarrowdoor *client, uint3
 }
 
 /* Reports that the data connection from `local` to `remote` was closed, or broke: YARROWDOOR_DONE, and
-   YARROWDOOR_TCP_CLOSE follows, unless the client has ended. The end of the control connection is a yarrowdoor_recv of no bytes, and a
-   yarrowdoor_protocol_error. */
+   YARROWDOOR_TCP_CLOSE follows, unless the client has ended. The end of the control connection is a
+   yarrowdoor_recv of no bytes, and a yarrowdoor_protocol_error. */
 static inline uint32_t yarrowdoor_tcp_closed(yarrowdoor *client, const yarrowdoor_address *local,
                                              const yarrowdoor_address *remote, uint64_t now, yarrowdoor_answer *answer)
 {
@@ -580,8 +584,8 @@ static inline uint32_t yarrowdoor_tcp_closed(yarrowdoor *client, const yarrowdoo
 }
 
 /* Requests that the server delete the allocations (RFC 8656, section 8). YARROWDOOR_DONE: poll and transmit until
-   YARROWDOOR_CLOSED, for as long as you care to wait: where the server answers with an error other than 437 it does not
-   come. YARROWDOOR_REFUSED: YARROWDOOR_ERROR_NO_ALLOCATION. To give up before there is one, free the
+   YARROWDOOR_CLOSED, for as long as you care to wait: where the server answers with an error other than 437 it
+   does not come. YARROWDOOR_REFUSED: YARROWDOOR_ERROR_NO_ALLOCATION. To give up before there is one, free the
    client: what the server may still grant ends there by its lifetime. */
 static inline uint32_t yarrowdoor_delete(yarrowdoor *client, uint64_t now, yarrowdoor_answer *answer)
 {
@@ -606,9 +610,9 @@ static inline uint32_t yarrowdoor_relayed_address(yarrowdoor *client, uint32_t i
     return yarrowdoor_call_plain(client, &request, answer);
 }
 
-/* The IP address at `index`, from 0, of those that have an active permission in the allocation whose relayed address
-   is `relayed`, over `transport`. YARROWDOOR_ADDRESS: answer->peer, whose port is 0. YARROWDOOR_NOTHING: there are
-   no more. It takes no memory. */
+/* The IP address at `index`, from 0, of those that have an active permission in the allocation whose relayed
+   address is `relayed`, over `transport`. YARROWDOOR_ADDRESS: answer->peer, whose port is 0. YARROWDOOR_NOTHING:
+   there are no more. It takes no memory. */
 static inline uint32_t yarrowdoor_permission(yarrowdoor *client, uint32_t transport, const yarrowdoor_address *relayed,
                                              uint32_t index, yarrowdoor_answer *answer)
 {
