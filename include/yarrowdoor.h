@@ -132,7 +132,7 @@ enum yarrowdoor_kind {
     YARROWDOOR_CHANNEL_CREATED = 27,          /* peer has a channel, over transport */
     YARROWDOOR_CHANNEL_CREATE_FAILED = 28,    /* peer got no channel, or has it no longer */
     YARROWDOOR_TCP_CONNECTED = 29,            /* there is a data connection to peer */
-    YARROWDOOR_TCP_CONNECT_FAILED = 30,       /* there is no data connection to peer */
+    YARROWDOOR_TCP_CONNECT_FAILED = 30,       /* a data connection to peer was refused, or not made in time */
 
     /* of yarrowdoor_new, beside 0 and YARROWDOOR_OUT_OF_MEMORY */
     YARROWDOOR_BAD_SETTINGS = 31,    /* a number or an address is none, or it is UDP with an allocation over TCP */

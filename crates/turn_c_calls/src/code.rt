@@ -164,7 +164,7 @@ pub const CHANNEL_CREATE_FAILED: u32 = 28;
 /// An event: a data connection to `peer` is bound.
 pub const TCP_CONNECTED: u32 = 29;
 
-/// An event: there is no data connection to `peer`.
+/// An event: a data connection to `peer` was refused, or not made in time.
 pub const TCP_CONNECT_FAILED: u32 = 30;
 
 /// The `len` bytes from `start` of the data that the request passed in were sent by `peer` over `transport`. They are
@@ -173,7 +173,8 @@ pub const PEER_DATA_RANGE: u32 = 34;
 
 // ---- the errors of methods
 
-/// What the call requests is active, or is requested already; no channel number is free; or the local address is in use.
+/// What the call requests is active, offered, or requested already; no channel number is free; or the local address is
+/// in use.
 pub const ERROR_ALREADY_EXISTS: u32 = 1;
 
 /// There is no allocation for it.

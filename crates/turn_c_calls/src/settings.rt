@@ -35,9 +35,9 @@ pub struct Settings {
     pub family: u32,
     /// The other family if it is requested too, or 0.
     pub other_family: u32,
-    /// The integrity algorithm that is offered first.
+    /// An integrity algorithm that is supported.
     pub algorithm: u32,
-    /// The other algorithm if it is offered too, or 0.
+    /// The other one if it is supported too, or 0.
     pub other_algorithm: u32,
     /// Whether the user name is hidden from observers.
     pub anonymous: u32,

@@ -40,8 +40,8 @@ connection_at local s = find (λ c. same_address c.local local) (filter_map as_c
 
 -- ---- the server requests one, since a peer connected to the relayed address (RFC 6062, section 4.4)
 
--- a request is refused, or offered and answered then, unless the allocation ends before (our choice: RFC
--- 6062 has only an indication)
+-- a request is refused at once, or offered: then it is answered when the caller reports what became of the
+-- offer, unless its allocation or the client has ended (our choice: RFC 6062 has only an indication)
 abbrev pub attempt_requested : List ℕ → State → State
 attempt_requested message s = by (connection_id_in message) (peer_in message)
   where

@@ -72,7 +72,7 @@ closed s = in_phase Closed s
 abbrev pub transaction_ended : ℕ → State → State
 transaction_ended id s = record s { transactions = A.without_transaction id s.transactions }
 
--- the server answered a request: challenges are counted anew
+-- a signed reply with effect: challenges are counted anew
 abbrev pub challenges_reset : State → State
 challenges_reset s = record s { challenges = 0 }
 

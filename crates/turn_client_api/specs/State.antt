@@ -63,7 +63,7 @@ pub record State : Type 0 where
   pub transactions : List Transaction
   pub queue : List Queued
   pub last_send : Option ℕ
-  -- challenges answered since the server last took a request
+  -- challenges answered since a signed reply last reset the count
   pub challenges : ℕ
   -- in the order in which they are polled
   pub events : List TurnEvent

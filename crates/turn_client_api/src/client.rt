@@ -203,7 +203,7 @@ pub trait TurnClientApi: Debug + Drop {
     /// active channel to the peer is not past its expiry, and else a Send indication (RFC 8656,
     /// sections 11.1 and 12.5); over TCP the data unchanged, on a data connection that is bound to the
     /// peer (RFC 6062, section 4.3). The result is always a packet, which is built when it is sent. If
-    /// the allocation relays over UDP, the data has at most 65,504 bytes. Allocates no memory.
+    /// the allocation relays over UDP, the data may have at most 65,504 bytes. Allocates no memory.
     ///
     /// # Errors
     ///
@@ -228,8 +228,9 @@ pub trait TurnClientApi: Debug + Drop {
     ///
     /// Data of a peer is returned as a range of the bytes passed in, or as owned bytes: over TCP it may
     /// be joined from several pieces, or lie behind another frame. Input that is not for the client is
-    /// returned unchanged; over TCP that is said of its first frame alone, and the client keeps what
-    /// follows it. More payloads may be buffered: call `poll_recv` until it returns none.
+    /// returned unchanged. Over a stream of the client that says only that its first frame was not, and
+    /// that no data was found behind it; the client keeps what follows. More payloads may be buffered:
+    /// call `poll_recv` until it returns none.
     ///
     /// # Errors
     ///
@@ -237,12 +238,12 @@ pub trait TurnClientApi: Debug + Drop {
     /// delivers nothing more; whole frames that were processed before keep their effect.
     ///
     /// Over UDP only a message allocates memory, and only one that is answered or that changes the
-    /// client: a signed reply to an outstanding request, a challenge to one or to one that was made
-    /// again, a message that ends the client, and a ConnectionAttempt that is accepted or signed. A
-    /// late reply allocates none, nor does an indication that is not accepted, or any other
-    /// request. The same holds for one whole frame over TCP if no stream holds bytes to process;
-    /// bytes of a bound connection whose stream is empty allocate none either. An empty slice may
-    /// allocate memory for the close that `poll` is to report, and no frame is processed before.
+    /// client: a signed reply to an outstanding request, a challenge to one, to one that was made again
+    /// or to a REFRESH without effect, a message that ends the client, and a ConnectionAttempt that is
+    /// accepted or signed. A late reply allocates none, nor does an indication that is not accepted, or
+    /// any other request. The same holds for one whole frame over TCP if no stream holds bytes to
+    /// process; bytes of a bound connection whose stream is empty allocate none either. An empty slice
+    /// may allocate memory for the close that `poll` is to report, and no frame is processed before.
     fn recv<T: AsSlice<u8> + Debug + Drop>(
         &mut self,
         transmit: Transmit<T>,
@@ -263,9 +264,8 @@ pub trait TurnClientApi: Debug + Drop {
     /// # Errors
     ///
     /// If memory allocation fails. The client has ended then, and the stream that was read delivers
-    /// nothing more; whole frames that were processed before keep their effect. If no stream is ready
-    /// (it holds a whole frame, data of its peer, or bytes that begin no frame), the call allocates no
-    /// memory.
+    /// nothing more; whole frames that were processed before keep their effect. If no stream holds a
+    /// whole frame, data of its peer, or bytes that begin no frame, the call allocates no memory.
     fn poll_recv(&mut self, now: Instant) -> Result<Option<TurnPeerData<Vec<u8>>>, AllocError>
         requires now_in_range { now ≤ 2 ^ 62 }
         ensures answer { IfOk result (λ given. option_map given_payload given ≡ (poll_recv_step now (state self.old)).0) }

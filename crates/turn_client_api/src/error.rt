@@ -61,7 +61,7 @@ pub enum SendError {
     #[error("There is no permission installed for the requested peer")]
     NoPermission,
     /// The allocation relays over TCP, and no data connection to the peer is bound (RFC 6062, section
-    /// 4.4).
+    /// 4.5).
     #[error("There is no local TCP socket for the requested peer")]
     NoTcpSocket,
     /// Memory allocation for the packet failed. The clients of this project never return this,

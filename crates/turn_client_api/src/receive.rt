@@ -148,8 +148,9 @@ impl<T: AsSlice<u8>> AsSlice<u8> for TurnPeerData<T> {
 pub enum TurnRecvRet<T: AsSlice<u8>> {
     /// It was for the client, and is consumed. The calls that poll the client report its effects.
     Handled,
-    /// It was not for the client, and is returned unchanged. Over TCP this is said of its first
-    /// frame alone: the client keeps what follows it, so do not process these bytes.
+    /// It was not for the client, and is returned unchanged. If it came over a stream of the
+    /// client, that is said of its first frame alone, and the client keeps what follows: do not
+    /// process those bytes.
     Ignored(Transmit<T>),
     /// It carried data of a peer.
     PeerData(TurnPeerData<T>),

@@ -10,8 +10,8 @@ use turn_stun::transport::Transmit;
 /// New --first ALLOCATE--> Requesting --challenge--> Authenticating --success--> Allocated
 /// ```
 ///
-/// An ALLOCATE without an address, a deletion, one challenge too many, an allocation failure in a
-/// call that polls or in `recv`, and `protocol_error` lead to `Closed`.
+/// An ALLOCATE without an address, a deletion, one challenge too many, a failed memory allocation
+/// in `recv` or in a call that polls, and `protocol_error` lead to `Closed`.
 #[derive(Clone, Copy, Debug, PartialEq, Eq)]
 pub enum Phase {
     /// No packet was sent yet.

@@ -27,7 +27,7 @@ const MIN_LIFETIME: u32 = 600;
 pub(crate) enum Effect {
     /// Nothing.
     Nothing,
-    /// The server answered a request: the count of challenges is reset.
+    /// A signed reply with effect: the count of challenges is reset.
     Taken,
     /// The server deleted all allocations: the count of challenges is reset, and the client ends.
     AllocationsDeleted,

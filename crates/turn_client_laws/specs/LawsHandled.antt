@@ -89,8 +89,8 @@ pub record IsStreamEnd (call : Call) (s t : State) : Type 0 where
 abbrev pub ProcessesInputs : Call → State → Type 0
 ProcessesInputs call s = InputsLead (handled call s) s (state_after call s) ⊎ IsStreamEnd call s (state_after call s)
 
--- an allocation for the next input failed: the call processed the first of these inputs, and then ended the
--- client
+-- a memory allocation for the next input failed: the call processed some of these inputs from the first on,
+-- or none, and then ended the client
 pub record EndsAmidInputs (call : Call) (s t : State) : Type 0 where
   pub front : List Input
   pub later : List Input

@@ -19,8 +19,8 @@ ghost use Rattle.turn_client_laws.specs.LawsNumbers.{HasDistinctNumbers};
 /// the earliest expiry has come, and only those that have expired: an active permission at its expiry, a
 /// channel after it was reserved for 300 s, a connection that was not bound in time, what was requested by
 /// the transaction that timed out, an offer by a request of the server with the ID of that transaction, and
-/// all grants in an allocation whose expiry has passed. No other call
-/// removes any, and no call removes more if memory allocation fails.
+/// all grants in an allocation whose expiry has passed. No other call removes any, and no call removes more
+/// if memory allocation fails.
 pub fn grants_go_by_kind()
     ensures call { (call : Call) (s t : State) (g : Grant) → Leaves call s t → Contains s.grants g → IsStillThere t g ⊎ IsTakenBy call s g }
     ensures poll { (now : ℕ) (s t : State) (g : Grant) → Leaves (Poll now) s t → HasDistinctNumbers s → Contains s.grants g → IsThereOrOver now s t g }

@@ -11,8 +11,8 @@ ghost use Rattle.turn_client_laws.specs.LawsPieces.{WhenJudged, abc, abc_frame, 
 ghost use Rattle.turn_client_laws.specs.LawsPieces.{half_header, hello, hello_message, icmp_message, over_tcp, server_piece_step, poll_recv_at_1_s, relayed};
 ghost use Rattle.turn_client_laws.specs.LawsPieces.{reported, second_peer_message, unknown_message, with_bound, with_channel, with_waiting};
 
-/// The effects of pieces of the control stream (RFC 8656, sections 11.4, 12.5 and 12.6), each at a client
-/// with a channel to the peer.
+/// The effects of pieces of the control stream (RFC 8656, sections 11.4, 11.6, 12.5 and 12.6), each at a
+/// client with a channel to the peer.
 pub fn pieces_are_cut()
     // A whole frame, without its padding, is a range of the piece, and nothing is left in the stream.
     ensures frame { (s : State) → server_piece_step client abc_frame (with_channel s) ≡ (PeerData (relayed abc (Some 4)), with_channel s) }
@@ -52,8 +52,8 @@ pub fn connections_are_bound()
     ensures silent { WhenJudged (Refused true) hello (λ r. (poll_recv_at_1_s r.1).0 ≡ None) }
 {}
 
-/// The effects of datagrams (RFC 8656, sections 11.4, 11.6 and 12.6), each at a client with a permission
-/// for the peer, and a channel to it.
+/// The effects of datagrams (RFC 8656, sections 11.4 and 12.6), each at a client with a permission for
+/// the peer, and a channel to it.
 pub fn datagrams_are_judged()
     ensures data { (s : State) → datagram_in hello_message (with_channel s) ≡ (PeerData (relayed hello (Some 36)), with_channel s) }
     // Padding after a frame is not needed, but all of its data is.

@@ -71,7 +71,7 @@ pub fn delete_is_one_request()
     ensures empty { (to : SocketAddr) (text : List ℕ) (s : State) → (poll_step 40_500_000_000 (deleted_in_silence to text s)).1.grants ≡ [] }
 {}
 
-/// Of failures that the client detects by itself the last is queued first (our choice): of a channel and
+/// Of failures that the client detects by itself the later one goes first (our choice): of a channel and
 /// the permission requested with it, whose request got no response, the failure of the permission is first,
 /// and the time that `poll` returns is not in the future, since both are pending.
 pub fn failures_jump()

@@ -75,8 +75,8 @@ impl TurnClientTcp {
     ///
     /// The payload of a ChannelData message at the front of the control stream is lent from where it is buffered
     /// (RFC 8656, section 12.6). So are all buffered bytes of a data connection (RFC 6062, section 4.3), and no
-    /// memory is allocated for either. The payload of a DATA indication, and of what lies behind another frame, is
-    /// copied first.
+    /// memory is allocated for either. The payload of a DATA indication, or of a ChannelData message behind
+    /// another frame, is copied first.
     ///
     /// # Errors
     ///

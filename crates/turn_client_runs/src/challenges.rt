@@ -10,9 +10,8 @@ ghost use Rattle.turn_client_runs.specs.Holds.{HoldsInAnyRun, HoldsInRuns, Reach
 /// In sequence at most as many challenges are answered as the configuration says, except those to a
 /// CONNECTION_BIND (our choice: RFC 8489, section 9.2.5, sets no limit): the count of the state is at most
 /// that after every run, even if some memory allocations failed. Each challenge of a run is counted if it is
-/// answered. From any state of a run on, further calls answer at most so many, unless the server accepts a
-/// request among them: then a signed reply to an outstanding request is received, and challenges are counted
-/// anew.
+/// answered. From any state of a run on, further calls answer at most so many, unless one of them resets the
+/// count: then a signed reply to an outstanding request is received, and challenges are counted anew.
 pub fn few_challenges_are_answered()
     ensures found { HoldsInRuns IsWithinChallengeLimit }
     ensures any { HoldsInAnyRun IsWithinChallengeLimit }

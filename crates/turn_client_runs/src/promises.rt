@@ -9,10 +9,11 @@ ghost use Rattle.turn_client_runs.specs.Short.{StreamsAreShort};
 /// allocation fails. After each call every active grant has its signed reply to an own request, no channel
 /// number names two peers, and what is bound has the success that bound it (RFC 8656, sections 7.3, 9, 12;
 /// RFC 6062, section 4.3). Each payload is of a permitted peer, a reply is accepted once, and of any calls
-/// that follow each other at most as many challenges as configured are answered before a signed reply, realm
-/// and algorithm stay and are those of the first challenge that was answered, streams that are polled to the
-/// end hold less than a frame, and the pieces of a stream return what their joined bytes return. All clauses
-/// but `held` and `short` are laws of this crate, stated for one run.
+/// that follow each other at most as many challenges as configured are answered before a signed reply. Realm
+/// and algorithm stay, and are those of the first challenge that was answered, streams that are polled to
+/// the end hold less than the longest frame, and the pieces of a stream return what their joined bytes
+/// return. The clauses are laws of this crate, stated for one run; `held`, `short`, and what `heard` and
+/// `realm` say of each input, are proved here alone.
 pub fn runs_keep_their_promises()
     ensures granted { HoldsOfRuns (AfterEach GrantsHaveReplies) }
     ensures numbers { HoldsOfRuns (AfterEach NumbersAreDistinct) }

@@ -24,8 +24,8 @@ pub enum Task {
         /// The other data of the ICMP packet.
         icmp_data: u32,
     },
-    /// Input that was not for the client, returned unchanged: over TCP its first frame, see
-    /// `TurnRecvRet`.
+    /// Input that was not for the client, or over TCP whose first frame was not (see `TurnRecvRet`),
+    /// returned unchanged.
     Other(Transmit<Vec<u8>>),
     /// An event.
     Event(TurnEvent),

@@ -9,7 +9,8 @@ use turn_stun::transport::Transmit;
 pub enum GatherRecv<T: AsSlice<u8>> {
     /// It was for the client, and is consumed.
     Handled,
-    /// It was not for the client, and is returned unchanged: over TCP its first frame, see `TurnRecvRet`.
+    /// It was not for the client, or over TCP its first frame was not (see `TurnRecvRet`), and is
+    /// returned unchanged.
     Ignored(Transmit<T>),
     /// Data from the peer of a checked pair.
     Payload(TurnPeerData<T>),

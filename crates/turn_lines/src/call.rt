@@ -38,8 +38,8 @@ const MAX_PAYLOAD: usize = 65_504;
 ///
 /// The first of these: `Time` if the first field is not a time, `Call` if the second is not the name of a
 /// call, `Argument` if the other fields are not the arguments of that call, `Payload` if it is a `send` of
-/// too many bytes for an allocation over UDP. `OutOfMemory` if memory allocation for the bytes of a packet
-/// failed.
+/// too many bytes for an allocation over UDP. `OutOfMemory` if memory allocation for the bytes of a `recv`
+/// or `send` failed.
 #[tactic(auto, unfolding(crate::specs::Call::call_of))]
 pub fn parse_call(
     alloc: Global,

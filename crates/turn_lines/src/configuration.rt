@@ -48,7 +48,7 @@ fn set_families(config: &mut TurnConfig, families: (AddressFamily, Option<Addres
     }
 }
 
-/// Offers the server the first algorithm, and the second if there is a second.
+/// Sets the algorithms that are supported: the first, and the second if there is a second.
 fn set_algorithms(
     config: &mut TurnConfig,
     algorithms: (IntegrityAlgorithm, Option<IntegrityAlgorithm>),

@@ -54,7 +54,7 @@ pub struct Request {
     pub allocation: TransportType,
     /// The address family that is requested first, and the second if it is requested too.
     pub families: (AddressFamily, Option<AddressFamily>),
-    /// The algorithm that is offered first, and the second if it is offered too.
+    /// The algorithms that are supported, one or two: their order has no effect.
     pub algorithms: (IntegrityAlgorithm, Option<IntegrityAlgorithm>),
     /// Whether the user name is hidden from observers (USERHASH; RFC 8489, section 14.4).
     pub anonymous: Feature,

@@ -9,8 +9,8 @@ use turn_stun::instant::Instant;
 /// The error of a call.
 #[derive(Clone, Copy, Debug, PartialEq, Eq)]
 pub enum Refusal {
-    /// What the call requests is active, or is requested already; no channel number is free; or
-    /// the local address is in use.
+    /// What the call requests is active, offered, or requested already; no channel number is
+    /// free; or the local address is in use.
     AlreadyExists,
     /// There is no allocation for it.
     NoAllocation,

@@ -65,7 +65,7 @@ pub enum GatherReply {
     Check(Result<(), GatherError>),
     /// `recv`: the packet was for the client.
     Handled,
-    /// `recv`: the packet was not for the client.
+    /// `recv`: the packet, over TCP its first frame, was not for the client.
     Ignored,
     /// `recv` or `poll_recv` passed up data from the peer of a checked pair.
     Payload(PeerPayload),

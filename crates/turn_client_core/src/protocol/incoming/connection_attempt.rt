@@ -24,8 +24,9 @@ use turn_stun::transport::TransportType;
 const MAX_INDICATED: usize = 64;
 
 impl TurnClientProtocol {
-    /// A request of the server makes an offer to the caller, or is refused. It is answered then, or
-    /// with the offer, unless the allocation ends before (our choice: RFC 6062 has only an indication).
+    /// A request of the server is refused at once, or makes an offer to the caller. Then it is answered
+    /// when the caller reports what became of that, unless its allocation or the client has ended (our
+    /// choice: RFC 6062 has only an indication).
     ///
     /// # Errors
     ///

@@ -30,8 +30,8 @@ impl TurnClientProtocol {
     ///
     /// If memory allocation for the bytes of a stream fails. The client has ended then, and the stream
     /// that was read delivers nothing more; whole frames that were processed before keep their effect.
-    /// If no stream is ready (it holds a whole frame, data of its peer, or bytes that begin no frame),
-    /// the call allocates no memory.
+    /// If no stream holds a whole frame, data of its peer, or bytes that begin no frame, the call
+    /// allocates no memory.
     pub fn poll_recv(&mut self, now: Instant) -> Result<Option<TurnPeerData<Vec<u8>>>, AllocError>
         requires before { IsUngranted self.old.phase → self.old.grants ≡ [] }
         ensures answer { IfOk result (λ given. option_map given_payload given ≡ (poll_recv_step now self.old).0) }

@@ -26,9 +26,10 @@ impl TurnClientProtocol {
     /// client.
     ///
     /// Data of a peer is returned as a range of the bytes passed in, or as owned bytes: it may be
-    /// joined from several pieces, or lie behind another frame. A piece whose first frame is not for
-    /// the client is returned unchanged, and the client keeps what follows that frame. More payloads
-    /// may be buffered: call `poll_recv` until it returns none.
+    /// joined from several pieces, or lie behind another frame. A piece is returned unchanged if
+    /// there is no such stream, or if its first frame is not for the client and no data is found behind
+    /// it; the client keeps what follows that frame. More payloads may be buffered: call `poll_recv`
+    /// until it returns none.
     ///
     /// # Errors
     ///
