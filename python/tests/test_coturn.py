@@ -173,7 +173,8 @@ class Coturn(unittest.IsolatedAsyncioTestCase):
         """How connecting to a peer fails where data connections are opened so. The client goes on."""
         peers = await asyncio.start_server(echo_stream, "127.0.0.1", 0)
         uri = self.server.uri("turn:127.0.0.1:{port}?transport=tcp")
-        async with peers, TurnClient(uri, "user", "pass", relay="tcp") as relay:
+        self.addCleanup(peers.close)
+        async with TurnClient(uri, "user", "pass", relay="tcp") as relay:
             opens = relay._connect
             with unittest.mock.patch.object(relay, "_connect", lambda *them: open_one(opens, *them)):
                 with self.assertRaises(ConnectFailed) as failed:

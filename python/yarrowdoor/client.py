@@ -424,14 +424,14 @@ class Client:
     # Requests
 
     def create_permission(self, ip: str, now: int, *, transport: Optional[str] = None) -> None:
-        """Requests a permission for an IP address (RFC 8656, section 9). An event says what the server answers.
+        """Requests a permission for an IP address (RFC 8656, section 9). An event tells the outcome.
 
         `Refused`: `no-allocation`, `already-exists`.
         """
         self._ask(now, c.CREATE_PERMISSION, transport=self._relay(transport), peer=packed_ip(ip))
 
     def bind_channel(self, peer: Address, now: int, *, transport: Optional[str] = None) -> None:
-        """Requests a channel, and with it a permission (RFC 8656, section 12). An event says what the server answers.
+        """Requests a channel, and with it a permission (RFC 8656, section 12). An event tells the outcome.
 
         `Refused`: `no-allocation`; `already-exists`, also where all 4,096 numbers are taken; `expired`, up to `until`.
         """

@@ -62,8 +62,8 @@ class TurnClient:
     waits for its answer (`Times`). At most `queue` packets of peers wait to be taken; a further one is dropped and counted. With
     `receiver` there is no queue: it is called with data and peer, in the event loop, and must neither block nor raise.
     `anonymous` hides the user name (RFC 8489, section 14.4): `"required"` always, `"disabled"` never, and `"auto"` never so far.
-    `max_stale_nonces` is how many challenges in a row are answered, more than peers have permissions and channels: their refreshes
-    may all be challenged at once, and that of the relayed address.
+    `max_stale_nonces` is how many challenges in a row are answered. It should be greater than the number of permissions and
+    channels: their refreshes may all be challenged at once, and that of the relayed address too.
 
     Peers are IP addresses with ports; names are not resolved. What is counted and told:
 
@@ -77,12 +77,12 @@ class TurnClient:
     and TLS the connection comes before: the system gives up on it after about two minutes, and asyncio on the handshake of TLS
     after 60 s. `asyncio.wait_for(client.open(), seconds)` limits it all. It is used in one event loop.
 
-    Over UDP little tells that the server is gone: a permission that is not renewed is told by `on_lost`, at most five minutes
-    after it was, and `closed` becomes True when the server's allocation expires, up to half an hour later. Until then what is
-    sent is lost. `address` keeps its last value.
+    Over UDP little tells that the server is gone: a permission that can no longer be renewed is told by `on_lost`, at most five
+    minutes after its last renewal, and `closed` becomes True when the relayed address expires, up to half an hour after its last
+    renewal. Until then what is sent is lost. `address` keeps its last value.
 
-    Making it raises `ValueError` or `TypeError`, which says what is wrong; for `anonymous` and `max_stale_nonces`, and for a user
-    or password that is too long, opening it does.
+    Making it raises `ValueError` or `TypeError`, which says what is wrong; for `anonymous` and `max_stale_nonces`, for an empty
+    user, and for a user or password that is too long, opening it does.
     """
 
     def __init__(self, uri: Union[str, TurnUri], user: Union[str, bytes], password: Union[str, bytes], *, relay: str = "udp",

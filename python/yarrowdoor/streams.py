@@ -162,7 +162,7 @@ class Streams:
             self.client.allocated_tcp_socket(wanted, link.local if link else None, self.now())
         except (Ended, Refused):
             self._forget(link)
-        if failure is not None:
+        if failure is not None and not is_offer:
             # The client has no event for it.
             self.relay._settle("connect", wanted.peer, failure)
         self.relay._drive()
