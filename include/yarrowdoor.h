@@ -421,11 +421,11 @@ static inline uint32_t yarrowdoor_poll(yarrowdoor *client, uint64_t now, yarrowd
     return yarrowdoor_call_plain(client, &request, answer);
 }
 
-/* The next packet that is due. Requests start at least 50 ms apart (our choice, in place of the RTO of RFC 8489,
-   section 6.2.1), so that an allocation with its challenge and a permission take 100 ms or more; retransmissions
-   do not wait. YARROWDOOR_PACKET: send the answer->len bytes in the buffer. YARROWDOOR_NOTHING: none is due.
-   YARROWDOOR_UNREAD_BYTES: read the rest of an earlier answer first. YARROWDOOR_SMALL_BUFFER: the buffer has under
-   YARROWDOOR_MAX_PACKET bytes, which is more than any packet has. */
+/* The next packet that is due. Requests start at least 50 ms apart (our choice), so that an allocation with its
+   challenge and a permission take 100 ms or more; retransmissions do not wait. YARROWDOOR_PACKET: send the
+   answer->len bytes in the buffer. YARROWDOOR_NOTHING: none is due. YARROWDOOR_UNREAD_BYTES: read the rest of an
+   earlier answer first. YARROWDOOR_SMALL_BUFFER: the buffer has under YARROWDOOR_MAX_PACKET bytes, which is more
+   than any packet has. */
 static inline uint32_t yarrowdoor_poll_transmit(yarrowdoor *client, uint64_t now, uint8_t *buffer, size_t buffer_len,
                                                 yarrowdoor_answer *answer)
 {
@@ -499,9 +499,9 @@ static inline uint32_t yarrowdoor_send_to(yarrowdoor *client, uint32_t transport
 }
 
 /* Requests a permission for the IP address of `peer`, whatever its port (RFC 8656, section 9): data may be sent to
-   it and received from it. YARROWDOOR_DONE: an event reports the outcome, unless the client ends before,
-   YARROWDOOR_PERMISSION_CREATED or YARROWDOOR_PERMISSION_CREATE_FAILED. YARROWDOOR_REFUSED:
-   YARROWDOOR_ERROR_NO_ALLOCATION, or YARROWDOOR_ERROR_ALREADY_EXISTS. */
+   it and received from it. YARROWDOOR_DONE: an event YARROWDOOR_PERMISSION_CREATED or
+   YARROWDOOR_PERMISSION_CREATE_FAILED reports the outcome, unless the client or its allocation ends before.
+   YARROWDOOR_REFUSED: YARROWDOOR_ERROR_NO_ALLOCATION, or YARROWDOOR_ERROR_ALREADY_EXISTS. */
 static inline uint32_t yarrowdoor_create_permission(yarrowdoor *client, uint32_t transport,
                                                     const yarrowdoor_address *peer, uint64_t now,
                                                     yarrowdoor_answer *answer)
@@ -523,10 +523,11 @@ static inline uint32_t yarrowdoor_have_permission(yarrowdoor *client, uint32_t t
 }
 
 /* Requests a channel to `peer`, and with it a permission (RFC 8656, section 12): its data then has four bytes of
-   header, and not 36 or 48. YARROWDOOR_DONE: an event reports the outcome, unless the client ends before,
-   YARROWDOOR_CHANNEL_CREATED or YARROWDOOR_CHANNEL_CREATE_FAILED, and another that of a permission that it
-   requested. YARROWDOOR_REFUSED: YARROWDOOR_ERROR_NO_ALLOCATION; YARROWDOOR_ERROR_ALREADY_EXISTS, also where all
-   4,096 numbers are taken; YARROWDOOR_ERROR_EXPIRED, up to answer->time. */
+   header, and not 36 or 48. YARROWDOOR_DONE: an event YARROWDOOR_CHANNEL_CREATED or
+   YARROWDOOR_CHANNEL_CREATE_FAILED reports the outcome, unless the client or its allocation ends before, and
+   another that of a permission that it requested. YARROWDOOR_REFUSED: YARROWDOOR_ERROR_NO_ALLOCATION;
+   YARROWDOOR_ERROR_ALREADY_EXISTS, also where all 4,096 numbers are taken; YARROWDOOR_ERROR_EXPIRED, up to
+   answer->time. */
 static inline uint32_t yarrowdoor_bind_channel(yarrowdoor *client, uint32_t transport, const yarrowdoor_address *peer,
                                                uint64_t now, yarrowdoor_answer *answer)
 {
@@ -537,7 +538,7 @@ static inline uint32_t yarrowdoor_bind_channel(yarrowdoor *client, uint32_t tran
 }
 
 /* Requests that the server connect to `peer`, which needs a permission, from an allocation over TCP (RFC 6062,
-   section 4.3). YARROWDOOR_DONE: unless the client ends before, yarrowdoor_poll answers
+   section 4.3). YARROWDOOR_DONE: unless the client or its allocation ends before, yarrowdoor_poll answers
    YARROWDOOR_ALLOCATE_TCP_SOCKET, or an event YARROWDOOR_TCP_CONNECT_FAILED. YARROWDOOR_REFUSED:
    YARROWDOOR_ERROR_NO_ALLOCATION, YARROWDOOR_ERROR_NO_PERMISSION or YARROWDOOR_ERROR_ALREADY_EXISTS. */
 static inline uint32_t yarrowdoor_tcp_connect(yarrowdoor *client, const yarrowdoor_address *peer, uint64_t now,
