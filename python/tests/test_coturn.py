@@ -1,6 +1,7 @@
 """A client against a real server, coturn, which has to be installed."""
 import asyncio
 import contextlib
+import socket
 import ssl
 import time
 import unittest
@@ -198,6 +199,43 @@ class Coturn(unittest.IsolatedAsyncioTestCase):
             return link
 
         self.assertEqual((await self.connect_failed(one_that_ends)).code, 446)
+
+    async def test_a_connect_that_is_cancelled(self) -> None:
+        peers = await asyncio.start_server(echo_stream, "127.0.0.1", 0)
+        self.addCleanup(peers.close)
+        peer, opened = peers.sockets[0].getsockname(), []
+        async with TurnClient(self.server.uri("turn:127.0.0.1:{port}?transport=tcp"), "user", "pass", relay="tcp") as relay:
+            await relay.permit(peer[0])
+            opens = relay._connect
+
+            async def open_late(*them: object) -> Link:
+                await asyncio.sleep(0.5)
+                opened.append(await opens(*them))
+                return opened[-1]
+
+            with unittest.mock.patch.object(relay, "_connect", open_late):
+                with self.assertRaises(asyncio.TimeoutError):
+                    await asyncio.wait_for(relay.connect(peer), 0.3)
+                await asyncio.sleep(1)
+            self.assertEqual([link.ended for link in opened], [True])
+            self.assertEqual(relay._streams._accepted.qsize(), 0)
+            reader, writer = await asyncio.wait_for(relay.connect(peer), 10)
+            writer.write(b"hello")
+            self.assertEqual(await asyncio.wait_for(reader.readexactly(5), 5), b"hello")
+
+    async def test_a_name_that_leads_elsewhere_later(self) -> None:
+        peers = await asyncio.start_server(echo_stream, "127.0.0.1", 0)
+        self.addCleanup(peers.close)
+        first = iter(["127.0.0.1"])
+
+        async def lead(host: str, port: int, **kinds: int) -> "list[tuple]":
+            return [(socket.AF_INET, socket.SOCK_STREAM, socket.IPPROTO_TCP, "", (next(first, "127.0.0.2"), port))]
+
+        with unittest.mock.patch.object(asyncio.get_running_loop(), "getaddrinfo", lead):
+            async with TurnClient(self.server.uri("turn:localhost:{port}?transport=tcp"), "user", "pass", relay="tcp") as relay:
+                reader, writer = await asyncio.wait_for(relay.connect(peers.sockets[0].getsockname()), 10)
+                writer.write(b"hello")
+                self.assertEqual(await asyncio.wait_for(reader.readexactly(5), 5), b"hello")
 
     async def test_two_relays(self) -> None:
         async with TurnClient(self.server.uri(), "user", "pass") as one, TurnClient(self.server.uri(), "user", "pass") as other:

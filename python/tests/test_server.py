@@ -1,6 +1,7 @@
 """A client against the server of the tests: in a time of its own, and through a socket and an event loop."""
 import asyncio
 import re
+import socket
 import time
 import unittest
 import unittest.mock
@@ -11,6 +12,7 @@ from yarrowdoor import (
 from yarrowdoor.client import (
     AllocationCreated, AllocationCreateFailed, ChannelCreated, ChannelCreateFailed, PermissionCreated, PermissionCreateFailed,
 )
+from yarrowdoor.uri import TurnUri
 
 from .network import SECOND, Endpoint, Network, StreamEndpoint
 from .server import Server
@@ -131,6 +133,10 @@ class InItsOwnTime(unittest.TestCase):
 class Arguments(unittest.TestCase):
     """What is no client, told when it is made."""
 
+    def test_tls_over_udp(self) -> None:
+        with self.assertRaises(ValueError):
+            TurnClient(TurnUri("turn.example.org", 5349, "udp", secure=True), "user", "pass")
+
     def test_credentials(self) -> None:
         for user, password, name in ((None, "pass", "user"), ("user", None, "password"), (5, "pass", "user")):
             with self.assertRaisesRegex(TypeError, f"^{name} is str or bytes, and not "):
@@ -213,6 +219,52 @@ class ThroughASocket(unittest.IsolatedAsyncioTestCase):
             await relay.send(b"hello", ("10.1.0.2", 9000))
             self.assertEqual(await asyncio.wait_for(relay.receive(), 5), (b"hello", ("10.1.0.2", 9000)))
 
+    async def test_a_permission_that_a_channel_requested(self) -> None:
+        endpoint = await self.serve(denied=("10.1.0.2",))
+        peer = ("10.1.0.1", 9000)
+        async with TurnClient(endpoint.uri, "user", "pass") as relay:
+            await asyncio.gather(relay.bind(peer), relay.send(b"hello", peer))
+            self.assertEqual(await asyncio.wait_for(relay.receive(), 5), (b"hello", peer))
+            found = await asyncio.gather(relay.bind(("10.1.0.2", 9)), relay.permit("10.1.0.2"), return_exceptions=True)
+            self.assertEqual([type(it) for it in found], [ChannelFailed, PermissionFailed])
+
+    async def test_a_channel_whose_permission_is_gone(self) -> None:
+        endpoint = await self.serve()
+        peer, is_lost = ("10.1.0.1", 9000), asyncio.Event()
+        async with TurnClient(endpoint.uri, "user", "pass", clock=Clock(rate=100)) as relay:
+            relay.on_lost = lambda lost: is_lost.set()
+            await relay.bind(peer)
+            endpoint.server.denied = (peer[0],)
+            await asyncio.wait_for(is_lost.wait(), 10)  # the refresh at 240 s
+            endpoint.server.denied = ()
+            await relay.bind(peer)
+            relay.sendto(b"hello", peer)
+            self.assertEqual(await asyncio.wait_for(relay.receive(), 5), (b"hello", peer))
+
+    async def test_what_on_lost_raises_is_not_the_clients(self) -> None:
+        endpoint = await self.serve()
+        told = []
+        asyncio.get_running_loop().set_exception_handler(lambda loop, context: told.append(context["exception"]))
+
+        def refuse(lost: object) -> None:
+            raise KeyError(lost)
+
+        async with TurnClient(endpoint.uri, "user", "pass", clock=Clock(rate=600)) as relay:
+            relay.on_lost = refuse
+            await relay.permit("10.1.0.1")
+            endpoint.server.is_dead = True
+            with self.assertRaises(Ended):
+                await asyncio.wait_for(relay.wait_closed(), 10)
+        self.assertEqual([type(it) for it in told], [KeyError])
+
+    async def test_takers_that_are_cancelled_are_forgotten(self) -> None:
+        endpoint = await self.serve()
+        async with TurnClient(endpoint.uri, "user", "pass") as relay:
+            for _ in range(3):
+                with self.assertRaises(asyncio.TimeoutError):
+                    await asyncio.wait_for(relay.receive(), 0.01)
+            self.assertEqual(len(relay._takers), 0)
+
     async def test_a_wrong_password_is_told_soon(self) -> None:
         endpoint = await self.serve()
         start = time.monotonic()
@@ -250,6 +302,60 @@ class ThroughASocket(unittest.IsolatedAsyncioTestCase):
             async with TurnClient(endpoint.uri, "user", "pass") as relay:
                 await relay.send(b"hello", ("10.1.0.1", 9000))
                 self.assertEqual(await asyncio.wait_for(relay.receive(), 5), (b"hello", ("10.1.0.1", 9000)))
+
+    async def test_another_address_that_takes_its_time(self) -> None:
+        endpoint = await self.serve()
+        take = endpoint.datagram_received
+        endpoint.datagram_received = lambda *it: asyncio.get_running_loop().call_later(0.3, take, *it)
+
+        async def hosts(relay: TurnClient) -> "list[str]":
+            return ["127.0.0.2", "127.0.0.1"]
+
+        with unittest.mock.patch.object(TurnClient, "_hosts", hosts):
+            async with TurnClient(endpoint.uri, "user", "pass") as relay:
+                self.assertEqual(relay.address, ("10.9.9.9", 40000))
+
+    async def test_no_address_of_the_server_answers(self) -> None:
+        endpoint = await self.serve()
+
+        async def hosts(relay: TurnClient) -> "list[str]":
+            return ["127.0.0.2", "255.255.255.255"]  # to the second one no socket connects
+
+        with unittest.mock.patch.object(TurnClient, "_hosts", hosts):
+            relay = TurnClient(endpoint.uri, "user", "pass")
+            with self.assertRaises(AllocationFailed):
+                await relay.open()
+        await asyncio.wait_for(relay.close(), 1)
+        with self.assertRaises(Ended):
+            await asyncio.wait_for(relay.wait_closed(), 1)
+
+    async def test_a_connection_that_is_reset_at_once(self) -> None:
+        endpoint = await StreamEndpoint.start(Server())
+        self.addCleanup(endpoint.close)
+        with unittest.mock.patch.object(socket.socket, "getpeername", side_effect=OSError(107, "not connected")):
+            with self.assertRaises(AllocationFailed):
+                await asyncio.wait_for(TurnClient(endpoint.uri, "user", "pass").open(), 5)
+
+    async def test_sending_to_a_server_that_stopped_reading(self) -> None:
+        endpoint = await StreamEndpoint.start(Server())
+        self.addCleanup(endpoint.close)
+        relay = TurnClient(endpoint.uri, "user", "pass")
+        await relay.open()
+        await relay.permit("10.1.0.1")
+        endpoint.writer.transport.pause_reading()
+
+        async def send() -> None:
+            while True:
+                await relay.send(bytes(60_000), ("10.1.0.1", 9000))
+
+        sending = asyncio.ensure_future(send())
+        await asyncio.sleep(0.3)
+        self.assertFalse(sending.done())
+        await relay.close()
+        with self.assertRaises(Ended):
+            await asyncio.wait_for(sending, 1)
+        endpoint.end(resets=True)
+        await asyncio.sleep(0.1)
 
     async def test_opening_that_is_cancelled(self) -> None:
         endpoint = await self.serve()

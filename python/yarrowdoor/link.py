@@ -25,7 +25,12 @@ class Link(asyncio.DatagramProtocol, asyncio.Protocol):
 
     def connection_made(self, transport: Any) -> None:
         self.transport = transport
-        self.local, self.remote = (_address(transport.get_extra_info(it)) for it in ("sockname", "peername"))
+        names = [transport.get_extra_info(it) for it in ("sockname", "peername")]
+        if None in names:
+            # The other end has reset the connection already.
+            self.close()
+            return
+        self.local, self.remote = map(_address, names)
         is_udp = hasattr(transport, "sendto")
         self._write = transport.sendto if is_udp else transport.write
         self.frames = None if is_udp else reasons.Frames()
@@ -70,6 +75,7 @@ class Link(asyncio.DatagramProtocol, asyncio.Protocol):
     def close(self) -> None:
         """Closes the socket, when what was sent has left it."""
         self.ended = True
+        self.writable.set()
         self.transport.close()
 
 

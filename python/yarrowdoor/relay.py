@@ -96,6 +96,8 @@ class TurnClient:
             raise ValueError("relay='tcp' needs a server over TCP: turn:HOST?transport=tcp, or turns:HOST (RFC 6062, section 4.1)")
         if family not in (4, 6):
             raise ValueError(f"family is 4 or 6, and not {family!r}")
+        if self.uri.secure and self.uri.transport != "tcp":
+            raise ValueError(f"TURN over DTLS is not supported: {self.uri}")
         if ssl is not None and not self.uri.secure:
             raise ValueError(f"ssl is for turns:, and the URI is {self.uri}")
         self._ssl = (ssl or tls.create_default_context()) if self.uri.secure else None
@@ -180,13 +182,15 @@ class TurnClient:
         self._ready: asyncio.Future[None] = self._loop.create_future()
         self._ended: asyncio.Future[None] = self._loop.create_future()
         self._streams = Streams(self)
+        # Those of the address that was tried before have ended.
+        self._client = self._link = None
         try:
-            self._link = await self._connect(self._control_received, self._control_lost)
+            try:
+                self._link = await self._connect(self._control_received, self._control_lost)
+            except OSError as error:
+                self._is_unreachable = True
+                raise AllocationFailed(f"no connection to {self.uri}: {error}") from error
             self._heard = self._clock.now()
-        except OSError as error:
-            self._is_unreachable = True
-            raise AllocationFailed(f"no connection to {self.uri}: {error}") from error
-        try:
             self._client = Client(self._link.local, self._link.remote, self._user, self._password, families=(self._family,),
                                   transport=self.uri.transport, allocation=self._relay, times=self._times,
                                   anonymous=self._anonymous, max_stale_nonces=self._max_stale_nonces)
@@ -261,7 +265,7 @@ class TurnClient:
     async def bind(self, peer: Address) -> None:
         """Gives a peer a channel, and a permission: its packets then have 4 bytes of header (RFC 8656, section 12).
 
-        Waits for the server's answer. `ChannelFailed`, `Ended`; `Refused` where the peer's earlier channel is still reserved
+        Waits for the server's answer. `ChannelFailed`, `PermissionFailed`, `Ended`; `Refused` where the peer's earlier channel is still reserved
         (`expired`), where all 4,096 numbers are taken (`already-exists`), and where it has another family than the relayed address
         (`no-allocation`).
         """
@@ -269,6 +273,8 @@ class TurnClient:
         self._open()
         self._check_family(peer[0])
         await self._request("bind", peer, lambda now: self._open().bind_channel(peer, now))
+        if not self._open().have_permission(peer[0]):
+            await self.permit(peer[0])  # The channel is an older one, whose permission is gone: a refresh does not bring it back.
 
     async def send(self, data: sans_io.Buffer, peer: Address) -> None:
         """Sends data to a peer: requests its permission first, and waits where the socket is full.
@@ -364,6 +370,8 @@ class TurnClient:
             try:
                 await taker
             except asyncio.CancelledError:
+                if taker in self._takers:
+                    self._takers.remove(taker)
                 if self._queue:
                     self._wake_taker()  # another one, since this one takes nothing
                 raise
@@ -392,15 +400,18 @@ class TurnClient:
 
     # The sockets
 
-    async def _connect(self, received: Callable[[bytes, Link], None], lost: Callable[[Link, Optional[Exception]], None]) -> Link:
-        """A new socket to the server."""
+    async def _connect(self, received: Callable[[bytes, Link], None], lost: Callable[[Link, Optional[Exception]], None],
+                       host: Optional[str] = None) -> Link:
+        """A new socket to the server, over TCP to this address of it, if one is given."""
         uri = self.uri
         link = Link(received, lost)
         if uri.transport == "udp":
             await self._loop.create_datagram_endpoint(lambda: link, remote_addr=(self._host, uri.port))
         else:
             name = uri.host if self._ssl else None
-            await self._loop.create_connection(lambda: link, uri.host, uri.port, ssl=self._ssl, server_hostname=name)
+            await self._loop.create_connection(lambda: link, host or uri.host, uri.port, ssl=self._ssl, server_hostname=name)
+        if link.ended:
+            raise ConnectionResetError("the server closed the connection at once")
         return link
 
     def _control_received(self, data: bytes, link: Link) -> None:
@@ -454,11 +465,12 @@ class TurnClient:
 
     def _fail_soon(self, hint: Optional[Tuple[int, str]], why: str = "") -> None:
         """Gives up the allocation, unless a signed answer comes soon."""
-        def fail() -> None:
-            if not self._ready.done():
-                self._ready.set_exception(AllocationFailed(why) if hint is None else _refusal(hint))
+        ready = self._ready  # Another address of the server has another one.
 
-        if not self._ready.done():
+        def fail() -> None:
+            _settle(ready, AllocationFailed(why) if hint is None else _refusal(hint))
+
+        if not ready.done():
             self._loop.call_later(GRACE, fail)
 
     def _control_lost(self, link: Link, error: Optional[Exception]) -> None:
@@ -549,6 +561,7 @@ class TurnClient:
             self._streams.connected(event.peer)
             self._settle("connect", event.peer, None)
         else:
+            self._streams.failed(event.peer)
             hint = self._hints.get(reasons.CONNECT)
             self._settle("connect", event.peer, ConnectFailed(f"no connection to {event.peer}", hint))
 
@@ -568,7 +581,7 @@ class TurnClient:
             lost = Lost(name, about)
             self.lost.append(lost)
             if self.on_lost is not None:
-                self.on_lost(lost)
+                self._loop.call_soon(self.on_lost, lost)  # What it raises is not the client's.
 
     async def _request(self, what: str, about: Union[str, Address], make: Callable[[int], None]) -> None:
         """Makes a request, and waits for the event that says how it went. Who asks for one that is under way waits for that."""
@@ -582,8 +595,15 @@ class TurnClient:
     async def _make_request(self, key: Tuple[str, Any], waiter: asyncio.Future[None], make: Callable[[int], None]) -> None:
         try:
             async with self._requests:
-                self._open()
-                make(self._clock.now())
+                client = self._open()
+                if waiter.done():
+                    return
+                try:
+                    make(self._clock.now())
+                except Refused as refusal:
+                    # A channel to this address may have asked for its permission already: the same events tell the outcome.
+                    if refusal.reason != "already-exists" or key[0] != "permit" or client.have_permission(key[1]):
+                        raise
                 self._drive()
                 await asyncio.wait([waiter])
         except Refused as refusal:
@@ -665,6 +685,8 @@ class TurnClient:
             self._timer = None
         if self._link is not None:
             self._link.close()
+            if self._link.frames is not None:
+                self._loop.call_later(GRACE, self._link.transport.abort)  # The server may have stopped reading.
 
 
 def _refusal(hint: Tuple[int, str]) -> AllocationFailed:

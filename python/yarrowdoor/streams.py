@@ -2,7 +2,8 @@
 from __future__ import annotations
 
 import asyncio
-from typing import Any, Dict, List, Optional, Set, TYPE_CHECKING, Tuple
+import collections
+from typing import Any, Counter, Dict, List, Optional, Set, TYPE_CHECKING, Tuple
 
 from . import client as sans_io
 from .client import Address
@@ -22,12 +23,18 @@ BACKLOG = 64
 PIECE = 65536
 
 
+class EndedUnbound(ConnectFailed):
+    """The server closed a data connection before it was bound: its nonce may have been stale."""
+
+
 class PeerTransport(asyncio.Transport):
     """The transport of a stream to a peer, over a data connection. `get_extra_info` knows `peername` and `sockname`."""
 
-    def __init__(self, streams: Streams, link: Link, peer: Address) -> None:
+    def __init__(self, streams: Streams, link: Link, peer: Address, is_own: bool) -> None:
         super().__init__({"peername": peer, "sockname": streams.relay.address})
         self._streams, self.link, self.peer = streams, link, peer
+        # Whether `connect` asked for it, and whether the server has bound it.
+        self.is_own, self.is_bound = is_own, False
         reader = asyncio.StreamReader(loop=streams.loop)
         self._protocol = asyncio.StreamReaderProtocol(reader, loop=streams.loop)
         self._protocol.connection_made(self)
@@ -102,7 +109,10 @@ class Streams:
         self.relay, self.loop = relay, asyncio.get_running_loop()
         self._by_peer: Dict[Address, PeerTransport] = {}
         self._links: List[Link] = []
-        self._wanted: Dict[Address, Optional[Address]] = {}
+        # The peers of the CONNECTs that were made and that the client has not asked to open yet, and how many callers of `connect`
+        # wait for a peer.
+        self._asked: Set[Address] = set()
+        self._callers: Counter[Address] = collections.Counter()
         self._accepted: asyncio.Queue[Optional[PeerTransport]] = asyncio.Queue()
         # The peers whose connections are being opened, and are not in the queue yet.
         self._offered: Set[Address] = set()
@@ -118,22 +128,23 @@ class Streams:
         """Has the server connect to a peer. A connection that the server closed before it was bound is tried once more:
         its nonce may have been stale (docs/REAL-SERVERS.md in the repository)."""
         await self.relay.permit(peer[0])
-        for attempt in (1, 2):
-            self._wanted[peer] = None
+        self._callers[peer] += 1
+        try:
             try:
-                await self.relay._request("connect", peer, lambda now: self.client.tcp_connect(peer, now))
-                stream = self._by_peer.get(peer)
-                if stream is None:
-                    raise ConnectFailed(f"the connection to {peer} has ended")
-                return stream.pair
-            except ConnectFailed as error:
-                # A second CONNECT helps neither where the server says why, nor where no data connection opens: the server keeps
-                # the peer's connection for 30 s then (RFC 6062, section 5.2), and refuses another.
-                if attempt == 2 or error.code is not None or error.__cause__ is not None:
-                    raise
-            finally:
-                self._wanted.pop(peer, None)
-        raise AssertionError
+                await self.relay._request("connect", peer, lambda now: self._ask(peer, now))
+            except EndedUnbound:
+                await self.relay._request("connect", peer, lambda now: self._ask(peer, now))
+        finally:
+            self._callers[peer] -= 1
+            self._callers += collections.Counter()  # drops those that are 0
+        stream = self._by_peer.get(peer)
+        if stream is None:
+            raise ConnectFailed(f"the connection to {peer} has ended")
+        return stream.pair
+
+    def _ask(self, peer: Address, now: int) -> None:
+        self.client.tcp_connect(peer, now)
+        self._asked.add(peer)
 
     async def accept(self) -> Pair:
         """The next connection of a peer."""
@@ -145,15 +156,17 @@ class Streams:
 
     async def open(self, wanted: sans_io.AllocateTcpSocket) -> None:
         """Opens the data connection that the client wants: asked for by `connect`, or offered by a peer."""
-        link, failure = None, None
-        is_offer = wanted.peer not in self._wanted
-        if not is_offer or len(self._offered) + self._accepted.qsize() < BACKLOG:
-            if is_offer:
+        link = None
+        failure = ConnectFailed(f"nobody waits for the connection to {wanted.peer} any more")
+        is_own = wanted.peer in self._asked
+        self._asked.discard(wanted.peer)
+        if self._callers[wanted.peer] if is_own else len(self._offered) + self._accepted.qsize() < BACKLOG:
+            if not is_own:
                 self._offered.add(wanted.peer)
             try:
-                link = await self.relay._connect(self._received, self._lost)
+                link = await self.relay._connect(self._received, self._lost, _host(wanted.remote))
                 self._links.append(link)
-                self._add(link, wanted.peer)
+                self._add(link, wanted.peer, is_own)
             except OSError as error:
                 self._offered.discard(wanted.peer)
                 failure = ConnectFailed(f"no data connection to the server for {wanted.peer}: {error}")
@@ -162,21 +175,30 @@ class Streams:
             self.client.allocated_tcp_socket(wanted, link.local if link else None, self.now())
         except (Ended, Refused):
             self._forget(link)
-        if failure is not None and not is_offer:
+        if link is None and is_own:
             # The client has no event for it.
             self.relay._settle("connect", wanted.peer, failure)
         self.relay._drive()
 
-    def _add(self, link: Link, peer: Address) -> None:
-        stream = self._by_peer[peer] = PeerTransport(self, link, peer)
+    def _add(self, link: Link, peer: Address, is_own: bool) -> None:
+        stream = self._by_peer[peer] = PeerTransport(self, link, peer, is_own)
         link.on_pause, link.on_resume = stream.pause_writing, stream.resume_writing
 
     def connected(self, peer: Address) -> None:
         """The data connection to a peer is bound."""
         stream = self._by_peer.get(peer)
-        if stream is not None and peer not in self._wanted:
+        if stream is None:
+            return
+        stream.is_bound = True
+        if not stream.is_own:
             self._offered.discard(peer)
             self._accepted.put_nowait(stream)
+        elif not self._callers[peer]:
+            stream.close()  # Who asked for it has been cancelled.
+
+    def failed(self, peer: Address) -> None:
+        """There is no data connection to a peer."""
+        self._asked.discard(peer)
 
     def feed(self, data: bytes, peer: Address) -> None:
         """Takes data of a peer."""
@@ -234,4 +256,10 @@ class Streams:
                 del self._by_peer[peer]
                 self._offered.discard(peer)
                 stream.lose(error)
-                self.relay._settle("connect", peer, ConnectFailed(f"the server closed the connection for {peer}"))
+                if stream.is_own and not stream.is_bound:
+                    self.relay._settle("connect", peer, EndedUnbound(f"the server closed the connection for {peer}"))
+
+
+def _host(server: Address) -> str:
+    """The server's address as a name for a new connection to it, with its scope, if it has one."""
+    return f"{server[0]}%{server[3]}" if len(server) == 4 and server[3] else server[0]
