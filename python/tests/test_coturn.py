@@ -223,6 +223,30 @@ class Coturn(unittest.IsolatedAsyncioTestCase):
             writer.write(b"hello")
             self.assertEqual(await asyncio.wait_for(reader.readexactly(5), 5), b"hello")
 
+    async def test_a_connect_that_is_cancelled_before_or_as_it_is_answered(self) -> None:
+        peers = await asyncio.start_server(echo_stream, "127.0.0.1", 0)
+        self.addCleanup(peers.close)
+        peer = peers.sockets[0].getsockname()
+        async with TurnClient(self.server.uri("turn:127.0.0.1:{port}?transport=tcp"), "user", "pass", relay="tcp") as relay:
+            await relay.permit(peer[0])
+            with self.assertRaises(asyncio.TimeoutError):
+                await asyncio.wait_for(relay.connect(peer), 0.02)  # the CONNECT leaves 50 ms after the last request
+            await asyncio.sleep(0.5)
+            connected = relay._streams.connected
+
+            def cancel(bound: "tuple[str, int]") -> None:
+                connected(bound)
+                connecting.cancel()
+
+            with unittest.mock.patch.object(relay._streams, "connected", cancel):
+                connecting = asyncio.ensure_future(relay.connect(peer))
+                with self.assertRaises(asyncio.CancelledError):
+                    await asyncio.wait_for(connecting, 10)
+            await asyncio.sleep(0.5)
+            reader, writer = await asyncio.wait_for(relay.connect(peer), 10)
+            writer.write(b"hello")
+            self.assertEqual(await asyncio.wait_for(reader.readexactly(5), 5), b"hello")
+
     async def test_a_name_that_leads_elsewhere_later(self) -> None:
         peers = await asyncio.start_server(echo_stream, "127.0.0.1", 0)
         self.addCleanup(peers.close)

@@ -33,8 +33,8 @@ class PeerTransport(asyncio.Transport):
     def __init__(self, streams: Streams, link: Link, peer: Address, is_own: bool) -> None:
         super().__init__({"peername": peer, "sockname": streams.relay.address})
         self._streams, self.link, self.peer = streams, link, peer
-        # Whether `connect` asked for it, and whether the server has bound it.
-        self.is_own, self.is_bound = is_own, False
+        # Whether `connect` asked for it, whether the server has bound it, and whether `connect` has returned it.
+        self.is_own, self.is_bound, self.is_taken = is_own, False, False
         reader = asyncio.StreamReader(loop=streams.loop)
         self._protocol = asyncio.StreamReaderProtocol(reader, loop=streams.loop)
         self._protocol.connection_made(self)
@@ -134,17 +134,26 @@ class Streams:
                 await self.relay._request("connect", peer, lambda now: self._ask(peer, now))
             except EndedUnbound:
                 await self.relay._request("connect", peer, lambda now: self._ask(peer, now))
+            stream = self._by_peer.get(peer)
+            if stream is None:
+                raise ConnectFailed(f"the connection to {peer} has ended")
+            stream.is_taken = True
+            return stream.pair
         finally:
             self._callers[peer] -= 1
             self._callers += collections.Counter()  # drops those that are 0
-        stream = self._by_peer.get(peer)
-        if stream is None:
-            raise ConnectFailed(f"the connection to {peer} has ended")
-        return stream.pair
+            self._close_unwanted(peer)
 
     def _ask(self, peer: Address, now: int) -> None:
         self.client.tcp_connect(peer, now)
         self._asked.add(peer)
+
+    def _close_unwanted(self, peer: Address) -> None:
+        """Closes a bound stream if all who asked for it were cancelled. The server keeps one that is not bound for 30 s, and would
+        refuse another CONNECT to this peer so long (RFC 6062, section 5.2), so each is bound first."""
+        stream = self._by_peer.get(peer)
+        if stream is not None and stream.is_own and stream.is_bound and not stream.is_taken and not self._callers[peer]:
+            stream.close()
 
     async def accept(self) -> Pair:
         """The next connection of a peer."""
@@ -156,11 +165,10 @@ class Streams:
 
     async def open(self, wanted: sans_io.AllocateTcpSocket) -> None:
         """Opens the data connection that the client wants: asked for by `connect`, or offered by a peer."""
-        link = None
-        failure = ConnectFailed(f"nobody waits for the connection to {wanted.peer} any more")
+        link = failure = None
         is_own = wanted.peer in self._asked
         self._asked.discard(wanted.peer)
-        if self._callers[wanted.peer] if is_own else len(self._offered) + self._accepted.qsize() < BACKLOG:
+        if is_own or len(self._offered) + self._accepted.qsize() < BACKLOG:
             if not is_own:
                 self._offered.add(wanted.peer)
             try:
@@ -175,7 +183,7 @@ class Streams:
             self.client.allocated_tcp_socket(wanted, link.local if link else None, self.now())
         except (Ended, Refused):
             self._forget(link)
-        if link is None and is_own:
+        if failure is not None and is_own:
             # The client has no event for it.
             self.relay._settle("connect", wanted.peer, failure)
         self.relay._drive()
@@ -193,8 +201,8 @@ class Streams:
         if not stream.is_own:
             self._offered.discard(peer)
             self._accepted.put_nowait(stream)
-        elif not self._callers[peer]:
-            stream.close()  # Who asked for it has been cancelled.
+        else:
+            self._close_unwanted(peer)
 
     def failed(self, peer: Address) -> None:
         """There is no data connection to a peer."""
