@@ -61,9 +61,10 @@ class Server:
     """Times are seconds. `nonce_life` is how long a nonce is good; `allocate_error` is the error of each signed ALLOCATE."""
 
     def __init__(self, user: str = "user", password: str = "pass", nonce_life: Optional[float] = None,
-                 allocate_error: Optional[int] = None, signs_errors: bool = True, denied: Tuple[str, ...] = ()) -> None:
+                 allocate_error: Optional[int] = None, signs_errors: bool = True, denied: Tuple[str, ...] = (),
+                 lifetime: int = LIFETIME) -> None:
         self.key = hashlib.md5(f"{user}:realm:{password}".encode()).digest()
-        self.user, self.nonce_life = user.encode(), nonce_life
+        self.user, self.nonce_life, self.lifetime = user.encode(), nonce_life, lifetime
         self.allocate_error, self.signs_errors, self.denied = allocate_error, signs_errors, denied
         self.allocations: Dict[Where, Allocation] = {}
         self.answered: Dict[Tuple[Where, bytes], bytes] = {}
@@ -118,7 +119,7 @@ class Server:
         if allocation is None:
             return self.error(message, 437)
         if message.kind == REFRESH:
-            lifetime = min(struct.unpack("!I", found[0x000D])[0], LIFETIME)
+            lifetime = min(struct.unpack("!I", found[0x000D])[0], self.lifetime)
             allocation.until = now + lifetime
             if not lifetime:
                 del self.allocations[source]
@@ -136,9 +137,9 @@ class Server:
         if self.allocate_error or allocation:
             return self.error(message, self.allocate_error or 437)
         relayed = ("10.9.9.9", 40000 + len(self.allocations))
-        self.allocations[source] = Allocation(relayed, now + LIFETIME)
+        self.allocations[source] = Allocation(relayed, now + self.lifetime)
         body = attribute(0x0016, xored(relayed)) + attribute(0x0020, xored(source))
-        return self.success(message, body + attribute(0x000D, struct.pack("!I", LIFETIME)))
+        return self.success(message, body + attribute(0x000D, struct.pack("!I", self.lifetime)))
 
     def is_signed(self, message: Message) -> bool:
         digest = hmac.new(self.key, message.signed_part, hashlib.sha1).digest()

@@ -249,7 +249,7 @@ class ThroughASocket(unittest.IsolatedAsyncioTestCase):
         def refuse(lost: object) -> None:
             raise KeyError(lost)
 
-        async with TurnClient(endpoint.uri, "user", "pass", clock=Clock(rate=600)) as relay:
+        async with TurnClient(endpoint.uri, "user", "pass", clock=Clock(rate=300)) as relay:
             relay.on_lost = refuse
             await relay.permit("10.1.0.1")
             endpoint.server.is_dead = True
@@ -412,7 +412,7 @@ class ThroughASocket(unittest.IsolatedAsyncioTestCase):
     async def test_a_server_that_dies(self) -> None:
         endpoint = await self.serve()
         told = []
-        async with TurnClient(endpoint.uri, "user", "pass", clock=Clock(rate=600)) as relay:
+        async with TurnClient(endpoint.uri, "user", "pass", clock=Clock(rate=300)) as relay:
             relay.on_lost = told.append
             await relay.permit("10.1.0.1")
             endpoint.server.is_dead = True
@@ -430,8 +430,8 @@ class ThroughASocket(unittest.IsolatedAsyncioTestCase):
         self.assertEqual(list(relay.lost), told)
 
     async def test_a_server_that_is_gone(self) -> None:
-        endpoint = await self.serve()
-        async with TurnClient(endpoint.uri, "user", "pass", clock=Clock(rate=600)) as relay:
+        endpoint = await self.serve(lifetime=70)  # renewed after 10 s
+        async with TurnClient(endpoint.uri, "user", "pass", clock=Clock(rate=30)) as relay:
             endpoint.close()
             why = "^the connection to the server has ended: no answer from .* to a refresh: .*refused"
             with self.assertRaisesRegex(Ended, why) as ended:
@@ -447,8 +447,8 @@ class ThroughASocket(unittest.IsolatedAsyncioTestCase):
                 await relay.permit("10.1.0.1")
 
     async def test_a_server_that_forgets(self) -> None:
-        endpoint = await self.serve()
-        async with TurnClient(endpoint.uri, "user", "pass", clock=Clock(rate=600)) as relay:
+        endpoint = await self.serve(lifetime=70)  # renewed after 10 s
+        async with TurnClient(endpoint.uri, "user", "pass", clock=Clock(rate=30)) as relay:
             endpoint.server.allocations.clear()
             with self.assertRaisesRegex(Ended, r"^the server does not renew the relayed address \(437 no\)$"):
                 await relay.wait_closed()
