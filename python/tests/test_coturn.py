@@ -273,8 +273,8 @@ class Coturn(unittest.IsolatedAsyncioTestCase):
 @unittest.skipUnless(server.IS_HERE, server.WHY)
 class StaleNonces(unittest.IsolatedAsyncioTestCase):
     async def test_half_an_hour(self) -> None:
-        """Thirty minutes of the client's time, in 12 seconds, while the server's nonces last 5 seconds."""
-        rate, minutes = 150, 30
+        """Thirty minutes of the client's time, in 24 seconds, while the server's nonces last 5 seconds."""
+        rate, minutes = 75, 30  # half a second for each answer
         with server.coturn("--stale-nonce=5") as at:
             async with echo_peer() as peer, TurnClient(at.uri(), "user", "pass", clock=Clock(rate)) as relay:
                 await asyncio.gather(relay.bind(peer), *(relay.permit(f"127.0.0.{number}") for number in range(2, 6)))
