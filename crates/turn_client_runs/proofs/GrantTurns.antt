@@ -96,7 +96,7 @@ pub record Granting (g : Grant) (one : Input) : Type 0 where
 
 -- over the control connection
 module _ (one : Input) (over : IsOverControl one) (whole : is_message one.bytes ≡ true) where
-  accepting : judgement_of one.before one.bytes ≡ SignedSuccess → (was : Grant) (is : IsGrantedBy one.bytes one.time one.before was) → IsAccepting is.purpose one
+  pub accepting : judgement_of one.before one.bytes ≡ SignedSuccess → (was : Grant) (is : IsGrantedBy one.bytes one.time one.before was) → IsAccepting is.purpose one
   accepting judged was is = record {
     whole = whole;
     success = is.success;
@@ -139,7 +139,7 @@ module _ (one : Input) (stream : Stream) (of : one.stream ≡ Some stream) (wait
       let judged : IsAccepted (bind_judgement one.before b.c.local one.bytes) = rw b.judged tt in
       rw (waiting-made stream.local one (rw of (waits, refl)) whole, steps) (bind-ended b.c one.bytes one.time one.before judged)
 
-  bind-accepting : (b : Binds stream.local one.bytes one.before (bind_step stream.local one.bytes one.time one.before)) → one.before.phase ≡ Allocated
+  pub bind-accepting : (b : Binds stream.local one.bytes one.before (bind_step stream.local one.bytes one.time one.before)) → one.before.phase ≡ Allocated
       → (turn : IsBindInput stream.local b.c.peer one) → IsAccepting (ForBind stream.local turn.asked turn.number) one
   bind-accepting b phase turn = record {
     whole = whole;

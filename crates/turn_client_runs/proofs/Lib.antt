@@ -6,6 +6,11 @@ pub mod BoundLemmas
 pub mod CallGrants
 pub mod ChallengeLemmas
 pub mod ComingLemmas
+pub mod EventCalls
+pub mod EventInputs
+pub mod EventLemmas
+pub mod EventReplies
+pub mod EventTime
 pub mod FedTurnLemmas
 pub mod FollowLemmas
 pub mod GrantTurns
@@ -23,6 +28,7 @@ pub mod ReceivedRuns
 pub mod RelistLemmas
 pub mod ReplyLemmas
 pub mod RunCutLemmas
+pub mod RunEvents
 pub mod RunGrants
 pub mod RunLemmas
 pub mod ShortLemmas

@@ -10,6 +10,7 @@ use Rattle.turn_client_laws.proofs.DistinctNumbers.{initial-numbers, leaves-apar
 use Rattle.turn_client_runs.specs.Challenges.{IsWithinChallengeLimit}
 use Rattle.turn_client_runs.specs.Promises.{AfterEach, BoundHaveSuccess, CutsAgree, FewAreAnswered, GrantsHaveReplies, DeliversOnlyPermitted, NumbersAreDistinct, RealmIsAnswered, RealmStays}
 use Rattle.turn_client_runs.specs.Promises.{RepliesCountOnce}
+use Rattle.turn_client_runs.specs.Events.{EventsHaveCauses}
 use Rattle.turn_client_runs.specs.Replies.{CountsOnce}
 use Rattle.turn_client_runs.specs.Cut.{IsQuiet}
 use Rattle.turn_client_api.specs.Streams.{poll_recv_step}
@@ -28,6 +29,7 @@ use Rattle.turn_client_runs.proofs.PeerLemmas.{received, tells-permitted}
 use Rattle.turn_client_runs.proofs.RealmLemmas.{turns-realm}
 use Rattle.turn_client_runs.proofs.ReplyLemmas.{made-between, made-in, made-until, reply-again, reply-ends}
 use Rattle.turn_client_runs.proofs.RunCutLemmas.{run-cut}
+use Rattle.turn_client_runs.proofs.RunEvents.{events-have-causes}
 use Rattle.turn_client_runs.proofs.RunGrants.{first-hold, grants-have-replies}
 use Rattle.turn_client_runs.proofs.ComingLemmas.{turns-come}
 use Rattle.turn_client_runs.proofs.ReceivedRuns.{turns-received}
@@ -84,6 +86,9 @@ module _ (transport : TransportType) (local remote : SocketAddr) (config : Confi
 
   pub run-held : RealmIsAnswered first calls
   run-held earlier later e = held-from transport local remote config seed earlier
+
+  pub run-events : EventsHaveCauses first calls
+  run-events = events-have-causes transport local remote config seed calls
 
   pub run-short : StreamsAreShort first calls
   run-short = streams-short transport local remote config seed calls

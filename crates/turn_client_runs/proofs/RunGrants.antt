@@ -65,7 +65,7 @@ module _ (one : Input) where
   given-in (Offer offer) p stands peers h = absurd stands
   given-in g p stands peers h = absurd h
 
-  granting : (g : Grant) → IsActiveGrant g → HasAskedPeers one → AllocatesInOrder one.before × Signs one.before → (is : Granting g one) → IsGranting g is.purpose one
+  pub granting : (g : Grant) → IsActiveGrant g → HasAskedPeers one → AllocatesInOrder one.before × Signs one.before → (is : Granting g one) → IsGranting g is.purpose one
   granting g stands asked order is = record {
     over = is.over;
     whole = is.accepting.whole;
@@ -84,10 +84,10 @@ module _ (one : Input) where
 -- ---- one call
 
 -- what every client keeps about channels, and about what an ALLOCATE requests and how
-abbrev Keeps : State → Type 0
+abbrev pub Keeps : State → Type 0
 Keeps s = HasGrantsAsked s × HasDistinctNumbers s × AllocatesInOrder s × FitsPhase s × Signs s
 
-call-keeps : (call : Call) (s : State) → Keeps s → Keeps (state_after call s)
+pub call-keeps : (call : Call) (s : State) → Keeps s → Keeps (state_after call s)
 call-keeps call s (asked, distinct, order, steady, signs) = (
   leaves-HasGrantsAsked call s (state_after call s) (inl refl) asked,
   leaves-apart call s (state_after call s) (inl refl) distinct,
@@ -97,7 +97,7 @@ call-keeps call s (asked, distinct, order, steady, signs) = (
 )
 
 -- an input of the call answered a request for a purpose, and did this for it
-abbrev IsDoneFor : (Purpose → Input → Type 0) → Call → State → Type 0
+abbrev pub IsDoneFor : (Purpose → Input → Type 0) → Call → State → Type 0
 IsDoneFor Did call s = (one : Input) × Contains (handled call s) one × ((p : Purpose) × Did p one)
 
 granted-in : (g : Grant) (call : Call) (s : State) → IsActiveGrant g → Keeps s → IsDoneBy (Granting g) call s → IsDoneFor (IsGranting g) call s
@@ -149,7 +149,7 @@ has-cut {X} x (y ∷ xs) (inr there) = let (front, back, e) = has-cut x xs there
 has-cut x [] none = absurd none
 
 -- it answers a request for this, which deletes nothing
-abbrev AnswersFor : (Purpose → Input → Type 0) → Type 0
+abbrev pub AnswersFor : (Purpose → Input → Type 0) → Type 0
 AnswersFor Did = (p : Purpose) (one : Input) → Did p one → Contains (purposes_of (id_of one.bytes) one.before) p × (GivesBack p → ⊥)
 
 -- what is granted is granted for a request that deletes nothing
@@ -158,14 +158,14 @@ no-return one (Allocation a) (ForRefresh family lifetime) (least, same, told) ba
 no-return one g (ForRefresh family lifetime) given back = given
 no-return one g p given back = back
 
-granting-answers : (g : Grant) → AnswersFor (IsGranting g)
+pub granting-answers : (g : Grant) → AnswersFor (IsGranting g)
 granting-answers g p one is = (is.listed, no-return one g p is.given)
 
 address-answers : (relayed : SocketAddr) → AnswersFor (GrantsAddress relayed)
 address-answers relayed p one (a, is, e) = granting-answers (Allocation a) p one is
 
 module _ (first : State) (unlisted : first.listed ≡ []) (hold : HoldNothing first) (calls : List Call) where
-  answered-in : (Did : Purpose → Input → Type 0) → AnswersFor Did → (P : State → Type 0) → IsDoneLast (IsDoneFor Did) P calls first → IsAnsweredIn Did P calls first
+  pub answered-in : (Did : Purpose → Input → Type 0) → AnswersFor Did → (P : State → Type 0) → IsDoneLast (IsDoneFor Did) P calls first → IsAnsweredIn Did P calls first
   answered-in Did answers P is =
       let (one, there, why) = is.did in
       let (p, did) = why in
@@ -241,13 +241,16 @@ first-hold Udp local remote config seed x absent = absurd absent
 first-hold Tcp local remote config seed x (inl e) = rw e refl
 first-hold Tcp local remote config seed x (inr absent) = absurd absent
 
+pub first-keeps : (transport : TransportType) (local remote : SocketAddr) (config : Config) (seed : List ℕ) → Keeps (initial transport local remote config seed)
+first-keeps transport local remote config seed = (
+  initial-HasGrantsAsked transport local remote config seed,
+  initial-numbers transport local remote config seed,
+  initial-AllocatesInOrder transport local remote config seed,
+  initial-steady transport local remote config seed,
+  refl,
+)
+
 pub grants-have-replies : (transport : TransportType) (local remote : SocketAddr) (config : Config) (seed : List ℕ) (calls : List Call) (g : Grant) → IsActiveGrant g
     → Contains (state_after_all (initial transport local remote config seed) calls).grants g → HasReply g calls (initial transport local remote config seed)
 grants-have-replies transport local remote config seed =
-    run-grants (initial transport local remote config seed) refl refl (first-hold transport local remote config seed) (
-      initial-HasGrantsAsked transport local remote config seed,
-      initial-numbers transport local remote config seed,
-      initial-AllocatesInOrder transport local remote config seed,
-      initial-steady transport local remote config seed,
-      refl,
-    )
+    run-grants (initial transport local remote config seed) refl refl (first-hold transport local remote config seed) (first-keeps transport local remote config seed)

@@ -2,6 +2,7 @@ pub mod Bound
 pub mod Challenges
 pub mod Cut
 pub mod CutRows
+pub mod Events
 pub mod Granted
 pub mod Held
 pub mod Holds

@@ -5,6 +5,7 @@ ghost use Rattle.turn_client_api.specs.State.{initial};
 ghost use Rattle.turn_client_proto.specs.Client.{state_of};
 ghost use Rattle.turn_client_runs.specs.Promises.{AfterEach, BoundHaveSuccess, CutsAgree, FewAreAnswered, GrantsHaveReplies, DeliversOnlyPermitted, InEachPart};
 ghost use Rattle.turn_client_runs.specs.Promises.{NumbersAreDistinct, RealmIsAnswered, RealmStays, RepliesCountOnce};
+ghost use Rattle.turn_client_runs.specs.Events.{EventsHaveCauses};
 ghost use Rattle.turn_client_runs.specs.Short.{StreamsAreShort};
 ghost use Rattle.turn_client_runs.specs.Sleeps.{SleepsThroughNothing};
 ghost use Rattle.turn_client_proto.specs.Delivered.{AnswersOnlyPermitted};
@@ -48,6 +49,10 @@ pub struct Replayed {
 ///   count (RFC 8489, section 9.2.5).
 /// - `realm`, `held`: realm and algorithm, once held, never change, and are those of the first challenge that was
 ///   answered.
+/// - `events`: each event that `poll_event` returns has its cause in an earlier call, and has waited since. What
+///   it reports as created was granted by a signed success to an own request for it. What it reports as failed
+///   was refused by a signed reply, timed out or expired at a `poll`, or ended with the client; or a message of
+///   its data connection did not bind it.
 /// - `short`: after a `poll_recv` that returns none, each stream holds fewer than 65,555 bytes, if the bytes
 ///   received for it are numbers below 256, as in any memory.
 /// - `cuts`: over TCP, if `poll_recv` returns none and changes nothing, pieces of a stream at one time, none of
@@ -84,6 +89,7 @@ pub fn replay(
     ensures challenges { FewAreAnswered (initial transport local remote config seed) calls.now }
     ensures realm { RealmStays (initial transport local remote config seed) calls.now }
     ensures held { RealmIsAnswered (initial transport local remote config seed) calls.now }
+    ensures events { EventsHaveCauses (initial transport local remote config seed) calls.now }
     ensures short { StreamsAreShort (initial transport local remote config seed) calls.now }
     ensures cuts { CutsAgree (initial transport local remote config seed) calls.now }
     ensures alarm { SleepsThroughNothing (initial transport local remote config seed) calls.now }

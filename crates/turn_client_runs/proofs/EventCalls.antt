@@ -1,0 +1,153 @@
+-- Which events a call adds that processes no input.
+use Rattle.std.proofs.Common.{◌≡◌, ◌⊎◌, ℕ, Bool, true, false, not, ◌&&◌, ◌||◌, leb, List, [], ◌∷◌, map, drop, filter_map, flat_map, Option, Some, None, Result, refl, subst, inl, inr}
+use Rattle.std.specs.Prelude.{find, is_some, slice_get}
+use Rattle.std.specs.List.{list_any}
+use Rattle.std.specs.Net.Socket.{socket_ip}
+use Rattle.std.specs.declared.net.ip_addr.IpAddr.{IpAddr}
+use Rattle.std.specs.declared.net.socket_addr.SocketAddr.{SocketAddr}
+use Rattle.turn_stun.specs.declared.transport.TransportType.{TransportType}
+use Rattle.turn_stun.specs.declared.transport.TransportType.TheVariants.{Udp, Tcp}
+use Rattle.turn_agent.specs.Agent.{due, same_address}
+use Rattle.turn_client_api.specs.State.{State, agent_of}
+use Rattle.turn_client_api.specs.declared.call.Call.{Call}
+use Rattle.turn_client_api.specs.declared.call.Call.TheVariants.{Delete, CreatePermission, BindChannel, TcpConnect, AllocatedTcpSocket, TcpClosed, SendTo, Recv, PollRecv, Poll, PollTransmit}
+use Rattle.turn_client_api.specs.declared.call.Call.TheVariants.{PollEvent, RelayedAddresses, Permissions, HavePermission, ProtocolError}
+use Rattle.turn_client_api.specs.declared.event.TurnEvent.{TurnEvent}
+use Rattle.turn_client_api.specs.declared.event.TurnEvent.TheVariants.{AllocationCreateFailed}
+use Rattle.turn_client_api.specs.declared.grant.DataConnection.{DataConnection}
+use Rattle.turn_client_api.specs.declared.grant.Origin.{Origin}
+use Rattle.turn_client_api.specs.declared.grant.Origin.TheVariants.{ServerRequest}
+use Rattle.turn_client_api.specs.declared.grant.Relay.{Relay}
+use Rattle.turn_client_api.specs.declared.state.Phase.{Phase}
+use Rattle.turn_client_api.specs.declared.state.Phase.TheVariants.{New, Allocated, Closed}
+use Rattle.turn_client_api.specs.Calls.{active_channel, bound_by, bound_to, can_send_to, channel_step, channels_to, connect_step}
+use Rattle.turn_client_api.specs.Calls.{free_number, in_allocation, is_allocated, is_closed, is_control, is_in_progress, is_local_taken, offer_origin, on_channel, on_connection}
+use Rattle.turn_client_api.specs.Calls.{permission_step, reserved_from, send_over, socket_opened, socket_refused, socket_step}
+use Rattle.turn_client_api.specs.Connections.{connection_at, is_connected, is_connecting}
+use Rattle.turn_client_api.specs.Due.{is_paused}
+use Rattle.turn_client_api.specs.Effect.{closed, fail_all}
+use Rattle.turn_client_api.specs.Grants.{allocations, as_connection, find_allocation_to, has_active_permission, is_past, permission_state, same_transport}
+use Rattle.turn_client_api.specs.Receive.{connection_gone}
+use Rattle.turn_client_api.specs.Steps.{state_after}
+use Rattle.turn_client_api.specs.Transmit.{idle_step, queue_step, refreshes_in, reply_step, transmit_step}
+use Rattle.turn_client_laws.specs.LawsHandled.{TakesInput}
+use Rattle.turn_client_laws.proofs.CaseLemmas.{by_found, by_test}
+use Rattle.turn_client_laws.proofs.GrantOriginLemmas.{has-mapped}
+use Rattle.turn_client_laws.proofs.HasLemmas.{Has, has-append}
+use Rattle.turn_client_laws.proofs.StandLemmas.{has-contains}
+use Rattle.turn_client_runs.specs.Events.{FailsItself}
+use Rattle.turn_client_runs.proofs.EventTime.{poll-adds}
+
+module _ (s : State) where
+  abbrev Same : State → Type 0
+  Same t = t.events ≡ s.events
+
+  -- of what a call returns, the state
+  abbrev Leaves : {A : Type 0} → A × State → Type 0
+  Leaves x = Same x.1
+
+  allocation-leaves : {E : Type 0} (o : Option Relay) (ip : IpAddr) (now : ℕ) (refusal : E) (otherwise : Result Unit E × State) → Leaves otherwise → Leaves (in_allocation o ip now refusal s otherwise)
+  allocation-leaves None ip now refusal otherwise h = refl
+  allocation-leaves (Some a) ip now refusal otherwise h = by_test Leaves (is_past now a) _ otherwise (λ e. refl) (λ e. h)
+
+  bound_by-leaves : (peer : SocketAddr) (now : ℕ) (times : List ℕ) (b : Bool) (o : Option ℕ) → Leaves (bound_by peer now s times b o)
+  bound_by-leaves peer now (until ∷ others) b o = refl
+  bound_by-leaves peer now [] false o = refl
+  bound_by-leaves peer now [] true None = refl
+  bound_by-leaves peer now [] true (Some number) = refl
+
+  opened-leaves : (id : ℕ) (peer local : SocketAddr) (origin : Origin) (now : ℕ) → Same (socket_opened id peer local origin now s)
+  opened-leaves id peer local (ServerRequest request) now = refl
+  opened-leaves id peer local origin now = refl
+
+  refused-leaves : (id : ℕ) (peer : SocketAddr) (origin : Origin) → Same (socket_refused id peer origin s)
+  refused-leaves id peer (ServerRequest request) = refl
+  refused-leaves id peer origin = refl
+
+  socket-leaves : (id : ℕ) (peer : SocketAddr) (local : Option SocketAddr) (origin : Origin) (now : ℕ) → Leaves (socket_step id peer local origin now s)
+  socket-leaves id peer None origin now = refused-leaves id peer origin
+  socket-leaves id peer (Some local) origin now = by_test Leaves (is_local_taken local s) _ _ (λ e. refl) (λ e. opened-leaves id peer local origin now)
+
+  connection-leaves : (o : Option DataConnection) (bytes : List ℕ) → Leaves (on_connection o bytes s)
+  connection-leaves (Some c) bytes = refl
+  connection-leaves None bytes = refl
+
+  channel-leaves : (channels : List (ℕ × ℕ)) (peer : SocketAddr) (bytes : List ℕ) (now : ℕ) → Leaves (on_channel channels peer bytes now s)
+  channel-leaves [] peer bytes now = refl
+  channel-leaves ((number, expiry) ∷ others) peer bytes now = by_test Leaves (leb now expiry) _ _ (λ e. refl) (λ e. refl)
+
+  over-leaves : (transport : TransportType) (peer : SocketAddr) (bytes : List ℕ) (now : ℕ) → Leaves (send_over transport peer bytes now s)
+  over-leaves Tcp peer bytes now = connection-leaves (find (bound_to peer) (filter_map as_connection s.grants)) bytes
+  over-leaves Udp peer bytes now = channel-leaves (filter_map (active_channel peer) s.grants) peer bytes now
+
+  idle-leaves : (p : Phase) (now : ℕ) → Leaves (idle_step p now s)
+  idle-leaves New now = refl
+  idle-leaves Allocated now = by_found Leaves _ (slice_get (flat_map (refreshes_in now s) (allocations s)) 0) (None, s) (λ purpose e. refl) refl
+  idle-leaves p now = refl
+
+  transmit-leaves : (now : ℕ) → Leaves (transmit_step now s)
+  transmit-leaves now =
+      by_found Leaves _ (due (agent_of s) now) _ (λ t e. refl)
+      (by_test Leaves (is_paused now s) (reply_step s) (queue_step now s) (λ e. refl)
+      (λ e. by_found Leaves _ (slice_get s.queue 0) (idle_step s.phase now s) (λ q f. refl) (idle-leaves s.phase now)))
+
+  pub gone-events : (local : SocketAddr) → Same (connection_gone local s)
+  gone-events local = by_test Same (is_some (connection_at local s)) _ s (λ e. refl) (λ e. refl)
+
+  -- ---- which of them wait
+
+  module _ (e : TurnEvent) where
+    abbrev Adds : Call → Type 0
+    Adds call = Has e (state_after call s).events → Has e s.events ⊎ FailsItself e call s
+
+    none : (call : Call) → Same (state_after call s) → Adds call
+    none call same there = inl (subst (Has e) same there)
+
+    fewer : (events : List TurnEvent) → Has e (drop 1 events) → Has e events
+    fewer [] there = there
+    fewer (x ∷ events) there = inr there
+
+    error-adds : Adds ProtocolError
+    error-adds =
+        by_test (λ (t : State). Has e t.events → Has e s.events ⊎ FailsItself e ProtocolError s) (is_closed s.phase) s (closed (fail_all s)) (λ f there. inl there)
+        (λ f there. elim (has-append e s.events (map AllocationCreateFailed s.families) there) [
+          | inl old ↦ inl old
+          | inr failed ↦
+              let (family, wanted, named) = has-mapped AllocationCreateFailed e s.families failed in
+              inr (running f, (family, named, has-contains family s.families wanted))
+        ])
+      where
+        running : is_closed s.phase ≡ false → s.phase ≡ Closed → ⊥
+        running f e = let no : is_closed Closed ≡ false = subst (λ (p : Phase). is_closed p ≡ false) e f in cc
+
+    pub call-adds : (call : Call) → (TakesInput call → ⊥) → Adds call
+    call-adds (Recv packet now) other = absurd (other tt)
+    call-adds (PollRecv now) other = absurd (other tt)
+    call-adds (Delete now) other = none (Delete now) (by_test Leaves (is_allocated s.phase) _ _ (λ f. refl) (λ f. refl))
+    call-adds (CreatePermission transport ip now) other =
+        none (CreatePermission transport ip now) (allocation-leaves (find_allocation_to transport ip s) ip now _ (permission_step ip now s)
+        (by_test Leaves (is_some (permission_state ip s)) _ _ (λ f. refl) (λ f. by_test Leaves (not (is_allocated s.phase)) _ _ (λ f. refl) (λ f. refl))))
+    call-adds (BindChannel transport peer now) other =
+        none (BindChannel transport peer now) (allocation-leaves (find_allocation_to transport (socket_ip peer) s) (socket_ip peer) now _ (channel_step peer now s)
+        (by_test Leaves (list_any is_in_progress (channels_to peer s)) _ _ (λ f. refl)
+        (λ f. bound_by-leaves peer now (filter_map (reserved_from now) (channels_to peer s)) (is_allocated s.phase) (free_number s))))
+    call-adds (TcpConnect peer now) other =
+        none (TcpConnect peer now) (allocation-leaves (find_allocation_to Tcp (socket_ip peer) s) (socket_ip peer) now _ (connect_step peer now s)
+        (by_test Leaves (not (is_allocated s.phase)) _ _ (λ f. refl)
+        (λ f. by_test Leaves (not (has_active_permission (socket_ip peer) s)) _ _ (λ f. refl)
+        (λ f. by_test Leaves (is_connected peer s || is_connecting peer s) _ _ (λ f. refl) (λ f. refl)))))
+    call-adds (AllocatedTcpSocket id tuple peer local now) other =
+        none (AllocatedTcpSocket id tuple peer local now)
+        (by_test Leaves (same_transport s.config.allocation_transport Tcp && is_control tuple s && is_allocated s.phase) _ _
+        (λ f. by_found Leaves (λ origin. socket_step id peer local origin now s) (offer_origin id peer s) _ (λ origin g. socket-leaves id peer local origin now) refl) (λ f. refl))
+    call-adds (TcpClosed local remote now) other =
+        none (TcpClosed local remote now) (by_test Same (same_transport s.transport Tcp && same_address remote s.remote) _ _ (λ f. gone-events local) (λ f. refl))
+    call-adds (SendTo transport peer bytes now) other =
+        none (SendTo transport peer bytes now) (by_test Leaves (can_send_to transport (socket_ip peer) s) _ _ (λ f. over-leaves transport peer bytes now) (λ f. refl))
+    call-adds (Poll now) other = poll-adds now s e
+    call-adds (PollTransmit now) other = none (PollTransmit now) (transmit-leaves now)
+    call-adds PollEvent other = λ there. inl (fewer s.events there)
+    call-adds ProtocolError other = error-adds
+    call-adds RelayedAddresses other = λ there. inl there
+    call-adds (Permissions transport relayed) other = λ there. inl there
+    call-adds (HavePermission transport to) other = λ there. inl there

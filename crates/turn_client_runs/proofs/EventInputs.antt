@@ -1,0 +1,320 @@
+-- Which events an input adds.
+use Rattle.std.proofs.Common.{◌≡◌, ◌⊎◌, ◌∙◌, ◌≤◌, ℕ, Bool, true, false, cond, eqb, ltb, List, [], ◌∷◌, ◌++◌, map, Some, None, refl, subst, sym, ap, inl, inr}
+use Rattle.std.specs.Prelude.{find, is_some}
+use Rattle.std.specs.List.{Contains, list_any}
+use Rattle.std.specs.Option.{option_map_or}
+use Rattle.std.proofs.lemmas.Bool.{and_parts, ltb-false}
+use Rattle.std.specs.declared.net.socket_addr.SocketAddr.{SocketAddr}
+use Rattle.turn_stun.specs.Message.{id_of}
+use Rattle.turn_stun.specs.declared.message.header.MessageClass.TheVariants.{Error, Success}
+use Rattle.turn_agent.specs.Agent.{is_response}
+use Rattle.turn_auth.specs.LongTerm.{Challenge}
+use Rattle.turn_auth.specs.Validation.{IsValidated, validation_of}
+use Rattle.turn_client_api.specs.State.{State, auth_of}
+use Rattle.turn_client_api.specs.declared.event.TurnEvent.{TurnEvent}
+use Rattle.turn_client_api.specs.declared.event.TurnEvent.TheVariants.{AllocationCreateFailed, PermissionCreateFailed, ChannelCreateFailed, TcpConnected, TcpConnectFailed}
+use Rattle.turn_client_api.specs.declared.grant.Grant.{Grant}
+use Rattle.turn_client_api.specs.declared.grant.Grant.TheVariants.{Connection}
+use Rattle.turn_client_api.specs.declared.grant.DataConnection.{DataConnection}
+use Rattle.turn_client_api.specs.declared.grant.Purpose.{Purpose}
+use Rattle.turn_client_api.specs.declared.grant.Purpose.TheVariants.{ForAllocation, ForPermission, ForChannel, ForConnect, ForBind}
+use Rattle.turn_client_api.specs.declared.state.Mode.TheVariants.{Waiting}
+use Rattle.turn_client_api.specs.declared.state.Phase.{Phase}
+use Rattle.turn_client_api.specs.declared.state.Phase.TheVariants.{New, Allocated}
+use Rattle.turn_client_api.specs.declared.state.Stream.{Stream}
+use Rattle.turn_client_api.specs.Connections.{attempt_indicated, attempt_requested, bind_again, bind_answered, bind_step, connection_at}
+use Rattle.turn_client_api.specs.Effect.{closed, fail_all}
+use Rattle.turn_client_api.specs.Grants.{is_for_allocation, purposes_of}
+use Rattle.turn_client_api.specs.Judgement.{Judgement, Challenged, Fatal, ConnectionAttempt, SignedRequest, SignedSuccess, SignedError, bind_judgement, class_in, is_bind_of, judgement_of, method_in}
+use Rattle.turn_client_api.specs.Payloads.{Outcome, Handled, Ignored, challenge_step, is_message, message_step, signed_step, wrong_step}
+use Rattle.turn_client_api.specs.Receive.{connection_gone}
+use Rattle.turn_client_api.specs.Requests.{connection_attempt_method, connection_bind_method}
+use Rattle.turn_client_api.specs.Retry.{retried, state_after_retry}
+use Rattle.turn_client_laws.specs.Handled.{Input, processed}
+use Rattle.turn_client_laws.specs.LawsBound.{IsBindInput}
+use Rattle.turn_client_laws.specs.LawsGranted.{HasChannelTo, IsGivenFor, IsGrantedBy}
+use Rattle.turn_client_laws.specs.LawsHandled.{IsOverControl}
+use Rattle.turn_client_laws.specs.LawsReplies.{IsAccepted, IsAwaited, IsNotAwaited}
+use Rattle.turn_client_laws.proofs.AcceptedReplyLemmas.{accepted-gone}
+use Rattle.turn_client_laws.proofs.BoundLemmas.{binds-turn, found-local}
+use Rattle.turn_client_laws.proofs.CaseLemmas.{bind-by, by_found, by_heeded, by_test, indicated-by, requested-by}
+use Rattle.turn_client_laws.proofs.ChallengeJudgement.{AnswersAllocate, IsSignedReply, Says, judgement-says}
+use Rattle.turn_client_laws.proofs.GrantOriginCallLemmas.{Binds}
+use Rattle.turn_client_laws.proofs.GrantOriginLemmas.{has-mapped}
+use Rattle.turn_client_laws.proofs.GrantOriginMessageLemmas.{SignedSuccess-is, asked_for}
+use Rattle.turn_client_laws.proofs.HasLemmas.{Has, has-append}
+use Rattle.turn_client_laws.proofs.InAllocationLemmas.{any-has}
+use Rattle.turn_client_laws.proofs.StandLemmas.{has-contains}
+use Rattle.turn_client_laws.proofs.TurnBringLemmas.{IsBrought}
+use Rattle.turn_client_runs.specs.Events.{FailsIn, IsNoRefresh, IsRefusedIn, IsWaitingAt, LacksFamily, IsStillAsked, Reports, relayed_over}
+use Rattle.turn_client_runs.specs.Granted.{IsOverIts}
+use Rattle.turn_client_runs.proofs.EventReplies.{Lacks, RefusesFor, Replied, StillAsks, signed-says}
+use Rattle.turn_client_runs.proofs.GrantTurns.{IsAccepting, IsGivenAt, accepting, bind-accepting}
+use Rattle.turn_client_runs.proofs.MadeLemmas.{control-made}
+
+-- ---- what an input does
+
+-- it granted what the event reports
+pub record Creating (e : TurnEvent) (one : Input) : Type 0 where
+  pub g : Grant
+  pub reports : Reports e (relayed_over one) g
+  pub purpose : Purpose
+  pub accepting : IsAccepting purpose one
+  pub over : IsOverIts g one
+  pub given : IsGivenAt one purpose g
+  pub new : IsNoRefresh purpose
+  pub waits : IsWaitingAt g one
+
+-- what it refused: a channel to the peer that it has
+abbrev pub IsRefusedAt : Input → Purpose → TurnEvent → Type 0
+IsRefusedAt one (ForChannel number peer) (ChannelCreateFailed transport to) = (class_in one.bytes ≡ Error) × (transport ≡ relayed_over one) × HasChannelTo number to one.before
+IsRefusedAt one p e = IsRefusedIn one p e
+
+pub record Refusing (e : TurnEvent) (one : Input) : Type 0 where
+  pub over : IsOverControl one
+  pub purpose : Purpose
+  pub whole : is_message one.bytes ≡ true
+  pub signed : IsValidated (validation_of (auth_of one.before) one.bytes)
+  pub listed : Contains (purposes_of (id_of one.bytes) one.before) purpose
+  pub outstanding : IsAwaited one.bytes one.before
+  pub ended : IsNotAwaited one.bytes (processed one).1
+  pub refused : IsRefusedAt one purpose e
+
+abbrev pub Causing : TurnEvent → Input → Type 0
+Causing e one = Creating e one ⊎ Refusing e one ⊎ FailsIn e one
+
+-- ---- over the control connection
+
+has-allocation : (purposes : List Purpose) → list_any is_for_allocation purposes ≡ true → Has ForAllocation purposes
+has-allocation purposes e = let (p, there, is) = any-has is_for_allocation purposes e in subst (λ (q : Purpose). Has q purposes) (by p is) there
+  where
+    by : (p : Purpose) → is_for_allocation p ≡ true → p ≡ ForAllocation
+    by ForAllocation is = refl
+    by p is = cc
+
+-- a connection is not granted there
+no-connection : (p : Purpose) (message : List ℕ) (now : ℕ) (s : State) (c : DataConnection) → IsGivenFor p message now s (Connection c) → ⊥
+no-connection ForAllocation message now s c given = given
+no-connection p message now s c given = given
+
+wrong-events : (p : Phase) (message : List ℕ) (s : State) → (wrong_step message (record s { phase = p })).1.events ≡ s.events ++ map AllocationCreateFailed s.families
+wrong-events New message s = refl
+wrong-events p message s = refl
+
+module _ (one : Input) (over : IsOverControl one) (whole : is_message one.bytes ≡ true) where
+  abbrev s : State
+  s = one.before
+
+  abbrev message : List ℕ
+  message = one.bytes
+
+  created : (e : TurnEvent) (g : Grant) (p : Purpose) → judgement_of s message ≡ SignedSuccess → Contains (asked_for message s) p → Reports e (relayed_over one) g → IsNoRefresh p
+      → IsGivenFor p message one.time s g → Creating e one
+  created e g p judged listed reports new given = by g reports given (accepting one over whole judged g granted)
+    where
+      is : IsSignedReply Success message s
+      is = (SignedSuccess-is s message judged).0
+
+      granted : IsGrantedBy message one.time s g
+      granted = record { success = is.class_is; signed = is.signed; outstanding = is.outstanding; purpose = p; listed = listed; given = given }
+
+      by : (h : Grant) → Reports e (relayed_over one) h → IsGivenFor p message one.time s h → IsAccepting p one → Creating e one
+      by (Connection c) reports given accepts = absurd (no-connection p message one.time s c given)
+      by h reports given accepts = record { g = h; reports = reports; purpose = p; accepting = accepts; over = over; given = given; new = new; waits = tt }
+
+  refused-at : (g : Bool) → (g ≡ false → class_in message ≡ Error) → (p : Purpose) (e : TurnEvent) → RefusesFor g message one.time s p e → IsRefusedAt one p e
+  refused-at g error ForAllocation (AllocationCreateFailed family) (still, lacks) = (asked still, lacking lacks)
+    where
+      asked : StillAsks g message one.time s family → IsStillAsked family one
+      asked (inl there) = inl (has-contains family s.families there)
+      asked (inr is) = inr is
+
+      lacking : Lacks g message one.time s family → LacksFamily family one
+      lacking (inl refuses) = inl (error refuses)
+      lacking (inr refuses) = inr refuses
+  refused-at g error (ForPermission ip) (PermissionCreateFailed transport other) (refuses, same, is) = (error refuses, same, is)
+  refused-at g error (ForChannel number peer) (ChannelCreateFailed transport to) (refuses, same, has) = (error refuses, same, has)
+  refused-at g error (ForConnect peer) (TcpConnectFailed to) (same, inl refuses) = (same, inl (error refuses))
+  refused-at g error (ForConnect peer) (TcpConnectFailed to) (same, inr none) = (same, inr none)
+  refused-at g error p e refused = absurd refused
+
+  -- a signed reply
+  replied : (g : Bool) (j : Judgement) → judgement_of s message ≡ j → IsAccepted j → (g ≡ true → j ≡ SignedSuccess) → (g ≡ false → class_in message ≡ Error)
+      → IsValidated (validation_of (auth_of s) message) → IsAwaited message s → (e : TurnEvent) → Replied g message one.time s e → Causing e one
+  replied g j judged accepted success error signed outstanding e (p, there, inl (is, new, (h, reports, given))) =
+      inl (created e h p (judged ∙ success is) (has-contains p (asked_for message s) there) reports new given)
+  replied g j judged accepted success error signed outstanding e (p, there, inr refused) = inr (inl (record {
+    over = over;
+    purpose = p;
+    whole = whole;
+    signed = signed;
+    listed = has-contains p (asked_for message s) there;
+    outstanding = outstanding;
+    ended = rw (control-made one over whole) (accepted-gone message one.time s (subst IsAccepted (sym judged) accepted));
+    refused = refused-at g error p e refused;
+  }))
+
+  abbrev Adding : State → Type 0
+  Adding t = (e : TurnEvent) → Has e t.events → Has e s.events ⊎ Causing e one
+
+  adding-none : (t : State) → t.events ≡ s.events → Adding t
+  adding-none t same e there = inl (subst (Has e) same there)
+
+  -- each family that is still requested fails
+  adding-failed : (judgement_of s message ≡ Fatal) ⊎ ((d : Challenge) × (judgement_of s message ≡ Challenged d) × (s.config.max_stale_nonces ≤ s.challenges)) → (t : State)
+      → t.events ≡ s.events ++ map AllocationCreateFailed s.families → Adding t
+  adding-failed why t is e there = elim (has-append e s.events (map AllocationCreateFailed s.families) (subst (Has e) is there)) [
+    | inl old ↦ inl old
+    | inr failed ↦
+        let (family, wanted, named) = has-mapped AllocationCreateFailed e s.families failed in
+        inr (inr (inr (subst (λ (x : TurnEvent). FailsIn x one) (sym named) (record { over = over; whole = whole; asked = has-contains family s.families wanted; ends = why }))))
+  ]
+
+  challenge-adds : (d : Challenge) → judgement_of s message ≡ Challenged d → Adding (challenge_step message d one.time s).1
+  challenge-adds d judged =
+      by_test (λ (x : Outcome × State). Adding x.1) (ltb s.challenges s.config.max_stale_nonces) _ (Handled, closed (fail_all s))
+      (λ few. by_found (λ (x : Outcome × State). Adding x.1) again (retried (purposes_of (id_of message) s)) (Ignored, s) (λ purpose e. adding-none (again purpose).1 refl) (adding-none s refl))
+      (λ many. adding-failed (inr (d, judged, ltb-false s.challenges s.config.max_stale_nonces many)) (closed (fail_all s)) refl)
+    where
+      again : Purpose → Outcome × State
+      again purpose = (Handled, state_after_retry s (id_of message) purpose d one.time)
+
+  pub message-adds : Adding (message_step message one.time s).1
+  message-adds = by (judgement_of s message) refl (judgement-says s message)
+    where
+      same : State → Type 0
+      same t = t.events ≡ s.events
+
+      signed : (g : Bool) (j : Judgement) → judgement_of s message ≡ j → IsAccepted j → (g ≡ true → j ≡ SignedSuccess) → (g ≡ false → class_in message ≡ Error)
+          → AnswersAllocate message s → IsValidated (validation_of (auth_of s) message) → IsAwaited message s → Adding (signed_step g message one.time s).1
+      signed g j judged accepted success error answers valid outstanding e there =
+          elim (signed-says g message one.time s (λ allocates. has-allocation (asked_for message s) (and_parts (is_response (class_in message)) _ (answers allocates)).1) e there) [
+            | inl old ↦ inl old
+            | inr told ↦ inr (replied g j judged accepted success error valid outstanding e told)
+          ]
+
+      by : (j : Judgement) → judgement_of s message ≡ j → Says (AnswersAllocate message s) message s (judgement_of s message) → Adding (message_step message one.time s).1
+      by (Challenged d) f says = rw f (challenge-adds d f)
+      by Fatal f says = rw f (adding-failed (inl f) (wrong_step message s).1 (wrong-events s.phase message s))
+      by ConnectionAttempt f says =
+          let t = (option_map_or {T = State} {U = Outcome × State} (λ t. (Handled, t)) (attempt_indicated message s) (Ignored, s)).1 in
+          rw f (adding-none t (by_heeded same (attempt_indicated message s) s (indicated-by same message s (λ id peer accepts. refl)) refl))
+      by SignedRequest f says =
+          let t = (cond {A = Outcome × State} (eqb (method_in message) connection_attempt_method) (Handled, attempt_requested message s) (Ignored, s)).1 in
+          rw f (adding-none t (by_test (λ (x : Outcome × State). same x.1) (eqb (method_in message) connection_attempt_method) (Handled, attempt_requested message s) (Ignored, s)
+          (λ is. requested-by same message s (λ queue. refl) (λ id peer room free. refl)) (λ other. refl)))
+      by SignedSuccess f says =
+          let (answers, is) : AnswersAllocate message s × IsSignedReply Success message s = rw f at says in
+          rw f (signed true SignedSuccess f tt (λ e. refl) (λ e. cc) answers is.signed is.outstanding)
+      by SignedError f says =
+          let (answers, is) : AnswersAllocate message s × IsSignedReply Error message s = rw f at says in
+          rw f (signed false SignedError f tt (λ e. cc) (λ e. is.class_is) answers is.signed is.outstanding)
+      by j f says = rw f (adding-none s refl)
+
+-- ---- over a connection that waits to be bound
+
+module _ (local : SocketAddr) (message : List ℕ) (now : ℕ) (s : State) where
+  -- the message neither binds the connection nor challenges its request
+  pub record Unbinds (e : TurnEvent) : Type 0 where
+    pub c : DataConnection
+    pub found : connection_at local s ≡ Some c
+    pub method : method_in message ≡ connection_bind_method
+    pub named : e ≡ TcpConnectFailed c.peer
+    pub unbound : bind_judgement s c.local message ≡ SignedSuccess → ⊥
+    pub unchallenged : (challenge : Challenge) → bind_judgement s c.local message ≡ Challenged challenge → ⊥
+
+  abbrev pub BindTells : State → TurnEvent → Type 0
+  BindTells t e = ((b : Binds local message s t) × (s.phase ≡ Allocated) × (e ≡ TcpConnected b.c.peer)) ⊎ Unbinds e
+
+  abbrev pub BindAdds : State → Type 0
+  BindAdds t = (e : TurnEvent) → Has e t.events → Has e s.events ⊎ BindTells t e
+
+  none-binds : (t : State) → t.events ≡ s.events → BindAdds t
+  none-binds t same e there = inl (subst (Has e) same there)
+
+  one-binds : (x : TurnEvent) (t : State) → t.events ≡ s.events ++ x ∷ [] → ((e : TurnEvent) → e ≡ x → BindTells t e) → BindAdds t
+  one-binds x t is told e there = elim (has-append e s.events (x ∷ []) (subst (Has e) is there)) [
+    | inl old ↦ inl old
+    | inr (inl same) ↦ inr (told e same)
+    | inr (inr none) ↦ absurd none
+  ]
+
+  answered-binds : (c : DataConnection) → s.phase ≡ Allocated → connection_at local s ≡ Some c → method_in message ≡ connection_bind_method → BindAdds (bind_answered c message now s)
+  answered-binds c phase found method = by (bind_judgement s c.local message) refl
+    where
+      refused : (j : Judgement) → bind_judgement s c.local message ≡ j → (j ≡ SignedSuccess → ⊥) → ((d : Challenge) → j ≡ Challenged d → ⊥) → (e : TurnEvent) → e ≡ TcpConnectFailed c.peer
+          → Unbinds e
+      refused j f unbound unchallenged e named = record {
+        c = c;
+        found = found;
+        method = method;
+        named = named;
+        unbound = λ is. unbound (sym f ∙ is);
+        unchallenged = λ d is. unchallenged d (sym f ∙ is);
+      }
+
+      by : (j : Judgement) → bind_judgement s c.local message ≡ j → BindAdds (bind_answered c message now s)
+      by (Challenged d) f =
+          let same : (bind_again c (id_of message) d now s).events ≡ s.events =
+          by_found (λ (t : State). t.events ≡ s.events) _ (find (is_bind_of c.local) (purposes_of (id_of message) s)) s (λ purpose e. refl) refl in
+          rw f (none-binds (bind_again c (id_of message) d now s) same)
+      by SignedSuccess f =
+          let b : Binds local message s (bind_answered c message now s) = record { c = c; found = found; method = method; judged = f; grants = rw f refl; streams = rw f refl } in
+          one-binds (TcpConnected c.peer) (bind_answered c message now s) (rw f refl) (λ e same. inl (b, phase, same))
+      by j f = one-binds (TcpConnectFailed c.peer) (bind_answered c message now s) (rw f refl) (λ e same. inr (refused j f (λ is. cc) (λ d is. cc) e same))
+
+  pub bind-tells : BindAdds (bind_step local message now s)
+  bind-tells = bind-by BindAdds local message now s (none-binds s refl) answered-binds
+
+module _ (one : Input) (stream : Stream) (of : one.stream ≡ Some stream) (waits : stream.mode ≡ Waiting) (whole : is_message one.bytes ≡ true) where
+  abbrev t : State
+  t = bind_step stream.local one.bytes one.time one.before
+
+  bound-causes : (e : TurnEvent) (b : Binds stream.local one.bytes one.before t) → one.before.phase ≡ Allocated → e ≡ TcpConnected b.c.peer → Creating e one
+  bound-causes e b phase named = subst (λ (x : TurnEvent). Creating x one) (sym named) (record {
+    g = Connection (record b.c { deadline = None });
+    reports = refl;
+    purpose = ForBind stream.local turn.asked turn.number;
+    accepting = bind-accepting one stream of waits whole b phase turn;
+    over = rw of (waits, sym here);
+    given = (here, refl);
+    new = tt;
+    waits = (b.c, subst (λ (local : SocketAddr). connection_at local one.before ≡ Some b.c) (sym here) b.found, refl);
+  })
+    where
+      here : b.c.local ≡ stream.local
+      here = found-local stream.local b.c _ b.found
+
+      turn : IsBindInput stream.local b.c.peer one
+      turn = binds-turn one stream t of waits whole b
+
+  pub waiting-adds : (e : TurnEvent) → Has e t.events → Has e one.before.events ⊎ Causing e one
+  waiting-adds e there = elim (bind-tells stream.local one.bytes one.time one.before e there) [
+    | inl old ↦ inl old
+    | inr (inl (b, phase, named)) ↦ inr (inl (bound-causes e b phase named))
+    | inr (inr u) ↦ inr (inr (inr (subst (λ (x : TurnEvent). FailsIn x one) (sym u.named) (record {
+      local = stream.local;
+      over = rw of (waits, refl);
+      whole = whole;
+      method = u.method;
+      connection = u.c;
+      found = u.found;
+      to = refl;
+      unbound = u.unbound;
+      unchallenged = u.unchallenged;
+    }))))
+  ]
+
+-- ---- all inputs
+
+pub event-brought : (e : TurnEvent) → IsBrought (λ s. Has e s.events) (Causing e)
+event-brought e = record {
+  differs = λ s t differs there. subst (Has e) (ap (λ (x : State). x.events) differs.others) there;
+  message = λ one over whole. message-adds one over whole e;
+  binds = λ one stream of waits whole. waiting-adds one stream of waits whole e;
+  gone = λ local s there. subst (Has e) (gone-events local s) there;
+  ended = λ s there. there;
+}
+  where
+    gone-events : (local : SocketAddr) (s : State) → (connection_gone local s).events ≡ s.events
+    gone-events local s = by_test (λ (t : State). t.events ≡ s.events) (is_some (connection_at local s)) _ s (λ e. refl) (λ e. refl)
