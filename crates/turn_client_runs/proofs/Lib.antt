@@ -20,6 +20,7 @@ pub mod MadeLemmas
 pub mod PeerLemmas
 pub mod PieceLemmas
 pub mod PiecesLemmas
+pub mod ProcessedLemmas
 pub mod PromiseLemmas
 pub mod QuietLemmas
 pub mod RealmLemmas

@@ -102,7 +102,7 @@ module _ (payload : Payload) where
 
 -- ---- what the calls return
 
-call-answered : (call : Call) (s : State) → payloads_by call s ≡ delivered_by call s
+pub call-answered : (call : Call) (s : State) → payloads_by call s ≡ delivered_by call s
 call-answered (Recv packet now) s = recv-AreOf packet now s
 call-answered (PollRecv now) s = poll_recv-Gives now s
 call-answered _ s = refl

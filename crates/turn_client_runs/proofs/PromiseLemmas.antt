@@ -11,6 +11,7 @@ use Rattle.turn_client_runs.specs.Challenges.{IsWithinChallengeLimit}
 use Rattle.turn_client_runs.specs.Promises.{AfterEach, BoundHaveSuccess, CutsAgree, FewAreAnswered, GrantsHaveReplies, DeliversOnlyPermitted, NumbersAreDistinct, RealmIsAnswered, RealmStays}
 use Rattle.turn_client_runs.specs.Promises.{RepliesCountOnce}
 use Rattle.turn_client_runs.specs.Events.{EventsHaveCauses}
+use Rattle.turn_client_runs.specs.Processed.{CallsProcessInputs}
 use Rattle.turn_client_runs.specs.Replies.{CountsOnce}
 use Rattle.turn_client_runs.specs.Cut.{IsQuiet}
 use Rattle.turn_client_api.specs.Streams.{poll_recv_step}
@@ -26,6 +27,7 @@ use Rattle.turn_client_runs.proofs.ShortLemmas.{streams-short}
 use Rattle.turn_client_runs.specs.Short.{StreamsAreShort}
 use Rattle.turn_client_runs.proofs.HoldLemmas.{holds-found, reaches-behind}
 use Rattle.turn_client_runs.proofs.PeerLemmas.{received, tells-permitted}
+use Rattle.turn_client_runs.proofs.ProcessedLemmas.{calls-process}
 use Rattle.turn_client_runs.proofs.RealmLemmas.{turns-realm}
 use Rattle.turn_client_runs.proofs.ReplyLemmas.{made-between, made-in, made-until, reply-again, reply-ends}
 use Rattle.turn_client_runs.proofs.RunCutLemmas.{run-cut}
@@ -86,6 +88,9 @@ module _ (transport : TransportType) (local remote : SocketAddr) (config : Confi
 
   pub run-held : RealmIsAnswered first calls
   run-held earlier later e = held-from transport local remote config seed earlier
+
+  pub run-processed : CallsProcessInputs first calls
+  run-processed = calls-process first calls
 
   pub run-events : EventsHaveCauses first calls
   run-events = events-have-causes transport local remote config seed calls

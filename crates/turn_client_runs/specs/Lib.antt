@@ -7,6 +7,7 @@ pub mod Granted
 pub mod Held
 pub mod Holds
 pub mod Peers
+pub mod Processed
 pub mod Promises
 pub mod Received
 pub mod Replies

@@ -2,6 +2,7 @@
 
 ghost use Rattle.turn_client_runs.specs.Events.{EventsHaveCauses};
 ghost use Rattle.turn_client_runs.specs.Holds.{HoldsOfRuns};
+ghost use Rattle.turn_client_runs.specs.Processed.{CallsProcessInputs};
 ghost use Rattle.turn_client_runs.specs.Promises.{AfterEach, BoundHaveSuccess, CutsAgree, FewAreAnswered, GrantsHaveReplies, DeliversOnlyPermitted};
 ghost use Rattle.turn_client_runs.specs.Promises.{NumbersAreDistinct, RealmIsAnswered, RealmStays, RepliesCountOnce};
 ghost use Rattle.turn_client_runs.specs.Short.{StreamsAreShort};
@@ -11,10 +12,10 @@ ghost use Rattle.turn_client_runs.specs.Short.{StreamsAreShort};
 /// number names two peers, and what is bound has the success that bound it (RFC 8656, sections 7.3, 9, 12;
 /// RFC 6062, section 4.3). Each payload is of a permitted peer, a reply is accepted once, and of any calls
 /// that follow each other at most as many challenges as configured are answered before a signed reply. Realm
-/// and algorithm stay, and are those of the first challenge that was answered. Each event that is returned
-/// has its cause in the calls before. Streams that are polled to the end hold less than the longest frame,
+/// and algorithm stay, and are those of the first challenge that was answered. What calls change and
+/// return is by their inputs. Each event that is returned has its cause in the calls before. Streams that are polled to the end hold less than the longest frame,
 /// and the pieces of a stream return what their joined bytes return. The clauses are laws of this crate,
-/// stated for one run; `held`, `events`, `short`, and what `heard` and `realm` say of each input, are proved
+/// stated for one run; `held`, `processed`, `events`, `short`, and what `heard` and `realm` say of each input, are proved
 /// here alone.
 pub fn runs_keep_their_promises()
     ensures granted { HoldsOfRuns (AfterEach GrantsHaveReplies) }
@@ -25,6 +26,7 @@ pub fn runs_keep_their_promises()
     ensures challenges { HoldsOfRuns FewAreAnswered }
     ensures realm { HoldsOfRuns RealmStays }
     ensures held { HoldsOfRuns RealmIsAnswered }
+    ensures processed { HoldsOfRuns CallsProcessInputs }
     ensures events { HoldsOfRuns EventsHaveCauses }
     ensures short { HoldsOfRuns StreamsAreShort }
     ensures cuts { HoldsOfRuns CutsAgree }

@@ -3,6 +3,7 @@
 ghost use Rattle.std.specs.Prelude.{◌≡◌, All, IfOk, OnOk};
 ghost use Rattle.turn_client_api.specs.State.{initial};
 ghost use Rattle.turn_client_proto.specs.Client.{state_of};
+ghost use Rattle.turn_client_runs.specs.Processed.{CallsProcessInputs};
 ghost use Rattle.turn_client_runs.specs.Promises.{AfterEach, BoundHaveSuccess, CutsAgree, FewAreAnswered, GrantsHaveReplies, DeliversOnlyPermitted, InEachPart};
 ghost use Rattle.turn_client_runs.specs.Promises.{NumbersAreDistinct, RealmIsAnswered, RealmStays, RepliesCountOnce};
 ghost use Rattle.turn_client_runs.specs.Events.{EventsHaveCauses};
@@ -49,6 +50,9 @@ pub struct Replayed {
 ///   count (RFC 8489, section 9.2.5).
 /// - `realm`, `held`: realm and algorithm, once held, never change, and are those of the first challenge that was
 ///   answered.
+/// - `processed`: `recv` and `poll_recv` change what their inputs change, one after the other, and apart from the
+///   bytes in the streams nothing else, or the server closed a stream. No other call activates a grant. The data
+///   of peers that a call returns is that of its inputs.
 /// - `events`: each event that `poll_event` returns has its cause in an earlier call, and has waited since. What
 ///   it reports as created was granted by a signed success to an own request for it. What it reports as failed
 ///   was refused by a signed reply, timed out or expired at a `poll`, or ended with the client; or a message of
@@ -89,6 +93,7 @@ pub fn replay(
     ensures challenges { FewAreAnswered (initial transport local remote config seed) calls.now }
     ensures realm { RealmStays (initial transport local remote config seed) calls.now }
     ensures held { RealmIsAnswered (initial transport local remote config seed) calls.now }
+    ensures processed { CallsProcessInputs (initial transport local remote config seed) calls.now }
     ensures events { EventsHaveCauses (initial transport local remote config seed) calls.now }
     ensures short { StreamsAreShort (initial transport local remote config seed) calls.now }
     ensures cuts { CutsAgree (initial transport local remote config seed) calls.now }

@@ -1,4 +1,4 @@
-use Rattle.turn_client_runs.proofs.PromiseLemmas.{run-bound, run-cuts, run-events, run-few, run-granted, run-hears, run-held, run-numbers, run-realm, run-replies, run-short}
+use Rattle.turn_client_runs.proofs.PromiseLemmas.{run-bound, run-cuts, run-events, run-few, run-granted, run-hears, run-held, run-numbers, run-processed, run-realm, run-replies, run-short}
 use Rattle.turn_client_runs.proofs.promises.runs_keep_their_promises.Goals as goal
 
 pub returns : goal.returns
@@ -11,6 +11,7 @@ returns c = record {
   challenges = run-few;
   realm = run-realm;
   held = run-held;
+  processed = run-processed;
   events = run-events;
   short = run-short;
   cuts = run-cuts;

@@ -1,4 +1,4 @@
-use Rattle.turn_client_runs.proofs.PromiseLemmas.{run-bound, run-cuts, run-events, run-few, run-granted, run-hears, run-held, run-numbers, run-realm, run-replies, run-short}
+use Rattle.turn_client_runs.proofs.PromiseLemmas.{run-bound, run-cuts, run-events, run-few, run-granted, run-hears, run-held, run-numbers, run-processed, run-realm, run-replies, run-short}
 use Rattle.turn_client_api.specs.State.{initial}
 use Rattle.turn_client_proto.proofs.HeardLemmas.{gives-let-in}
 use Rattle.turn_client_proto.proofs.RunLemmas.{timely}
@@ -32,6 +32,9 @@ returns-clause-realm c = run-realm c.args.transport c.args.local c.args.remote c
 
 pub returns-clause-held : goal.returns-clause-held
 returns-clause-held c = run-held c.args.transport c.args.local c.args.remote c.args.config c.args.seed c.args.calls.now
+
+pub returns-clause-processed : goal.returns-clause-processed
+returns-clause-processed c = run-processed c.args.transport c.args.local c.args.remote c.args.config c.args.seed c.args.calls.now
 
 pub returns-clause-events : goal.returns-clause-events
 returns-clause-events c = run-events c.args.transport c.args.local c.args.remote c.args.config c.args.seed c.args.calls.now
