@@ -18,7 +18,7 @@ use Rattle.turn_client_laws.proofs.CountLemmas.{bringing, leaves-heeded}
 use Rattle.turn_client_laws.proofs.PhasesGoOn.{challenge-IsCounted, leaves-keeps}
 use Rattle.turn_client_laws.proofs.TurnBringLemmas.{turn-brings}
 use Rattle.turn_client_laws.proofs.TurnLemmas.{brought}
-use Rattle.turn_client_runs.specs.Challenges.{CountsIt, IsChallengeInput, IsReplyAcceptedAmong, IsWithinChallengeLimit, answers_in, is_answer}
+use Rattle.turn_client_runs.specs.Challenges.{CountsIt, FallsByReplies, IsChallengeInput, IsReplyAcceptedAmong, IsWithinChallengeLimit, answers_in, is_answer}
 use Rattle.turn_client_runs.specs.Holds.{Reaches}
 use Rattle.turn_client_runs.specs.Inputs.{IsAmong, handled_in}
 use Rattle.turn_client_runs.proofs.HoldLemmas.{kept-behind}
@@ -114,6 +114,13 @@ run-counts s (call ∷ calls) =
       ]
       | inr among ↦ inr (among-left IsHeededIn turns more among)
     ]
+
+-- only a signed reply lowers the count
+pub falls-by-replies : (s : State) (calls : List Call) → FallsByReplies s calls
+falls-by-replies s calls = (
+  λ one there fewer. elim (turn-grows one) [ inl more ↦ absurd (omega (arith, fewer, more)) | inr heeded ↦ (heeded.1, heeded.2) ],
+  λ fewer. elim (run-counts s calls) [ inl counts ↦ absurd (omega (arith, fewer, counts)) | inr among ↦ among ],
+)
 
 -- what the client was made with stays
 pub run-configured : (s : State) (calls : List Call) → (state_after_all s calls).config ≡ s.config

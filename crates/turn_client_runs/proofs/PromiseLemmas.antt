@@ -21,7 +21,7 @@ use Rattle.turn_stun.specs.declared.transport.TransportType.TheVariants.{Tcp}
 use Rattle.turn_client_runs.proofs.QuietLemmas.{calls-keep, poll-quiet}
 use Rattle.turn_client_laws.proofs.StreamCallLemmas.{call-apart, initial-apart}
 use Rattle.turn_client_runs.proofs.BoundLemmas.{connections-have-success, streams-are-bound-before, streams-have-success}
-use Rattle.turn_client_runs.proofs.ChallengeLemmas.{challenge-counts, few-answered, initial-patient, leaves-patient, realm-stays, run-configured}
+use Rattle.turn_client_runs.proofs.ChallengeLemmas.{challenge-counts, falls-by-replies, few-answered, initial-patient, leaves-patient, realm-stays, run-configured}
 use Rattle.turn_client_runs.proofs.HeldLemmas.{held-from}
 use Rattle.turn_client_runs.proofs.ShortLemmas.{streams-short}
 use Rattle.turn_client_runs.specs.Short.{StreamsAreShort}
@@ -78,7 +78,7 @@ module _ (transport : TransportType) (local remote : SocketAddr) (config : Confi
   pub run-few : FewAreAnswered first calls
   run-few earlier middle later e =
       let patient = holds-found IsWithinChallengeLimit leaves-patient initial-patient transport local remote config seed earlier in
-      (run-configured first earlier, patient, few-answered (state_after_all first earlier) middle patient, λ one there. challenge-counts one)
+      (run-configured first earlier, patient, few-answered (state_after_all first earlier) middle patient, λ one there. challenge-counts one, falls-by-replies (state_after_all first earlier) middle)
 
   pub run-realm : RealmStays first calls
   run-realm earlier middle later e = (

@@ -10,6 +10,7 @@ use Rattle.turn_client_laws.specs.LawsHandled.{IsOverControl}
 use Rattle.turn_client_laws.specs.LawsReplies.{IsReplyAccepted}
 use Rattle.turn_client_laws.specs.LawsSteps.{IsChallengeCounted}
 use Rattle.turn_client_api.specs.declared.call.Call.{Call}
+use Rattle.turn_client_api.specs.Steps.{state_after_all}
 use Rattle.turn_client_runs.specs.Inputs.{IsAmong, handled_in}
 
 -- no more challenges were answered than the configuration allows
@@ -40,6 +41,17 @@ abbrev pub IsReplyAcceptedAmong : List Input → Type 0
 IsReplyAcceptedAmong inputs =
     IsAmong (λ one. ((processed one).1.challenges < one.before.challenges)
     × (is_message one.bytes ≡ true) × IsReplyAccepted one.bytes one.time one.before) inputs
+
+-- an input lowers the count only if it is such a reply
+abbrev pub LowersAsReply : Input → Type 0
+LowersAsReply one =
+    (processed one).1.challenges < one.before.challenges → (is_message one.bytes ≡ true) × IsReplyAccepted one.bytes one.time one.before
+
+-- the count falls by such a reply alone: by none but such an input, and in none of these calls without one
+abbrev pub FallsByReplies : State → List Call → Type 0
+FallsByReplies s calls =
+    ((one : Input) → Contains (handled_in s calls) one → LowersAsReply one)
+    × ((state_after_all s calls).challenges < s.challenges → IsReplyAcceptedAmong (handled_in s calls))
 
 -- each challenge among the inputs of the calls is counted if it is answered
 abbrev pub CountsAll : State → List Call → Type 0

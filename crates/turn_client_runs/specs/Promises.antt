@@ -12,7 +12,7 @@ use Rattle.turn_client_api.specs.Streams.{poll_recv_step}
 use Rattle.turn_client_api.specs.declared.call.Call.{Call}
 use Rattle.turn_client_api.specs.declared.grant.Grant.{Grant}
 use Rattle.turn_client_runs.specs.Bound.{BoundConnectionsHaveSuccess, BoundStreamsHaveSuccess, StreamsAreBoundBefore}
-use Rattle.turn_client_runs.specs.Challenges.{AnswersFew, CountsAll, IsWithinChallengeLimit}
+use Rattle.turn_client_runs.specs.Challenges.{AnswersFew, CountsAll, FallsByReplies, IsWithinChallengeLimit}
 use Rattle.turn_client_runs.specs.Cut.{ArePieces, given_in_run, joined, whole_of}
 use Rattle.turn_client_runs.specs.Granted.{ComesIn, HasReply}
 use Rattle.turn_client_runs.specs.Held.{HeldFromChallenge}
@@ -66,7 +66,8 @@ RepliesCountOnce first calls =
 
 -- at most as many challenges are answered between two signed replies as the client was configured with
 abbrev pub FewAreAnswered : State → List Call → Type 0
-FewAreAnswered first = InEachPart (λ s middle. (s.config ≡ first.config) × IsWithinChallengeLimit s × AnswersFew s middle × CountsAll s middle) first
+FewAreAnswered first = InEachPart (λ s middle.
+    (s.config ≡ first.config) × IsWithinChallengeLimit s × AnswersFew s middle × CountsAll s middle × FallsByReplies s middle) first
 
 -- realm and algorithm, once held, never change
 abbrev pub RealmStays : State → List Call → Type 0

@@ -47,7 +47,7 @@ pub struct Replayed {
 ///   ID is accepted only if a new request was made with that ID (RFC 8489, section 6.3).
 /// - `challenges`: each challenge that is answered over the control connection is counted, and in any
 ///   consecutive calls at most `max_stale_nonces` of the configuration are, unless a signed reply lowers the
-///   count (RFC 8489, section 9.2.5).
+///   count, which no other input and no call without one does (RFC 8489, section 9.2.5).
 /// - `realm`, `held`: realm and algorithm, once held, never change, and are those of the first challenge that was
 ///   answered.
 /// - `processed`: `recv` and `poll_recv` change what their inputs change, one after the other, and apart from the
