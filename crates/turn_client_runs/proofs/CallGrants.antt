@@ -52,7 +52,7 @@ pub quiet : (call : Call) (s : State) → (TakesInput call → ⊥) → handled 
 quiet call s other = elim (takes-or call) [ inl takes ↦ absurd (other takes) | inr none ↦ none s ]
 
 module _ (g : Grant) where
-  quiet-grants : (call : Call) (s : State) → (TakesInput call → ⊥) → Covers (state_after call s).grants g → Covers s.grants g ⊎ IsEndedBy call s g
+  pub quiet-grants : (call : Call) (s : State) → (TakesInput call → ⊥) → Covers (state_after call s).grants g → Covers s.grants g ⊎ IsEndedBy call s g
   quiet-grants call s other (is, there, kept) =
       elim (leaves-grants call s (state_after call s) is (inl refl) (has-contains is (state_after call s).grants there) (kept-stood is g kept)) [
         | inl (was, before, k) ↦ inl (was, contains-has was s.grants before, kept-trans was is g k kept)

@@ -1,3 +1,5 @@
+pub mod AddressEdits
+pub mod AddressTurns
 pub mod AllTurnsLemmas
 pub mod AskedFamilies
 pub mod AskedLemmas

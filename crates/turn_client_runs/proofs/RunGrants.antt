@@ -31,18 +31,19 @@ use Rattle.turn_client_laws.proofs.DistinctNumbers.{initial-numbers, leaves-apar
 use Rattle.turn_client_laws.proofs.HasLemmas.{Has}
 use Rattle.turn_client_laws.proofs.ListedGrants.{initial-HasGrantsAsked, leaves-HasGrantsAsked}
 use Rattle.turn_client_laws.proofs.SendOrderLemmas.{initial-steady, leaves-steadies}
-use Rattle.turn_client_laws.proofs.StandLemmas.{contains-has, covers-has, covers-stood}
+use Rattle.turn_client_laws.proofs.StandLemmas.{contains-has, covers-has, covers-stood, has-contains}
 use Rattle.turn_client_runs.specs.Granted.{GrantsAddress, HasReply, IsAllocated, IsAnsweredIn, IsDeletedBy, IsGivenIn, IsGranted, IsGranting, IsRelayed, HoldsThrough}
+use Rattle.turn_client_runs.proofs.AddressTurns.{call-allocated}
 use Rattle.turn_client_runs.proofs.AskedFamilies.{asks-family, turns-signed}
 use Rattle.turn_client_runs.proofs.AskedLemmas.{was-asked}
 use Rattle.turn_client_runs.proofs.AskedPeers.{HasAskedPeers, turns-ask-peers}
 use Rattle.turn_client_runs.proofs.CallGrants.{IsEndedBy, call-causes, delete-accepted, same-allocation}
 use Rattle.turn_client_runs.proofs.ComingLemmas.{turns-come}
-use Rattle.turn_client_runs.proofs.GrantTurns.{Granting, IsGivenAt, kept-alike}
+use Rattle.turn_client_runs.proofs.GrantTurns.{Granting, IsGivenAt}
 use Rattle.turn_client_runs.proofs.ReceivedRuns.{HoldNothing, turns-received}
 use Rattle.turn_client_runs.proofs.RunLemmas.{IsDoneLast, run-did}
 use Rattle.turn_client_runs.proofs.SignedCalls.{call-signs}
-use Rattle.turn_client_runs.proofs.SignedLemmas.{Signs}
+use Rattle.turn_client_runs.proofs.SignedLemmas.{Signs, for-allocation}
 
 -- ---- one input
 
@@ -128,17 +129,17 @@ call-grants g stands call s keeps stood = elim (call-causes g call s stood) [
 
 -- the address of an allocation
 call-allocates : (relayed : SocketAddr) (call : Call) (s : State) → Keeps s → IsRelayed relayed (state_after call s) → IsRelayed relayed s ⊎ IsDoneFor (GrantsAddress relayed) call s
-call-allocates relayed call s keeps (a, there, e) = by (call-grants (Allocation a) tt call s keeps (Allocation a, there, (refl, refl)))
-  where
-    by : WasActive s (Allocation a) ⊎ Causes (Allocation a) call s → IsRelayed relayed s ⊎ IsDoneFor (GrantsAddress relayed) call s
-    by (inl (was, before, kept)) = elim (kept-alike was (Allocation a) kept) [
-      | inl (b, c, named, to, same, ends) ↦
-          inl (b, subst (Contains s.grants) named before, same ∙ (ap (λ (x : Relay). x.relayed) (same-allocation c a (sym to)) ∙ e))
-      | inr is ↦ inl (a, subst (Contains s.grants) is before, e)
+call-allocates relayed call s (asked, distinct, order, steady, signs) (a, there, e) =
+    elim (call-allocated relayed call s (a, contains-has (Allocation a) (state_after call s).grants there, e)) [
+      | inl (b, here, same) ↦ inl (b, has-contains (Allocation b) s.grants here, same)
+      | inr (one, among, is) ↦
+          let ordered = turns-signed call s (order, signs) one among in
+          let purpose = is.granting.purpose in
+          let listed = contains-has purpose (purposes_of (id_of one.bytes) one.before) is.granting.accepting.listed in
+          let allocates = for-allocation (id_of one.bytes) one.before purpose ordered.0 is.first listed in
+          let granted = granting one (Allocation is.a) tt (turns-ask-peers call s asked distinct one among) ordered is.granting in
+          inr (one, among, (purpose, (is.a, granted, is.address, allocates)))
     ]
-    by (inr (inl ((b, now, what, how, ends, (was, before, same)), accepted))) =
-        inl (was, before, same ∙ (ap (λ (x : Relay). x.relayed) (same-allocation b a (sym what)) ∙ e))
-    by (inr (inr (one, among, (p, is)))) = inr (one, among, (p, (a, is, e)))
 
 -- ---- a run
 
@@ -162,7 +163,7 @@ pub granting-answers : (g : Grant) → AnswersFor (IsGranting g)
 granting-answers g p one is = (is.listed, no-return one g p is.given)
 
 address-answers : (relayed : SocketAddr) → AnswersFor (GrantsAddress relayed)
-address-answers relayed p one (a, is, e) = granting-answers (Allocation a) p one is
+address-answers relayed p one (a, is, e, allocates) = granting-answers (Allocation a) p one is
 
 module _ (first : State) (unlisted : first.listed ≡ []) (hold : HoldNothing first) (calls : List Call) where
   pub answered-in : (Did : Purpose → Input → Type 0) → AnswersFor Did → (P : State → Type 0) → IsDoneLast (IsDoneFor Did) P calls first → IsAnsweredIn Did P calls first
@@ -223,7 +224,7 @@ module _ (first : State) (empty : first.grants ≡ []) (unlisted : first.listed 
       }
 
   run-grants : (calls : List Call) (g : Grant) → IsActiveGrant g → Contains (state_after_all first calls).grants g → HasReply g calls first
-  run-grants calls g stands there = by g (run-caused g stands calls (covers-stood (state_after_all first calls) g
+  run-grants calls g stands there = by g there (run-caused g stands calls (covers-stood (state_after_all first calls) g
       (covers-has (state_after_all first calls).grants g (contains-has g (state_after_all first calls).grants there) stands)))
     where
       turned : (h : Grant) (is : IsDoneLast (Causes h) (λ s. WasActive s h) calls first) → ((a : Relay) → h ≡ Allocation a → ⊥) → IsGranted h calls first
@@ -232,9 +233,12 @@ module _ (first : State) (empty : first.grants ≡ []) (unlisted : first.listed 
         | inr done ↦ run-turned h calls is done
       ]
 
-      by : (h : Grant) → IsDoneLast (Causes h) (λ s. WasActive s h) calls first → HasReply h calls first
-      by (Allocation a) is = elim is.did [ inl end ↦ inr (run-gave a calls is end) | inr done ↦ inl (run-turned (Allocation a) calls is done) ]
-      by h is = turned h is (λ a e. cc)
+      by : (h : Grant) → Contains (state_after_all first calls).grants h → IsDoneLast (Causes h) (λ s. WasActive s h) calls first → HasReply h calls first
+      by (Allocation a) there is = (
+        elim is.did [ inl end ↦ inr (run-gave a calls is end) | inr done ↦ inl (run-turned (Allocation a) calls is done) ],
+        run-allocates a.relayed calls (a, there, refl),
+      )
+      by h there is = turned h is (λ a e. cc)
 
 pub first-hold : (transport : TransportType) (local remote : SocketAddr) (config : Config) (seed : List ℕ) → HoldNothing (initial transport local remote config seed)
 first-hold Udp local remote config seed x absent = absurd absent

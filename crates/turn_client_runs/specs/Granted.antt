@@ -194,10 +194,13 @@ IsGranted g calls first = IsAnsweredIn (IsGranting g) (λ s. WasActive s g) call
 abbrev pub IsRelayed : SocketAddr → State → Type 0
 IsRelayed relayed s = (a : Relay) × Contains s.grants (Allocation a) × (a.relayed ≡ relayed)
 
+-- the input granted an allocation with this address, in answer to an ALLOCATE, and no REFRESH
 abbrev pub GrantsAddress : SocketAddr → Purpose → Input → Type 0
-GrantsAddress relayed purpose one = (a : Relay) × IsGranting (Allocation a) purpose one × (a.relayed ≡ relayed)
+GrantsAddress relayed purpose one =
+    (a : Relay) × IsGranting (Allocation a) purpose one × (a.relayed ≡ relayed) × (purpose ≡ ForAllocation)
 
--- an input of one of these calls granted an allocation with this address, and no later call removed it
+-- An input of one of these calls, the success to an ALLOCATE, granted an allocation with this address, which
+-- stands in it, and no later call removed it.
 abbrev pub IsAllocated : SocketAddr → List Call → State → Type 0
 IsAllocated relayed calls first = IsAnsweredIn (GrantsAddress relayed) (IsRelayed relayed) calls first
 
@@ -215,9 +218,10 @@ pub record IsDeletedBy (a : Relay) (calls : List Call) (first : State) : Type 0 
 
 -- ---- all grants
 
--- why it is active after these calls
+-- why it is active after these calls: an allocation has the address of the success to its ALLOCATE, and the
+-- expiry of the last success to an ALLOCATE or a REFRESH, or of a `delete`
 abbrev pub HasReply : Grant → List Call → State → Type 0
-HasReply (Allocation a) calls first = IsGranted (Allocation a) calls first ⊎ IsDeletedBy a calls first
+HasReply (Allocation a) calls first = (IsGranted (Allocation a) calls first ⊎ IsDeletedBy a calls first) × IsAllocated a.relayed calls first
 HasReply g calls first = IsGranted g calls first
 
 -- each grant of this kind that is active after any calls of a new client was granted in them

@@ -22,7 +22,9 @@ ghost use Rattle.turn_client_runs.specs.Granted.{HaveReplies};
 /// one, which is not signed and whose response is the challenge (RFC 8489, section 9.2.3): it is signed
 /// with the client's own credentials, under the realm and the algorithm under which the reply is signed. It
 /// requests the families of which the client still requested an address when the reply was received, and
-/// the address that is granted is of one of these (RFC 8656, sections 7.1 and 7.3).
+/// the address that is granted is of one of these (RFC 8656, sections 7.1 and 7.3). Such a success is among the
+/// messages for each allocation, whatever refreshed it since: the relayed address that the allocation has stands
+/// in it.
 ///
 /// The request was the client's own: an earlier call made it, or an earlier input of the same call, as one
 /// for the grant, or for a channel whose peer has the IP address of a permission.
