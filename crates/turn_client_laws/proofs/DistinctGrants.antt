@@ -24,6 +24,10 @@ use Rattle.turn_client_api.specs.Retry.{phase_after}
 use Rattle.turn_client_api.specs.Calls.{is_offer_of, offer_taken, without_first}
 use Rattle.turn_client_api.specs.Steps.{Leaves}
 use Rattle.turn_client_api.specs.declared.call.Call.{Call}
+use Rattle.std.specs.List.{Contains}
+use Rattle.turn_client_laws.specs.Handled.{Input, handled}
+use Rattle.turn_client_laws.proofs.EditsOfMessages.{edits-IsKept}
+use Rattle.turn_client_laws.proofs.TurnKeepLemmas.{before-kept}
 use Rattle.turn_client_laws.specs.LawsDoubles.{HasNoDoubles, is_double}
 use Rattle.turn_client_laws.specs.LawsOrder.{FitsPhase, IsUngranted}
 use Rattle.turn_client_laws.proofs.HasLemmas.{Has}
@@ -223,6 +227,12 @@ KeepsDistinctGrants-KeepsAllEdits = record {
   offers = λ id peer origin s room few.
       (λ u. u, λ h. more _ s.phase s.grants (room-granted (family_of peer) s room h) (offer-IsNew _ s.grants) h);
 }
+
+-- when an input of a call is processed
+pub before-single : (call : Call) (s : State) (one : Input) → FitsPhase s → HasNoDoubles s → Contains (handled call s) one → HasNoDoubles one.before
+before-single call s one steady h among =
+    let kept = before-kept KeepsDistinctGrants (edits-IsKept KeepsDistinctGrants KeepsDistinctGrants-KeepsAllEdits (λ s streams. (λ u. u, λ h. h))) call s one among in
+    (kept.1 (record { none = steady.3; single = h })).single
 
 pub initial-single : (transport : TransportType) (local remote : SocketAddr) (config : Config) (seed : List ℕ) → HasNoDoubles (initial transport local remote config seed)
 unfolding IsDistinct

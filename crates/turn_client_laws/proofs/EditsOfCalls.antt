@@ -259,7 +259,8 @@ module _ (R : State → State → Type 0) (k : KeepsEdits R) where
           then s a end (k.connection id c origin s there offer (no-connection local s.grants none) refl)
           (then a b end (k.queues queue a begun)
           (then b t end (requested-walk R k (fresh_id s) (ForBind local peer id) now b begun
-          (for-there (ForBind local peer id) (Connection c) b (has-right (Connection c) (offer_taken id peer s).grants (Connection c ∷ []) (inl refl)) (same_address-self local))
+          (for-there (ForBind local peer id) (Connection c) b (has-right (Connection c) (offer_taken id peer s).grants (Connection c ∷ []) (inl refl))
+          (rw (same_address-self local, same_address-self peer) refl))
           (spelled-else (fresh_id s) (request_for b (ForBind local peer id) (fresh_id s)) (ForBind local peer id) b there (λ f. cc)))
           (streams t end.streams)))
 

@@ -1,17 +1,18 @@
 -- The edits of which messages are made.
 use Rattle.std.proofs.Common.{◌≡◌, ◌≤◌, ◌∙◌, ◌+◌, ℕ, Bool, true, false, not, cond, ◌&&◌, ◌||◌, eqb, ltb, leb, List, [], ◌∷◌, filter, filter_map, length, Option, Some, None, inl, inr, refl, sym, subst}
+use Rattle.std.proofs.Common.{ap, ◌++◌}
 use Rattle.std.specs.Prelude.{is_some, find, IfSome, ⊤}
 use Rattle.std.specs.List.{list_any}
 use Rattle.std.specs.Option.{option_map_or}
 use Rattle.std.specs.Net.Socket.{socket_ip}
-use Rattle.std.proofs.lemmas.Bool.{and_parts, leb-true, ltb-true, cases_Bool}
+use Rattle.std.proofs.lemmas.Bool.{and_parts, eq-eqb, leb-true, ltb-true, cases_Bool, or_parts, or_right}
 use Rattle.std.proofs.lemmas.Option.{same_Some}
 use Rattle.std.specs.declared.net.socket_addr.SocketAddr.{SocketAddr}
 use Rattle.turn_stun.specs.Message.{id_of}
 use Rattle.turn_stun.specs.declared.transport.TransportType.TheVariants.{Tcp}
 use Rattle.turn_types.specs.declared.family.AddressFamily.TheVariants.{IPV4, IPV6}
 use Rattle.turn_auth.specs.LongTerm.{Challenge}
-use Rattle.turn_agent.specs.Agent.{same_address}
+use Rattle.turn_agent.specs.Agent.{is_outstanding, same_address}
 use Rattle.turn_client_api.specs.State.{State, later_by}
 use Rattle.turn_client_api.specs.declared.state.Phase.{Phase}
 use Rattle.turn_client_api.specs.declared.state.Phase.TheVariants.{New, Requesting, Authenticating, Allocated, Closed}
@@ -20,10 +21,10 @@ use Rattle.turn_client_api.specs.declared.grant.Grant.TheVariants.{Connection}
 use Rattle.turn_client_api.specs.declared.grant.DataConnection.{DataConnection}
 use Rattle.turn_client_api.specs.declared.grant.Origin.TheVariants.{ServerIndication, ServerRequest}
 use Rattle.turn_client_api.specs.declared.grant.Purpose.{Purpose}
-use Rattle.turn_client_api.specs.declared.grant.Purpose.TheVariants.{ForAllocation, ForBind}
+use Rattle.turn_client_api.specs.declared.grant.Purpose.TheVariants.{ForAllocation}
 use Rattle.turn_client_api.specs.declared.grant.Listing.{Listing}
 use Rattle.turn_client_api.specs.declared.state.Mode.TheVariants.{Bound}
-use Rattle.turn_client_api.specs.Grants.{find_allocation_to, as_connection, is_connection_from, has_active_permission, purposes_of, unlisted, wait}
+use Rattle.turn_client_api.specs.Grants.{find_allocation_to, as_connection, is_connection_from, is_for, is_listed, is_of_request, has_active_permission, purposes_of, unlisted, wait}
 use Rattle.turn_client_api.specs.Requests.{request_started, connection_attempt_method, fresh_id, request_for, requested}
 use Rattle.turn_client_api.specs.Judgement.{Judgement, Unrelated, Challenged, Fatal, ConnectionAttempt, SignedRequest, SignedSuccess, SignedError, answers_one, challenge_in, challenged_or}
 use Rattle.turn_client_api.specs.Judgement.{judgement_of, bind_judgement, is_bind_of, lifetime_in, method_in}
@@ -36,16 +37,15 @@ use Rattle.turn_client_api.specs.Payloads.{Outcome, Handled, Ignored, answered_p
 use Rattle.turn_client_api.specs.declared.event.TurnEvent.TheVariants.{AllocationCreateFailed}
 use Rattle.turn_client_laws.specs.LawsReplies.{IsAccepted, IsReplyAccepted}
 use Rattle.turn_client_laws.specs.LawsOrder.{IsBegun, IsUngranted}
-use Rattle.turn_client_laws.specs.LawsStates.{is_asked_by}
-use Rattle.turn_client_laws.proofs.AddressLemmas.{same_address-self, same_address-true}
 use Rattle.turn_client_laws.proofs.HasLemmas.{Has, has-filter, has-filter_map, has-found, cases_Option}
-use Rattle.turn_client_laws.proofs.InAllocationLemmas.{allocation-room, has-any}
+use Rattle.turn_client_laws.proofs.InAllocationLemmas.{allocation-room, has-any, not-both}
+use Rattle.turn_client_laws.proofs.NewIdLemmas.{fresh-free}
 use Rattle.turn_client_laws.proofs.GrantOriginLemmas.{has-mapped}
 use Rattle.turn_client_laws.proofs.ChallengeJudgement.{Challenged-is, bind-is}
 use Rattle.turn_client_laws.proofs.StandLemmas.{has-contains}
 use Rattle.turn_client_laws.proofs.RunKeepLemmas.{IsKept}
 use Rattle.turn_client_laws.proofs.Edits.{KeepsAllEdits, IgnoresAll, KeepsHeeded}
-use Rattle.turn_client_laws.proofs.EditsOfReplies.{deadline-walk, effects-walk, fail-walk, gone-walk, removed, requested-walk, spelled-else, unlisted-walk, without-allocates}
+use Rattle.turn_client_laws.proofs.EditsOfReplies.{asked-walk, deadline-walk, effects-walk, fail-walk, gone-walk, removed, requested-walk, spelled-else, unlisted-walk, without-allocates}
 use Rattle.turn_client_laws.proofs.CaseLemmas.{requested-by, indicated-by, by_heeded, bind-by, by_test}
 
 -- ---- what may be requested again
@@ -56,17 +56,12 @@ purposes-listed id s p there =
     let (l, kept, e) = has-mapped (λ (l : Listing). l.purpose) p (filter (λ (l : Listing). eqb l.id id) s.listed) there in
     (l, (has-filter (λ (l : Listing). eqb l.id id) l s.listed kept).0, sym e)
 
--- the request that binds a connection that exists
-bind-askable : (c : DataConnection) (p : Purpose) (s : State) → Has (Connection c) s.grants → is_bind_of c.local p ≡ true → list_any (is_asked_by p) s.grants ≡ true
-bind-askable c (ForBind other peer id) s there e = has-any (is_connection_from other) (Connection c) s.grants there (rw (same_address-true other c.local e) (same_address-self c.local))
-bind-askable c p s there e = cc
-
--- which is no ALLOCATE
+-- the request that binds a connection is no ALLOCATE
 bind-other : (c : DataConnection) (p : Purpose) → is_bind_of c.local p ≡ true → p ≡ ForAllocation → ⊥
 bind-other c p e f = let no : is_bind_of c.local ForAllocation ≡ true = subst (λ (q : Purpose). is_bind_of c.local q ≡ true) f e in cc
 
 -- the connection at this local address exists
-connection-there : (local : SocketAddr) (c : DataConnection) (s : State) → connection_at local s ≡ Some c → Has (Connection c) s.grants
+pub connection-there : (local : SocketAddr) (c : DataConnection) (s : State) → connection_at local s ≡ Some c → Has (Connection c) s.grants
 connection-there local c s e =
     let (g, there, reads) = has-filter_map as_connection c s.grants (has-found (λ (d : DataConnection). same_address d.local local) c (filter_map as_connection s.grants) e).0 in
     of g reads there
@@ -74,6 +69,25 @@ connection-there local c s e =
     of : (g : Grant) → as_connection g ≡ Some c → Has g s.grants → Has (Connection c) s.grants
     of (Connection d) reads there = rw (sym (same_Some d c reads)) there
     of g reads there = cc
+
+-- ---- the new request alone stays listed
+
+-- no request is listed under the next ID
+fresh-other : (s : State) (l : Listing) → Has l s.listed → eqb l.id (fresh_id s) ≡ false
+fresh-other s l there =
+    let free = or_parts (is_outstanding (fresh_id s) s.transactions) (is_listed (fresh_id s) s) (fresh-free s) in
+    let none = or_parts (list_any (λ (x : Listing). eqb x.id (fresh_id s)) s.listed) (list_any (is_of_request (fresh_id s)) s.grants) free.1 in
+    elim (cases_Bool (eqb l.id (fresh_id s))) [
+      | inl e ↦ absurd (not-both (list_any (λ (x : Listing). eqb x.id (fresh_id s)) s.listed) (has-any (λ (x : Listing). eqb x.id (fresh_id s)) l s.listed there e) (rw none.0 refl))
+      | inr e ↦ e
+    ]
+
+relisted : (gone : Listing → Bool) (fresh : ℕ) (ls : List Listing) (new : Listing) → ((l : Listing) → Has l ls → eqb l.id fresh ≡ false) → new.id ≡ fresh
+    → filter (λ l. not (gone l) || eqb l.id fresh) (ls ++ new ∷ []) ≡ filter (λ l. not (gone l)) ls ++ new ∷ []
+relisted gone fresh [] new other e = rw (or_right (not (gone new)) (eqb new.id fresh) (eq-eqb new.id fresh e)) refl
+relisted gone fresh (l ∷ ls) new other e =
+    let rest = relisted gone fresh ls new (λ x there. other x (inr there)) e in
+    elim (cases_Bool (gone l)) [ inl f ↦ rw (f, other l (inl refl)) rest | inr f ↦ rw f (ap (λ (xs : List Listing). l ∷ xs) rest) ]
 
 -- ---- the purpose for which a request is made again
 
@@ -276,6 +290,16 @@ module _ (Heeded : Type 0) (R : State → State → Type 0) (k : KeepsHeeded Hee
 
   -- ---- connections that wait to be bound
 
+  -- the other requests for the connection are no longer listed
+  others-unlisted : (c : DataConnection) (s : State) (purpose : Purpose) (now : ℕ)
+      → let more = request_started (fresh_id s) (request_for s purpose (fresh_id s)) (purpose ∷ []) now s in
+      R more (record more { listed = (unlisted (is_connection_from c.local) s).listed ++ record { id = fresh_id s; purpose = purpose } ∷ [] })
+  others-unlisted c s purpose now =
+      let more = request_started (fresh_id s) (request_for s purpose (fresh_id s)) (purpose ∷ []) now s in
+      let gone = λ (l : Listing). list_any (λ g. is_connection_from c.local g && is_for l.purpose g) s.grants in
+      subst (λ (ls : List Listing). R more (record more { listed = ls })) (relisted gone (fresh_id s) s.listed (record { id = fresh_id s; purpose = purpose }) (fresh-other s) refl)
+      (k.edits.unlists (λ l. not (gone l) || eqb l.id (fresh_id s)) more)
+
   again-walk : (c : DataConnection) (message : List ℕ) (d : Challenge) (now : ℕ) (s : State) → s.phase ≡ Allocated → Has (Connection c) s.grants → challenge_in s message ≡ Some d
       → R s (bind_again c (id_of message) d now s)
   again-walk c message d now s allocated there e = by (find (is_bind_of c.local) (purposes_of (id_of message) s)) refl
@@ -287,14 +311,18 @@ module _ (Heeded : Type 0) (R : State → State → Type 0) (k : KeepsHeeded Hee
       by None f = rw f (k.edits.same s)
       by (Some purpose) f =
           let a = with_held d s in
-          let b = unlisted (is_connection_from c.local) a in
-          let t = requested (fresh_id s) purpose now b in
-          let is = (has-found (is_bind_of c.local) purpose (purposes_of (id_of message) s) f).1 in
+          let fresh = fresh_id s in
+          let text = request_for a purpose fresh in
+          let more = request_started fresh text (purpose ∷ []) now a in
+          let t = requested fresh purpose now (unlisted (is_connection_from c.local) a) in
+          let alone = record more { listed = t.listed } in
+          let (listed, is) = has-found (is_bind_of c.local) purpose (purposes_of (id_of message) s) f in
+          let askable = inr (inr (purposes-listed (id_of message) s purpose listed)) in
           rw f
           (then s a _ (k.holds message d s e)
-          (then a b _ (unlisted-walk R k.edits (is_connection_from c.local) a)
-          (then b t _ (requested-walk R k.edits (fresh_id s) purpose now b begun (inr (inl (bind-askable c purpose b there is)))
-          (spelled-else (fresh_id s) (request_for b purpose (fresh_id s)) purpose b allocated (bind-other c purpose is))) (deadline-walk Heeded R k c.local (Some (later_by bind_time now)) t))))
+          (then a more _ (asked-walk R k.edits fresh text purpose now a begun askable (spelled-else fresh text purpose a allocated (bind-other c purpose is)))
+          (then more alone _ (others-unlisted c a purpose now) (then alone t _ (k.edits.queues t.queue alone begun)
+          (deadline-walk Heeded R k c.local (Some (later_by bind_time now)) t)))))
 
   bound-walk : IgnoresAll R → (c : DataConnection) (s : State) → R s (bound c s)
   bound-walk streams c s =

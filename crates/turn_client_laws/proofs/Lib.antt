@@ -9,6 +9,7 @@ pub mod ChallengeJudgement
 pub mod ChannelPeers
 pub mod ChannelRange
 pub mod ConfiguredLemmas
+pub mod ConnectionPeers
 pub mod CountLemmas
 pub mod DistinctGrants
 pub mod DistinctNumbers

@@ -29,6 +29,7 @@ use Rattle.turn_client_laws.proofs.EditsOfCalls.{leaves-walk}
 -- what is requested, the request is for
 pub asked-for : (p : Purpose) (g : Grant) → is_asked_by p g ≡ true → is_for p g ≡ true
 asked-for (ForChannel number peer) (Channel other to progress) e = (and_parts (eqb other number) (same_address to peer) e).0
+asked-for (ForBind local peer id) (Connection c) e = (and_parts (same_address c.local local) (same_address c.peer peer) e).0
 asked-for p g e = e
 
 -- the request is an ALLOCATE, or is for one of these

@@ -11,9 +11,9 @@ use Rattle.turn_client_api.specs.State.{State, initial}
 use Rattle.turn_client_api.specs.declared.state.Phase.{Phase}
 use Rattle.turn_client_api.specs.declared.state.Phase.TheVariants.{Authenticating, Allocated}
 use Rattle.turn_client_api.specs.declared.grant.Grant.{Grant}
-use Rattle.turn_client_api.specs.declared.grant.Grant.TheVariants.{Channel}
+use Rattle.turn_client_api.specs.declared.grant.Grant.TheVariants.{Channel, Connection}
 use Rattle.turn_client_api.specs.declared.grant.Purpose.{Purpose}
-use Rattle.turn_client_api.specs.declared.grant.Purpose.TheVariants.{ForAllocation, ForChannel}
+use Rattle.turn_client_api.specs.declared.grant.Purpose.TheVariants.{ForAllocation, ForBind, ForChannel}
 use Rattle.turn_client_api.specs.declared.grant.Listing.{Listing}
 use Rattle.turn_client_api.specs.Grants.{is_for}
 use Rattle.turn_client_api.specs.Connections.{is_indicated, max_indicated}
@@ -53,9 +53,11 @@ IsToServer s t = t.to ≡ s.remote
 abbrev pub AsksServer : State → Type 0
 AsksServer s = All (IsToServer s) s.transactions
 
--- the request is for this grant, a channel with its number and its peer
+-- the request is for this grant, a channel with its number and its peer, or a data connection with its local
+-- address and its peer
 abbrev pub is_asked_by : Purpose → Grant → Bool
 is_asked_by (ForChannel number peer) (Channel other to progress) = (other == number) && same_address to peer
+is_asked_by (ForBind local peer id) (Connection c) = same_address c.local local && same_address c.peer peer
 is_asked_by purpose grant = is_for purpose grant
 
 -- the request is an ALLOCATE, or a grant exists that it is for

@@ -24,7 +24,8 @@ pub fn requests_go_to_the_server()
 {}
 
 /// Each purpose that a request is listed for, except an ALLOCATE, has its grant, a channel with the
-/// requested number and peer: with the grant the listing is removed too. This holds for a new client and
+/// requested number and peer, and a data connection with its local address and the peer for which the
+/// caller opened it: with the grant the listing is removed too. This holds for a new client and
 /// after every call, even if memory allocation fails.
 pub fn listings_have_grants()
     ensures initial { HoldsAtFirst HasGrantsAsked }

@@ -1,6 +1,5 @@
 -- What is bound after a run was bound by an input of it.
 use Rattle.std.proofs.Common.{◌≡◌, ◌⊎◌, ◌∙◌, ℕ, true, List, [], ◌∷◌, ◌++◌, Option, Some, None, inl, inr, refl, sym, subst, ap}
-use Rattle.std.specs.Prelude.{⊤}
 use Rattle.std.specs.List.{Contains}
 use Rattle.std.specs.declared.net.socket_addr.SocketAddr.{SocketAddr}
 use Rattle.turn_stun.specs.declared.transport.TransportType.{TransportType}
@@ -23,6 +22,17 @@ use Rattle.turn_client_api.specs.declared.state.Mode.TheVariants.{Control, Waiti
 use Rattle.turn_client_api.specs.declared.state.Phase.{Phase}
 use Rattle.turn_client_api.specs.declared.state.Phase.TheVariants.{Allocated}
 use Rattle.turn_client_api.specs.declared.state.Stream.{Stream}
+use Rattle.turn_client_laws.specs.LawsDoubles.{HasNoDoubles}
+use Rattle.turn_client_laws.specs.LawsOrder.{FitsPhase}
+use Rattle.turn_client_laws.specs.LawsStates.{HasGrantsAsked}
+use Rattle.turn_client_laws.proofs.BoundLemmas.{found-local}
+use Rattle.turn_client_laws.proofs.DistinctGrants.{initial-single, leaves-single}
+use Rattle.turn_client_laws.proofs.EditsOfMessages.{connection-there}
+use Rattle.turn_client_laws.proofs.ListedGrants.{initial-HasGrantsAsked, leaves-HasGrantsAsked}
+use Rattle.turn_client_laws.proofs.SendOrderLemmas.{initial-steady, leaves-steadies}
+use Rattle.turn_client_runs.proofs.AskedPeers.{turns-ask-connections}
+use Rattle.turn_client_runs.proofs.QuietLemmas.{calls-keep}
+use Rattle.std.proofs.lemmas.List.Elements.{Contains-append_left}
 use Rattle.turn_client_laws.proofs.AcceptedReplyLemmas.{bind-ended}
 use Rattle.turn_client_laws.proofs.BoundStreamLemmas as Streams
 use Rattle.turn_client_laws.proofs.GrantOriginCallLemmas.{Binds, bind-leaves}
@@ -30,7 +40,7 @@ use Rattle.turn_client_laws.proofs.GrantedLemmas as Grants
 use Rattle.turn_client_laws.proofs.StandLemmas as Stand
 use Rattle.turn_client_laws.proofs.StandLemmas.{Covers, contains-has, covers-has, covers-left, covers-stood}
 use Rattle.turn_client_laws.proofs.TurnBringLemmas.{IsBrought, leaves-bring}
-use Rattle.turn_client_runs.specs.Bound.{BoundConnectionsHaveSuccess, BoundStreamsHaveSuccess, HasConnectionSuccess, HasSuccess, HasTransactionEnded, IsBoundSince, StreamsAreBoundBefore}
+use Rattle.turn_client_runs.specs.Bound.{BindsToPeer, BoundConnectionsHaveSuccess, BoundStreamsHaveSuccess, HasConnectionSuccess, HasSuccess, HasTransactionEnded, IsBoundSince, StreamsAreBoundBefore}
 use Rattle.turn_client_runs.specs.Inputs.{IsAmong, handled_in}
 use Rattle.turn_client_runs.proofs.GrantTurns.{kept-alike}
 use Rattle.turn_client_runs.proofs.MadeLemmas.{waiting-made}
@@ -116,6 +126,25 @@ module _ (P : State → Type 0) (Did : Input → Type 0) (k : IsBrought P Did) (
           ]
         ]
 
+-- ---- the requests that bind are for connections that exist
+
+abbrev Founded : State → Type 0
+Founded s = HasGrantsAsked s × FitsPhase s × HasNoDoubles s
+
+call-founded : (call : Call) (s : State) → Founded s → Founded (state_after call s)
+call-founded call s (asked, steady, single) = (
+  leaves-HasGrantsAsked call s (state_after call s) (inl refl) asked,
+  leaves-steadies call s (state_after call s) (inl refl) steady,
+  leaves-single call s (state_after call s) (inl refl) steady single,
+)
+
+initial-founded : (transport : TransportType) (own remote : SocketAddr) (config : Config) (seed : List ℕ) → Founded (initial transport own remote config seed)
+initial-founded transport own remote config seed = (
+  initial-HasGrantsAsked transport own remote config seed,
+  initial-steady transport own remote config seed,
+  initial-single transport own remote config seed,
+)
+
 -- ---- streams
 
 module _ (local peer : SocketAddr) where
@@ -137,21 +166,40 @@ module _ (local peer : SocketAddr) where
       call-ends IsBoundTo BindsIt (Streams.bringing local peer) waits spares
       (λ call s h. Streams.leaves-bound local peer call s (state_after call s) (inl refl) h)
 
-  streams-since : (s : State) (calls : List Call) → (IsBoundTo s → ⊥) → IsBoundTo (state_after_all s calls) → IsBoundSince local peer calls s
-  streams-since s calls none h =
-      let is = run-did IsBoundTo (λ call u. IsDoneBy (λ one. BindsIt one × HasTransactionEnded one) call u) (λ u. ⊤) (λ call u inv. tt) (λ call u inv. stream-ends call u) calls s tt none h in
+  -- its request was made for the peer
+  binds-to-peer : (call : Call) (s : State) → Founded s → (one : Input) → Contains (handled call s) one → BindsIt one × HasTransactionEnded one → BindsToPeer local peer one
+  binds-to-peer call s (asked, steady, single) one among (bind, ended) =
+      let there = connection-there local bind.connection one.before bind.found in
+      let at = found-local local bind.connection _ bind.found in
+      let for = turns-ask-connections call s asked steady single one among local bind.asked bind.number bind.connection bind.listed there at in
+      (bind, sym for ∙ bind.to, ended)
+
+  streams-bound : (call : Call) (s : State) → Founded s → IsBoundTo (state_after call s) → IsBoundTo s ⊎ HasSuccess local peer (handled call s)
+  streams-bound call s founded h = elim (stream-ends call s h) [
+    | inl was ↦ inl was
+    | inr (one, among, did) ↦ inr (one, among, binds-to-peer call s founded one among did)
+  ]
+
+  streams-since : (s : State) (calls : List Call) → Founded s → (IsBoundTo s → ⊥) → IsBoundTo (state_after_all s calls) → IsBoundSince local peer calls s
+  streams-since s calls founded none h =
+      let is = run-did IsBoundTo (λ call u. HasSuccess local peer (handled call u)) Founded call-founded streams-bound calls s founded none h in
       record { earlier = is.earlier; call = is.call; later = is.later; split = is.split; success = is.did; since = is.holds }
 
-  streams-before : (s : State) (calls : List Call) (earlier : List Call) (call : Call) (later : List Call) (front back : List Input) (one : Input) → (IsBoundTo s → ⊥)
+  streams-before : (s : State) (calls : List Call) (earlier : List Call) (call : Call) (later : List Call) (front back : List Input) (one : Input) → Founded s → (IsBoundTo s → ⊥)
       → calls ≡ earlier ++ call ∷ later → handled call (state_after_all s earlier) ≡ front ++ one ∷ back → IsBoundTo one.before
       → IsBoundSince local peer earlier s ⊎ HasSuccess local peer front
-  streams-before s calls earlier call later front back one none split e h =
+  streams-before s calls earlier call later front back one founded none split e h =
       by (in_call IsBoundTo (λ one. BindsIt one × HasTransactionEnded one) (bringing-ends IsBoundTo BindsIt (Streams.bringing local peer) waits spares) stream-ends call
       (state_after_all s earlier) front back one e h)
     where
-      by : IsBoundTo (state_after_all s earlier) ⊎ HasSuccess local peer front → IsBoundSince local peer earlier s ⊎ HasSuccess local peer front
-      by (inl there) = inl (streams-since s earlier none there)
-      by (inr did) = inr did
+      now : State
+      now = state_after_all s earlier
+
+      by : IsBoundTo now ⊎ IsAmong (λ x. BindsIt x × HasTransactionEnded x) front → IsBoundSince local peer earlier s ⊎ HasSuccess local peer front
+      by (inl there) = inl (streams-since s earlier founded none there)
+      by (inr (x, among, did)) =
+          let inside = subst (λ (inputs : List Input). Contains inputs x) (sym e) (Contains-append_left front (one ∷ back) x among) in
+          inr (x, among, binds-to-peer call now (calls-keep Founded call-founded earlier s founded) x inside did)
 
   -- no stream of a new client is bound
   initial-unbound : (transport : TransportType) (own remote : SocketAddr) (config : Config) (seed : List ℕ) → IsBoundTo (initial transport own remote config seed) → ⊥
@@ -164,12 +212,13 @@ module _ (local peer : SocketAddr) where
 pub streams-have-success : (transport : TransportType) (own remote : SocketAddr) (config : Config) (seed : List ℕ) (calls : List Call)
     → BoundStreamsHaveSuccess (initial transport own remote config seed) calls
 streams-have-success transport own remote config seed calls local peer h =
-    streams-since local peer (initial transport own remote config seed) calls (initial-unbound local peer transport own remote config seed) h
+    streams-since local peer (initial transport own remote config seed) calls (initial-founded transport own remote config seed) (initial-unbound local peer transport own remote config seed) h
 
 pub streams-are-bound-before : (transport : TransportType) (own remote : SocketAddr) (config : Config) (seed : List ℕ) (calls : List Call)
     → StreamsAreBoundBefore (initial transport own remote config seed) calls
 streams-are-bound-before transport own remote config seed calls earlier call later front back one local peer split e h =
-    streams-before local peer (initial transport own remote config seed) calls earlier call later front back one (initial-unbound local peer transport own remote config seed) split e h
+    streams-before local peer (initial transport own remote config seed) calls earlier call later front back one (initial-founded transport own remote config seed)
+    (initial-unbound local peer transport own remote config seed) split e h
 
 -- ---- data connections
 

@@ -39,6 +39,7 @@ use Rattle.turn_client_laws.proofs.AcceptedReplyLemmas.{accepted-gone}
 use Rattle.turn_client_laws.proofs.BoundLemmas.{binds-turn, found-local}
 use Rattle.turn_client_laws.proofs.CaseLemmas.{bind-by, by_found, by_heeded, by_test, indicated-by, requested-by}
 use Rattle.turn_client_laws.proofs.ChallengeJudgement.{AnswersAllocate, IsSignedReply, Says, judgement-says}
+use Rattle.turn_client_laws.proofs.EditsOfMessages.{connection-there}
 use Rattle.turn_client_laws.proofs.GrantOriginCallLemmas.{Binds}
 use Rattle.turn_client_laws.proofs.GrantOriginLemmas.{has-mapped}
 use Rattle.turn_client_laws.proofs.GrantOriginMessageLemmas.{SignedSuccess-is, asked_for}
@@ -46,7 +47,7 @@ use Rattle.turn_client_laws.proofs.HasLemmas.{Has, has-append}
 use Rattle.turn_client_laws.proofs.InAllocationLemmas.{any-has}
 use Rattle.turn_client_laws.proofs.StandLemmas.{has-contains}
 use Rattle.turn_client_laws.proofs.TurnBringLemmas.{IsBrought}
-use Rattle.turn_client_runs.specs.Events.{FailsIn, IsNoRefresh, IsRefusedIn, IsWaitingAt, LacksFamily, IsStillAsked, Reports, relayed_over}
+use Rattle.turn_client_runs.specs.Events.{FailsIn, IsNoRefresh, IsRefusedIn, LacksFamily, IsStillAsked, Reports, relayed_over}
 use Rattle.turn_client_runs.specs.Granted.{IsOverIts}
 use Rattle.turn_client_runs.proofs.EventReplies.{Lacks, RefusesFor, Replied, StillAsks, signed-says}
 use Rattle.turn_client_runs.proofs.GrantTurns.{IsAccepting, IsGivenAt, accepting, bind-accepting}
@@ -63,7 +64,6 @@ pub record Creating (e : TurnEvent) (one : Input) : Type 0 where
   pub over : IsOverIts g one
   pub given : IsGivenAt one purpose g
   pub new : IsNoRefresh purpose
-  pub waits : IsWaitingAt g one
 
 -- what it refused: a channel to the peer that it has
 abbrev pub IsRefusedAt : Input → Purpose → TurnEvent → Type 0
@@ -120,7 +120,7 @@ module _ (one : Input) (over : IsOverControl one) (whole : is_message one.bytes 
 
       by : (h : Grant) → Reports e (relayed_over one) h → IsGivenFor p message one.time s h → IsAccepting p one → Creating e one
       by (Connection c) reports given accepts = absurd (no-connection p message one.time s c given)
-      by h reports given accepts = record { g = h; reports = reports; purpose = p; accepting = accepts; over = over; given = given; new = new; waits = tt }
+      by h reports given accepts = record { g = h; reports = reports; purpose = p; accepting = accepts; over = over; given = given; new = new }
 
   refused-at : (g : Bool) → (g ≡ false → class_in message ≡ Error) → (p : Purpose) (e : TurnEvent) → RefusesFor g message one.time s p e → IsRefusedAt one p e
   refused-at g error ForAllocation (AllocationCreateFailed family) (still, lacks) = (asked still, lacking lacks)
@@ -277,9 +277,8 @@ module _ (one : Input) (stream : Stream) (of : one.stream ≡ Some stream) (wait
     purpose = ForBind stream.local turn.asked turn.number;
     accepting = bind-accepting one stream of waits whole b phase turn;
     over = rw of (waits, sym here);
-    given = (here, refl);
+    given = (here, (b.c, connection-there stream.local b.c one.before b.found, here, refl), refl);
     new = tt;
-    waits = (b.c, subst (λ (local : SocketAddr). connection_at local one.before ≡ Some b.c) (sym here) b.found, refl);
   })
     where
       here : b.c.local ≡ stream.local

@@ -19,6 +19,9 @@ use Rattle.turn_client_api.specs.declared.state.Phase.TheVariants.{Requesting, A
 use Rattle.turn_client_api.specs.declared.state.Mode.TheVariants.{Waiting}
 use Rattle.turn_client_api.specs.declared.state.Stream.{Stream}
 use Rattle.turn_client_api.specs.Grants.{purposes_of}
+use Rattle.std.proofs.lemmas.Bool.{cases_Bool}
+use Rattle.std.specs.declared.net.socket_addr.SocketAddr.{SocketAddr}
+use Rattle.turn_agent.specs.Agent.{same_address}
 use Rattle.turn_client_api.specs.Connections.{bind_answered, bind_step, deadline_set}
 use Rattle.turn_client_laws.specs.Handled.{Input, processed}
 use Rattle.turn_client_api.specs.Judgement.{Fatal, SignedSuccess, Unrelated, answers_one, bind_judgement, challenge_in, challenged_or, class_in, judgement_of, requesting_judgement}
@@ -33,11 +36,11 @@ use Rattle.turn_client_laws.proofs.BoundLemmas.{binds-turn, found-local}
 use Rattle.turn_client_laws.proofs.GrantOriginCallLemmas.{Binds, BindsOrLeaves, bind-leaves, gone-leaves}
 use Rattle.turn_client_laws.proofs.GrantOriginLemmas.{has-mapped}
 use Rattle.turn_client_laws.proofs.GrantOriginMessageLemmas.{message-grants}
-use Rattle.turn_client_laws.proofs.GrantedLemmas.{deadline-has}
+use Rattle.turn_client_laws.proofs.AddressLemmas.{same_address-true}
 use Rattle.turn_client_laws.proofs.HasLemmas.{Has}
 use Rattle.turn_client_laws.proofs.StandLemmas.{Covers, covers-left}
 use Rattle.turn_client_laws.proofs.TurnBringLemmas.{IsBrought}
-use Rattle.turn_client_runs.specs.Granted.{IsGivenIn, IsOverIts}
+use Rattle.turn_client_runs.specs.Granted.{IsOverIts}
 use Rattle.turn_client_runs.proofs.MadeLemmas.{control-made, success-ends, waiting-made}
 
 -- ---- what is kept is the same, except that an allocation keeps only its address and its expiry
@@ -66,9 +69,17 @@ given-kept p was g message now s kept given = elim (kept-alike was g kept) [
 
 -- ---- what an input grants
 
+-- a connection from this local address to this peer existed before the input
+abbrev pub IsConnectionTo : SocketAddr → SocketAddr → Input → Type 0
+IsConnectionTo local peer one = (was : DataConnection) × Has (Connection was) one.before.grants × (was.local ≡ local) × (was.peer ≡ peer)
+
+abbrev pub IsBoundFor : Input → Purpose → DataConnection → Type 0
+IsBoundFor one (ForBind local peer id) c = (c.local ≡ local) × IsConnectionTo local c.peer one × (c.deadline ≡ None)
+IsBoundFor one p c = ⊥
+
 -- what the input grants: a connection that it binds, and all else as the machine says
 abbrev pub IsGivenAt : Input → Purpose → Grant → Type 0
-IsGivenAt one p (Connection c) = IsGivenIn one p (Connection c)
+IsGivenAt one p (Connection c) = IsBoundFor one p c
 IsGivenAt one p g = IsGivenFor p one.bytes one.time one.before g
 
 -- The input is a success, and answers a request for the purpose.
@@ -131,6 +142,32 @@ module _ (one : Input) (over : IsOverControl one) (whole : is_message one.bytes 
 
 -- ---- over a connection that waits to be bound
 
+-- the second grant is a connection from this local address, bound, as which the first one existed
+pub record IsBoundAs (local : SocketAddr) (was g : Grant) : Type 0 where
+  pub c : DataConnection
+  pub is : g ≡ Connection c
+  pub at : c.local ≡ local
+  pub old : DataConnection
+  pub named : was ≡ Connection old
+  pub same : old.local ≡ c.local
+  pub to : old.peer ≡ c.peer
+
+-- a grant that the map leaves existed before, or is such a connection
+deadline-was : (local : SocketAddr) (g x : Grant) → g ≡ deadline_set local None x → (g ≡ x) ⊎ IsBoundAs local x g
+deadline-was local g (Connection c) e = elim (cases_Bool (same_address c.local local)) [
+  | inl f ↦ inr (record {
+    c = record c { deadline = None };
+    is = e ∙ rw f refl;
+    at = same_address-true c.local local f;
+    old = c;
+    named = refl;
+    same = refl;
+    to = refl;
+  })
+  | inr f ↦ inl (e ∙ rw f refl)
+]
+deadline-was local g x e = inl e
+
 module _ (one : Input) (stream : Stream) (of : one.stream ≡ Some stream) (waits : stream.mode ≡ Waiting) (whole : is_message one.bytes ≡ true) where
   -- the request is no longer outstanding
   bind-ends : (b : Binds stream.local one.bytes one.before (bind_step stream.local one.bytes one.time one.before)) → one.before.phase ≡ Allocated → IsNotAwaited one.bytes (processed one).1
@@ -153,25 +190,28 @@ module _ (one : Input) (stream : Stream) (of : one.stream ≡ Some stream) (wait
 
   -- the connection is the one from the local address over which the message was received
   bound-granting : (b : Binds stream.local one.bytes one.before (bind_step stream.local one.bytes one.time one.before)) → one.before.phase ≡ Allocated → (g : Grant) (c : DataConnection)
-      → c.local ≡ b.c.local → IsSameGrant (Connection c) g → Granting g one
-  bound-granting b phase (Connection d) c at (same, none) =
+      → c.local ≡ b.c.local → IsConnectionTo c.local c.peer one → IsSameGrant (Connection c) g → Granting g one
+  bound-granting b phase (Connection d) c at (was, before, ends, to) (same, none) =
       let here : c.local ≡ stream.local = at ∙ found-local stream.local b.c _ b.found in
+      let alike : c.peer ≡ d.peer = ap (λ (x : DataConnection). x.peer) same in
       let turn = binds-turn one stream (bind_step stream.local one.bytes one.time one.before) of waits whole b in
       record {
         over = rw of (waits, sym here ∙ ap (λ (x : DataConnection). x.local) same);
         purpose = ForBind stream.local turn.asked turn.number;
         accepting = bind-accepting b phase turn;
-        given = (sym (ap (λ (x : DataConnection). x.local) same) ∙ here, sym (ap (λ (x : DataConnection). x.deadline) same) ∙ none);
+        given = (sym (ap (λ (x : DataConnection). x.local) same) ∙ here, (was, before, ends ∙ here, to ∙ alike), sym (ap (λ (x : DataConnection). x.deadline) same) ∙ none);
       }
-  bound-granting b phase g c at k = absurd k
+  bound-granting b phase g c at there k = absurd k
 
   bind-covers : (g : Grant) → one.before.phase ≡ Allocated → Binds stream.local one.bytes one.before (bind_step stream.local one.bytes one.time one.before)
       → Covers (bind_step stream.local one.bytes one.time one.before).grants g → Covers one.before.grants g ⊎ Granting g one
   bind-covers g phase b (is, there, kept) =
       let (x, before, e) = has-mapped (deadline_set b.c.local None) is one.before.grants (subst (Has is) b.grants there) in
-      elim (deadline-has b.c.local is x e) [
+      elim (deadline-was b.c.local is x e) [
         | inl same ↦ inl (is, rw same before, kept)
-        | inr (c, connection, ends) ↦ inr (bound-granting b phase g c ends (rw connection at kept))
+        | inr bound ↦
+            let old = subst (λ (y : Grant). Has y one.before.grants) bound.named before in
+            inr (bound-granting b phase g bound.c bound.at (bound.old, old, bound.same, bound.to) (rw bound.is at kept))
       ]
 
   binds-grants : (g : Grant) → Covers (bind_step stream.local one.bytes one.time one.before).grants g → Covers one.before.grants g ⊎ Granting g one

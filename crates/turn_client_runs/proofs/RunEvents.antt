@@ -26,14 +26,12 @@ use Rattle.turn_client_laws.proofs.HasLemmas.{Has, first-has}
 use Rattle.turn_client_laws.proofs.StandLemmas.{contains-has, has-contains}
 use Rattle.turn_client_laws.proofs.TurnBringLemmas.{leaves-bring}
 use Rattle.turn_client_runs.specs.Events.{Creates, EventsHaveCauses, FailsBy, FailsItself, HasEventCause, IsRefusedIn, Refuses, Reports, Waits, relayed_over}
-use Rattle.turn_client_runs.specs.Granted.{IsGivenIn}
-use Rattle.turn_client_runs.proofs.AskedFamilies.{turns-signed}
-use Rattle.turn_client_runs.proofs.AskedPeers.{HasAskedPeers, turns-ask-peers}
+use Rattle.turn_client_runs.proofs.AskedPeers.{HasAskedConnections, HasAskedPeers}
 use Rattle.turn_client_runs.proofs.EventCalls.{call-adds}
 use Rattle.turn_client_runs.proofs.EventInputs.{Causing, Creating, IsRefusedAt, Refusing, event-brought}
 use Rattle.turn_client_runs.proofs.GrantTurns.{Granting, IsGivenAt}
 use Rattle.turn_client_runs.proofs.ReceivedRuns.{HoldNothing}
-use Rattle.turn_client_runs.proofs.RunGrants.{AnswersFor, IsDoneFor, Keeps, answered-in, call-keeps, first-hold, first-keeps, granting, granting-answers}
+use Rattle.turn_client_runs.proofs.RunGrants.{AnswersFor, IsDoneFor, Keeps, answered-in, call-keeps, first-hold, first-keeps, granting, granting-answers, keeps-peers, keeps-signed}
 use Rattle.turn_client_runs.proofs.RunLemmas.{IsDoneLast, run-did}
 use Rattle.turn_client_runs.proofs.SignedLemmas.{Signs}
 
@@ -44,8 +42,8 @@ reported (PermissionCreated over ip) transport one (Permission other (Active exp
 reported (ChannelCreated over peer) transport one (Channel number to (Active expiry)) p reports given = tt
 reported (TcpConnected peer) transport one (Connection c) p reports given = bound p given
   where
-    bound : (q : Purpose) → IsGivenIn one q (Connection c) → c.deadline ≡ None
-    bound (ForBind local asked id) given = given.1
+    bound : (q : Purpose) → IsGivenAt one q (Connection c) → c.deadline ≡ None
+    bound (ForBind local asked id) given = given.2
     bound q given = absurd given
 reported x transport one g p reports given = absurd reports
 
@@ -57,10 +55,10 @@ no-return one p x refused back = back
 module _ (e : TurnEvent) where
   -- ---- one input
 
-  creates : (one : Input) → HasAskedPeers one → AllocatesInOrder one.before × Signs one.before → (is : Creating e one) → Creates e is.purpose one
+  creates : (one : Input) → HasAskedPeers one × HasAskedConnections one → AllocatesInOrder one.before × Signs one.before → (is : Creating e one) → Creates e is.purpose one
   creates one asked order is =
       let grant : Granting is.g one = record { over = is.over; purpose = is.purpose; accepting = is.accepting; given = is.given } in
-      (is.g, is.reports, granting one is.g (reported e (relayed_over one) one is.g is.purpose is.reports is.given) asked order grant, is.new, is.waits)
+      (is.g, is.reports, granting one is.g (reported e (relayed_over one) one is.g is.purpose is.reports is.given) asked order grant, is.new)
 
   refused-in : (one : Input) → HasAskedPeers one → (p : Purpose) (x : TurnEvent) → Contains (purposes_of (id_of one.bytes) one.before) p → IsRefusedAt one p x → IsRefusedIn one p x
   refused-in one asked (ForChannel number peer) (ChannelCreateFailed transport to) listed (error, same, has) = (error, same, asked number peer to listed has)
@@ -85,14 +83,14 @@ module _ (e : TurnEvent) where
   Causes call s = IsDoneFor (Creates e) call s ⊎ IsDoneFor (Refuses e) call s ⊎ FailsBy e call s
 
   input-causes : (call : Call) (s : State) → Keeps s → IsDoneBy (Causing e) call s → Causes call s
-  input-causes call s (asked, distinct, order, steady, signs) (one, among, why) = by why
+  input-causes call s keeps (one, among, why) = by why
     where
-      peers : HasAskedPeers one
-      peers = turns-ask-peers call s asked distinct one among
+      peers : HasAskedPeers one × HasAskedConnections one
+      peers = keeps-peers call s keeps one among
 
       by : Causing e one → Causes call s
-      by (inl is) = inl (one, among, (is.purpose, creates one peers (turns-signed call s (order, signs) one among) is))
-      by (inr (inl is)) = inr (inl (one, among, (is.purpose, refuses one peers is)))
+      by (inl is) = inl (one, among, (is.purpose, creates one peers (keeps-signed call s keeps one among) is))
+      by (inr (inl is)) = inr (inl (one, among, (is.purpose, refuses one peers.0 is)))
       by (inr (inr fails)) = inr (inr (inr (one, among, fails)))
 
   call-causes : (call : Call) (s : State) → Keeps s → Waits e (state_after call s) → Waits e s ⊎ Causes call s
@@ -107,7 +105,7 @@ module _ (e : TurnEvent) where
   -- ---- a run
 
   creates-answers : AnswersFor (Creates e)
-  creates-answers p one (g, reports, granting, new, waits) = granting-answers g p one granting
+  creates-answers p one (g, reports, granting, new) = granting-answers g p one granting
 
   refuses-answers : AnswersFor (Refuses e)
   refuses-answers p one is = (is.listed, no-return one p e is.refused)

@@ -14,7 +14,7 @@ use Rattle.turn_client_api.specs.declared.grant.Grant.TheVariants.{Allocation, P
 use Rattle.turn_client_api.specs.declared.grant.Relay.{Relay}
 use Rattle.turn_client_api.specs.declared.grant.Progress.TheVariants.{Pending, Active, Reserved}
 use Rattle.turn_client_api.specs.declared.grant.Purpose.{Purpose}
-use Rattle.turn_client_api.specs.declared.grant.Purpose.TheVariants.{ForAllocation, ForRefresh, ForPermission, ForChannel}
+use Rattle.turn_client_api.specs.declared.grant.Purpose.TheVariants.{ForAllocation, ForBind, ForRefresh, ForPermission, ForChannel}
 use Rattle.turn_client_api.specs.Calls.{delete_step}
 use Rattle.turn_client_api.specs.Grants.{purposes_of}
 use Rattle.turn_client_laws.specs.Handled.{Input, handled}
@@ -27,6 +27,8 @@ use Rattle.turn_client_laws.specs.LawsOrder.{FitsPhase}
 use Rattle.turn_client_laws.specs.LawsStates.{HasGrantsAsked}
 use Rattle.turn_client_api.specs.Steps.{state_after, state_after_all}
 use Rattle.turn_client_laws.proofs.AllocateFamilies.{initial-AllocatesInOrder, leaves-AllocatesInOrder}
+use Rattle.turn_client_laws.specs.LawsDoubles.{HasNoDoubles}
+use Rattle.turn_client_laws.proofs.DistinctGrants.{initial-single, leaves-single}
 use Rattle.turn_client_laws.proofs.DistinctNumbers.{initial-numbers, leaves-apart}
 use Rattle.turn_client_laws.proofs.HasLemmas.{Has}
 use Rattle.turn_client_laws.proofs.ListedGrants.{initial-HasGrantsAsked, leaves-HasGrantsAsked}
@@ -36,10 +38,10 @@ use Rattle.turn_client_runs.specs.Granted.{GrantsAddress, HasReply, IsAllocated,
 use Rattle.turn_client_runs.proofs.AddressTurns.{call-allocated}
 use Rattle.turn_client_runs.proofs.AskedFamilies.{asks-family, turns-signed}
 use Rattle.turn_client_runs.proofs.AskedLemmas.{was-asked}
-use Rattle.turn_client_runs.proofs.AskedPeers.{HasAskedPeers, turns-ask-peers}
+use Rattle.turn_client_runs.proofs.AskedPeers.{HasAskedConnections, HasAskedPeers, turns-ask-connections, turns-ask-peers}
 use Rattle.turn_client_runs.proofs.CallGrants.{IsEndedBy, call-causes, delete-accepted, same-allocation}
 use Rattle.turn_client_runs.proofs.ComingLemmas.{turns-come}
-use Rattle.turn_client_runs.proofs.GrantTurns.{Granting, IsGivenAt}
+use Rattle.turn_client_runs.proofs.GrantTurns.{Granting, IsConnectionTo, IsGivenAt}
 use Rattle.turn_client_runs.proofs.ReceivedRuns.{HoldNothing, turns-received}
 use Rattle.turn_client_runs.proofs.RunLemmas.{IsDoneLast, run-did}
 use Rattle.turn_client_runs.proofs.SignedCalls.{call-signs}
@@ -52,21 +54,26 @@ module _ (one : Input) where
   abbrev Asked : Purpose → Type 0
   Asked p = (number : ℕ) (peer to : SocketAddr) → p ≡ ForChannel number peer → HasChannelTo number to one.before → to ≡ peer
 
-  given-in : (g : Grant) (p : Purpose) → IsActiveGrant g → Asked p → IsGivenAt one p g → IsGivenIn one p g
-  given-in (Allocation a) ForAllocation stands peers h = h
-  given-in (Allocation a) (ForRefresh family lifetime) stands peers h = h
-  given-in (Permission other (Active expiry)) (ForPermission ip) stands peers h = h
-  given-in (Channel other to (Active expiry)) (ForChannel number peer) stands peers h = (h.0, peers number peer to refl (subst (λ (n : ℕ). HasChannelTo n to one.before) h.0 h.2), h.1)
-  given-in (Connection c) p stands peers h = h
-  given-in (Permission other Pending) p stands peers h = absurd stands
-  given-in (Permission other (Reserved until)) p stands peers h = absurd stands
-  given-in (Channel other to Pending) p stands peers h = absurd stands
-  given-in (Channel other to (Reserved until)) p stands peers h = absurd stands
-  given-in (Connect to) p stands peers h = absurd stands
-  given-in (Offer offer) p stands peers h = absurd stands
-  given-in g p stands peers h = absurd h
+  -- so has a data connection
+  abbrev Joined : Purpose → Type 0
+  Joined p = (local peer to : SocketAddr) (id : ℕ) → p ≡ ForBind local peer id → IsConnectionTo local to one → to ≡ peer
 
-  pub granting : (g : Grant) → IsActiveGrant g → HasAskedPeers one → AllocatesInOrder one.before × Signs one.before → (is : Granting g one) → IsGranting g is.purpose one
+  given-in : (g : Grant) (p : Purpose) → IsActiveGrant g → Asked p → Joined p → IsGivenAt one p g → IsGivenIn one p g
+  given-in (Allocation a) ForAllocation stands peers joins h = h
+  given-in (Allocation a) (ForRefresh family lifetime) stands peers joins h = h
+  given-in (Permission other (Active expiry)) (ForPermission ip) stands peers joins h = h
+  given-in (Channel other to (Active expiry)) (ForChannel number peer) stands peers joins h = (h.0, peers number peer to refl (subst (λ (n : ℕ). HasChannelTo n to one.before) h.0 h.2), h.1)
+  given-in (Connection c) (ForBind local peer id) stands peers joins h = (h.0, joins local peer c.peer id refl h.1, h.2)
+  given-in (Connection c) p stands peers joins h = absurd h
+  given-in (Permission other Pending) p stands peers joins h = absurd stands
+  given-in (Permission other (Reserved until)) p stands peers joins h = absurd stands
+  given-in (Channel other to Pending) p stands peers joins h = absurd stands
+  given-in (Channel other to (Reserved until)) p stands peers joins h = absurd stands
+  given-in (Connect to) p stands peers joins h = absurd stands
+  given-in (Offer offer) p stands peers joins h = absurd stands
+  given-in g p stands peers joins h = absurd h
+
+  pub granting : (g : Grant) → IsActiveGrant g → HasAskedPeers one × HasAskedConnections one → AllocatesInOrder one.before × Signs one.before → (is : Granting g one) → IsGranting g is.purpose one
   granting g stands asked order is = record {
     over = is.over;
     whole = is.accepting.whole;
@@ -76,34 +83,49 @@ module _ (one : Input) where
     outstanding = is.accepting.outstanding;
     ended = is.accepting.ended;
     asks = asks-family one order is.accepting.heard is.accepting.outstanding is.purpose is.accepting.listed;
-    given = given-in g is.purpose stands peers is.given;
+    given = given-in g is.purpose stands peers joins is.given;
   }
     where
       peers : Asked is.purpose
-      peers number peer to e = asked number peer to (subst (λ (p : Purpose). Contains (purposes_of (id_of one.bytes) one.before) p) e is.accepting.listed)
+      peers number peer to e = asked.0 number peer to (subst (λ (p : Purpose). Contains (purposes_of (id_of one.bytes) one.before) p) e is.accepting.listed)
+
+      joins : Joined is.purpose
+      joins local peer to id e (was, there, at, same) =
+          sym same ∙ asked.1 local peer id was (subst (λ (p : Purpose). Contains (purposes_of (id_of one.bytes) one.before) p) e is.accepting.listed) there at
 
 -- ---- one call
 
 -- what every client keeps about channels, and about what an ALLOCATE requests and how
 abbrev pub Keeps : State → Type 0
-Keeps s = HasGrantsAsked s × HasDistinctNumbers s × AllocatesInOrder s × FitsPhase s × Signs s
+Keeps s = HasGrantsAsked s × HasDistinctNumbers s × HasNoDoubles s × AllocatesInOrder s × FitsPhase s × Signs s
 
 pub call-keeps : (call : Call) (s : State) → Keeps s → Keeps (state_after call s)
-call-keeps call s (asked, distinct, order, steady, signs) = (
+call-keeps call s (asked, distinct, single, order, steady, signs) = (
   leaves-HasGrantsAsked call s (state_after call s) (inl refl) asked,
   leaves-apart call s (state_after call s) (inl refl) distinct,
+  leaves-single call s (state_after call s) (inl refl) steady single,
   leaves-AllocatesInOrder call s (state_after call s) (inl refl) order,
   leaves-steadies call s (state_after call s) (inl refl) steady,
   call-signs call s order steady signs,
 )
+
+-- the requests have their peers when an input is processed
+pub keeps-peers : (call : Call) (s : State) → Keeps s → (one : Input) → Contains (handled call s) one → HasAskedPeers one × HasAskedConnections one
+keeps-peers call s (asked, distinct, single, order, steady, signs) one among = (
+  turns-ask-peers call s asked distinct one among,
+  turns-ask-connections call s asked steady single one among,
+)
+
+pub keeps-signed : (call : Call) (s : State) → Keeps s → (one : Input) → Contains (handled call s) one → AllocatesInOrder one.before × Signs one.before
+keeps-signed call s (asked, distinct, single, order, steady, signs) one among = turns-signed call s (order, signs) one among
 
 -- an input of the call answered a request for a purpose, and did this for it
 abbrev pub IsDoneFor : (Purpose → Input → Type 0) → Call → State → Type 0
 IsDoneFor Did call s = (one : Input) × Contains (handled call s) one × ((p : Purpose) × Did p one)
 
 granted-in : (g : Grant) (call : Call) (s : State) → IsActiveGrant g → Keeps s → IsDoneBy (Granting g) call s → IsDoneFor (IsGranting g) call s
-granted-in g call s stands (asked, distinct, order, steady, signs) (one, among, is) =
-    (one, among, (is.purpose, granting one g stands (turns-ask-peers call s asked distinct one among) (turns-signed call s (order, signs) one among) is))
+granted-in g call s stands keeps (one, among, is) =
+    (one, among, (is.purpose, granting one g stands (keeps-peers call s keeps one among) (keeps-signed call s keeps one among) is))
 
 -- a `delete` that the client accepted
 abbrev IsAcceptedEnd : Grant → Call → State → Type 0
@@ -129,15 +151,15 @@ call-grants g stands call s keeps stood = elim (call-causes g call s stood) [
 
 -- the address of an allocation
 call-allocates : (relayed : SocketAddr) (call : Call) (s : State) → Keeps s → IsRelayed relayed (state_after call s) → IsRelayed relayed s ⊎ IsDoneFor (GrantsAddress relayed) call s
-call-allocates relayed call s (asked, distinct, order, steady, signs) (a, there, e) =
+call-allocates relayed call s keeps (a, there, e) =
     elim (call-allocated relayed call s (a, contains-has (Allocation a) (state_after call s).grants there, e)) [
       | inl (b, here, same) ↦ inl (b, has-contains (Allocation b) s.grants here, same)
       | inr (one, among, is) ↦
-          let ordered = turns-signed call s (order, signs) one among in
+          let ordered = keeps-signed call s keeps one among in
           let purpose = is.granting.purpose in
           let listed = contains-has purpose (purposes_of (id_of one.bytes) one.before) is.granting.accepting.listed in
           let allocates = for-allocation (id_of one.bytes) one.before purpose ordered.0 is.first listed in
-          let granted = granting one (Allocation is.a) tt (turns-ask-peers call s asked distinct one among) ordered is.granting in
+          let granted = granting one (Allocation is.a) tt (keeps-peers call s keeps one among) ordered is.granting in
           inr (one, among, (purpose, (is.a, granted, is.address, allocates)))
     ]
 
@@ -249,6 +271,7 @@ pub first-keeps : (transport : TransportType) (local remote : SocketAddr) (confi
 first-keeps transport local remote config seed = (
   initial-HasGrantsAsked transport local remote config seed,
   initial-numbers transport local remote config seed,
+  initial-single transport local remote config seed,
   initial-AllocatesInOrder transport local remote config seed,
   initial-steady transport local remote config seed,
   refl,

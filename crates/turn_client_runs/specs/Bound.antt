@@ -16,11 +16,15 @@ use Rattle.turn_client_runs.specs.Inputs.{IsAmong, handled_in}
 abbrev pub HasTransactionEnded : Input → Type 0
 HasTransactionEnded one = IsNotAwaited one.bytes (processed one).1
 
+-- the input bound it, by the success to a request that was made for this peer
+abbrev pub BindsToPeer : SocketAddr → SocketAddr → Input → Type 0
+BindsToPeer local peer one = (bind : IsBindInput local peer one) × (bind.asked ≡ peer) × HasTransactionEnded one
+
 -- One of these inputs bound the stream at this local address to this peer: by a signed success to the
--- outstanding CONNECTION_BIND that was made for it, which is no longer outstanding after the input (RFC
--- 6062, section 4.3).
+-- outstanding CONNECTION_BIND that was made for it, for the peer for which the caller opened the connection.
+-- It is no longer outstanding after the input (RFC 6062, section 4.3).
 abbrev pub HasSuccess : SocketAddr → SocketAddr → List Input → Type 0
-HasSuccess local peer inputs = IsAmong (λ one. IsBindInput local peer one × HasTransactionEnded one) inputs
+HasSuccess local peer inputs = IsAmong (BindsToPeer local peer) inputs
 
 -- so did one of these inputs for the data connection
 abbrev pub HasConnectionSuccess : DataConnection → List Input → Type 0

@@ -58,16 +58,10 @@ abbrev pub IsNoRefresh : Purpose → Type 0
 IsNoRefresh (ForRefresh family lifetime) = ⊥
 IsNoRefresh _ = ⊤
 
--- the connection existed before the input, and waited to be bound
-abbrev pub IsWaitingAt : Grant → Input → Type 0
-IsWaitingAt (Connection c) one =
-    (was : DataConnection) × (connection_at c.local one.before ≡ Some was) × (was.peer ≡ c.peer)
-IsWaitingAt g one = ⊤
-
 -- the input is a signed success, which granted just what the event reports, in answer to a request for it
 abbrev pub Creates : TurnEvent → Purpose → Input → Type 0
 Creates event purpose one =
-    (g : Grant) × Reports event (relayed_over one) g × IsGranting g purpose one × IsNoRefresh purpose × IsWaitingAt g one
+    (g : Grant) × Reports event (relayed_over one) g × IsGranting g purpose one × IsNoRefresh purpose
 
 -- ---- what a signed reply refused
 

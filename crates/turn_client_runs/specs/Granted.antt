@@ -43,7 +43,8 @@ IsOverIts (Connection c) one = IsOverWaiting c.local one
 IsOverIts g one = IsOverControl one
 
 -- What the success in the input grants for a purpose: an allocation for the first LIFETIME that is seen, at
--- least 600 s in answer to a REFRESH for more than 0 s; a permission for 300 s; a channel for 600 s.
+-- least 600 s in answer to a REFRESH for more than 0 s; a permission for 300 s; a channel for 600 s; a data
+-- connection to the peer for which the caller opened it.
 abbrev pub IsGivenIn : Input → Purpose → Grant → Type 0
 IsGivenIn one ForAllocation (Allocation a) =
     (n : ℕ) × (lifetime_in one.bytes ≡ Some n) × (a.expiry ≡ later_by (seconds n) one.time)
@@ -56,7 +57,7 @@ IsGivenIn one (ForPermission ip) (Permission other (Active expiry)) =
     (same_ip other ip ≡ true) × (expiry ≡ later_by permission_lifetime one.time)
 IsGivenIn one (ForChannel number peer) (Channel other to (Active expiry)) =
     (other ≡ number) × (to ≡ peer) × (expiry ≡ later_by channel_lifetime one.time)
-IsGivenIn one (ForBind local peer id) (Connection c) = (c.local ≡ local) × (c.deadline ≡ None)
+IsGivenIn one (ForBind local peer id) (Connection c) = (c.local ≡ local) × (c.peer ≡ peer) × (c.deadline ≡ None)
 IsGivenIn one _ _ = ⊥
 
 -- both are held, with the same realm and the same algorithm

@@ -11,7 +11,7 @@ ghost use Rattle.turn_client_runs.specs.Granted.{HaveReplies};
 /// received by `recv`: as a datagram of that call, or among the joined pieces that were received for the
 /// stream up to that call. It has the ID of a request that was made for the grant: for a permission of this
 /// IP address, for a channel of this number and this peer, for an allocation, or to refresh one of its
-/// family, for more than 0 s, to bind the connection from this local address. That request was outstanding
+/// family, for more than 0 s, to bind the connection from this local address to this peer. That request was outstanding
 /// just before the message was processed, and was not just after it. The expiry of the grant is set by this
 /// message: 300 s after its time for a permission, 600 s for a channel (RFC 8656, sections 9 and 12), for
 /// an allocation the first LIFETIME that is seen, and at least 600 s in reply to a REFRESH; or an accepted

@@ -39,7 +39,8 @@ pub struct Replayed {
 ///   has a signed success among the inputs, to an outstanding request of the client's own. The grant expires as
 ///   that success says, or an accepted `delete` ended the allocation (RFC 8656, sections 7.3, 9 and 12).
 ///   The relayed address of an allocation stands in the success to its ALLOCATE, which is among the inputs too.
-/// - `bound`: each bound stream was bound by such a success, and has been bound since (RFC 6062, section 4.3).
+/// - `bound`: each bound stream was bound by such a success, to the CONNECTION_BIND of a connection that the caller
+///   opened for this peer, and has been bound since (RFC 6062, section 4.3).
 /// - `numbers`: after each call, no channel number names two peers.
 /// - `given`, `heard`: in any consecutive calls, so in each call, all data of peers among the replies is that
 ///   of an input of these calls, whose peer had a permission, a channel or a bound data connection when it was
