@@ -1,9 +1,8 @@
 -- Where the bytes of an input lie, when it is processed, and that its stream stands in the state.
 use Rattle.std.proofs.Common.{◌≡◌, ◌⊎◌, ◌++◌, ℕ, zero, suc, Bool, true, false, cond, map, List, [], ◌∷◌, Option, Some, None, refl, sym, subst, ◌∙◌, inl, inr}
-use Rattle.std.specs.Prelude.{drop, find, take}
+use Rattle.std.specs.Prelude.{find, take}
 use Rattle.std.specs.List.{Contains}
 use Rattle.std.specs.declared.net.socket_addr.SocketAddr.{SocketAddr}
-use Rattle.std.proofs.lemmas.List.{append-nil, take-append-drop}
 use Rattle.turn_stun.specs.declared.transport.Transmit.{Transmit}
 use Rattle.turn_types.specs.Frames.{begins_no_frame, frame_len}
 use Rattle.turn_agent.specs.Agent.{same_address}
@@ -21,7 +20,7 @@ use Rattle.turn_client_api.specs.Streams.{is_ready, max_steps, payload_in, next_
 use Rattle.turn_client_laws.proofs.HasLemmas.{Has, has-append, has-found, map-has}
 use Rattle.turn_client_laws.proofs.PacketLemmas.{packet-by}
 use Rattle.turn_client_laws.proofs.StandLemmas.{contains-has, has-contains}
-use Rattle.turn_client_runs.specs.Granted.{ComesIn, IsInFront}
+use Rattle.turn_client_runs.specs.Granted.{ComesIn, IsNextOf}
 
 -- ---- the stream is in the state, with its local address and its mode
 
@@ -51,7 +50,7 @@ record IsFrame (now : ℕ) (one : Input) : Type 0 where
   at : one.time ≡ now
   stream : Stream
   of : one.stream ≡ Some stream
-  front : IsInFront one.bytes stream.bytes
+  front : IsNextOf stream one.bytes
   stands : Stands stream one.before
 
 module _ (now : ℕ) where
@@ -64,24 +63,28 @@ module _ (now : ℕ) where
   joined-frames : (xs ys : List Input) → AllFrames xs → AllFrames ys → AllFrames (xs ++ ys)
   joined-frames xs ys k l one there = elim (has-append one xs ys there) [ inl h ↦ k one h | inr h ↦ l one h ]
 
-  one-frame : (is_lent : Bool) (stream : Stream) (bytes : List ℕ) (t : State) → IsInFront bytes stream.bytes → Stands stream t
+  one-frame : (is_lent : Bool) (stream : Stream) (bytes : List ℕ) (t : State) → IsNextOf stream bytes → Stands stream t
       → AllFrames (stream_input is_lent stream bytes now t ∷ [])
   one-frame is_lent stream bytes t front stands one (inl e) = rw e (record { at = refl; stream = stream; of = refl; front = front; stands = stands })
   one-frame is_lent stream bytes t front stands one (inr none) = absurd none
 
-  front-frames : (is_lent : Bool) (stream : Stream) (t : State) → Stands stream t → AllFrames (frame_taken is_lent stream now t)
-  front-frames is_lent stream t stands = by (begins_no_frame stream.bytes) (frame_len stream.bytes)
+  -- the first whole frame comes next
+  abbrev FrameNext : Stream → Type 0
+  FrameNext stream = (len : ℕ) → frame_len stream.bytes ≡ Some len → IsNextOf stream (take len stream.bytes)
+
+  front-frames : (is_lent : Bool) (stream : Stream) (t : State) → FrameNext stream → Stands stream t → AllFrames (frame_taken is_lent stream now t)
+  front-frames is_lent stream t next stands = by (begins_no_frame stream.bytes) (frame_len stream.bytes) refl
     where
-      by : (b : Bool) (o : Option ℕ) → AllFrames (cond b [] (taken_of_len is_lent stream now t o))
-      by false (Some len) = one-frame is_lent stream (take len stream.bytes) t (drop len stream.bytes, sym (take-append-drop len stream.bytes)) stands
-      by b o = no-frames
+      by : (b : Bool) (o : Option ℕ) → frame_len stream.bytes ≡ o → AllFrames (cond b [] (taken_of_len is_lent stream now t o))
+      by false (Some len) e = one-frame is_lent stream (take len stream.bytes) t (next len e) stands
+      by b o e = no-frames
 
   mode-frames : (m : Mode) (is_lent : Bool) (stream : Stream) (t : State) → Stands (record stream { mode = m }) t
       → AllFrames (taken_in is_lent (record stream { mode = m }) now t)
   mode-frames (Bound peer) is_lent stream t stands =
-      one-frame is_lent (record stream { mode = Bound peer }) stream.bytes t ([], sym (append-nil stream.bytes)) stands
+      one-frame is_lent (record stream { mode = Bound peer }) stream.bytes t refl stands
   mode-frames Broken is_lent stream t stands = no-frames
-  mode-frames m is_lent stream t stands = front-frames is_lent (record stream { mode = m }) t stands
+  mode-frames m is_lent stream t stands = front-frames is_lent (record stream { mode = m }) t (λ len e. (len, e, refl)) stands
 
   taken-frames : (is_lent : Bool) (stream : Stream) (s : State) → Stands stream s → AllFrames (stream_inputs_taken is_lent stream now s)
   taken-frames is_lent stream s stands = mode-frames stream.mode is_lent stream (with_bytes stream.local [] s) (emptied-stands stream.local [] stream s stands)

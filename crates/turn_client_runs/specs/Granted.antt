@@ -1,7 +1,8 @@
 -- What the replies of a run granted (RFC 8489, section 9.2.5; RFC 8656, sections 7.3 to 12.3; RFC 6062,
 -- section 4.3).
-use Rattle.std.specs.Prelude.{◌≡◌, ◌⊎◌, ◌≤◌, ℕ, true, List, [], ◌∷◌, ◌++◌, Option, Some, None, Ok, ⊤}
+use Rattle.std.specs.Prelude.{◌≡◌, ◌⊎◌, ◌≤◌, ℕ, true, List, [], ◌∷◌, ◌++◌, Option, Some, None, Ok, take, ⊤}
 use Rattle.std.specs.declared.net.socket_addr.SocketAddr.{SocketAddr}
+use Rattle.turn_types.specs.Frames.{frame_len}
 use Rattle.turn_stun.specs.declared.transport.TransportType.{TransportType}
 use Rattle.turn_client_api.specs.Config.{Config}
 use Rattle.std.specs.List.{Contains, list_any}
@@ -19,6 +20,8 @@ use Rattle.turn_client_api.specs.declared.grant.Progress.TheVariants.{Active}
 use Rattle.turn_client_api.specs.declared.grant.Purpose.{Purpose}
 use Rattle.turn_client_api.specs.declared.grant.Purpose.TheVariants.{ForAllocation, ForRefresh, ForPermission, ForChannel, ForBind}
 use Rattle.turn_client_api.specs.declared.call.Call.TheVariants.{Delete, PollRecv, Recv}
+use Rattle.turn_client_api.specs.declared.state.Mode.{Mode}
+use Rattle.turn_client_api.specs.declared.state.Mode.TheVariants.{Bound, Broken}
 use Rattle.turn_client_api.specs.declared.state.Stream.{Stream}
 use Rattle.turn_client_api.specs.Calls.{delete_step}
 use Rattle.turn_client_api.specs.Grants.{is_of_family, purposes_of, same_ip}
@@ -100,30 +103,36 @@ pub record IsGranting (g : Grant) (purpose : Purpose) (one : Input) : Type 0 whe
 
 -- ---- when an input is processed
 
--- these bytes begin with those
-abbrev pub IsInFront : List ℕ → List ℕ → Type 0
-IsInFront front bytes = (rest : List ℕ) × (bytes ≡ front ++ rest)
+-- These bytes come next in the stream: all that it holds if it is bound, and else its first whole frame (RFC
+-- 8489, section 6.2.2; RFC 8656, section 12.5).
+abbrev pub IsNextOf : Stream → List ℕ → Type 0
+IsNextOf stream front = by stream.mode
+  where
+    by : Mode → Type 0
+    by (Bound peer) = front ≡ stream.bytes
+    by Broken = ⊥
+    by mode = (len : ℕ) × (frame_len stream.bytes ≡ Some len) × (front ≡ take len stream.bytes)
 
--- a frame comes first in its stream, and a datagram is these bytes
-abbrev pub IsWholeOrInFront : List ℕ → Input → Type 0
-IsWholeOrInFront payload one = by one.stream
+-- what comes next in its stream, or a datagram of these bytes
+abbrev pub IsWholeOrNext : List ℕ → Input → Type 0
+IsWholeOrNext payload one = by one.stream
   where
     by : Option Stream → Type 0
     by None = one.bytes ≡ payload
-    by (Some stream) = IsInFront one.bytes stream.bytes
+    by (Some stream) = IsNextOf stream one.bytes
 
 -- `poll_recv` processes only frames
-abbrev pub IsFrameInFront : Input → Type 0
-IsFrameInFront one = by one.stream
+abbrev pub IsNextFrame : Input → Type 0
+IsNextFrame one = by one.stream
   where
     by : Option Stream → Type 0
     by None = ⊥
-    by (Some stream) = IsInFront one.bytes stream.bytes
+    by (Some stream) = IsNextOf stream one.bytes
 
 -- the input is processed in this call, and at its time
 abbrev pub ComesIn : Call → Input → Type 0
-ComesIn (Recv packet now) one = (one.time ≡ now) × IsWholeOrInFront packet.payload one
-ComesIn (PollRecv now) one = (one.time ≡ now) × IsFrameInFront one
+ComesIn (Recv packet now) one = (one.time ≡ now) × IsWholeOrNext packet.payload one
+ComesIn (PollRecv now) one = (one.time ≡ now) × IsNextFrame one
 ComesIn _ one = ⊥
 
 -- ---- an own request

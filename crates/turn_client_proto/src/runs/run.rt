@@ -44,7 +44,8 @@ pub struct Replayed {
 /// - `numbers`: after each call, no channel number names two peers.
 /// - `given`, `heard`: in any consecutive calls, so in each call, all data of peers among the replies is that
 ///   of an input of these calls, whose peer had a permission, a channel or a bound data connection when it was
-///   processed. An ICMP report is for a peer with a permission. The bytes of each input were received by then.
+///   processed. An ICMP report is for a peer with a permission. Each input is a datagram of its call, the first
+///   whole frame of its stream, or all that a bound stream holds, and was received by then.
 /// - `counted`: a reply is accepted only if its request is outstanding, and ends it; so a second reply with its
 ///   ID is accepted only if a new request was made with that ID (RFC 8489, section 6.3).
 /// - `challenges`: each challenge that is answered over the control connection is counted, and in any
