@@ -19,4 +19,4 @@ does_kept (Some call) index was now buffer after a b h =
 
 pub fails_kept : (call : Option Call) (was now : Held) (buffer after : List ℕ) → Fails call was now buffer after → SameRelays was now
 fails_kept None was now buffer after h = absurd h
-fails_kept (Some call) was now buffer after h = (leaves-SameCarriers call was.client now.client (inr h.client)).1
+fails_kept (Some call) was now buffer after h = (leaves-SameCarriers call was.client now.client (inr h.client.0)).1

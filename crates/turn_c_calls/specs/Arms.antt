@@ -8,7 +8,7 @@ use Rattle.turn_client_api.specs.Calls.{can_send_to, permissions_of}
 use Rattle.turn_client_api.specs.Payloads.{Outcome}
 use Rattle.turn_client_api.specs.Payloads as O
 use Rattle.turn_client_api.specs.State.{State}
-use Rattle.turn_client_api.specs.Steps.{EndsWithoutMemory}
+use Rattle.turn_c_calls.specs.Wanted.{EndsForMemory}
 use Rattle.turn_client_api.specs.declared.call.Call.{Call}
 use Rattle.turn_client_proto.specs.Run.{recv_reply}
 use Rattle.turn_c_calls.specs.Answer.{answer_to, reply_bytes, data_answer, found_answer, permission_answer}
@@ -83,7 +83,7 @@ EndsPlain (Some call) s t a b = MakesPlain call 0 s t a b
 EndsPlain None s t a b = ⊥
 
 abbrev pub LacksPlain : Option Call → Fault → State → State → Answer → Answer → Type 0
-LacksPlain (Some call) fault s t a b = (fault ≡ Faults.OutOfMemory) × EndsWithoutMemory call s t × (b ≡ a)
+LacksPlain (Some call) fault s t a b = (fault ≡ Faults.OutOfMemory) × EndsForMemory call s t × (b ≡ a)
 LacksPlain None fault s t a b = (fault ≡ Faults.Call) × (t ≡ s) × (b ≡ a)
 
 -- the same where the client is only looked at, for these arguments or for none

@@ -10,3 +10,4 @@ pub mod Request
 pub mod Settings
 pub mod Step
 pub mod Unread
+pub mod Wanted

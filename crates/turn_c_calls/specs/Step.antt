@@ -1,6 +1,6 @@
 -- What a session does with a request.
 use Rattle.std.specs.Prelude.{◌≡◌, ◌⊎◌, ℕ, nat_lt, List, [], length, Option, Some, None, Result, Ok, Err}
-use Rattle.turn_client_api.specs.Steps.{EndsWithoutMemory}
+use Rattle.turn_c_calls.specs.Wanted.{EndsForMemory}
 use Rattle.turn_client_api.specs.declared.call.Call.{Call}
 use Rattle.turn_client_api.specs.declared.call.Call.TheVariants as Calls
 use Rattle.turn_client_proto.specs.Run.{step}
@@ -33,10 +33,10 @@ pub record IsMade (call : Call) (index : ℕ) (was now : Held) (buffer after : L
   pub client : now.client ≡ (step was.client call).1
   pub shows : Shows (step was.client call).0 index (passed_in call) was.unread buffer after now.unread a b
 
--- A memory allocation of the call failed: the client is as the call leaves it then, and nothing else has changed. A call
--- that allocates no memory never fails so.
+-- A memory allocation of the call failed, which the call needs: the client is as the call leaves it then, and nothing else
+-- has changed. A call that allocates no memory never fails so.
 pub record IsFailed (call : Call) (was now : Held) (buffer after : List ℕ) : Type 0 where
-  pub client : EndsWithoutMemory call was.client now.client
+  pub client : EndsForMemory call was.client now.client
   pub unread : now.unread ≡ was.unread
   pub buffer_is : after ≡ buffer
 

@@ -2,7 +2,7 @@
 
 ghost use Rattle.std.specs.Prelude.{◌≡◌, ◌≤◌, ◌^◌, ◌+◌, [], length, slice_get, OnOk, OnErr};
 ghost use Rattle.turn_client_api.specs.Calls.{can_send_to, permissions_of, relayed_addresses_of, FitsDatagram};
-ghost use Rattle.turn_client_api.specs.Steps.{EndsWithoutMemory};
+ghost use Rattle.turn_c_calls.specs.Wanted.{EndsForMemory};
 ghost use Rattle.turn_client_proto.specs.Run.{IsCallable};
 ghost use Rattle.turn_c_calls.specs.Answer.{found_answer, of_kind, permission_answer, relayed_answer};
 ghost use Rattle.turn_c_calls.specs.Arms.{Makes, MakesAside, MakesPlain, Stops};
@@ -31,7 +31,7 @@ pub fn plain<C: TurnClientApi>(
     requires callable { IsCallable (C.state client.old).config.allocation_transport call.now }
     requires plain { IsPlainCall call.now }
     ensures ok { OnOk result (MakesPlain call.now 0 (C.state client.old) (C.state client.new) answer.old answer.new) }
-    ensures err { OnErr result (EndsWithoutMemory call.now (C.state client.old) (C.state client.new)) }
+    ensures err { OnErr result (EndsForMemory call.now (C.state client.old) (C.state client.new)) }
     ensures same { OnErr result (answer.new ≡ answer.old) }
 {
     let reply = reply_to(client, call)?;
@@ -117,7 +117,7 @@ pub fn poll<C: TurnClientApi>(
 ) -> Result<(), AllocError>
     requires { now ≤ 2 ^ 62 }
     ensures ok { OnOk result (MakesPlain (Call.Poll now) 0 (C.state client.old) (C.state client.new) answer.old answer.new) }
-    ensures err { OnErr result (EndsWithoutMemory (Call.Poll now) (C.state client.old) (C.state client.new)) }
+    ensures err { OnErr result (EndsForMemory (Call.Poll now) (C.state client.old) (C.state client.new)) }
     ensures same { OnErr result (answer.new ≡ answer.old) }
 {
     let returned = client.poll(now)?;

@@ -3,7 +3,7 @@
 //! If memory allocation fails, the client is as the call leaves it then.
 
 ghost use Rattle.std.specs.Prelude.{◌≡◌, ◌≤◌, ◌^◌, IfOk, OnErr};
-ghost use Rattle.turn_client_api.specs.Steps.{EndsWithoutMemory};
+ghost use Rattle.turn_c_calls.specs.Wanted.{EndsForMemory};
 ghost use Rattle.turn_client_proto.specs.Run.{IsCallable, step};
 ghost use Rattle.turn_c_calls.specs.Judge.{IsPlainCall};
 
@@ -26,7 +26,7 @@ pub fn reply_to<C: TurnClientApi>(client: &mut C, call: &Call) -> Result<Reply, 
     requires callable { IsCallable (C.state client.old).config.allocation_transport call.now }
     requires plain { IsPlainCall call.now }
     ensures ok { IfOk result (λ reply. (reply, C.state client.new) ≡ step (C.state client.old) call.now) }
-    ensures err { OnErr result (EndsWithoutMemory call.now (C.state client.old) (C.state client.new)) }
+    ensures err { OnErr result (EndsForMemory call.now (C.state client.old) (C.state client.new)) }
 {
     match call {
         Call::Delete { now } => delete(client, *now),
@@ -61,7 +61,7 @@ pub fn reply_to<C: TurnClientApi>(client: &mut C, call: &Call) -> Result<Reply, 
 fn delete<C: TurnClientApi>(client: &mut C, now: Instant) -> Result<Reply, AllocError>
     requires { now ≤ 2 ^ 62 }
     ensures ok { IfOk result (λ reply. (reply, C.state client.new) ≡ step (C.state client.old) (Call.Delete now)) }
-    ensures err { OnErr result (EndsWithoutMemory (Call.Delete now) (C.state client.old) (C.state client.new)) }
+    ensures err { OnErr result (EndsForMemory (Call.Delete now) (C.state client.old) (C.state client.new)) }
 {
     match client.delete(now) {
         Err(DeleteError::OutOfMemory) => Err(AllocError),
@@ -77,7 +77,7 @@ fn create_permission<C: TurnClientApi>(
 ) -> Result<Reply, AllocError>
     requires { now ≤ 2 ^ 62 }
     ensures ok { IfOk result (λ reply. (reply, C.state client.new) ≡ step (C.state client.old) (Call.CreatePermission transport peer now)) }
-    ensures err { OnErr result (EndsWithoutMemory (Call.CreatePermission transport peer now) (C.state client.old) (C.state client.new)) }
+    ensures err { OnErr result (EndsForMemory (Call.CreatePermission transport peer now) (C.state client.old) (C.state client.new)) }
 {
     match client.create_permission(transport, peer, now) {
         Err(CreatePermissionError::OutOfMemory) => Err(AllocError),
@@ -93,7 +93,7 @@ fn bind_channel<C: TurnClientApi>(
 ) -> Result<Reply, AllocError>
     requires { now ≤ 2 ^ 62 }
     ensures ok { IfOk result (λ reply. (reply, C.state client.new) ≡ step (C.state client.old) (Call.BindChannel transport peer now)) }
-    ensures err { OnErr result (EndsWithoutMemory (Call.BindChannel transport peer now) (C.state client.old) (C.state client.new)) }
+    ensures err { OnErr result (EndsForMemory (Call.BindChannel transport peer now) (C.state client.old) (C.state client.new)) }
 {
     match client.bind_channel(transport, peer, now) {
         Err(BindChannelError::OutOfMemory) => Err(AllocError),
@@ -108,7 +108,7 @@ fn tcp_connect<C: TurnClientApi>(
 ) -> Result<Reply, AllocError>
     requires { now ≤ 2 ^ 62 }
     ensures ok { IfOk result (λ reply. (reply, C.state client.new) ≡ step (C.state client.old) (Call.TcpConnect peer now)) }
-    ensures err { OnErr result (EndsWithoutMemory (Call.TcpConnect peer now) (C.state client.old) (C.state client.new)) }
+    ensures err { OnErr result (EndsForMemory (Call.TcpConnect peer now) (C.state client.old) (C.state client.new)) }
 {
     match client.tcp_connect(peer, now) {
         Err(TcpConnectError::OutOfMemory) => Err(AllocError),
@@ -126,7 +126,7 @@ fn allocated_tcp_socket<C: TurnClientApi>(
 ) -> Result<Reply, AllocError>
     requires { now ≤ 2 ^ 62 }
     ensures ok { IfOk result (λ reply. (reply, C.state client.new) ≡ step (C.state client.old) (Call.AllocatedTcpSocket id tuple peer local now)) }
-    ensures err { OnErr result (EndsWithoutMemory (Call.AllocatedTcpSocket id tuple peer local now) (C.state client.old) (C.state client.new)) }
+    ensures err { OnErr result (EndsForMemory (Call.AllocatedTcpSocket id tuple peer local now) (C.state client.old) (C.state client.new)) }
 {
     match client.allocated_tcp_socket(id, tuple, peer, local, now) {
         Err(TcpAllocateError::OutOfMemory) => Err(AllocError),
@@ -142,7 +142,7 @@ fn tcp_closed<C: TurnClientApi>(
 ) -> Result<Reply, AllocError>
     requires { now ≤ 2 ^ 62 }
     ensures ok { IfOk result (λ reply. (reply, C.state client.new) ≡ step (C.state client.old) (Call.TcpClosed local remote now)) }
-    ensures err { OnErr result (EndsWithoutMemory (Call.TcpClosed local remote now) (C.state client.old) (C.state client.new)) }
+    ensures err { OnErr result (EndsForMemory (Call.TcpClosed local remote now) (C.state client.old) (C.state client.new)) }
 {
     client.tcp_closed(local, remote, now)?;
     Ok(Reply::Done)
@@ -150,7 +150,7 @@ fn tcp_closed<C: TurnClientApi>(
 
 fn protocol_error<C: TurnClientApi>(client: &mut C) -> Result<Reply, AllocError>
     ensures ok { IfOk result (λ reply. (reply, C.state client.new) ≡ step (C.state client.old) Call.ProtocolError) }
-    ensures err { OnErr result (EndsWithoutMemory Call.ProtocolError (C.state client.old) (C.state client.new)) }
+    ensures err { OnErr result (EndsForMemory Call.ProtocolError (C.state client.old) (C.state client.new)) }
 {
     client.protocol_error()?;
     Ok(Reply::Done)

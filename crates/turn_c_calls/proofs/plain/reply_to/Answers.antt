@@ -5,3 +5,9 @@ returns-in-CreatePermission-clause-ok g c = rw c.in-CreatePermission.is c.create
 
 pub returns-in-BindChannel-clause-ok : goal.returns-in-BindChannel-clause-ok
 returns-in-BindChannel-clause-ok g c = rw c.in-BindChannel.is c.bind_channel.ensures.ok
+
+pub returns-in-CreatePermission-clause-err : goal.returns-in-CreatePermission-clause-err
+returns-in-CreatePermission-clause-err g c = rw c.in-CreatePermission.is c.create_permission.ensures.err
+
+pub returns-in-BindChannel-clause-err : goal.returns-in-BindChannel-clause-err
+returns-in-BindChannel-clause-err g c = rw c.in-BindChannel.is c.bind_channel.ensures.err
