@@ -64,7 +64,7 @@ begun_still a b c line h k = subst (Consumes a c) (append-nil line) (Consumes-th
 
 pub line_lost : (a b c : Option (List ℕ)) (kept : List ℕ) (stop : Stop) → IsBegun a b kept → (stop ≡ Stops.ReadFailed) ⊎ (stop ≡ Stops.OutOfMemory) → Consumes b c [] → IsLost a c stop
 line_lost a b c kept stop k (inl failed) none = subst (IsLost a c) (sym failed) (k.line, begun_still a b c k.line k.consumed none, k.clear)
-line_lost a b c kept stop k (inr failed) none = subst (IsLost a c) (sym failed) (k.line, begun_still a b c k.line k.consumed none)
+line_lost a b c kept stop k (inr failed) none = subst (IsLost a c) (sym failed) (k.line, begun_still a b c k.line k.consumed none, k.clear)
 
 -- ---- a piece of a line, from the bytes that a reader shows
 

@@ -15,7 +15,7 @@ use Rattle.turn_live.specs.declared.stop.Stop.{Stop}
 use Rattle.turn_live.specs.declared.stop.Stop.TheVariants as Stops
 use Rattle.turn_live.proofs.CallsLemmas.{kept_call, kept_head}
 use Rattle.turn_lines.proofs.AppendsLemmas.{Appends-none}
-use Rattle.turn_live.proofs.TalkLemmas.{head_bad, head_unheard}
+use Rattle.turn_live.proofs.TalkLemmas.{head_bad, head_unheard, one_line}
 
 -- a line that is not a head
 pub head_unread : (a b w : Option (List ℕ)) (kept line : List ℕ) (end : LineEnd) (stop : Stop) → IsTaken a b line end → kept ≡ first_bytes line → ReadsHead kept (Err stop)
@@ -40,7 +40,7 @@ answered relays s after kept line w x result same h = subst (λ (read : Result C
 unanswered : (relays : TransportType) (s after : State) (line : List ℕ) (end : LineEnd) (a b w x : Option (List ℕ)) (stop : Stop) → IsTaken a b line end
     → AnswersLine (line_call relays line) s after w x (Err stop) → Steps relays s after a b w x (Err stop)
 unanswered relays s after line end a b w x (Stops.Bad bad) taken h = absurd h
-unanswered relays s after line end a b w x Stops.OutOfMemory taken h = (line ++ feed_at end, taken.consumed, h)
+unanswered relays s after line end a b w x Stops.OutOfMemory taken h = (line ++ feed_at end, taken.consumed, one_line line end taken.clear, h)
 unanswered relays s after line end a b w x Stops.ReadFailed taken h = absurd h
 unanswered relays s after line end a b w x Stops.WriteFailed taken h = (line, end, taken, h)
 

@@ -6,10 +6,10 @@ use Rattle.turn_stun.specs.declared.transport.TransportType.{TransportType}
 use Rattle.turn_client_api.specs.State.{State}
 use Rattle.turn_lines.specs.declared.fault.BadLine.{BadLine}
 use Rattle.turn_lines.specs.declared.head.Head.{Head}
-use Rattle.turn_live.specs.Line.{IsLost, IsTaken, feed_at}
+use Rattle.turn_live.specs.Line.{IsLine, IsLost, IsTaken, feed_at}
 use Rattle.turn_lines.specs.Configuration.{client_of}
 use Rattle.turn_live.specs.Lines.{after_line, after_lines, calls_said, line_call, line_head, line_said, session_of, session_with}
-use Rattle.turn_live.specs.Session.{AreRead, Goes, Steps, Talks}
+use Rattle.turn_live.specs.Session.{AreRead, Goes, Steps, Talks, IsOfOneLine}
 use Rattle.turn_live.specs.declared.line.LineEnd.{LineEnd}
 use Rattle.turn_live.specs.declared.line.LineEnd.TheVariants.{Feed, Input}
 use Rattle.turn_live.specs.declared.stop.Stop.{Stop}
@@ -98,10 +98,11 @@ ends relays s now after a b c w x y k (line, taken, inr answer) = (
 pub stops : (relays : TransportType) (s now after : State) (a b c w x y : Option (List ℕ)) (stop : Stop) → GoesOn relays s now a b w x
     → Steps relays now after b c x y (Err stop) → Talks (calls_said relays s) a c w y (Err stop)
 stops relays s now after a b c w x y (Stops.Bad bad) k wrong = absurd wrong
-stops relays s now after a b c w x y Stops.OutOfMemory k (rest, consumed, none) = (
+stops relays s now after a b c w x y Stops.OutOfMemory k (rest, consumed, one, none) = (
   k.lines,
   rest,
   goes relays s a c k.lines rest Feed (rest_read a b c k.lines rest k.read consumed),
+  one,
   kept w x y (calls_said relays s k.lines).0 k.told none,
 )
 stops relays s now after a b c w x y Stops.ReadFailed k (rest, consumed, clear, none) = (
@@ -121,13 +122,18 @@ stops relays s now after a b c w x y Stops.WriteFailed k (line, end, taken, cut)
   cut_more relays s now k.lines line cut.0 w x y k.state k.told cut.1,
 )
 
+-- a line with what ended it
+pub one_line : (line : List ℕ) (end : LineEnd) → IsLine line → IsOfOneLine (line ++ feed_at end)
+one_line line Feed clear = (line, clear, inr refl)
+one_line line Input clear = (line, clear, inl (append-nil line))
+
 -- ---- the first line
 
 -- nothing is written before the head is read
 pub head_lost : (a b w : Option (List ℕ)) (stop : Stop) → IsLost a b stop → Talks session_of a b w w (Err stop)
 head_lost a b w (Stops.Bad bad) lost = absurd lost
 head_lost a b w Stops.OutOfMemory lost =
-    ([], lost.0, record { read = rest_read a a b [] lost.0 (none_read a) lost.1; bad_is = refl }, Appends-none w)
+    ([], lost.0, record { read = rest_read a a b [] lost.0 (none_read a) lost.1; bad_is = refl }, (lost.0, lost.2, inl refl), Appends-none w)
 head_lost a b w Stops.ReadFailed lost =
     ([], lost.0, record { read = rest_read a a b [] lost.0 (none_read a) lost.1; bad_is = refl }, lost.2, Appends-none w)
 head_lost a b w Stops.WriteFailed lost = absurd lost
@@ -145,7 +151,9 @@ head_bad a b w line end bad taken says = (
 )
 
 pub head_unheard : (a b w : Option (List ℕ)) (line : List ℕ) (end : LineEnd) → IsTaken a b line end → Talks session_of a b w w (Err Stops.OutOfMemory)
-head_unheard a b w line end taken = head_lost a b w Stops.OutOfMemory (line ++ feed_at end, taken.consumed)
+head_unheard a b w line end taken =
+    let bytes = line ++ feed_at end in
+    ([], bytes, record { read = rest_read a a b [] bytes (none_read a) taken.consumed; bad_is = refl }, one_line line end taken.clear, Appends-none w)
 
 -- the head is the only line
 pub head_alone : (a b w : Option (List ℕ)) (line : List ℕ) (head : Head) → IsTaken a b line Input → line_head line ≡ Ok head → Talks session_of a b w w (Ok tt)
@@ -180,8 +188,8 @@ head_heard a b c w x line head (Ok _) taken says (lines, end, g, ended, told) = 
 )
 head_heard a b c w x line head (Err (Stops.Bad bad)) taken says (last, end, g, so, told) =
     let wrong : ◌≡◌ {A = Option BadLine} None (Some bad) = g.bad_is in cc
-head_heard a b c w x line head (Err Stops.OutOfMemory) taken says (lines, rest, g, told) =
-    (line ∷ lines, rest, goes_behind a b c line head lines rest Feed None taken says g, subst (Appends w x) (text_behind line head lines says) told)
+head_heard a b c w x line head (Err Stops.OutOfMemory) taken says (lines, rest, g, one, told) =
+    (line ∷ lines, rest, goes_behind a b c line head lines rest Feed None taken says g, one, subst (Appends w x) (text_behind line head lines says) told)
 head_heard a b c w x line head (Err Stops.ReadFailed) taken says (lines, rest, g, clear, told) =
     (line ∷ lines, rest, goes_behind a b c line head lines rest Feed None taken says g, clear, subst (Appends w x) (text_behind line head lines says) told)
 head_heard a b c w x line head (Err Stops.WriteFailed) taken says (lines, last, end, count, g, so, told) = (

@@ -40,10 +40,10 @@ pub record IsTaken (old new : Option (List ℕ)) (line : List ℕ) (end : LineEn
   pub clear : IsLine line
   pub ends : EndsSo old new end
 
--- the bytes of a line that could not be returned; if the reader failed, its LF was not read
+-- the bytes of a line that could not be returned, of which the LF was not read
 abbrev pub IsLost : Option (List ℕ) → Option (List ℕ) → Stop → Type 0
 IsLost old new Stops.ReadFailed = (bytes : List ℕ) × Consumes old new bytes × IsLine bytes
-IsLost old new Stops.OutOfMemory = (bytes : List ℕ) × Consumes old new bytes
+IsLost old new Stops.OutOfMemory = (bytes : List ℕ) × Consumes old new bytes × IsLine bytes
 IsLost old new (Stops.Bad bad) = ⊥
 IsLost old new Stops.WriteFailed = ⊥
 

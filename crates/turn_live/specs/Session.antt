@@ -42,6 +42,10 @@ AnswersLine read s after old new (Err Stops.OutOfMemory) = Appends old new []
 AnswersLine read s after old new (Err Stops.ReadFailed) = ⊥
 AnswersLine read s after old new (Err Stops.WriteFailed) = IsCutOff read s old new
 
+-- these bytes are of one line, which its LF may end
+abbrev pub IsOfOneLine : List ℕ → Type 0
+IsOfOneLine bytes = (line : List ℕ) × IsLine line × ((bytes ≡ line) ⊎ (bytes ≡ line ++ 10 ∷ []))
+
 -- One step of a session: it reads at most one line, and writes the answer before it ends. It returns whether there
 -- may be more lines. No line after the first ends a session.
 abbrev pub Steps : TransportType → State → State → Option (List ℕ) → Option (List ℕ) → Option (List ℕ) → Option (List ℕ) → Result Bool Stop → Type 0
@@ -51,7 +55,8 @@ Steps relays s after input left old new (Ok false) =
     (line : List ℕ) × IsTaken input left line Input
     × (((line ≡ []) × (after ≡ s) × Appends old new []) ⊎ IsAnswered (line_call relays line) s after old new)
 Steps relays s after input left old new (Err (Stops.Bad bad)) = ⊥
-Steps relays s after input left old new (Err Stops.OutOfMemory) = (bytes : List ℕ) × Consumes input left bytes × Appends old new []
+Steps relays s after input left old new (Err Stops.OutOfMemory) =
+    (bytes : List ℕ) × Consumes input left bytes × IsOfOneLine bytes × Appends old new []
 Steps relays s after input left old new (Err Stops.ReadFailed) =
     (bytes : List ℕ) × Consumes input left bytes × IsLine bytes × Appends old new []
 Steps relays s after input left old new (Err Stops.WriteFailed) =
@@ -81,9 +86,9 @@ Talks said input left old new (Ok _) =
 -- at a first line that ends it, after which nothing was read
 Talks said input left old new (Err (Stops.Bad bad)) =
     (line : List ℕ) × (end : LineEnd) × Goes said input left (line ∷ []) [] end (Some bad) × EndsSo input left end × Appends old new []
--- at a line for which memory allocation failed
+-- at a line for which memory allocation failed, with no other line after the answered ones
 Talks said input left old new (Err Stops.OutOfMemory) =
-    (lines : List (List ℕ)) × (rest : List ℕ) × Goes said input left lines rest Feed None × Appends old new (said lines).0
+    (lines : List (List ℕ)) × (rest : List ℕ) × Goes said input left lines rest Feed None × IsOfOneLine rest × Appends old new (said lines).0
 -- at a line that could not be read to its end
 Talks said input left old new (Err Stops.ReadFailed) =
     (lines : List (List ℕ)) × (rest : List ℕ) × Goes said input left lines rest Feed None × IsLine rest × Appends old new (said lines).0
