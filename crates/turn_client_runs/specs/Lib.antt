@@ -14,3 +14,7 @@ pub mod Replies
 pub mod Short
 pub mod Sleeps
 pub mod Inputs
+pub mod Lasting
+pub mod Silence
+pub mod OnTime
+pub mod Handshake

@@ -19,10 +19,13 @@ mod bound;
 mod challenges;
 mod cut;
 mod granted;
+mod handshake;
+mod lasting;
 mod numbers;
 mod peers;
 mod promises;
 mod replies;
+mod silence;
 mod sleeps;
 
 pub use bound::{bound_connections_have_their_success, bound_streams_have_their_success};
@@ -32,8 +35,11 @@ pub use cut::{
     streams_give_the_same_for_any_cut, wholes_are_frames,
 };
 pub use granted::grants_have_replies;
+pub use handshake::handshakes_succeed;
+pub use lasting::grants_last_while_the_server_answers;
 pub use numbers::numbers_stay_distinct;
 pub use peers::only_permitted_is_received;
 pub use promises::runs_keep_their_promises;
 pub use replies::replies_count_once_in_runs;
+pub use silence::silence_ends_a_client;
 pub use sleeps::runs_miss_no_deadline;

@@ -1,0 +1,547 @@
+-- A client whose server answers its first requests.
+use Rattle.std.proofs.Common.{◌≡◌, ◌≢◌, ◌⊎◌, ℕ, ◌+◌, ◌^◌, ◌<◌, ◌≤◌, Bool, true, false, cond, not, ◌||◌, leb, ltb, eqb, List, [], ◌∷◌, ◌++◌, map, drop, Option, Some, None, refl, inl, inr, ap, sym, subst, ◌∙◌, arith}
+use Rattle.std.specs.Prelude.{IfSome, IsSome, filter, if◌then◌else◌, slice_get}
+use Rattle.std.specs.List.{list_any}
+use Rattle.std.specs.Option.{option_map_or}
+use Rattle.std.proofs.lemmas.Bool.{and_parts, cases_Bool, eq-eqb, eqb-true, lt-ltb}
+use Rattle.std.specs.declared.net.socket_addr.SocketAddr.{SocketAddr}
+use Rattle.turn_stun.specs.Message.{id_of}
+use Rattle.turn_stun.specs.declared.message.header.MessageClass.TheVariants.{Success}
+use Rattle.turn_stun.specs.declared.transport.TransportType.TheVariants.{Udp}
+use Rattle.turn_stun.specs.declared.transport.Transmit.{Transmit}
+use Rattle.turn_auth.specs.LongTerm.{Challenge}
+use Rattle.turn_auth.specs.Validation.{IsValidated, validation_of}
+use Rattle.turn_auth.specs.declared.validation.Validation.{Validation}
+use Rattle.turn_auth.specs.declared.validation.Validation.TheVariants.{Validated, ResendRequest, Refused}
+use Rattle.turn_auth.proofs.ChallengeLemmas.{challenge_of-sound}
+use Rattle.turn_agent.specs.Agent.{due, first_sent, is_outstanding, is_response, timed_out_transaction, without_transaction}
+use Rattle.turn_agent.specs.Schedule.{wait_at}
+use Rattle.turn_agent.specs.declared.transaction.Transaction.{Transaction}
+use Rattle.turn_client_api.specs.Config.{timers_of}
+use Rattle.turn_client_api.specs.State.{State, agent_of, auth_of, initial}
+use Rattle.turn_client_api.specs.declared.state.Phase.{Phase}
+use Rattle.turn_client_api.specs.declared.state.Phase.TheVariants.{New, Requesting, Authenticating, Allocated}
+use Rattle.turn_client_api.specs.declared.state.Queued.{Queued}
+use Rattle.turn_client_api.specs.declared.grant.Listing.{Listing}
+use Rattle.turn_client_api.specs.declared.grant.Purpose.{Purpose}
+use Rattle.turn_client_api.specs.declared.grant.Purpose.TheVariants.{ForAllocation}
+use Rattle.turn_client_api.specs.declared.grant.DataOffer.{DataOffer}
+use Rattle.turn_client_api.specs.declared.grant.Relay.{Relay}
+use Rattle.turn_client_api.specs.Grants.{allocations, is_for_allocation, purposes_of}
+use Rattle.turn_client_api.specs.Requests.{first_allocate, fresh_id, listings, request_for}
+use Rattle.turn_client_api.specs.Judgement.{Challenged, SignedSuccess, answers_one, answers_allocate, challenge_in, class_in, judgement_of, lifetime_in}
+use Rattle.turn_client_api.specs.Effect.{allocate_granted, allocated, phase_with, relayed_in, taken_addresses, transaction_ended}
+use Rattle.turn_client_api.specs.Retry.{state_after_retry}
+use Rattle.turn_client_api.specs.Due.{has_event, has_reply, is_paused}
+use Rattle.turn_client_api.specs.Payloads.{Outcome, Handled, challenge_step, message_step, signed_step}
+use Rattle.turn_client_api.specs.Transmit.{idle_step, queue_step, refresh_step, reply_step, sent_at_once, transmit_step, without_first_reply}
+use Rattle.turn_client_api.specs.Poll.{answer_by, answer_step, lapsed, next_offer, offer_step, poll_step, timed_out_step, timed_step}
+use Rattle.turn_client_api.specs.Steps.{packet_step, state_after, state_after_all}
+use Rattle.turn_client_api.specs.declared.call.Call.{Call}
+use Rattle.turn_client_api.specs.declared.call.Call.TheVariants.{Poll, PollTransmit, PollEvent, Recv}
+use Rattle.turn_client_laws.proofs.CaseLemmas.{answer-by}
+use Rattle.turn_client_laws.proofs.HasLemmas.{Has, all-has, cases_Option, filter-none, has-all, has-append}
+use Rattle.turn_client_laws.proofs.GrantOriginLemmas.{has-mapped}
+use Rattle.turn_client_laws.proofs.LapseLemmas.{lapsed-shrinks}
+use Rattle.std.specs.declared.net.socket_addr.SocketAddr.TheVariants.{V4}
+use Rattle.turn_client_api.specs.Config.{Config}
+use Rattle.turn_client_api.specs.State.{later_by, seconds}
+use Rattle.turn_client_api.specs.declared.grant.Grant.{Grant}
+use Rattle.turn_client_api.specs.declared.grant.Grant.TheVariants.{Allocation}
+use Rattle.turn_client_api.specs.Effect.{min_lifetime, new_allocation}
+use Rattle.turn_client_api.specs.Due.{refresh_ahead}
+use Rattle.turn_client_api.specs.Steps.{Leaves}
+use Rattle.turn_client_laws.specs.LawsDoubles.{HasNoDoubles}
+use Rattle.turn_client_laws.specs.LawsOrder.{FitsPhase, IsUngranted}
+use Rattle.turn_client_laws.specs.LawsGrantAllocations.{GrantsHaveAllocations}
+use Rattle.turn_client_laws.proofs.SendOrderLemmas.{initial-steady, leaves-steadies}
+use Rattle.turn_client_laws.proofs.InAllocation.{GrantsHaveAllocations-AllHaveAllocation, initial-GrantsHaveAllocations, leaves-GrantsHaveAllocations}
+use Rattle.turn_client_laws.proofs.DistinctGrants.{initial-single, leaves-single}
+use Rattle.turn_client_runs.proofs.HoldLemmas.{kept-behind}
+use Rattle.turn_client_runs.specs.Lasting.{HasRoom, IsInForce, IsSteady, IsWithin, ahead_of, expiry_of}
+use Rattle.std.proofs.lemmas.Bool.{lt-leb}
+use Rattle.turn_client_runs.specs.OnTime.{IsInTime, time_of, time_of_all}
+use Rattle.turn_client_runs.specs.Handshake.{HandshakeEndsSteadily, HandshakeSucceeds, IsAllocating, IsFirstChallenge, IsStep, RunsHandshake}
+use Rattle.turn_client_runs.proofs.LastingSends.{none-due, none-over, transmits}
+use Rattle.turn_client_runs.proofs.LastingRuns.{arrives}
+use Rattle.turn_client_runs.proofs.SilenceLemmas.{IsUnsent, no-event, polls, unsent-polls, unsent-transmits, unsent-waits}
+
+-- the allocation that a grant is
+abbrev allocation_at : Grant → Relay
+allocation_at (Allocation a) = a
+allocation_at g = record { relayed = V4 (record { ip = record { octets = [] }; port = 0 }); first_lifetime = 0; expiry = 0; is_expired = false }
+
+-- ---- the stages
+
+-- what holds until there is an allocation
+pub record IsPlain (delay now : ℕ) (s : State) : Type 0 where
+  pub over_udp : s.transport ≡ Udp
+  pub prompt : delay < wait_at (timers_of s.config) s.transport 0
+  pub answers : 1 ≤ s.config.max_stale_nonces
+  pub closes : s.closes ≡ []
+  pub events : s.events ≡ []
+  pub no_reply : has_reply s ≡ false
+  pub sent_before : IfSome s.last_send (λ time. time ≤ now)
+  pub allocates : (l : Listing) → Has l s.listed → is_for_allocation l.purpose ≡ true
+
+-- one request awaits its reply
+pub record IsAsked (delay now until : ℕ) (s : State) (x : Transaction) : Type 0 where
+  pub only : s.transactions ≡ x ∷ []
+  pub young : x.resends ≡ 0
+  pub sent : x.last_send ≤ until
+  pub heard : now ≤ x.last_send + delay
+
+pub data IsStage (delay start now : ℕ) (s : State) : Type 0 where
+  new : IsPlain delay now s → IsUnsent start now s → s.listed ≡ [] → s.challenges ≡ 0 → IsStage delay start now s
+  first : IsPlain delay now s → (x : Transaction) → IsAsked delay now start s x → s.phase ≡ Requesting → s.queue ≡ [] → purposes_of x.id s ≡ ForAllocation ∷ [] → s.challenges ≡ 0 → IsStage delay start now s
+  second : IsPlain delay now s → (x : Transaction) → IsAsked delay now (start + delay) s x → s.phase ≡ Authenticating → IsStage delay start now s
+  done : s.phase ≡ Allocated → IsStage delay start now s
+
+-- ---- nothing is sent again
+
+module _ (delay now until : ℕ) (s : State) (x : Transaction) (p : IsPlain delay now s) (a : IsAsked delay now until s x) (range : now ≤ 2 ^ 62) where
+  is-it : (y : Transaction) → Has y s.transactions → y ≡ x
+  is-it y h = by (subst (λ (xs : List Transaction). Has y xs) a.only h)
+    where
+      by : Has y (x ∷ []) → y ≡ x
+      by (inl e) = e
+      by (inr none) = absurd none
+
+  pub no-due : due (agent_of s) now ≡ None
+  no-due = none-due delay now s p.prompt range (λ y h. ap (λ (z : Transaction). z.resends) (is-it y h) ∙ a.young) (λ y h. let e = ap (λ (z : Transaction). z.last_send) (is-it y h) in let w = a.heard in omega (arith, e, w))
+
+  pub no-over : timed_out_transaction (agent_of s) now ≡ None
+  no-over = none-over delay now s p.prompt range (λ y h. ap (λ (z : Transaction). z.resends) (is-it y h) ∙ a.young) (λ y h. let e = ap (λ (z : Transaction). z.last_send) (is-it y h) in let w = a.heard in omega (arith, e, w))
+
+-- ---- a poll changes nothing
+
+no-offer : (s : State) (p : Phase) → s.phase ≡ p → (p ≡ Requesting) ⊎ (p ≡ Authenticating) → next_offer s ≡ None
+no-offer s p e (inl f) = rw (e ∙ f) refl
+no-offer s p e (inr f) = rw (e ∙ f) refl
+
+quiet-poll : (now : ℕ) (s : State) → has_event s ≡ false → has_reply s ≡ false → next_offer s ≡ None → poll_step now s ≡ timed_out_step now s
+quiet-poll now s e q o = rw (e, q, o, poll_step) refl
+
+answers-same : (now : ℕ) (s : State) (p : Phase) (closes : List SocketAddr) → (p ≡ Requesting) ⊎ (p ≡ Authenticating) → closes ≡ [] → (answer_by closes p (allocations s) None now s).1 ≡ s
+answers-same now s p closes (inl e) f = rw (e, f) refl
+answers-same now s p closes (inr e) f = rw (e, f) refl
+
+timed-same : (now : ℕ) (s : State) (p : Phase) → (p ≡ Requesting) ⊎ (p ≡ Authenticating) → (timed_step p None now s).1 ≡ (answer_step None now s).1
+timed-same now s p (inl e) = rw e refl
+timed-same now s p (inr e) = rw e refl
+
+poll-same : (delay now until : ℕ) (s : State) (x : Transaction) → IsPlain delay now s → IsAsked delay now until s x → now ≤ 2 ^ 62 → (s.phase ≡ Requesting) ⊎ (s.phase ≡ Authenticating)
+    → (poll_step now s).1 ≡ s
+poll-same delay now until s x p a range phase =
+    ap (λ (z : Rattle.turn_client_api.specs.declared.poll.TurnPollRet.TurnPollRet × State). z.1) (quiet-poll now s no_event p.no_reply (no-offer s s.phase refl phase))
+    ∙ (timed ∙ (timed-same now s s.phase phase ∙ answers-same now s s.phase s.closes phase p.closes))
+  where
+    no_event : has_event s ≡ false
+    no_event = rw p.events refl
+
+    timed : (timed_out_step now s).1 ≡ (timed_step s.phase None now s).1
+    timed = rw (no-over delay now until s x p a range, timed_out_step) refl
+
+-- ---- what is sent
+
+no-reply_kept : (qs : List Queued) → list_any (λ q. not q.is_request) qs ≡ false → without_first_reply qs ≡ qs
+no-reply_kept [] none = refl
+no-reply_kept (q ∷ qs) none = grind (arith, no-reply_kept qs)
+
+no-reply_left : (qs : List Queued) → list_any (λ q. not q.is_request) qs ≡ false → list_any (λ q. not q.is_request) (drop 1 qs) ≡ false
+no-reply_left [] none = none
+no-reply_left (q ∷ qs) none = (Rattle.std.proofs.lemmas.Bool.or_parts (not q.is_request) (list_any (λ q. not q.is_request) qs) none).1
+
+reply-same : (s : State) → has_reply s ≡ false → (reply_step s).1 ≡ s
+reply-same s none = ap (λ (q : List Queued). record s { queue = q }) (no-reply_kept s.queue none)
+
+-- while the first request awaits its reply, nothing more is sent
+first-transmit : (delay now until : ℕ) (s : State) (x : Transaction) → IsPlain delay now s → IsAsked delay now until s x → now ≤ 2 ^ 62 → s.phase ≡ Requesting → s.queue ≡ [] → (transmit_step now s).1 ≡ s
+first-transmit delay now until s x p a range e q = rw (transmits now s (no-due delay now until s x p a range)) (by (is_paused now s))
+  where
+    idle : (f : Phase) (qs : List Queued) → f ≡ Requesting → qs ≡ []
+        → (option_map_or (λ q. (Some q.packet, Rattle.turn_client_api.specs.Transmit.sent now (record s { queue = drop 1 s.queue }))) (slice_get qs 0) (idle_step f now s)).1 ≡ s
+    idle f qs g h = rw (g, h) refl
+
+    by : (b : Bool) → (if b then reply_step s else queue_step now s).1 ≡ s
+    by true = reply-same s p.no_reply
+    by false = idle s.phase s.queue e q
+
+-- the second request is sent, and nothing more
+second-transmit : (delay start now : ℕ) (s : State) (x : Transaction) → IsPlain delay now s → IsAsked delay now (start + delay) s x → now ≤ 2 ^ 62 → s.phase ≡ Authenticating → IsStage delay start now (transmit_step now s).1
+second-transmit delay start now s x p a range e = rw (transmits now s (no-due delay now (start + delay) s x p a range)) (by (is_paused now s))
+  where
+    Next : State → Type 0
+    Next t = IsStage delay start now t
+
+    same : Next s
+    same = second p x a e
+
+    left : Next (record s { queue = drop 1 s.queue; last_send = Some now })
+    left = second
+        (record { over_udp = p.over_udp; prompt = p.prompt; answers = p.answers; closes = p.closes; events = p.events; no_reply = no-reply_left s.queue p.no_reply; sent_before = omega arith; allocates = p.allocates })
+        x (record { only = a.only; young = a.young; sent = a.sent; heard = a.heard }) e
+
+    idle : (f : Phase) → f ≡ Authenticating → Next (idle_step f now s).1
+    idle f g = rw g same
+
+    front : (o : Option Queued) → Next (option_map_or (λ q. (Some q.packet, Rattle.turn_client_api.specs.Transmit.sent now (record s { queue = drop 1 s.queue }))) o (idle_step s.phase now s)).1
+    front None = idle s.phase e
+    front (Some q) = left
+
+    by : (b : Bool) → Next (if b then reply_step s else queue_step now s).1
+    by true = subst Next (sym (reply-same s p.no_reply)) same
+    by false = front (slice_get s.queue 0)
+
+abbrev for_allocation : ℕ → Listing
+for_allocation id = record { id = id; purpose = ForAllocation }
+
+purposes-one : (ls : List Listing) (id : ℕ) → ls ≡ [] → map (λ (l : Listing). l.purpose) (filter (λ (l : Listing). eqb l.id id) (ls ++ for_allocation id ∷ [])) ≡ ForAllocation ∷ []
+purposes-one ls id e = rw (e, eq-eqb id id refl) refl
+
+new-transmit : (delay start now : ℕ) (s : State) → IsPlain delay now s → IsUnsent start now s → s.listed ≡ [] → s.challenges ≡ 0 → IsStage delay start now (transmit_step now s).1
+new-transmit delay start now s p u none zero = rw (unsent-transmits start now now s u) (first
+    (record { over_udp = p.over_udp; prompt = p.prompt; answers = p.answers; closes = p.closes; events = p.events; no_reply = p.no_reply; sent_before = omega arith; allocates = listed })
+    (first_sent id s.remote now text)
+    (record { only = rw u.none refl; young = refl; sent = let b = u.begins in omega (arith, b); heard = omega arith })
+    refl
+    u.queue
+    (purposes-one s.listed id none)
+    zero)
+  where
+    id : ℕ
+    id = fresh_id (record s { phase = Requesting })
+
+    text : List ℕ
+    text = first_allocate s (fresh_id s)
+
+    listed : (l : Listing) → Has l (s.listed ++ for_allocation id ∷ []) → is_for_allocation l.purpose ≡ true
+    listed l h = elim (has-append l s.listed (for_allocation id ∷ []) h) [ inl old ↦ p.allocates l old | inr (inl e) ↦ rw e refl | inr (inr no_more) ↦ absurd no_more ]
+
+-- ---- what comes in
+
+challenge-some : (o : Option Challenge) → IsSome o → (c : Challenge) × (o ≡ Some c)
+challenge-some None h = cc
+challenge-some (Some c) h = (c, refl)
+
+first-judged : (message : List ℕ) (s : State) (c : Challenge) → s.phase ≡ Requesting → answers_one s message ≡ true → challenge_in s message ≡ Some c → judgement_of s message ≡ Challenged c
+first-judged message s c e a f = rw (e, a, f) refl
+
+-- the only request is answered
+answers-it : (message : List ℕ) (s : State) (x : Transaction) → s.transactions ≡ x ∷ [] → answers_one s message ≡ true → x.id ≡ id_of message
+answers-it message s x only a =
+    let o : is_outstanding (id_of message) (x ∷ []) ≡ true = subst (λ (xs : List Transaction). is_outstanding (id_of message) xs ≡ true) only (and_parts (is_response (class_in message)) (is_outstanding (id_of message) s.transactions) a).1 in
+    eqb-true x.id (id_of message) (or-none (eqb x.id (id_of message)) o)
+  where
+    or-none : (b : Bool) → (b || false) ≡ true → b ≡ true
+    or-none true e = refl
+    or-none false e = e
+
+challenged : (message : List ℕ) (now : ℕ) (s : State) (c : Challenge) → 1 ≤ s.config.max_stale_nonces → s.challenges ≡ 0 → purposes_of (id_of message) s ≡ ForAllocation ∷ [] → judgement_of s message ≡ Challenged c
+    → (message_step message now s).1 ≡ state_after_retry s (id_of message) ForAllocation c now
+challenged message now s c some zero purposes judged = rw judged (step (purposes_of (id_of message) s) purposes)
+  where
+    few : ltb s.challenges s.config.max_stale_nonces ≡ true
+    few = lt-ltb s.challenges s.config.max_stale_nonces (omega (arith, some, zero))
+
+    step : (ps : List Purpose) → ps ≡ ForAllocation ∷ [] → (cond {A = Outcome × State} (ltb s.challenges s.config.max_stale_nonces)
+        (option_map_or (λ purpose. (Handled, state_after_retry s (id_of message) purpose c now)) (Rattle.turn_client_api.specs.Retry.retried ps) (Rattle.turn_client_api.specs.Payloads.Ignored, s))
+        (Handled, Rattle.turn_client_api.specs.Effect.closed (Rattle.turn_client_api.specs.Effect.fail_all s))).1 ≡ state_after_retry s (id_of message) ForAllocation c now
+    step ps e = rw (few, e) refl
+
+one-purpose : (r : Purpose) → Has r (ForAllocation ∷ []) → is_for_allocation r ≡ true
+one-purpose r (inl e) = rw e refl
+one-purpose r (inr none) = absurd none
+
+first-answered : (delay start now : ℕ) (packet : Transmit (List ℕ)) (s : State) (x : Transaction) → IsPlain delay now s → IsAsked delay now start s x → s.queue ≡ [] → purposes_of x.id s ≡ ForAllocation ∷ []
+    → s.challenges ≡ 0 → IsFirstChallenge packet s → IsStage delay start now (packet_step packet now s).1
+first-answered delay start now packet s x p a q purposes zero is =
+    let (c, e) = challenge-some (challenge_in s packet.payload) is.challenge in
+    let same = answers-it packet.payload s x a.only is.answers in
+    let judged = first-judged packet.payload s c is.phase is.answers e in
+    let arrived : (packet_step packet now s).1 ≡ (message_step packet.payload now s).1 = ap (λ (z : Outcome × State). z.1) (arrives packet now s p.over_udp is.arrives) in
+    let made = challenged packet.payload now s c p.answers zero (subst (λ (id : ℕ). purposes_of id s ≡ ForAllocation ∷ []) same purposes) judged in
+    subst (IsStage delay start now) (sym (arrived ∙ made)) (next c same)
+  where
+    next : (c : Challenge) → x.id ≡ id_of packet.payload → IsStage delay start now (state_after_retry s (id_of packet.payload) ForAllocation c now)
+    next c same = second
+        (record { over_udp = p.over_udp; prompt = p.prompt; answers = p.answers; closes = p.closes; events = p.events; no_reply = rw q refl; sent_before = p.sent_before; allocates = listed })
+        (first_sent _ s.remote now _)
+        (record { only = ended (id_of packet.payload) same; young = refl; sent = let h = a.heard in let b = a.sent in omega (arith, h, b); heard = omega arith })
+        (after s.phase is.phase)
+      where
+        listed : (l : Listing) → Has l (s.listed ++ listings (fresh_id s) (purposes_of (id_of packet.payload) s)) → is_for_allocation l.purpose ≡ true
+        listed l h = elim (has-append l s.listed (listings (fresh_id s) (purposes_of (id_of packet.payload) s)) h) [
+          | inl old ↦ p.allocates l old
+          | inr more ↦
+              let (r, here, is) = has-mapped (λ (r : Purpose). record { id = fresh_id s; purpose = r }) l (purposes_of (id_of packet.payload) s) more in
+              let one = subst (λ (id : ℕ). purposes_of id s ≡ ForAllocation ∷ []) same purposes in
+              rw is (one-purpose r (subst (λ (ps : List Purpose). Has r ps) one here))
+        ]
+
+        after : (f : Phase) → f ≡ Requesting → Rattle.turn_client_api.specs.Retry.phase_after f ≡ Authenticating
+        after f e = rw e refl
+
+        ended : (id : ℕ) → x.id ≡ id → {y : Transaction} → without_transaction id s.transactions ++ y ∷ [] ≡ y ∷ []
+        ended id e = rw (a.only, eq-eqb x.id id e) refl
+
+-- ---- the allocation
+
+none-challenged : (message : List ℕ) (s : State) → class_in message ≡ Success → challenge_in s message ≡ None
+none-challenged message s e = elim (cases_Option (challenge_in s message)) [
+  | inl none ↦ none
+  | inr (c, f) ↦ let is = (challenge_of-sound (auth_of s) message c f).error in absurd (let no : Success ≡ Rattle.turn_stun.specs.declared.message.header.MessageClass.TheVariants.Error = sym e ∙ is in cc)
+]
+
+second-judged : (message : List ℕ) (s : State) → s.phase ≡ Authenticating → answers_allocate s message ≡ true → class_in message ≡ Success → IsValidated (validation_of (auth_of s) message)
+    → is_outstanding (id_of message) s.transactions ≡ true → judgement_of s message ≡ SignedSuccess
+second-judged message s p a c v o = by (validation_of (auth_of s) message) refl v
+  where
+    by : (w : Validation) → validation_of (auth_of s) message ≡ w → IsValidated w → judgement_of s message ≡ SignedSuccess
+    by (Validated algorithm) e h = rw (p, a, e, none-challenged message s c, o) (rw c refl)
+    by (ResendRequest algorithm) e h = absurd h
+    by (Refused integrity) e h = absurd h
+
+phase-some : (addresses : List SocketAddr) → addresses ≢ [] → phase_with addresses ≡ Allocated
+phase-some [] h = absurd (h refl)
+phase-some (a ∷ others) h = refl
+
+second-answered : (delay start now : ℕ) (packet : Transmit (List ℕ)) (s : State) → IsPlain delay now s → IsAllocating packet s → IsStage delay start now (packet_step packet now s).1
+second-answered delay start now packet s p is =
+    let message = packet.payload in
+    let arrived = arrives packet now s p.over_udp is.arrives in
+    let judged : message_step message now s ≡ signed_step true message now s = rw (second-judged message s is.phase is.answers is.success is.signed is.outstanding) refl in
+    let granted : signed_step true message now s ≡ (Handled, allocate_granted message now (transaction_ended (id_of message) s)) = rw is.phase refl in
+    subst (λ (z : Outcome × State). IsStage delay start now z.1) (sym (arrived ∙ (judged ∙ granted))) (done (by (lifetime_in message) is.lifetime))
+  where
+    by : (o : Option ℕ) → IsSome o
+        → (option_map_or (λ lifetime. allocated lifetime (taken_addresses s.families (relayed_in packet.payload)) now (transaction_ended (id_of packet.payload) s)) o
+        (Rattle.turn_client_api.specs.Effect.closed (Rattle.turn_client_api.specs.Effect.fail_all (transaction_ended (id_of packet.payload) s)))).phase ≡ Allocated
+    by None h = cc
+    by (Some n) h = phase-some (taken_addresses s.families (relayed_in packet.payload)) is.relayed
+
+-- ---- an allocation stays
+
+sent-allocated : (now : ℕ) (s : State) → s.phase ≡ Allocated → (transmit_step now s).1.phase ≡ Allocated
+sent-allocated now s e = again (due (agent_of s) now)
+  where
+    Is : Option (Transmit (List ℕ)) × State → Type 0
+    Is z = z.1.phase ≡ Allocated
+
+    refresh : (o : Option Purpose) → Is (option_map_or (λ purpose. sent_at_once (request_for s purpose (fresh_id s)) purpose now s) o (None, s))
+    refresh None = e
+    refresh (Some p) = e
+
+    idle : (f : Phase) → f ≡ Allocated → Is (idle_step f now s)
+    idle f g = rw g (refresh _)
+
+    front : (o : Option Queued) → Is (option_map_or (λ q. (Some q.packet, Rattle.turn_client_api.specs.Transmit.sent now (record s { queue = drop 1 s.queue }))) o (idle_step s.phase now s))
+    front None = idle s.phase e
+    front (Some q) = e
+
+    wait : (b : Bool) → Is (if b then reply_step s else queue_step now s)
+    wait true = e
+    wait false = front (slice_get s.queue 0)
+
+    again : (o : Option Transaction) → Is (option_map_or (λ t. (Some (record (Rattle.turn_client_api.specs.Requests.to_server s s.local t.request) { to = t.to }), Rattle.turn_client_api.specs.Transmit.sent now (record s { transactions = Rattle.turn_agent.specs.Agent.resent t.id now s.transactions }))) o
+        (if is_paused now s then reply_step s else queue_step now s))
+    again None = wait (is_paused now s)
+    again (Some t) = e
+
+polled-allocated : (now : ℕ) (s : State) → s.phase ≡ Allocated → (poll_step now s).1.phase ≡ Allocated
+polled-allocated now s e = event (has_event s || has_reply s)
+  where
+    Is : Rattle.turn_client_api.specs.declared.poll.TurnPollRet.TurnPollRet × State → Type 0
+    Is z = z.1.phase ≡ Allocated
+
+    answers : (given : Option ℕ) (t : State) → t.phase ≡ Allocated → Is (answer_step given now t)
+    answers given t f = answer-by (λ (u : State). u.phase ≡ Allocated) given now t (λ closes. f)
+
+    steps : (f : Phase) (given : Option ℕ) (t : State) → f ≡ Allocated → t.phase ≡ Allocated → Is (timed_step f given now t)
+    steps f given t g h = rw g (answers given (lapsed given now t) ((lapsed-shrinks given now t).phase ∙ h))
+
+    times : (o : Option Transaction) → Is (option_map_or (λ t. timed_step s.phase (Some t.id) now (transaction_ended t.id s)) o (timed_step s.phase None now s))
+    times None = steps s.phase None s e e
+    times (Some t) = steps s.phase (Some t.id) (transaction_ended t.id s) e e
+
+    offers : (o : Option DataOffer) → Is (option_map_or (λ offer. offer_step offer s) o (timed_out_step now s))
+    offers None = times (timed_out_transaction (agent_of s) now)
+    offers (Some offer) = e
+
+    event : (b : Bool) → Is (if b then (Rattle.turn_client_api.specs.declared.poll.TurnPollRet.TheVariants.WaitUntil now, s) else option_map_or (λ offer. offer_step offer s) (next_offer s) (timed_out_step now s))
+    event true = e
+    event false = offers (next_offer s)
+
+-- ---- the run
+
+not-new : (s : State) (p : Phase) → s.phase ≡ p → p ≢ New → s.phase ≡ New → ⊥
+not-new s p e other begins = other (sym e ∙ begins)
+
+plain-later : (delay before now : ℕ) (s : State) → IsPlain delay before s → before ≤ now → IsPlain delay now s
+plain-later delay before now s p later = record {
+  over_udp = p.over_udp;
+  prompt = p.prompt;
+  answers = p.answers;
+  closes = p.closes;
+  events = p.events;
+  no_reply = p.no_reply;
+  sent_before = sent s.last_send p.sent_before;
+  allocates = p.allocates;
+}
+  where
+    sent : (o : Option ℕ) → IfSome o (λ time. time ≤ before) → IfSome o (λ time. time ≤ now)
+    sent None h = tt
+    sent (Some time) h = omega (arith, h, later)
+
+passes : (delay start before now : ℕ) (s : State) → IsStage delay start before s → IsInTime delay before now s → IsStage delay start now s
+passes delay start before now s (new p u none zero) t = new (plain-later delay before now s p t.on_time.later) (unsent-waits start before now s u t.on_time) none zero
+passes delay start before now s (first p x a e q ps zero) t =
+    first (plain-later delay before now s p t.on_time.later) x
+    (record { only = a.only; young = a.young; sent = a.sent; heard = has-all (λ (y : Transaction). now ≤ y.last_send + delay) x s.transactions t.answered (subst (λ (xs : List Transaction). Has x xs) (sym a.only) (inl refl)) }) e q ps zero
+passes delay start before now s (second p x a e) t =
+    second (plain-later delay before now s p t.on_time.later) x
+    (record { only = a.only; young = a.young; sent = a.sent; heard = has-all (λ (y : Transaction). now ≤ y.last_send + delay) x s.transactions t.answered (subst (λ (xs : List Transaction). Has x xs) (sym a.only) (inl refl)) }) e
+passes delay start before now s (done e) t = done e
+
+steps-on : (delay start before : ℕ) (s : State) (call : Call) → IsStage delay start before s → IsInTime delay before (time_of before call) s → IsStep call s → IsStage delay start (time_of before call) (state_after call s)
+steps-on delay start before s call stage t step = by call (passes delay start before (time_of before call) s stage t) t.on_time.in_range step
+  where
+    by : (c : Call) → IsStage delay start (time_of before c) s → time_of before c ≤ 2 ^ 62 → IsStep c s → IsStage delay start (time_of before c) (state_after c s)
+    by (Poll now) (new p u none zero) r h = subst (IsStage delay start now) (sym (Rattle.turn_client_runs.proofs.SilenceLemmas.unsent-same start now s u)) (new p u none zero)
+    by (Poll now) (first p x a e q ps zero) r h = subst (IsStage delay start now) (sym (poll-same delay now start s x p a r (inl e))) (first p x a e q ps zero)
+    by (Poll now) (second p x a e) r h = subst (IsStage delay start now) (sym (poll-same delay now (start + delay) s x p a r (inr e))) (second p x a e)
+    by (Poll now) (done e) r h = done (polled-allocated now s e)
+    by (PollTransmit now) (new p u none zero) r h = new-transmit delay start now s p u none zero
+    by (PollTransmit now) (first p x a e q ps zero) r h = subst (IsStage delay start now) (sym (first-transmit delay now start s x p a r e q)) (first p x a e q ps zero)
+    by (PollTransmit now) (second p x a e) r h = second-transmit delay start now s x p a r e
+    by (PollTransmit now) (done e) r h = done (sent-allocated now s e)
+    by PollEvent (new p u none zero) r h = subst (IsStage delay start before) (sym (no-event s p.events)) (new p u none zero)
+    by PollEvent (first p x a e q ps zero) r h = subst (IsStage delay start before) (sym (no-event s p.events)) (first p x a e q ps zero)
+    by PollEvent (second p x a e) r h = subst (IsStage delay start before) (sym (no-event s p.events)) (second p x a e)
+    by PollEvent (done e) r h = done e
+    by (Recv packet now) stage r (inr (inr same)) = subst (IsStage delay start now) (sym same) stage
+    by (Recv packet now) (new p u none zero) r (inl is) = absurd (not-new s Requesting is.phase (λ f. cc) u.phase)
+    by (Recv packet now) (first p x a e q ps zero) r (inl is) = first-answered delay start now packet s x p a q ps zero is
+    by (Recv packet now) (second p x a e) r (inl is) = absurd (let no : Authenticating ≡ Requesting = sym e ∙ is.phase in cc)
+    by (Recv packet now) (done e) r (inl is) = absurd (let no : Allocated ≡ Requesting = sym e ∙ is.phase in cc)
+    by (Recv packet now) (new p u none zero) r (inr (inl is)) = absurd (not-new s Authenticating is.phase (λ f. cc) u.phase)
+    by (Recv packet now) (first p x a e q ps zero) r (inr (inl is)) = absurd (let no : Requesting ≡ Authenticating = sym e ∙ is.phase in cc)
+    by (Recv packet now) (second p x a e) r (inr (inl is)) = second-answered delay start now packet s p is
+    by (Recv packet now) (done e) r (inr (inl is)) = absurd (let no : Allocated ≡ Authenticating = sym e ∙ is.phase in cc)
+    by c stage r same = subst (IsStage delay start (time_of before c)) (sym same) stage
+
+all-on : (delay start before : ℕ) (s : State) (calls : List Call) → IsStage delay start before s → RunsHandshake delay before s calls → IsStage delay start (time_of_all before calls) (state_after_all s calls)
+all-on delay start before s [] stage run = stage
+all-on delay start before s (call ∷ calls) stage (t, step, run) =
+    all-on delay start (time_of before call) (state_after call s) calls (steps-on delay start before s call stage t step) run
+
+has-allocation : (delay start now : ℕ) (s : State) → IsStage delay start now s → start + delay + delay < now → s.phase ≡ Allocated
+has-allocation delay start now s (new p u none zero) late = let b = u.begins in absurd (omega (arith, b, late))
+has-allocation delay start now s (first p x a e q ps zero) late = let h = a.heard in let b = a.sent in absurd (omega (arith, h, b, late))
+has-allocation delay start now s (second p x a e) late = let h = a.heard in let b = a.sent in absurd (omega (arith, h, b, late))
+has-allocation delay start now s (done e) late = e
+
+begins : (local remote : SocketAddr) (config : Config) (seed : List ℕ) (delay start : ℕ) → 1 ≤ config.max_stale_nonces → delay < wait_at (timers_of config) Udp 0
+    → IsStage delay start start (initial Udp local remote config seed)
+begins local remote config seed delay start some prompt =
+    new (record { over_udp = refl; prompt = prompt; answers = some; closes = refl; events = refl; no_reply = refl; sent_before = tt; allocates = λ l h. absurd h })
+    (record { phase = refl; queue = refl; events = refl; closes = refl; none = refl; never = refl; begins = refl }) refl refl
+
+pub run-handshake : HandshakeSucceeds
+run-handshake local remote config seed delay start now calls some prompt run t late =
+    let s = initial Udp local remote config seed in
+    let last = state_after_all s calls in
+    has-allocation delay start now last (passes delay start (time_of_all start calls) now last (all-on delay start start s calls (begins local remote config seed delay start some prompt) run) t) late
+
+-- ---- the state just after
+
+-- what holds in all runs, and is needed here
+abbrev AreFit : State → Type 0
+AreFit s = FitsPhase s × HasNoDoubles s × GrantsHaveAllocations s
+
+fit-stays : (call : Call) (s t : State) → Leaves call s t → AreFit s → AreFit t
+fit-stays call s t leaves (fits, distinct, housed) =
+    (leaves-steadies call s t leaves fits, leaves-single call s t leaves fits distinct, leaves-GrantsHaveAllocations call s t leaves housed)
+
+steady-next : (count slots delay start now lifetime : ℕ) (packet : Transmit (List ℕ)) (s : State) → AreFit s → IsPlain delay now s → (x : Transaction) → IsAsked delay now (start + delay) s x → now ≤ 2 ^ 62
+    → IsAllocating packet s → s.queue ≡ [] → lifetime_in packet.payload ≡ Some lifetime → min_lifetime ≤ lifetime → HasRoom count slots delay refresh_ahead
+    → IsWithin count slots (state_after (Recv packet now) s) → IsSteady count slots delay now (state_after (Recv packet now) s)
+steady-next count slots delay start now lifetime packet s (fits, distinct, housed) p x a range is empty said enough room within =
+    let after = fit-stays (Recv packet now) s (state_after (Recv packet now) s) (inl refl) (fits, distinct, housed) in
+    let next : AreFit t × IsWithin count slots t = subst (λ (z : State). AreFit z × IsWithin count slots z) whole (after, within) in
+    subst (IsSteady count slots delay now) (sym whole) (record {
+      allocated = phase-some addresses is.relayed;
+      none_queued = empty;
+      none_outstanding = ended;
+      none_listed = filter-none _ s.listed (λ l h. rw (p.allocates l h) refl);
+      sent_before = p.sent_before;
+      in_force = all-has (IsInForce now) t.grants (λ g h. let (e, l) = made g h in rw e (refl, l));
+      none_late = all-has (λ g. now + ahead_of g ≤ expiry_of g) t.grants (λ g h. let (e, l) = made g h in rw (e, long) (omega (arith, lasts)));
+      room = all-has (λ g. HasRoom count slots delay (ahead_of g)) t.grants (λ g h. let (e, l) = made g h in rw (e, long) room);
+      room_for_more = room;
+      within = next.1;
+      distinct = next.0.1;
+      housed = GrantsHaveAllocations-AllHaveAllocation t next.0.2;
+      prompt = p.prompt;
+      in_range = range;
+    })
+  where
+    message : List ℕ
+    message = packet.payload
+
+    addresses : List SocketAddr
+    addresses = taken_addresses s.families (relayed_in packet.payload)
+
+    u : State
+    u = transaction_ended (id_of packet.payload) s
+
+    t : State
+    t = allocated lifetime addresses now u
+
+    whole : state_after (Recv packet now) s ≡ t
+    whole =
+        let judged : message_step packet.payload now s ≡ signed_step true packet.payload now s = rw (second-judged packet.payload s is.phase is.answers is.success is.signed is.outstanding) refl in
+        let granted : signed_step true packet.payload now s ≡ (Handled, allocate_granted packet.payload now u) = rw is.phase refl in
+        let given : allocate_granted packet.payload now u ≡ t = rw said refl in
+        ap (λ (z : Outcome × State). z.1) (arrives packet now s p.over_udp is.arrives ∙ (judged ∙ granted)) ∙ given
+
+    ended : t.transactions ≡ []
+    ended =
+        let o : is_outstanding (id_of packet.payload) (x ∷ []) ≡ true = subst (λ (xs : List Transaction). is_outstanding (id_of packet.payload) xs ≡ true) a.only is.outstanding in
+        rw (a.only, or-none (eqb x.id (id_of packet.payload)) o) refl
+      where
+        or-none : (b : Bool) → (b || false) ≡ true → b ≡ true
+        or-none true e = refl
+        or-none false e = e
+
+    none : s.grants ≡ []
+    none = fits.3 (subst IsUngranted (sym is.phase) tt)
+
+    long : leb (seconds lifetime) 120_000_000_000 ≡ false
+    long = lt-leb (seconds lifetime) 120_000_000_000 (omega (arith, enough))
+
+    lasts : now + 60_000_000_000 ≤ later_by (seconds lifetime) now
+    lasts = omega (arith, range, enough)
+
+    made : (g : Grant) → Has g t.grants → (g ≡ Allocation (record { relayed = (allocation_at g).relayed; first_lifetime = seconds lifetime; expiry = later_by (seconds lifetime) now; is_expired = false })) × (now < later_by (seconds lifetime) now)
+    made g h = (by g (has-mapped (new_allocation lifetime now) g addresses (subst (λ (gs : List Grant). Has g gs) (rw none refl) h)), omega (arith, lasts))
+      where
+        by : (g : Grant) → (address : SocketAddr) × Has address addresses × (g ≡ new_allocation lifetime now address)
+            → g ≡ Allocation (record { relayed = (allocation_at g).relayed; first_lifetime = seconds lifetime; expiry = later_by (seconds lifetime) now; is_expired = false })
+        by g (address, there, e) = rw e refl
+
+pub run-steadily : HandshakeEndsSteadily
+run-steadily local remote config seed delay start now calls packet count slots lifetime some prompt run t is empty said enough room within =
+    let s = initial Udp local remote config seed in
+    let last = state_after_all s calls in
+    let fit = kept-behind AreFit fit-stays s calls (initial-steady Udp local remote config seed, initial-single Udp local remote config seed, initial-GrantsHaveAllocations Udp local remote config seed) in
+    by (passes delay start (time_of_all start calls) now last (all-on delay start start s calls (begins local remote config seed delay start some prompt) run) t) fit
+  where
+    last : State
+    last = state_after_all (initial Udp local remote config seed) calls
+
+    by : IsStage delay start now last → AreFit last → IsSteady count slots delay now (state_after (Recv packet now) last)
+    by (new p u none zero) fit = absurd (not-new last Authenticating is.phase (λ f. cc) u.phase)
+    by (first p x a e q ps zero) fit = absurd (let no : Requesting ≡ Authenticating = sym e ∙ is.phase in cc)
+    by (second p x a e) fit = steady-next count slots delay start now lifetime packet last fit p x a t.on_time.in_range is empty said enough room within
+    by (done e) fit = absurd (let no : Allocated ≡ Authenticating = sym e ∙ is.phase in cc)

@@ -1,0 +1,390 @@
+-- A permission is requested while no grant is lost.
+use Rattle.std.proofs.Common.{◌≡◌, ◌⊎◌, ℕ, ◌+◌, ◌≤◌, Bool, true, false, cond, not, List, [], ◌∷◌, length, Option, Some, None, refl, inl, inr, ap, sym, ◌∙◌, arith}
+use Rattle.std.specs.Prelude.{Result, Ok, Err, filter_map, is_some}
+use Rattle.std.specs.Net.Socket.{socket_ip}
+use Rattle.std.specs.declared.net.socket_addr.SocketAddr.{SocketAddr}
+use Rattle.turn_client_api.specs.declared.error.BindChannelError.{BindChannelError}
+use Rattle.turn_client_api.specs.declared.error.BindChannelError.TheVariants as Bind
+use Rattle.std.specs.List.{list_any}
+use Rattle.std.proofs.lemmas.Bool.{cases_Bool, eq-eqb, lt-leb, not-true, or_left, or_right}
+use Rattle.std.proofs.lemmas.List.{length-append}
+use Rattle.std.proofs.lemmas.List.Folds.{list_any-append}
+use Rattle.std.proofs.lemmas.Option.{none-some}
+use Rattle.std.specs.declared.net.ip_addr.IpAddr.{IpAddr}
+use Rattle.turn_stun.specs.declared.transport.TransportType.{TransportType}
+use Rattle.turn_types.specs.declared.family.AddressFamily.{AddressFamily}
+use Rattle.turn_agent.specs.Agent.{first_sent}
+use Rattle.turn_agent.specs.declared.transaction.Transaction.{Transaction}
+use Rattle.turn_client_api.specs.Config.{same_family}
+use Rattle.turn_client_api.specs.State.{State}
+use Rattle.turn_client_api.specs.declared.state.Phase.{Phase}
+use Rattle.turn_client_api.specs.declared.state.Phase.TheVariants.{Allocated}
+use Rattle.turn_client_api.specs.declared.state.Queued.{Queued}
+use Rattle.turn_client_api.specs.declared.error.CreatePermissionError.{CreatePermissionError}
+use Rattle.turn_client_api.specs.declared.error.CreatePermissionError.TheVariants as Create
+use Rattle.turn_client_api.specs.declared.grant.Grant.{Grant}
+use Rattle.turn_client_api.specs.declared.grant.Grant.TheVariants.{Allocation, Channel, Permission}
+use Rattle.turn_client_api.specs.declared.grant.Listing.{Listing}
+use Rattle.turn_client_api.specs.declared.grant.Relay.{Relay}
+use Rattle.turn_client_api.specs.declared.grant.Progress.{Progress}
+use Rattle.turn_client_api.specs.declared.grant.Progress.TheVariants.{Pending}
+use Rattle.turn_client_api.specs.declared.grant.Purpose.{Purpose}
+use Rattle.turn_client_api.specs.declared.grant.Purpose.TheVariants.{ForChannel, ForPermission}
+use Rattle.turn_client_api.specs.Grants.{allocations, family_of, family_of_grant, family_of_ip, find_allocation, find_allocation_to, has_request, is_channel_of, is_for, is_past, is_permission_of, permission_progress, permission_state, same_transport}
+use Rattle.turn_client_api.specs.Grants.{with_grant}
+use Rattle.turn_client_api.specs.Requests.{fresh_id, listings, queued, request_for, request_started, requested, to_server}
+use Rattle.turn_client_api.specs.Calls.{bind_channel, bind_channel_step, bound_by, channel_numbers, channel_step, channels_to, create_permission_step, free_number, in_allocation, is_allocated, is_in_progress, is_number_taken, missing_permission, permission_step, reserved_from}
+use Rattle.turn_client_laws.proofs.HasLemmas.{map-has, Has, filter_map-has, has-append, has-found, has-left, has-right}
+use Rattle.turn_client_laws.proofs.InAllocationLemmas.{any-has, Room, has-any, allocation-room, allocation-there, room-more}
+use Rattle.turn_client_runs.proofs.LastingCounts.{passes, passes-all, passes-append, passes-none}
+use Rattle.turn_client_runs.proofs.LastingStands.{Goes, IsPending, pending-more, AreSingle, IsAsked, IsRequest, IsAwaited, IsIdle, IsKept, IsUnique, Stands, allocation-stands, due_of, is_served, is_waiting, served, stands-early, unique-refreshing}
+use Rattle.turn_client_runs.proofs.LastingTransmits.{same_ip-self}
+use Rattle.turn_client_api.specs.Grants.{with_more_grants}
+use Rattle.turn_client_laws.proofs.GrantOriginLemmas.{has-mapped}
+use Rattle.std.specs.Prelude.{is_none}
+use Rattle.std.proofs.Common.{append_assoc, subst, ◌++◌}
+use Rattle.turn_client_runs.proofs.LastingListings.{requests-more}
+use Rattle.turn_client_runs.proofs.LastingEffects.{permission-there, some-first}
+use Rattle.turn_client_runs.proofs.LastingReplies.{for-joins}
+
+-- ---- a request is queued
+
+-- a request for permissions or channels is made and queued
+abbrev pub asks : List Purpose → List Grant → ℕ → List ℕ → State → State
+asks ps news now text s = queued true s.local text (request_started (fresh_id s) text ps now (with_more_grants news s))
+
+-- what is requested waits, did not exist, and has an allocation
+pub record AreNew (s : State) (ps : List Purpose) (news : List Grant) : Type 0 where
+  pub unique : (p : Purpose) → Has p ps → IsUnique p
+  pub some : 1 ≤ length news
+  pub waits : (g : Grant) → Has g news → is_waiting g ≡ true
+  pub for : (p : Purpose) → Has p ps → (g : Grant) × Has g news × (is_for p g ≡ true)
+  pub none : (p : Purpose) → Has p ps → (g : Grant) → Has g s.grants → is_for p g ≡ false
+  pub house : (g : Grant) → Has g news → Room s.grants (family_of_grant g)
+  pub single : AreSingle (s.grants ++ news)
+  pub asked : (g : Grant) → Has g news → (p : Purpose) × Has p ps × (is_for p g ≡ true)
+  pub linked : (id : ℕ) → IsRequest (s.grants ++ news) (listings id ps)
+
+module _ (count slots delay now : ℕ) (s : State) (k : IsKept count slots delay now s.transactions s) (ps : List Purpose) (news : List Grant) (are : AreNew s ps news) (text : List ℕ) where
+  abbrev id : ℕ
+  id = fresh_id s
+
+  abbrev t : State
+  t = asks ps news now text s
+
+  abbrev sent : Transaction
+  sent = first_sent id s.remote now text
+
+  abbrev packet : Queued
+  packet = record { packet = to_server s s.local text; is_request = true }
+
+  new-listing : (l : Listing) → Has l (listings id ps) → (p : Purpose) × Has p ps × (l ≡ record { id = id; purpose = p })
+  new-listing l h = has-mapped (λ (p : Purpose). record { id = id; purpose = p }) l ps h
+
+  still-asked : (g : Grant) → has_request g s ≡ true → has_request g t ≡ true
+  still-asked g e = list_any-append (λ (l : Listing). is_for l.purpose g) s.listed (listings id ps) ∙ or_left (has_request g s) _ e
+
+  not-asked : (g : Grant) → Has g s.grants → has_request g s ≡ false → has_request g t ≡ false
+  not-asked g there e = list_any-append (λ (l : Listing). is_for l.purpose g) s.listed (listings id ps) ∙ rw e (by (list_any (λ (l : Listing). is_for l.purpose g) (listings id ps)) refl)
+    where
+      by : (b : Bool) → list_any (λ (l : Listing). is_for l.purpose g) (listings id ps) ≡ b → list_any (λ (l : Listing). is_for l.purpose g) (listings id ps) ≡ false
+      by false f = f
+      by true f =
+          let (l, here, for) = any-has (λ (l : Listing). is_for l.purpose g) (listings id ps) f in
+          let (p, among, is) = new-listing l here in
+          let also : is_for p g ≡ true = subst (λ (m : Listing). is_for m.purpose g ≡ true) is for in
+          let no : false ≡ true = sym (are.none p among g there) ∙ also in
+          cc
+
+  -- one more is served, and all that were
+  serves-more : (since : ℕ) → served s since + 1 ≤ served t since
+  serves-more since =
+      let same = passes-all (is_served s since) (is_served t since) s.grants still in
+      let more = passes-append (is_served t since) s.grants news in
+      omega (arith, same, more, new-served news are.some are.waits)
+    where
+      still : (x : Grant) → Has x s.grants → is_served s since x ≡ true → is_served t since x ≡ true
+      still x h e = elim (cases_Bool (is_waiting x)) [
+        | inl w ↦ or_left (is_waiting x) _ w
+        | inr w ↦ or_right (is_waiting x) _ (elim (cases_Bool (has_request x s)) [
+          | inl f ↦ or_left (has_request x t) _ (still-asked x f)
+          | inr f ↦ or_right (has_request x t) _ (rw (w, f) at e)
+        ])
+      ]
+
+      new-served : (gs : List Grant) → 1 ≤ length gs → ((g : Grant) → Has g gs → is_waiting g ≡ true) → 1 ≤ passes (is_served t since) gs
+      new-served [] some waits = absurd (omega (arith, some))
+      new-served (g ∷ gs) some waits = rw (waits g (inl refl)) (omega arith)
+
+  one-more : length t.queue ≡ length s.queue + 1
+  one-more = length-append s.queue (packet ∷ [])
+
+  stands-asked : (g : Grant) → Has g s.grants → Stands count slots delay now s.transactions s g → Stands count slots delay now t.transactions t g
+  stands-asked g there was = record { granted = was.granted; room = was.room; long = was.long; either = by was.either }
+    where
+      by : IsAwaited delay s.transactions s.listed g ⊎ IsIdle slots now s g → IsAwaited delay t.transactions t.listed g ⊎ IsIdle slots now t g
+      by (inl a) = inl (record {
+        transaction = a.transaction;
+        there = has-left a.transaction s.transactions (sent ∷ []) a.there;
+        listing = a.listing;
+        within = has-left a.listing s.listed (listings id ps) a.within;
+        for = a.for;
+        same = a.same;
+        in_time = a.in_time;
+      })
+      by (inr idle) =
+          let more = serves-more (due_of g) in
+          let soon = idle.soon in
+          let paused = idle.paused in
+          inr (record {
+            unasked = not-asked g there idle.unasked;
+            soon = omega (arith, soon, more, one-more);
+            paused = omega (arith, paused, more, one-more);
+          })
+
+  room-left : (family : AddressFamily) → Room s.grants family → Room t.grants family
+  room-left = room-more s.grants t.grants (λ a there. has-left (Allocation a) s.grants news there)
+
+  new-pending : (g : Grant) → Has g news → IsPending now t.transactions t.listed g
+  new-pending g h =
+      let (p, among, for) = are.asked g h in
+      record {
+        transaction = sent;
+        there = has-right sent s.transactions (sent ∷ []) (inl refl);
+        listing = record { id = id; purpose = p };
+        within = has-right (record { id = id; purpose = p }) s.listed (listings id ps) (map-has (λ (p : Purpose). record { id = id; purpose = p }) p ps among);
+        for = for;
+        same = refl;
+        sent = omega arith;
+      }
+
+  pub asked-kept : length t.grants ≤ count → length t.queue ≤ slots → IsKept count slots delay now t.transactions t
+  asked-kept size few = record {
+    phase = k.phase;
+    requests = list_any-append (λ (q : Queued). not q.is_request) s.queue (packet ∷ []) ∙ rw k.requests refl;
+    few = few;
+    prompt = k.prompt;
+    pace = k.pace;
+    sent = k.sent;
+    young = λ x h. elim (has-append x s.transactions (sent ∷ []) h) [
+      | inl old ↦ k.young x old
+      | inr (inl e) ↦ rw e refl
+      | inr (inr none) ↦ absurd none
+    ];
+    heard = λ x h. elim (has-append x s.transactions (sent ∷ []) h) [
+      | inl old ↦ k.heard x old
+      | inr (inl e) ↦ rw e (omega arith)
+      | inr (inr none) ↦ absurd none
+    ];
+    asked = λ l h. elim (has-append l s.listed (listings id ps) h) [
+      | inl old ↦ let (refreshes, (g, there, for)) = k.asked l old in (refreshes, (g, has-left g s.grants news there, for))
+      | inr new ↦
+          let (p, among, is) = new-listing l new in
+          let (g, there, for) = are.for p among in
+          subst (IsAsked t.grants) (sym is) (unique-refreshing p (are.unique p among), (g, has-right g s.grants news there, for))
+    ];
+    size = size;
+    single = are.single;
+    linked = requests-more s t.grants (listings id ps) (λ g h. has-left g s.grants news h) (λ l h. ap (λ (m : Listing). m.id) (new-listing l h).2) (are.linked id) k.linked;
+    in_range = k.in_range;
+    housed = λ g h. elim (has-append g s.grants news h) [
+      | inl old ↦ room-left (family_of_grant g) (k.housed g old)
+      | inr new ↦ room-left (family_of_grant g) (are.house g new)
+    ];
+    each = λ g h. elim (has-append g s.grants news h) [
+      | inl old ↦ elim (k.each g old) [ inl (waits, pending) ↦ inl (waits, pending-more now s.transactions t.transactions s.listed t.listed g (λ x h. has-left x s.transactions _ h) (λ l h for. has-left l s.listed _ h) pending) | inr stands ↦ inr (stands-asked g old stands) ]
+      | inr new ↦ inl (are.waits g new, new-pending g new)
+    ];
+  }
+
+  pub asked-goes : Goes s.transactions t.transactions s t
+  asked-goes = record {
+    remain = λ g there granted. (g, has-left g s.grants news there, refl, granted);
+    follow = λ until g there waits pending. inl (
+      has-left g s.grants news there,
+      pending-more until s.transactions t.transactions s.listed t.listed g (λ x h. has-left x s.transactions _ h) (λ l h for. has-left l s.listed _ h) pending,
+    );
+  }
+
+-- one grant more of a kind that did not exist
+single-more : (gs : List Grant) (p : Purpose) (unique : IsUnique p) (new : Grant) → is_for p new ≡ true → ((g : Grant) → Has g gs → is_for p g ≡ false) → AreSingle gs → AreSingle (gs ++ new ∷ [])
+single-more gs p unique new for none-there single q other = by (is_for q new) refl
+  where
+    more : passes (is_for q) (gs ++ new ∷ []) ≡ passes (is_for q) gs + passes (is_for q) (new ∷ [])
+    more = passes-append (is_for q) gs (new ∷ [])
+
+    apart : is_for q new ≡ true → (g : Grant) → Has g gs → (b : Bool) → is_for q g ≡ b → is_for q g ≡ false
+    apart e g h false f = f
+    apart e g h true f =
+        let no : false ≡ true = sym (none-there g h) ∙ for-joins p q g new (unique-refreshing p unique) (unique-refreshing q other) for e f in
+        cc
+
+    by : (b : Bool) → is_for q new ≡ b → passes (is_for q) (gs ++ new ∷ []) ≤ 1
+    by true e =
+        let none = passes-none (is_for q) gs (λ g h. apart e g h (is_for q g) refl) in
+        let last : passes (is_for q) (new ∷ []) ≡ 1 = rw e refl in
+        omega (arith, more, none, last)
+    by false e =
+        let few = single q other in
+        let last : passes (is_for q) (new ∷ []) ≡ 0 = rw e refl in
+        omega (arith, more, few, last)
+
+-- ---- the call
+
+-- what a look-up of an allocation finds has not expired
+found-early : (count slots delay now : ℕ) (s : State) → IsKept count slots delay now s.transactions s → (transport : TransportType) (ip : IpAddr) (a : Relay) → find_allocation_to transport ip s ≡ Some a → is_past now a ≡ false
+found-early count slots delay now s k transport ip a e = by (same_transport transport s.config.allocation_transport) e
+  where
+    by : (b : Bool) → cond b (find_allocation (family_of_ip ip) s) None ≡ Some a → is_past now a ≡ false
+    by false e = absurd (none-some a e)
+    by true e =
+        let found = has-found (λ (r : Relay). same_family (family_of r.relayed) (family_of_ip ip)) a (allocations s) e in
+        let there = allocation-there a s.grants found.0 in
+        lt-leb a.expiry now (stands-early count slots delay now s k (Allocation a) there (allocation-stands count slots delay now s.transactions s k a there))
+
+-- no permission for the IP address exists
+permission-none : (ip : IpAddr) (s : State) → permission_state ip s ≡ None → (g : Grant) → Has g s.grants → is_permission_of ip g ≡ false
+permission-none ip s unknown g there = by (is_permission_of ip g) refl
+  where
+    by : (b : Bool) → is_permission_of ip g ≡ b → is_permission_of ip g ≡ false
+    by false e = e
+    by true e =
+        let (z, f) = permission-there ip g e in
+        let (first, is) = some-first z (filter_map (permission_progress ip) s.grants) (filter_map-has (permission_progress ip) g z s.grants there f) in
+        absurd (none-some first (sym unknown ∙ is))
+
+-- nothing changes, or a request is queued for something that did not exist
+abbrev pub Asks : (State → Type 0) → ℕ → State → Type 0
+Asks P now s = (ps : List Purpose) (news : List Grant) (text : List ℕ) → AreNew s ps news → P (asks ps news now text s)
+
+-- one thing
+one-new : (s : State) (single : AreSingle s.grants) (p : Purpose) (unique : IsUnique p) (new : Grant) → is_for p new ≡ true → is_waiting new ≡ true → ((g : Grant) → Has g s.grants → is_for p g ≡ false)
+    → Room s.grants (family_of_grant new) → AreNew s (p ∷ []) (new ∷ [])
+one-new s single p unique new for waits none house = record {
+  unique = λ q h. is-one q h;
+  some = omega arith;
+  waits = λ g h. elim h [ inl e ↦ rw e waits | inr no_more ↦ absurd no_more ];
+  for = λ q h. elim h [ inl e ↦ (new, inl refl, rw e for) | inr no_more ↦ absurd no_more ];
+  none = λ q h g there. elim h [ inl e ↦ rw e (none g there) | inr no_more ↦ absurd no_more ];
+  house = λ g h. elim h [ inl e ↦ rw e house | inr no_more ↦ absurd no_more ];
+  single = single-more s.grants p unique new for none single;
+  asked = λ g h. elim h [ inl e ↦ (p, inl refl, rw e for) | inr no_more ↦ absurd no_more ];
+  linked = λ id. tt;
+}
+  where
+    is-one : (q : Purpose) → Has q (p ∷ []) → IsUnique q
+    is-one q (inl e) = subst IsUnique (sym e) unique
+    is-one q (inr no_more) = absurd no_more
+
+-- a channel and the permission that it brings
+both-new : (s : State) (single : AreSingle s.grants) (number : ℕ) (peer : SocketAddr) → ((g : Grant) → Has g s.grants → is_channel_of number g ≡ false)
+    → ((g : Grant) → Has g s.grants → is_permission_of (socket_ip peer) g ≡ false) → Room s.grants (family_of peer)
+    → AreNew s (ForChannel number peer ∷ ForPermission (socket_ip peer) ∷ []) (Channel number peer Pending ∷ Permission (socket_ip peer) Pending ∷ [])
+both-new s single number peer no_channel no_permission house = record {
+  unique = λ q h. unique q h;
+  some = omega arith;
+  waits = λ g h. elim h [ inl e ↦ rw e refl | inr (inl e) ↦ rw e refl | inr (inr no_more) ↦ absurd no_more ];
+  for = λ q h. elim h [
+    | inl e ↦ (Channel number peer Pending, inl refl, rw e (eq-eqb number number refl))
+    | inr (inl e) ↦ (Permission (socket_ip peer) Pending, inr (inl refl), rw e (same_ip-self (socket_ip peer)))
+    | inr (inr no_more) ↦ absurd no_more
+  ];
+  none = λ q h g there. elim h [ inl e ↦ rw e (no_channel g there) | inr (inl e) ↦ rw e (no_permission g there) | inr (inr no_more) ↦ absurd no_more ];
+  house = λ g h. elim h [ inl e ↦ rw e house | inr (inl e) ↦ rw e house | inr (inr no_more) ↦ absurd no_more ];
+  single = subst AreSingle (append_assoc s.grants (Channel number peer Pending ∷ []) (Permission (socket_ip peer) Pending ∷ []))
+      (single-more (s.grants ++ Channel number peer Pending ∷ []) (ForPermission (socket_ip peer)) tt (Permission (socket_ip peer) Pending) (same_ip-self (socket_ip peer)) others
+      (single-more s.grants (ForChannel number peer) tt (Channel number peer Pending) (eq-eqb number number refl) no_channel single));
+  asked = λ g h. elim h [
+    | inl e ↦ (ForChannel number peer, inl refl, rw e (eq-eqb number number refl))
+    | inr (inl e) ↦ (ForPermission (socket_ip peer), inr (inl refl), rw e (same_ip-self (socket_ip peer)))
+    | inr (inr no_more) ↦ absurd no_more
+  ];
+  linked = λ id. (Channel number peer Pending, has-right (Channel number peer Pending) s.grants _ (inl refl), refl, eq-eqb number number refl);
+}
+  where
+    unique : (q : Purpose) → Has q (ForChannel number peer ∷ ForPermission (socket_ip peer) ∷ []) → IsUnique q
+    unique q (inl e) = subst IsUnique (sym e) tt
+    unique q (inr (inl e)) = subst IsUnique (sym e) tt
+    unique q (inr (inr no_more)) = absurd no_more
+
+    others : (g : Grant) → Has g (s.grants ++ Channel number peer Pending ∷ []) → is_permission_of (socket_ip peer) g ≡ false
+    others g h = elim (has-append g s.grants (Channel number peer Pending ∷ []) h) [ inl old ↦ no_permission g old | inr (inl e) ↦ rw e refl | inr (inr no_more) ↦ absurd no_more ]
+
+module _ (P : State → Type 0) (count slots delay now : ℕ) (s : State) (k : IsKept count slots delay now s.transactions s) (same : P s) (asked : Asks P now s) where
+  pub creates : (transport : TransportType) (ip : IpAddr) → P (create_permission_step transport ip now s).1
+  creates transport ip = by (find_allocation_to transport ip s) refl
+    where
+      Is : Result Unit CreatePermissionError × State → Type 0
+      Is z = P z.1
+
+      made : State
+      made = requested (fresh_id s) (ForPermission ip) now (with_grant (Permission ip Pending) s)
+
+      allocated : (f : Phase) → f ≡ Allocated → P made → Is (cond (not (is_allocated f)) (Err Create.NoAllocation, s) (Ok tt, made))
+      allocated f e p = rw e p
+
+      step : (o : Option Progress) → permission_state ip s ≡ o → Room s.grants (family_of_ip ip)
+          → Is (cond (is_some o) (Err Create.AlreadyExists, s) (cond (not (is_allocated s.phase)) (Err Create.NoAllocation, s) (Ok tt, made)))
+      step None e room =
+          allocated s.phase k.phase (asked (ForPermission ip ∷ []) (Permission ip Pending ∷ []) (request_for (with_grant (Permission ip Pending) s) (ForPermission ip) (fresh_id s))
+          (one-new s k.single (ForPermission ip) tt (Permission ip Pending) (same_ip-self ip) refl (permission-none ip s e) room))
+      step (Some progress) e room = same
+
+      by : (o : Option Relay) → find_allocation_to transport ip s ≡ o → Is (in_allocation o ip now Create.NoAllocation s (permission_step ip now s))
+      by None e = same
+      by (Some a) e =
+          let early = found-early count slots delay now s k transport ip a e in
+          let room = allocation-room transport ip s (rw e refl) in
+          rw early (step (permission_state ip s) refl room)
+
+  pub binds : (transport : TransportType) (peer : SocketAddr) → P (bind_channel_step transport peer now s).1
+  binds transport peer = by (find_allocation_to transport (socket_ip peer) s) refl
+    where
+      Is : Result Unit BindChannelError × State → Type 0
+      Is z = P z.1
+
+      text : ℕ → List ℕ
+      text number = request_for s (ForChannel number peer) (fresh_id s)
+
+      missing : Option Progress → List IpAddr
+      missing o = cond (is_none o) (socket_ip peer ∷ []) []
+
+      bound_made : (number : ℕ) → free_number s ≡ Some number → Room s.grants (family_of peer) → P (bind_channel number peer now s)
+      bound_made number free room = made (permission_state (socket_ip peer) s) refl
+        where
+          none : (g : Grant) → Has g s.grants → is_channel_of number g ≡ false
+          none g there = test (is_channel_of number g) refl
+            where
+              test : (b : Bool) → is_channel_of number g ≡ b → is_channel_of number g ≡ false
+              test false e = e
+              test true e =
+                  let found = (has-found (λ (n : ℕ). not (is_number_taken n s)) number channel_numbers free).1 in
+                  let taken = has-any (is_channel_of number) g s.grants there e in
+                  let no : false ≡ true = sym (not-true (is_number_taken number s) found) ∙ taken in
+                  cc
+
+          made : (o : Option Progress) → permission_state (socket_ip peer) s ≡ o → P (bind_channel number peer now s)
+          made None e =
+              let ips : missing_permission peer s ≡ socket_ip peer ∷ [] = rw e refl in
+              rw ips (asked (ForChannel number peer ∷ ForPermission (socket_ip peer) ∷ []) (Channel number peer Pending ∷ Permission (socket_ip peer) Pending ∷ []) (request_for s (ForChannel number peer) (fresh_id s))
+              (both-new s k.single number peer none (permission-none (socket_ip peer) s e) room))
+          made (Some progress) e =
+              let ips : missing_permission peer s ≡ [] = rw e refl in
+              rw ips (asked (ForChannel number peer ∷ []) (Channel number peer Pending ∷ []) (request_for s (ForChannel number peer) (fresh_id s))
+              (one-new s k.single (ForChannel number peer) tt (Channel number peer Pending) (eq-eqb number number refl) refl none room))
+
+      step_by : (xs : List ℕ) (f : Phase) (o : Option ℕ) → f ≡ Allocated → free_number s ≡ o → Room s.grants (family_of peer) → Is (bound_by peer now s xs (is_allocated f) o)
+      step_by (until ∷ xs) f o e free room = same
+      step_by [] f None e free room = rw e same
+      step_by [] f (Some number) e free room = rw e (bound_made number free room)
+
+      step : (b : Bool) → Room s.grants (family_of peer) → Is (cond b (Err Bind.AlreadyExists, s) (bound_by peer now s (filter_map (reserved_from now) (channels_to peer s)) (is_allocated s.phase) (free_number s)))
+      step true room = same
+      step false room = step_by (filter_map (reserved_from now) (channels_to peer s)) s.phase (free_number s) k.phase refl room
+
+      by : (o : Option Relay) → find_allocation_to transport (socket_ip peer) s ≡ o → Is (in_allocation o (socket_ip peer) now Bind.NoAllocation s (channel_step peer now s))
+      by None e = same
+      by (Some a) e =
+          let early = found-early count slots delay now s k transport (socket_ip peer) a e in
+          let room = allocation-room transport (socket_ip peer) s (rw e refl) in
+          rw early (step (list_any is_in_progress (channels_to peer s)) room)

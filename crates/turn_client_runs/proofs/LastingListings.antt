@@ -1,0 +1,63 @@
+-- What is listed under one ID while no grant is lost.
+use Rattle.std.proofs.Common.{◌≡◌, Bool, true, false, eqb, List, [], ◌∷◌, ◌++◌, filter, refl, inl, inr, ap, sym, ◌∙◌, append-nil}
+use Rattle.std.specs.List.{list_any}
+use Rattle.std.proofs.lemmas.Bool.{cases_Bool, eq-eqb, eqb-true, or_parts}
+use Rattle.std.proofs.lemmas.List.Elements.{filter-append}
+use Rattle.turn_agent.specs.Agent.{is_outstanding}
+use Rattle.turn_client_api.specs.State.{State}
+use Rattle.turn_client_api.specs.declared.grant.Grant.{Grant}
+use Rattle.turn_client_api.specs.declared.grant.Listing.{Listing}
+use Rattle.turn_client_api.specs.Grants.{is_of_request}
+use Rattle.turn_client_api.specs.Requests.{fresh_id}
+use Rattle.turn_client_laws.proofs.HasLemmas.{Has, filter-none}
+use Rattle.turn_client_laws.proofs.InAllocationLemmas.{has-any}
+use Rattle.turn_client_laws.proofs.NewIdLemmas.{fresh-free}
+use Rattle.turn_client_runs.proofs.LastingStands.{AreRequests, IsRequest, listed_as, request-more}
+
+filter-all : {X : Type 0} (p : X → Bool) (xs : List X) → ((x : X) → Has x xs → p x ≡ true) → filter p xs ≡ xs
+filter-all p [] each = refl
+filter-all p (x ∷ xs) each = rw (each x (inl refl)) (ap (λ ys. x ∷ ys) (filter-all p xs (λ y h. each y (inr h))))
+
+pub filter-swap : {X : Type 0} (p q : X → Bool) (xs : List X) → filter p (filter q xs) ≡ filter q (filter p xs)
+filter-swap p q [] = refl
+filter-swap p q (x ∷ xs) = elim (cases_Bool (p x)) [
+  | inl e ↦ elim (cases_Bool (q x)) [ inl f ↦ rw (f, e, f) (ap (λ ys. x ∷ ys) (filter-swap p q xs)) | inr f ↦ rw (f, e, f) (filter-swap p q xs) ]
+  | inr e ↦ elim (cases_Bool (q x)) [ inl f ↦ rw (f, e) (filter-swap p q xs) | inr f ↦ rw (f, e) (filter-swap p q xs) ]
+]
+
+-- the next ID is listed for nothing
+fresh-apart : (s : State) (l : Listing) → Has l s.listed → eqb l.id (fresh_id s) ≡ false
+fresh-apart s l there = by (eqb l.id (fresh_id s)) refl
+  where
+    by : (b : Bool) → eqb l.id (fresh_id s) ≡ b → eqb l.id (fresh_id s) ≡ false
+    by false e = e
+    by true e =
+        let free = or_parts (is_outstanding (fresh_id s) s.transactions) _ (fresh-free s) in
+        let none = (or_parts (list_any (λ (l : Listing). eqb l.id (fresh_id s)) s.listed) (list_any (is_of_request (fresh_id s)) s.grants) free.1).0 in
+        let no : false ≡ true = sym none ∙ has-any (λ (l : Listing). eqb l.id (fresh_id s)) l s.listed there e in
+        cc
+
+-- a request more, under the next ID
+pub requests-more : (s : State) (gs : List Grant) (new : List Listing) → ((g : Grant) → Has g s.grants → Has g gs) → ((l : Listing) → Has l new → l.id ≡ fresh_id s) → IsRequest gs new
+    → AreRequests s.grants s.listed → AreRequests gs (s.listed ++ new)
+requests-more s gs new more ids is h id = rw (filter-append (λ (l : Listing). eqb l.id id) s.listed new) (by (eqb id (fresh_id s)) refl)
+  where
+    by : (b : Bool) → eqb id (fresh_id s) ≡ b → IsRequest gs (listed_as id s.listed ++ listed_as id new)
+    by true e =
+        let same : id ≡ fresh_id s = eqb-true id (fresh_id s) e in
+        let old = filter-none (λ (l : Listing). eqb l.id id) s.listed (λ l there. rw same (fresh-apart s l there)) in
+        let all = filter-all (λ (l : Listing). eqb l.id id) new (λ l there. eq-eqb l.id id (ids l there ∙ sym same)) in
+        rw (old, all) is
+    by false e =
+        let none = filter-none (λ (l : Listing). eqb l.id id) new (λ l there. differ l (ids l there)) in
+        rw (none, append-nil (listed_as id s.listed)) (request-more s.grants gs (listed_as id s.listed) more (h id))
+      where
+        differ : (l : Listing) → l.id ≡ fresh_id s → eqb l.id id ≡ false
+        differ l is = test (eqb l.id id) refl
+          where
+            test : (b : Bool) → eqb l.id id ≡ b → eqb l.id id ≡ false
+            test false f = f
+            test true f =
+                let there : id ≡ fresh_id s = sym (eqb-true l.id id f) ∙ is in
+                let no : false ≡ true = sym e ∙ eq-eqb id (fresh_id s) there in
+                cc

@@ -1,0 +1,601 @@
+-- What a success changes while no grant is lost.
+use Rattle.std.proofs.Common.{◌≡◌, ◌⊎◌, ℕ, ◌+◌, ◌*◌, ◌<◌, ◌≤◌, Bool, true, false, cond, not, ◌&&◌, eqb, List, [], ◌∷◌, length, map, fold, Option, refl, inl, inr, ap, sym, subst, ◌∙◌, arith}
+use Rattle.std.specs.Prelude.{filter}
+use Rattle.std.proofs.lemmas.List.{length-append, length-map}
+use Rattle.std.specs.List.{list_any}
+use Rattle.std.proofs.lemmas.Bool.{and_from, and_parts, cases_Bool, cases_lt, eqb-true, le-leb, not-true, not_from_false, or_left, or_right}
+use Rattle.turn_types.specs.declared.family.AddressFamily.{AddressFamily}
+use Rattle.turn_agent.specs.declared.transaction.Transaction.{Transaction}
+use Rattle.turn_client_api.specs.State.{State, later_by}
+use Rattle.turn_client_api.specs.declared.grant.Grant.{Grant}
+use Rattle.turn_client_api.specs.declared.grant.Grant.TheVariants.{Allocation, Permission, Channel}
+use Rattle.turn_client_api.specs.declared.grant.Progress.TheVariants.{Active, Pending}
+use Rattle.turn_client_api.specs.declared.grant.Listing.{Listing}
+use Rattle.turn_client_api.specs.declared.grant.Purpose.{Purpose}
+use Rattle.turn_client_api.specs.declared.grant.Purpose.TheVariants.{ForRefresh, ForPermission, ForChannel}
+use Rattle.turn_client_api.specs.Grants.{family_of, family_of_grant, has_request, is_for, purposes_of}
+use Rattle.turn_client_api.specs.Due.{pause, pause_end}
+use Rattle.turn_client_api.specs.declared.state.Queued.{Queued}
+use Rattle.std.specs.Option.{option_map_or}
+use Rattle.turn_client_api.specs.Effect.{effect}
+use Rattle.turn_client_laws.proofs.AddressLemmas.{same_ip-true}
+use Rattle.turn_client_laws.proofs.GrantOriginLemmas.{has-mapped}
+use Rattle.turn_client_laws.proofs.HasLemmas.{Has, filter-has, has-append, has-filter, has-left, has-right, map-has}
+use Rattle.turn_client_laws.proofs.InAllocationLemmas.{Room, any-has, has-any, room-more, same_family-true}
+use Rattle.turn_client_runs.specs.Lasting.{as_granted, Answers, Grants, ahead_of, expiry_of, with_expiry}
+use Rattle.turn_client_runs.proofs.LastingCounts.{length-without, passes, passes-all, passes-append, passes-filter, passes-map, passes-mapped, passes-none, passes-split, passes-same, passes-two}
+use Rattle.turn_client_runs.proofs.LastingStands.{AllRemain, Follows, Goes, IsPending, goes-more, goes-trans, pending-more, AreRequests, Brings, IsRequest, brings-more, listed_as, IsAsked, IsAwaited, IsGranted, IsIdle, IsKept, IsRefreshing, Stands, ahead-le, due_of, is_served, not-waiting, pause-le, IsUnique, IsWell, is_waiting, served, unique-refreshing, unique-spares}
+use Rattle.turn_client_api.specs.Requests.{channel_bind_method, method_for}
+use Rattle.turn_client_api.specs.Judgement.{method_in}
+use Rattle.turn_client_api.specs.Payloads.{is_answered}
+use Rattle.std.proofs.lemmas.Bool.{eq-eqb}
+use Rattle.turn_client_runs.proofs.LastingListings.{filter-swap}
+use Rattle.turn_client_runs.proofs.LastingEffects.{IsForGranted, Does, IsGrantedAnew, effect-brings, effect-does, granted_by, is_shared, renewed_by, renews}
+
+-- ---- two requests for one grant are for the same grants
+
+pub for-joins : (p q : Purpose) (g h : Grant) → IsRefreshing p → IsRefreshing q → is_for p h ≡ true → is_for q h ≡ true → is_for q g ≡ true → is_for p g ≡ true
+for-joins (ForRefresh family lifetime) (ForRefresh other n) (Allocation a) (Allocation b) x y e f i =
+    let one : family_of b.relayed ≡ family = same_family-true (family_of b.relayed) family e in
+    let two : family_of b.relayed ≡ other = same_family-true (family_of b.relayed) other f in
+    let is : other ≡ family = sym two ∙ one in
+    rw (sym is) i
+for-joins (ForPermission ip) (ForPermission other) (Permission a m) (Permission b n) x y e f i =
+    let one : b ≡ ip = same_ip-true b ip e in
+    let two : b ≡ other = same_ip-true b other f in
+    let is : other ≡ ip = sym two ∙ one in
+    rw (sym is) i
+for-joins (ForChannel number peer) (ForChannel other to) (Channel a at m) (Channel b bt n) x y e f i =
+    let one : b ≡ number = eqb-true b number e in
+    let two : b ≡ other = eqb-true b other f in
+    let is : other ≡ number = sym two ∙ one in
+    rw (sym is) i
+for-joins p q g h x y e f i = grind arith
+
+-- ---- grants that are renewed
+
+with-for : (q : Purpose) (expiry : ℕ) (g : Grant) → is_for q (with_expiry expiry g) ≡ is_for q g
+with-for q expiry g = grind arith
+
+renews-for : (q p : Purpose) (expiry : ℕ) (g : Grant) → is_for q (renews p expiry g) ≡ is_for q g
+renews-for q p expiry g = by (is_for p g)
+  where
+    by : (b : Bool) → is_for q (cond b (with_expiry expiry g) g) ≡ is_for q g
+    by true = with-for q expiry g
+    by false = refl
+
+with-granted : (expiry : ℕ) (g : Grant) → IsGranted g → IsGranted (with_expiry expiry g)
+with-granted expiry g h = grind arith
+
+with-expires : (expiry : ℕ) (g : Grant) → IsGranted g → expiry_of (with_expiry expiry g) ≡ expiry
+with-expires expiry g h = grind arith
+
+with-ahead : (expiry : ℕ) (g : Grant) → ahead_of (with_expiry expiry g) ≡ ahead_of g
+with-ahead expiry (Allocation a) = refl
+with-ahead expiry (Permission ip (Active w)) = refl
+with-ahead expiry (Channel number peer (Active w)) = refl
+with-ahead expiry g = grind arith
+
+with-family : (expiry : ℕ) (g : Grant) → family_of_grant (with_expiry expiry g) ≡ family_of_grant g
+with-family expiry g = grind arith
+
+with-twice : (later expiry : ℕ) (g : Grant) → with_expiry later (with_expiry expiry g) ≡ with_expiry later g
+with-twice later expiry (Allocation a) = refl
+with-twice later expiry g = grind arith
+
+with-waiting : (expiry : ℕ) (g : Grant) → is_waiting g ≡ true → with_expiry expiry g ≡ g
+with-waiting expiry (Permission ip Pending) h = refl
+with-waiting expiry (Channel number peer Pending) h = refl
+with-waiting expiry g h = cc
+
+-- ---- what is answered is listed no more
+
+-- what is listed is listed for nothing that this purpose is for
+abbrev left : Purpose → State → List Listing
+left p u = filter (λ l. not (is_shared p u.grants l)) u.listed
+
+module _ (count slots delay now : ℕ) (transactions : List Transaction) (u : State) (k : IsKept count slots delay now transactions u) (p : Purpose) (refreshing : IsRefreshing p) where
+  -- what is listed still was listed, and for nothing that is answered
+  kept-listing : (l : Listing) → Has l (left p u) → Has l u.listed × (is_shared p u.grants l ≡ false)
+  kept-listing l h = let (there, keeps) = has-filter (λ (l : Listing). not (is_shared p u.grants l)) l u.listed h in (there, not-true (is_shared p u.grants l) keeps)
+
+  -- a request for a grant that is not answered stays
+  stays : (l : Listing) (g : Grant) → Has l u.listed → is_for l.purpose g ≡ true → is_for p g ≡ false → Has l (left p u)
+  stays l g there for other = filter-has (λ (l : Listing). not (is_shared p u.grants l)) l u.listed there (by (is_shared p u.grants l) refl)
+    where
+      by : (b : Bool) → is_shared p u.grants l ≡ b → not (is_shared p u.grants l) ≡ true
+      by false e = rw e refl
+      by true e =
+          let (h, here, both) = any-has (λ g. is_for p g && is_for l.purpose g) u.grants e in
+          let (one, two) = and_parts (is_for p h) (is_for l.purpose h) both in
+          let joined = for-joins p l.purpose g h refreshing (k.asked l there).0 one two for in
+          let no : false ≡ true = sym other ∙ joined in
+          cc
+
+  asked-by : (g : Grant) (ls : List Listing) → list_any (λ (l : Listing). is_for l.purpose g) ls ≡ true → (l : Listing) × Has l ls × (is_for l.purpose g ≡ true)
+  asked-by g ls e = any-has (λ (l : Listing). is_for l.purpose g) ls e
+
+  is_asked : Grant → List Listing → Bool
+  is_asked g ls = list_any (λ (l : Listing). is_for l.purpose g) ls
+
+  -- its request is not answered by this
+  still-asked : (g : Grant) → has_request g u ≡ true → is_for p g ≡ false → list_any (λ (l : Listing). is_for l.purpose g) (left p u) ≡ true
+  still-asked g e other =
+      let (l, there, for) = asked-by g u.listed e in
+      has-any (λ (l : Listing). is_for l.purpose g) l (left p u) (stays l g there for other) for
+
+  not-asked : (g : Grant) → has_request g u ≡ false → list_any (λ (l : Listing). is_for l.purpose g) (left p u) ≡ false
+  not-asked g e = by (list_any (λ (l : Listing). is_for l.purpose g) (left p u)) refl
+    where
+      by : (b : Bool) → list_any (λ (l : Listing). is_for l.purpose g) (left p u) ≡ b → list_any (λ (l : Listing). is_for l.purpose g) (left p u) ≡ false
+      by false f = f
+      by true f =
+          let (l, there, for) = asked-by g (left p u) f in
+          let no : false ≡ true = sym e ∙ has-any (λ (l : Listing). is_for l.purpose g) l u.listed (kept-listing l there).0 for in
+          cc
+
+  -- a grant that is answered is asked for no more, also in another shape
+  answered : (g h : Grant) → Has g u.grants → is_for p g ≡ true → ((l : Listing) → Has l u.listed → is_for l.purpose h ≡ true → is_for l.purpose g ≡ true)
+      → list_any (λ (l : Listing). is_for l.purpose h) (left p u) ≡ false
+  answered g h there is alike = by (list_any (λ (l : Listing). is_for l.purpose h) (left p u)) refl
+    where
+      by : (b : Bool) → list_any (λ (l : Listing). is_for l.purpose h) (left p u) ≡ b → list_any (λ (l : Listing). is_for l.purpose h) (left p u) ≡ false
+      by false f = f
+      by true f =
+          let (l, here, for) = asked-by h (left p u) f in
+          let (was, unshared) = kept-listing l here in
+          let no : false ≡ true = sym unshared ∙ has-any (λ g. is_for p g && is_for l.purpose g) g u.grants there (and_from (is_for p g) (is_for l.purpose g) is (alike l was for)) in
+          cc
+
+  -- a request is not for what is answered
+  others-asked : (l : Listing) → Has l (left p u) → (g : Grant) → Has g u.grants → is_for l.purpose g ≡ true → is_for p g ≡ false
+  others-asked l h g there for = by (is_for p g) refl
+    where
+      by : (b : Bool) → is_for p g ≡ b → is_for p g ≡ false
+      by false e = e
+      by true e =
+          let no : false ≡ true = sym (kept-listing l h).1 ∙ has-any (λ g. is_for p g && is_for l.purpose g) g u.grants there (and_from (is_for p g) (is_for l.purpose g) e for) in
+          cc
+
+  -- what is listed under one ID is so still
+  request-left : (hs : List Grant) → ((g : Grant) → Has g u.grants → is_for p g ≡ false → Has g hs) → (ls : List Listing) → ((l : Listing) → Has l ls → Has l u.listed) → IsRequest u.grants ls
+      → IsRequest hs (filter (λ l. not (is_shared p u.grants l)) ls)
+  request-left hs more [] within h = tt
+  request-left hs more (l ∷ []) within h = by (is_shared p u.grants l)
+    where
+      by : (b : Bool) → IsRequest hs (cond (not b) (l ∷ []) [])
+      by true = tt
+      by false = tt
+  request-left hs more (l ∷ m ∷ []) within h = by (is_shared p u.grants l) (is_shared p u.grants m) refl
+    where
+      by : (b c : Bool) → is_shared p u.grants l ≡ b → IsRequest hs (cond (not b) (l ∷ cond (not c) (m ∷ []) []) (cond (not c) (m ∷ []) []))
+      by true true e = tt
+      by true false e = tt
+      by false true e = tt
+      by false false e =
+          let kept : Has l (left p u) = filter-has (λ (l : Listing). not (is_shared p u.grants l)) l u.listed (within l (inl refl)) (not_from_false (is_shared p u.grants l) e) in
+          brings-more u.grants hs l.purpose m.purpose (λ g there for. more g there (others-asked l kept g there for)) h
+  request-left hs more (l ∷ m ∷ n ∷ ls) within h = absurd h
+
+  requests-left : (hs : List Grant) → ((g : Grant) → Has g u.grants → is_for p g ≡ false → Has g hs) → AreRequests hs (left p u)
+  requests-left hs more id =
+      rw (filter-swap (λ (l : Listing). eqb l.id id) (λ (l : Listing). not (is_shared p u.grants l)) u.listed)
+      (request-left hs more (listed_as id u.listed) (λ l h. (has-filter (λ (l : Listing). eqb l.id id) l u.listed h).0) (k.linked id))
+
+  -- a request for what is not answered awaits its reply still
+  pending-other : (until : ℕ) (g : Grant) → is_for p g ≡ false → IsPending until transactions u.listed g → IsPending until transactions (left p u) g
+  pending-other until g other = pending-more until transactions transactions u.listed (left p u) g (λ x h. h) (λ l h for. stays l g h for other)
+
+  -- if as many grants are served as before, the others stand as they did
+  stands-other : (t : State) → t.listed ≡ left p u → t.queue ≡ u.queue → t.last_send ≡ u.last_send → ((since : ℕ) → since ≤ now → served u since ≤ served t since)
+      → (g : Grant) → is_for p g ≡ false → Stands count slots delay now transactions u g → Stands count slots delay now transactions t g
+  stands-other t ls qs sends serves g other was = record { granted = was.granted; room = was.room; long = was.long; either = by was.either }
+    where
+      len : length t.queue ≡ length u.queue
+      len = ap (λ (q : List Queued). length q) qs
+
+      pauses : pause_end t ≡ pause_end u
+      pauses = ap (λ (o : Option ℕ). option_map_or (later_by pause) o 0) sends
+
+      asks : has_request g t ≡ list_any (λ (l : Listing). is_for l.purpose g) (left p u)
+      asks = ap (λ (ls : List Listing). list_any (λ (l : Listing). is_for l.purpose g) ls) ls
+
+      by : IsAwaited delay transactions u.listed g ⊎ IsIdle slots now u g → IsAwaited delay transactions t.listed g ⊎ IsIdle slots now t g
+      by (inl a) = inl (record {
+        transaction = a.transaction;
+        there = a.there;
+        listing = a.listing;
+        within = rw ls (stays a.listing g a.within a.for other);
+        for = a.for;
+        same = a.same;
+        in_time = a.in_time;
+      })
+      by (inr idle) = elim (cases_lt (due_of g) now) [
+        | inl past ↦
+            let no_fewer = serves (due_of g) (omega (arith, past)) in
+            inr (record { unasked = asks ∙ not-asked g idle.unasked; soon = omega (arith, idle.soon, no_fewer, len); paused = omega (arith, idle.paused, no_fewer, len, pauses) })
+        | inr early ↦
+            let few = k.few in
+            inr (record { unasked = asks ∙ not-asked g idle.unasked; soon = omega (arith, early, few, len); paused = omega (arith, early, few, len, pauses, pause-le now u k.sent) })
+      ]
+
+  -- what was granted now is refreshed much later
+  stands-new : (t : State) → t.queue ≡ u.queue → t.last_send ≡ u.last_send → (h : Grant) → IsGranted h → (count + slots) * 50_000_000 + delay < ahead_of h → now + 300_000_000_000 ≤ expiry_of h
+      → has_request h t ≡ false → Stands count slots delay now transactions t h
+  stands-new t qs sends h granted room late unasked =
+      let len : length t.queue ≡ length u.queue = ap (λ (q : List Queued). length q) qs in
+      let pauses : pause_end t ≡ pause_end u = ap (λ (o : Option ℕ). option_map_or (later_by pause) o 0) sends in
+      let few = k.few in
+      record {
+        granted = granted;
+        room = room;
+        long = omega (arith, late, ahead-le h);
+        either = inr (record {
+          unasked = unasked;
+          soon = omega (arith, late, ahead-le h, few, len);
+          paused = omega (arith, late, ahead-le h, few, len, pauses, pause-le now u k.sent);
+        });
+      }
+
+  -- what waits or is asked for is served, and so is what was granted now
+  serves-other : (t : State) → t.listed ≡ left p u → (since : ℕ) (g : Grant) → is_for p g ≡ false → is_served u since g ≡ true → is_served t since g ≡ true
+  serves-other t ls since g other e = elim (cases_Bool (is_waiting g)) [
+    | inl w ↦ or_left (is_waiting g) _ w
+    | inr w ↦ or_right (is_waiting g) _ (elim (cases_Bool (has_request g u)) [
+      | inl asked ↦ or_left (has_request g t) _ (ap (λ (ls : List Listing). list_any (λ (l : Listing). is_for l.purpose g) ls) ls ∙ still-asked g asked other)
+      | inr not ↦ or_right (has_request g t) _ (rw (w, not) at e)
+    ])
+  ]
+
+  serves-new : (t : State) (since : ℕ) (h : Grant) → since ≤ now → now + 300_000_000_000 ≤ expiry_of h → is_served t since h ≡ true
+  serves-new t since h past late =
+      or_right (is_waiting h) _ (or_right (has_request h t) _ (le-leb (since + 240_000_000_000) (due_of h) (omega (arith, past, late, ahead-le h))))
+
+-- ---- a refresh
+
+module _ (count slots delay now : ℕ) (transactions : List Transaction) (u : State) (k : IsKept count slots delay now transactions u) (p : Purpose) (refreshing : IsRefreshing p) (expiry challenges : ℕ)
+    (late : now + 300_000_000_000 ≤ expiry) (alone : IsForGranted p u) where
+  abbrev t : State
+  t = renewed_by p expiry challenges u
+
+  -- what waits is not answered
+  unanswered : (g : Grant) → Has g u.grants → is_waiting g ≡ true → is_for p g ≡ true → ⊥
+  unanswered g there waits for =
+      let (unique, (x, here, also, granted)) = alone g there waits for in
+      let two = passes-two (is_for p) is_waiting g x u.grants there here for also waits granted in
+      let one = k.single p unique in
+      absurd (omega (arith, two, one))
+
+  expires-late : (g : Grant) → IsGranted g → now + 300_000_000_000 ≤ expiry_of (with_expiry expiry g)
+  expires-late g h = let e = with-expires expiry g h in omega (arith, e, late)
+
+  serves : (since : ℕ) → since ≤ now → served u since ≤ served t since
+  serves since past = passes-map (is_served u since) (is_served t since) (renews p expiry) u.grants each
+    where
+      each : (g : Grant) → Has g u.grants → is_served u since g ≡ true → is_served t since (renews p expiry g) ≡ true
+      each g there e = by (is_for p g) refl
+        where
+          by : (b : Bool) → is_for p g ≡ b → is_served t since (cond b (with_expiry expiry g) g) ≡ true
+          by true f = elim (k.each g there) [
+            | inl (waits, pending) ↦ or_left (is_waiting (with_expiry expiry g)) _ (ap is_waiting (with-waiting expiry g waits) ∙ waits)
+            | inr stands ↦ serves-new count slots delay now transactions u k p refreshing t since (with_expiry expiry g) past (expires-late g stands.granted)
+          ]
+          by false f = serves-other count slots delay now transactions u k p refreshing t refl since g f e
+
+  -- what has an allocation has it still
+  has-room : (family : AddressFamily) → Room u.grants family → Room t.grants family
+  has-room family (a, there, is) = by (is_for p (Allocation a)) refl
+    where
+      by : (b : Bool) → is_for p (Allocation a) ≡ b → Room t.grants family
+      by true e =
+          (record a { expiry = expiry }, subst (λ (x : Grant). Has x t.grants) (rw e refl) (map-has (renews p expiry) (Allocation a) u.grants there), is)
+      by false e = (a, subst (λ (x : Grant). Has x t.grants) (rw e refl) (map-has (renews p expiry) (Allocation a) u.grants there), is)
+
+  renews-family : (g : Grant) → family_of_grant (renews p expiry g) ≡ family_of_grant g
+  renews-family g = by (is_for p g)
+    where
+      by : (b : Bool) → family_of_grant (cond b (with_expiry expiry g) g) ≡ family_of_grant g
+      by true = with-family expiry g
+      by false = refl
+
+  renews-well : (g : Grant) → Has g u.grants → IsWell count slots delay now transactions t (renews p expiry g)
+  renews-well g there = by (is_for p g) refl (k.each g there)
+    where
+      by : (b : Bool) → is_for p g ≡ b → IsWell count slots delay now transactions u g → IsWell count slots delay now transactions t (cond b (with_expiry expiry g) g)
+      by true e (inl (waits, pending)) = absurd (unanswered g there waits e)
+      by true e (inr was) =
+          let a = with-ahead expiry g in
+          inr (stands-new count slots delay now transactions u k p refreshing t refl refl (with_expiry expiry g) (with-granted expiry g was.granted) (omega (arith, a, was.room)) (expires-late g was.granted)
+          (answered count slots delay now transactions u k p refreshing g (with_expiry expiry g) there e (λ l was for. sym (with-for l.purpose expiry g) ∙ for)))
+      by false e (inl (waits, pending)) = inl (waits, pending-other count slots delay now transactions u k p refreshing now g e pending)
+      by false e (inr was) = inr (stands-other count slots delay now transactions u k p refreshing t refl refl refl serves g e was)
+
+  pub renewed-kept : IsKept count slots delay now transactions t
+  renewed-kept = record {
+    phase = k.phase;
+    requests = k.requests;
+    few = k.few;
+    prompt = k.prompt;
+    pace = k.pace;
+    sent = k.sent;
+    young = k.young;
+    heard = k.heard;
+    asked = λ l h. asked l (k.asked l (kept-listing count slots delay now transactions u k p refreshing l h).0);
+    size = let same = length-map u.grants (renews p expiry) in let size = k.size in omega (arith, same, size);
+    single = λ q unique.
+        let few = k.single q unique in
+        omega (arith, few, passes-mapped (is_for q) (is_for q) (renews p expiry) u.grants (λ g there e. sym (renews-for q p expiry g) ∙ e));
+    linked = requests-left count slots delay now transactions u k p refreshing t.grants
+        (λ g there other. subst (λ (h : Grant). Has h t.grants) (rw other refl) (map-has (renews p expiry) g u.grants there));
+    in_range = k.in_range;
+    housed = λ g h.
+        let (x, there, e) = has-mapped (renews p expiry) g u.grants h in
+        subst (λ (y : Grant). Room t.grants (family_of_grant y)) (sym e) (rw (renews-family x) (has-room (family_of_grant x) (k.housed x there)));
+    each = λ g h. let (x, there, e) = has-mapped (renews p expiry) g u.grants h in subst (IsWell count slots delay now transactions t) (sym e) (renews-well x there);
+  }
+    where
+      asked : (l : Listing) → IsAsked u.grants l → IsAsked t.grants l
+      asked l (refreshes, (g, there, for)) = (refreshes, (renews p expiry g, map-has (renews p expiry) g u.grants there, renews-for l.purpose p expiry g ∙ for))
+
+  renewed-remain : AllRemain u t
+  renewed-remain g there granted = (renews p expiry g, map-has (renews p expiry) g u.grants there, same (is_for p g), still (is_for p g))
+    where
+      same : (b : Bool) → with_expiry 0 (cond b (with_expiry expiry g) g) ≡ with_expiry 0 g
+      same true = with-twice 0 expiry g
+      same false = refl
+
+      still : (b : Bool) → IsGranted (cond b (with_expiry expiry g) g)
+      still true = with-granted expiry g granted
+      still false = granted
+
+  pub renewed-goes : Goes transactions transactions u t
+  renewed-goes = record { remain = renewed-remain; follow = λ until g there waits pending. by until g there waits pending (is_for p g) refl }
+    where
+      by : (until : ℕ) (g : Grant) → Has g u.grants → is_waiting g ≡ true → IsPending until transactions u.listed g → (b : Bool) → is_for p g ≡ b → Follows until transactions g t
+      by until g there waits pending true e = absurd (unanswered g there waits e)
+      by until g there waits pending false e = inl (
+        subst (λ (h : Grant). Has h t.grants) (rw e refl) (map-has (renews p expiry) g u.grants there),
+        pending-other count slots delay now transactions u k p refreshing until g e pending,
+      )
+
+-- ---- what waited
+
+module _ (count slots delay now : ℕ) (transactions : List Transaction) (u : State) (k : IsKept count slots delay now transactions u) (p : Purpose) (made : State) (anew : IsGrantedAnew p now u made) where
+  abbrev new : Grant
+  new = anew.new
+
+  abbrev after : State
+  after = granted_by p anew.new anew.events anew.challenges u
+
+  refreshing : IsRefreshing p
+  refreshing = unique-refreshing p anew.unique
+
+  abbrev others : List Grant
+  others = filter (λ g. not (is_for p g)) u.grants
+
+  -- it is one of the others, or the new one
+  which : (g : Grant) → Has g after.grants → (Has g u.grants × (is_for p g ≡ false)) ⊎ (g ≡ new)
+  which g h = elim (has-append g others (new ∷ []) h) [
+    | inl old ↦ let (there, not) = has-filter (λ (g : Grant). not (is_for p g)) g u.grants old in inl (there, not-true (is_for p g) not)
+    | inr (inl e) ↦ inr e
+    | inr (inr none) ↦ absurd none
+  ]
+
+  stays-there : (g : Grant) → Has g u.grants → is_for p g ≡ false → Has g after.grants
+  stays-there g there other = has-left g others (new ∷ []) (filter-has (λ (g : Grant). not (is_for p g)) g u.grants there (not_from_false (is_for p g) other))
+
+  new-there : Has new after.grants
+  new-there = has-right new others (new ∷ []) (inl refl)
+
+  new-serves : (since : ℕ) → since ≤ now → is_served after since new ≡ true
+  new-serves since past = serves-new count slots delay now transactions u k p refreshing after since new past anew.late
+
+  serves-anew : (since : ℕ) → since ≤ now → served u since ≤ served after since
+  serves-anew since past =
+      let split = passes-split (is_served u since) (is_for p) u.grants in
+      let one = k.single p anew.unique in
+      let same = passes-all (is_served u since) (is_served after since) others
+      (λ g h e. let (there, not) = has-filter (λ (g : Grant). not (is_for p g)) g u.grants h in
+      serves-other count slots delay now transactions u k p refreshing after refl since g (not-true (is_for p g) not) e) in
+      let more = passes-append (is_served after since) others (new ∷ []) in
+      let last : passes (is_served after since) (new ∷ []) ≡ 1 = rw (new-serves since past) refl in
+      omega (arith, split, one, same, more, last)
+
+  new-unasked : has_request new after ≡ false
+  new-unasked = answered count slots delay now transactions u k p refreshing anew.waits new anew.there anew.same
+      (λ l was for. for-joins l.purpose p anew.waits new (k.asked l was).0 refreshing for anew.for anew.same)
+
+  well-anew : (g : Grant) → Has g after.grants → IsWell count slots delay now transactions after g
+  well-anew g h = elim (which g h) [
+    | inl (there, other) ↦ elim (k.each g there) [
+      | inl (waits, pending) ↦ inl (waits, pending-other count slots delay now transactions u k p refreshing now g other pending)
+      | inr was ↦ inr (stands-other count slots delay now transactions u k p refreshing after refl refl refl serves-anew g other was)
+    ]
+    | inr e ↦ subst (IsWell count slots delay now transactions after) (sym e) (inr (stands-new count slots delay now transactions u k p refreshing after refl refl new anew.granted (let pace = k.pace in let minute = anew.minute in omega (arith, pace, minute)) anew.late new-unasked))
+  ]
+
+  single-anew : (q : Purpose) → IsUnique q → passes (is_for q) after.grants ≤ 1
+  single-anew q unique = by (is_for q new) refl
+    where
+      more : passes (is_for q) after.grants ≡ passes (is_for q) others + passes (is_for q) (new ∷ [])
+      more = passes-append (is_for q) others (new ∷ [])
+
+      apart : is_for q new ≡ true → (g : Grant) → is_for p g ≡ false → (b : Bool) → is_for q g ≡ b → is_for q g ≡ false
+      apart e g other false f = f
+      apart e g other true f =
+          let no : false ≡ true = sym other ∙ for-joins p q g new refreshing (unique-refreshing q unique) anew.for e f in
+          cc
+
+      by : (b : Bool) → is_for q new ≡ b → passes (is_for q) after.grants ≤ 1
+      by true e =
+          let none = passes-none (is_for q) others
+          (λ g h. apart e g (not-true (is_for p g) (has-filter (λ (g : Grant). not (is_for p g)) g u.grants h).1) (is_for q g) refl) in
+          let last : passes (is_for q) (new ∷ []) ≡ 1 = rw e refl in
+          omega (arith, more, none, last)
+      by false e =
+          let few = k.single q unique in
+          let last : passes (is_for q) (new ∷ []) ≡ 0 = rw e refl in
+          omega (arith, more, few, last, passes-filter (is_for q) (λ g. not (is_for p g)) u.grants)
+
+  room-anew : (family : AddressFamily) → Room u.grants family → Room after.grants family
+  room-anew = room-more u.grants after.grants (λ a there. stays-there (Allocation a) there (unique-spares p anew.unique a))
+
+  pub anew-kept : IsKept count slots delay now transactions after
+  anew-kept = record {
+    phase = k.phase;
+    requests = k.requests;
+    few = k.few;
+    prompt = k.prompt;
+    pace = k.pace;
+    sent = k.sent;
+    young = k.young;
+    heard = k.heard;
+    asked = λ l h.
+        let (was, unshared) = kept-listing count slots delay now transactions u k p refreshing l h in
+        let (refreshes, (g, there, for)) = k.asked l was in
+        (refreshes, (g, stays-there g there (others-asked count slots delay now transactions u k p refreshing l h g there for), for));
+    size =
+        let one = length-without (is_for p) anew.waits u.grants anew.there anew.same in
+        let len = length-append others (new ∷ []) in
+        let size = k.size in
+        omega (arith, one, len, size);
+    single = single-anew;
+    linked = requests-left count slots delay now transactions u k p refreshing after.grants stays-there;
+    in_range = k.in_range;
+    housed = λ g h. elim (which g h) [
+      | inl (there, other) ↦ room-anew (family_of_grant g) (k.housed g there)
+      | inr e ↦ subst (λ (y : Grant). Room after.grants (family_of_grant y)) (sym e)
+          (subst (Room after.grants) anew.family (room-anew (family_of_grant anew.waits) (k.housed anew.waits anew.there)))
+    ];
+    each = well-anew;
+  }
+
+  -- the one that waited is the only one for its IP address
+  anew-remain : AllRemain u after
+  anew-remain g there granted = (g, stays-there g there (other (is_for p g) refl), refl, granted)
+    where
+      other : (b : Bool) → is_for p g ≡ b → is_for p g ≡ false
+      other false e = e
+      other true e =
+          let two = passes-two (is_for p) is_waiting anew.waits g u.grants anew.there there anew.same e anew.waiting (not-waiting g granted) in
+          let one = k.single p anew.unique in
+          absurd (omega (arith, two, one))
+
+  pub anew-goes : Goes transactions transactions u after
+  anew-goes = record { remain = anew-remain; follow = λ until g there waits pending. by until g there waits pending (is_for p g) refl }
+    where
+      by : (until : ℕ) (g : Grant) → Has g u.grants → is_waiting g ≡ true → IsPending until transactions u.listed g → (b : Bool) → is_for p g ≡ b → Follows until transactions g after
+      by until g there waits pending true e =
+          let is : anew.waits ≡ g = passes-same (is_for p) anew.waits g u.grants (k.single p anew.unique) anew.there there anew.same e in
+          inr (new, new-there, anew.becomes ∙ ap as_granted is, anew.granted)
+      by until g there waits pending false e = inl (stays-there g there e, pending-other count slots delay now transactions u k p refreshing until g e pending)
+
+-- ---- all purposes of a request
+
+-- what is listed is listed for none of these any more
+pub record IsAnswered (count slots delay now : ℕ) (transactions : List Transaction) (purposes : List Purpose) (u t : State) : Type 0 where
+  pub kept : IsKept count slots delay now transactions t
+  pub goes : Goes transactions transactions u t
+  pub outstanding : t.transactions ≡ u.transactions
+  pub listed : (l : Listing) → Has l t.listed → Has l u.listed × (Has l.purpose purposes → ⊥)
+
+one-listed : (p : Purpose) (u : State) (l : Listing) → Has l (left p u) → ((g : Grant) × Has g u.grants × (is_for p g ≡ true)) → (l.purpose ≡ p → ⊥)
+one-listed p u l h (g, there, for) e =
+    let (was, keeps) = has-filter (λ (l : Listing). not (is_shared p u.grants l)) l u.listed h in
+    let also : is_for l.purpose g ≡ true = rw e for in
+    let some = has-any (λ g. is_for p g && is_for l.purpose g) g u.grants there (and_from (is_for p g) (is_for l.purpose g) for also) in
+    let no : false ≡ true = sym (not-true (is_shared p u.grants l) keeps) ∙ some in
+    cc
+
+pub all-known : (count slots delay now : ℕ) (transactions : List Transaction) (u : State) → IsKept count slots delay now transactions u → (g : Grant) → Has g u.grants → (is_waiting g ≡ true) ⊎ IsGranted g
+all-known count slots delay now transactions u k g there = elim (k.each g there) [ inl (waits, pending) ↦ inl waits | inr stands ↦ inr stands.granted ]
+
+module _ (count slots delay now : ℕ) (transactions : List Transaction) (u : State) (k : IsKept count slots delay now transactions u) (p : Purpose) (refreshing : IsRefreshing p) (g : Grant) (there : Has g u.grants)
+    (for : is_for p g ≡ true) where
+  left-listed : (l : Listing) → Has l (left p u) → Has l u.listed × (Has l.purpose (p ∷ []) → ⊥)
+  left-listed l h = (
+    (has-filter (λ (l : Listing). not (is_shared p u.grants l)) l u.listed h).0,
+    λ there_is. elim there_is [ inl e ↦ one-listed p u l h (g, there, for) e | inr none ↦ absurd none ],
+  )
+
+  -- one purpose is answered
+  pub one-answered : (t : State) → Does p now u t → IsAnswered count slots delay now transactions (p ∷ []) u t
+  one-answered t (inl (expiry, challenges, late, is, alone)) = subst (IsAnswered count slots delay now transactions (p ∷ []) u) (sym is) (record {
+    kept = renewed-kept count slots delay now transactions u k p refreshing expiry challenges late alone;
+    goes = renewed-goes count slots delay now transactions u k p refreshing expiry challenges late alone;
+    outstanding = refl;
+    listed = left-listed;
+  })
+  one-answered t (inr anew) = subst (IsAnswered count slots delay now transactions (p ∷ []) u) (sym anew.is) (record {
+    kept = anew-kept count slots delay now transactions u k p t anew;
+    goes = anew-goes count slots delay now transactions u k p t anew;
+    outstanding = refl;
+    listed = left-listed;
+  })
+
+-- one purpose is answered after another one
+both-answered : (count slots delay now : ℕ) (transactions : List Transaction) (p q : Purpose) (u v t : State) → IsAnswered count slots delay now transactions (q ∷ []) u v
+    → IsAnswered count slots delay now transactions (p ∷ []) v t → IsAnswered count slots delay now transactions (p ∷ q ∷ []) u t
+both-answered count slots delay now transactions p q u v t first last = record {
+  kept = last.kept;
+  goes = goes-trans transactions transactions transactions u v t first.goes last.goes;
+  outstanding = last.outstanding ∙ first.outstanding;
+  listed = λ l h.
+      let (here, not_p) = last.listed l h in
+      let (was, not_q) = first.listed l here in
+      (was, λ there_is. elim there_is [ inl e ↦ not_p (inl e) | inr later ↦ not_q later ]);
+}
+
+-- the request of the message's ID is for this
+abbrev pub IsGiven : List Grant → Purpose → Type 0
+IsGiven gs p = IsRefreshing p × ((g : Grant) × Has g gs × (is_for p g ≡ true))
+
+of_method : (method : ℕ) (p : Purpose) → IsRefreshing p → method ≡ method_for p → is_answered method p ≡ true
+of_method method (ForRefresh family lifetime) r e = eq-eqb _ method (sym e)
+of_method method (ForPermission ip) r e = eq-eqb _ method (sym e)
+of_method method (ForChannel number peer) r e = eq-eqb _ method (sym e)
+of_method method p r e = absurd r
+
+-- all that the request was made for is answered
+pub all-answered : (message : List ℕ) (id count slots delay now : ℕ) (transactions : List Transaction) (u : State) → IsKept count slots delay now transactions u
+    → ((p : Purpose) → Has p (purposes_of id u) → IsGiven u.grants p) → Answers message (purposes_of id u)
+    → IsAnswered count slots delay now transactions (purposes_of id u) u (fold (effect id true message now) u (filter (is_answered (method_in message)) (purposes_of id u)))
+all-answered message id count slots delay now transactions u k given answers = by (listed_as id u.listed) refl (k.linked id)
+  where
+    Done : List Purpose → Type 0
+    Done ps = IsAnswered count slots delay now transactions ps u (fold (effect id true message now) u (filter (is_answered (method_in message)) ps))
+
+    known : (g : Grant) → Has g u.grants → (is_waiting g ≡ true) ⊎ IsGranted g
+    known = all-known count slots delay now transactions u k
+
+    one : (p : Purpose) → purposes_of id u ≡ p ∷ [] → IsGiven u.grants p → Grants message p → Done (p ∷ [])
+    one p e (refreshing, (g, there, for)) grants =
+        rw (of_method (method_in message) p refreshing grants.0)
+        (one-answered count slots delay now transactions u k p refreshing g there for (effect id true message now u p) (effect-does message id now u p k.in_range known refreshing grants e g there for))
+
+    two : (p q : Purpose) → purposes_of id u ≡ p ∷ q ∷ [] → Brings u.grants p q → IsGiven u.grants p → IsGiven u.grants q → Grants message p → Done (p ∷ q ∷ [])
+    two (ForChannel number peer) (ForPermission ip) e (h, here, waits, is) gp (refreshing, (g, there, for)) grants =
+        let m : method_in message ≡ channel_bind_method = grants.0 in
+        let yes : is_answered (method_in message) (ForChannel number peer) ≡ true = of_method (method_in message) (ForChannel number peer) tt grants.0 in
+        let not : is_answered (method_in message) (ForPermission ip) ≡ false = rw m refl in
+        let t = effect id true message now u (ForChannel number peer) in
+        let both = effect-brings message number peer ip id now u k.in_range known e g there for h here is waits (k.single (ForChannel number peer) tt) in
+        let first = one-answered count slots delay now transactions u k (ForPermission ip) tt g there for both.middle both.first in
+        let last = one-answered count slots delay now transactions both.middle first.kept (ForChannel number peer) tt h (both.stays h here (apart h is)) is t both.last in
+        rw (yes, not) (both-answered count slots delay now transactions (ForChannel number peer) (ForPermission ip) u both.middle t first last)
+      where
+        apart : (h : Grant) → is_for (ForChannel number peer) h ≡ true → is_for (ForPermission ip) h ≡ false
+        apart h e = grind arith
+    two p q e brings gp gq grants = absurd brings
+
+    by : (ls : List Listing) → listed_as id u.listed ≡ ls → IsRequest u.grants ls → Done (purposes_of id u)
+    by [] e h =
+        let none : purposes_of id u ≡ [] = ap (map (λ (l : Listing). l.purpose)) e in
+        rw none (record { kept = k; goes = goes-more transactions transactions u u refl (λ x h. h) (λ l h. h); outstanding = refl; listed = λ l h. (h, λ no. no) })
+    by (l ∷ []) e h =
+        let is : purposes_of id u ≡ l.purpose ∷ [] = ap (map (λ (l : Listing). l.purpose)) e in
+        subst Done (sym is) (one l.purpose is (given l.purpose (rw is (inl refl))) (subst (Answers message) is answers))
+    by (l ∷ m ∷ []) e h =
+        let is : purposes_of id u ≡ l.purpose ∷ m.purpose ∷ [] = ap (map (λ (l : Listing). l.purpose)) e in
+        subst Done (sym is) (two l.purpose m.purpose is h (given l.purpose (rw is (inl refl))) (given m.purpose (rw is (inr (inl refl)))) (subst (Answers message) is answers))
+    by (l ∷ m ∷ n ∷ ls) e h = absurd h

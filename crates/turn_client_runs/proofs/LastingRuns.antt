@@ -1,0 +1,458 @@
+-- No grant is lost in a run.
+use Rattle.std.proofs.Common.{◌≡◌, ◌⊎◌, ℕ, ◌+◌, ◌<◌, ◌≤◌, Bool, true, false, cond, not, leb, eqb, List, [], ◌∷◌, ◌++◌, length, drop, Option, Some, None, refl, inl, inr, ap, sym, subst, ◌∙◌, arith}
+use Rattle.std.specs.Prelude.{filter, filter_map, find, is_some, Ok, Err}
+use Rattle.std.specs.Net.Socket.{socket_ip}
+use Rattle.turn_stun.specs.declared.transport.TransportType.{TransportType}
+use Rattle.turn_stun.specs.declared.transport.TransportType.TheVariants.{Tcp}
+use Rattle.turn_agent.specs.TransactionIds.{Source}
+use Rattle.turn_client_api.specs.declared.grant.DataConnection.{DataConnection}
+use Rattle.turn_client_api.specs.declared.error.SendError.TheVariants.{NoPermission}
+use Rattle.turn_client_api.specs.Grants.{as_connection}
+use Rattle.turn_client_api.specs.Requests.{to_server}
+use Rattle.turn_types.specs.Channel.{channel_frame}
+use Rattle.turn_client_api.specs.Calls.{active_channel, as_indication, bound_to, can_send_to, on_channel, on_connection, send_over, send_to_step}
+use Rattle.std.specs.List.{Contains, list_any}
+use Rattle.std.proofs.lemmas.Bool.{cases_Bool, eqb-true, eq-eqb}
+use Rattle.std.specs.declared.net.socket_addr.SocketAddr.{SocketAddr}
+use Rattle.turn_stun.specs.Message.{id_of}
+use Rattle.turn_stun.specs.declared.message.header.MessageClass.TheVariants.{Success}
+use Rattle.turn_stun.specs.declared.transport.TransportType.TheVariants.{Udp}
+use Rattle.turn_stun.specs.declared.transport.Transmit.{Transmit}
+use Rattle.turn_auth.specs.Validation.{IsValidated, validation_of}
+use Rattle.turn_auth.specs.declared.validation.Validation.{Validation}
+use Rattle.turn_auth.specs.declared.validation.Validation.TheVariants.{Validated, ResendRequest, Refused}
+use Rattle.turn_agent.specs.Agent.{is_outstanding}
+use Rattle.turn_agent.specs.declared.transaction.Transaction.{Transaction}
+use Rattle.turn_client_api.specs.State.{State, auth_of}
+use Rattle.turn_client_api.specs.declared.state.Phase.TheVariants.{Allocated}
+use Rattle.turn_client_api.specs.declared.grant.Grant.{Grant}
+use Rattle.turn_client_api.specs.declared.grant.Grant.TheVariants.{Allocation, Permission, Channel}
+use Rattle.turn_client_api.specs.declared.grant.Progress.TheVariants.{Active, Pending}
+use Rattle.turn_client_api.specs.declared.grant.Listing.{Listing}
+use Rattle.turn_client_api.specs.declared.grant.Purpose.{Purpose}
+use Rattle.turn_client_api.specs.declared.grant.Purpose.TheVariants.{ForPermission, ForChannel}
+use Rattle.turn_client_api.specs.Grants.{family_of_grant, has_request, is_for, purposes_of, same_ip}
+use Rattle.turn_client_api.specs.Judgement.{SignedSuccess, class_in, judgement_of}
+use Rattle.turn_client_api.specs.Effect.{transaction_ended}
+use Rattle.turn_client_api.specs.Payloads.{Outcome, datagram_step, message_step, response_step, signed_step}
+use Rattle.turn_client_api.specs.Steps.{packet_step, state_after, state_after_all}
+use Rattle.turn_client_api.specs.declared.call.Call.{Call}
+use Rattle.turn_client_api.specs.declared.call.Call.TheVariants.{BindChannel, CreatePermission, Recv, Poll, PollTransmit, PollEvent, SendTo}
+use Rattle.turn_client_laws.proofs.HasLemmas.{Has, filter-has, has-all, has-filter, map-has}
+use Rattle.turn_client_laws.proofs.InAllocationLemmas.{room-of}
+use Rattle.turn_client_laws.proofs.TwoPurposes.{purpose-with}
+use Rattle.turn_client_runs.specs.Lasting.{with_expiry, IsRequested, RequestsSucceed, as_granted, Answers, DatagramsAreMessages, GrantsLast, HasRoom, HasStill, IsInForce, IsQuiet, IsSteady, IsSuccess, IsWithin, RunsSteadily, SuccessesEndRequests, ahead_of, expiry_of}
+use Rattle.turn_client_runs.proofs.MadeLemmas.{success-ends}
+use Rattle.turn_client_runs.specs.OnTime.{IsFromServer, IsInTime, time_of, time_of_all}
+use Rattle.turn_client_runs.proofs.LastingStands.{Follows, Goes, IsPending, IsWell, goes-more, goes-trans, is_waiting, AreSingle, IsAwaited, IsGranted, IsIdle, IsKept, IsUnique, Stands, not-waiting, pause-le, stands-early}
+use Rattle.turn_client_runs.proofs.LastingCounts.{passes}
+use Rattle.turn_client_runs.proofs.LastingCalls.{Asks, asked-goes, asked-kept, binds, creates}
+use Rattle.turn_client_laws.specs.LawsDoubles.{is_double}
+use Rattle.turn_client_laws.proofs.AddressLemmas.{same_ip-true}
+use Rattle.turn_client_laws.proofs.StandLemmas.{contains-has, has-contains}
+use Rattle.std.specs.List.{AllByRecursion, IsDistinct}
+use Rattle.turn_client_runs.proofs.LastingSends.{none-due, none-over}
+use Rattle.turn_client_runs.proofs.LastingTime.{time-kept}
+use Rattle.turn_client_runs.proofs.LastingPolls.{AllEarly, kept-aside, polls}
+use Rattle.turn_client_runs.proofs.LastingTransmits.{transmit-kept}
+use Rattle.turn_client_runs.proofs.LastingReplies.{IsAnswered, IsGiven, all-answered}
+
+-- ---- a success is processed
+
+success-judged : (message : List ℕ) (s : State) → s.phase ≡ Allocated → class_in message ≡ Success → IsValidated (validation_of (auth_of s) message) → is_outstanding (id_of message) s.transactions ≡ true
+    → judgement_of s message ≡ SignedSuccess
+success-judged message s p c v o = by (validation_of (auth_of s) message) refl v
+  where
+    by : (w : Validation) → validation_of (auth_of s) message ≡ w → IsValidated w → judgement_of s message ≡ SignedSuccess
+    by (Validated algorithm) e h = rw (p, c, e, o) (rw c refl)
+    by (ResendRequest algorithm) e h = absurd h
+    by (Refused integrity) e h = absurd h
+
+-- over UDP the message is processed
+pub arrives : (packet : Transmit (List ℕ)) (now : ℕ) (s : State) → s.transport ≡ Udp → IsFromServer packet s → packet_step packet now s ≡ message_step packet.payload now s
+arrives packet now s udp is = datagram ∙ whole
+  where
+    datagram : packet_step packet now s ≡ datagram_step packet.payload now s
+    datagram = rw (is.from_server, udp, is.to_client) refl
+
+    whole : datagram_step packet.payload now s ≡ message_step packet.payload now s
+    whole = rw is.whole refl
+
+pub datagram-message : DatagramsAreMessages
+datagram-message packet now s udp is = ap (λ (z : Outcome × State). z.1) (arrives packet now s udp is)
+
+received : (packet : Transmit (List ℕ)) (now : ℕ) (s : State) → s.phase ≡ Allocated → IsSuccess packet now s → state_after (Recv packet now) s ≡ (response_step true packet.payload now s).1
+received packet now s p is = is.message ∙ ap (λ (z : Outcome × State). z.1) (judged ∙ signed)
+  where
+    judged : message_step packet.payload now s ≡ signed_step true packet.payload now s
+    judged = rw (success-judged packet.payload s p is.success is.signed is.outstanding) refl
+
+    signed : signed_step true packet.payload now s ≡ response_step true packet.payload now s
+    signed = rw p refl
+
+-- the server has answered it
+pub success-ended : SuccessesEndRequests
+success-ended packet now s p is =
+    subst (λ (x : State). is_outstanding (id_of packet.payload) x.transactions ≡ false) (sym is.message)
+    (success-ends packet.payload now s (success-judged packet.payload s p is.success is.signed is.outstanding))
+
+-- ---- what is left is kept
+
+-- no grant is lost by the call
+abbrev pub KeepsAll : ℕ → ℕ → ℕ → ℕ → State → State → Type 0
+KeepsAll count slots delay now s t = IsKept count slots delay now t.transactions t × Goes s.transactions t.transactions s t
+
+module _ (count slots delay now : ℕ) (s : State) (k : IsKept count slots delay now s.transactions s) (message : List ℕ) (answers : Answers message (purposes_of (id_of message) s)) where
+  abbrev id : ℕ
+  id = id_of message
+
+  abbrev ended : State
+  ended = transaction_ended id s
+
+  abbrev t : State
+  t = (response_step true message now s).1
+
+  stands-ended : (g : Grant) → Stands count slots delay now s.transactions s g → Stands count slots delay now s.transactions (transaction_ended (id_of message) s) g
+  stands-ended g was = record {
+    granted = was.granted;
+    room = was.room;
+    long = was.long;
+    either = elim was.either [ inl a ↦ inl a | inr idle ↦ inr (record { unasked = idle.unasked; soon = idle.soon; paused = idle.paused }) ];
+  }
+
+  still : (x : Transaction) → Has x ended.transactions → Has x s.transactions
+  still x h = (has-filter (λ (x : Transaction). not (eqb x.id id)) x s.transactions h).0
+
+  kept-ended : IsKept count slots delay now s.transactions ended
+  kept-ended = record {
+    phase = k.phase;
+    requests = k.requests;
+    few = k.few;
+    prompt = k.prompt;
+    pace = k.pace;
+    sent = k.sent;
+    young = λ x h. k.young x (still x h);
+    heard = λ x h. k.heard x (still x h);
+    asked = k.asked;
+    size = k.size;
+    single = k.single;
+    linked = k.linked;
+    in_range = k.in_range;
+    housed = k.housed;
+    each = λ g there. elim (k.each g there) [ inl waits ↦ inl waits | inr stands ↦ inr (stands-ended g stands) ];
+  }
+
+  purpose-listed : (l : Listing) → Has l s.listed → l.id ≡ id → Has l.purpose (purposes_of id s)
+  purpose-listed l there e = map-has (λ (l : Listing). l.purpose) l (filter (λ (l : Listing). eqb l.id id) s.listed) (filter-has (λ (l : Listing). eqb l.id id) l s.listed there (eq-eqb l.id id e))
+
+  given : (p : Purpose) → Has p (purposes_of id ended) → IsGiven ended.grants p
+  given p h = k.asked (record { id = id; purpose = p }) (purpose-with id p s h)
+
+  done : IsAnswered count slots delay now s.transactions (purposes_of id ended) ended t
+  done = all-answered message id count slots delay now s.transactions ended kept-ended given answers
+
+  -- what is listed under the ID is listed no more
+  unlisted : (l : Listing) → Has l t.listed → l.id ≡ id → ⊥
+  unlisted l h e = let (was, not) = done.listed l h in not (purpose-listed l was e)
+
+  remains : (x : Transaction) → Has x s.transactions → (x.id ≡ id → ⊥) → Has x t.transactions
+  remains x h other =
+      subst (λ (xs : List Transaction). Has x xs) (sym done.outstanding)
+      (filter-has (λ (x : Transaction). not (eqb x.id id)) x s.transactions h (by (eqb x.id id) refl))
+    where
+      by : (b : Bool) → eqb x.id id ≡ b → not (eqb x.id id) ≡ true
+      by false e = rw e refl
+      by true e = absurd (other (eqb-true x.id id e))
+
+  was-there : (x : Transaction) → Has x t.transactions → Has x s.transactions
+  was-there x h = still x (subst (λ (xs : List Transaction). Has x xs) done.outstanding h)
+
+  stands-answered : (g : Grant) → Stands count slots delay now s.transactions t g → Stands count slots delay now t.transactions t g
+  stands-answered g was = record { granted = was.granted; room = was.room; long = was.long; either = by was.either }
+    where
+      by : IsAwaited delay s.transactions t.listed g ⊎ IsIdle slots now t g → IsAwaited delay t.transactions t.listed g ⊎ IsIdle slots now t g
+      by (inl a) = inl (record {
+        transaction = a.transaction;
+        there = remains a.transaction a.there (λ e. unlisted a.listing a.within (sym a.same ∙ e));
+        listing = a.listing;
+        within = a.within;
+        for = a.for;
+        same = a.same;
+        in_time = a.in_time;
+      })
+      by (inr idle) = inr idle
+
+  -- what awaits another reply awaits it still
+  pending-answered : (until : ℕ) (g : Grant) → IsPending until s.transactions t.listed g → IsPending until t.transactions t.listed g
+  pending-answered until g a = record {
+    transaction = a.transaction;
+    there = remains a.transaction a.there (λ e. unlisted a.listing a.within (sym a.same ∙ e));
+    listing = a.listing;
+    within = a.within;
+    for = a.for;
+    same = a.same;
+    sent = a.sent;
+  }
+
+  goes-answered : Goes s.transactions t.transactions s t
+  goes-answered = record {
+    remain = done.goes.remain;
+    follow = λ until g there waits pending. elim (done.goes.follow until g there waits pending) [
+      | inl (here, still) ↦ inl (here, pending-answered until g still)
+      | inr is ↦ inr is
+    ];
+  }
+
+  pub kept-answered : KeepsAll count slots delay now s t
+  kept-answered = (
+    record {
+      phase = done.kept.phase;
+      requests = done.kept.requests;
+      few = done.kept.few;
+      prompt = done.kept.prompt;
+      pace = done.kept.pace;
+      sent = done.kept.sent;
+      young = λ x h. k.young x (was-there x h);
+      heard = λ x h. k.heard x (was-there x h);
+      asked = done.kept.asked;
+      size = done.kept.size;
+      single = done.kept.single;
+      linked = done.kept.linked;
+      in_range = done.kept.in_range;
+      housed = done.kept.housed;
+      each = λ g there. elim (done.kept.each g there) [ inl (waits, pending) ↦ inl (waits, pending-answered now g pending) | inr stands ↦ inr (stands-answered g stands) ];
+    },
+    goes-answered,
+  )
+
+-- ---- each call
+
+-- data for a peer uses an ID at most
+sends : (P : State → Type 0) (transport : TransportType) (peer : SocketAddr) (bytes : List ℕ) (now : ℕ) (s : State) → ((ids : Source) → P (record s { ids = ids })) → P (send_to_step transport peer bytes now s).1
+sends P transport peer bytes now s each = by (can_send_to transport (socket_ip peer) s) transport
+  where
+    channel : (xs : List (ℕ × ℕ)) → P (on_channel xs peer bytes now s).1
+    channel [] = each _
+    channel ((number, expiry) ∷ xs) = for (leb now expiry)
+      where
+        for : (b : Bool) → P (cond b (Ok (to_server s s.local (channel_frame number bytes)), s) (as_indication peer bytes s)).1
+        for true = each s.ids
+        for false = each _
+
+    connection : (o : Option DataConnection) → P (on_connection o bytes s).1
+    connection None = each s.ids
+    connection (Some c) = each s.ids
+
+    by : (b : Bool) (t : TransportType) → P (cond b (send_over t peer bytes now s) (Err NoPermission, s)).1
+    by false t = each s.ids
+    by true Udp = channel (filter_map (active_channel peer) s.grants)
+    by true Tcp = connection (find (bound_to peer) (filter_map as_connection s.grants))
+
+-- no grant and no request changes
+goes-same : (s t : State) → t.grants ≡ s.grants → t.transactions ≡ s.transactions → t.listed ≡ s.listed → Goes s.transactions t.transactions s t
+goes-same s t e f l =
+    goes-more s.transactions t.transactions s t e (λ x h. subst (λ (xs : List Transaction). Has x xs) (sym f) h) (λ m h. subst (λ (ls : List Listing). Has m ls) (sym l) h)
+
+all-early : (count slots delay now : ℕ) (s : State) → IsKept count slots delay now s.transactions s → AllEarly now s
+all-early count slots delay now s k g there = elim (k.each g there) [ inl (waits, pending) ↦ inl waits | inr stands ↦ inr (stands.granted, stands-early count slots delay now s k g there stands) ]
+
+call-kept : (count slots delay before : ℕ) (s : State) (call : Call) → IsKept count slots delay before s.transactions s → IsInTime delay before (time_of before call) s → IsQuiet call s
+    → IsWithin count slots (state_after call s) → KeepsAll count slots delay (time_of before call) s (state_after call s)
+call-kept count slots delay before s call k in_time quiet within = by call (time-kept count slots delay before (time_of before call) s k in_time) quiet within
+  where
+    asks-kept : (now : ℕ) → IsKept count slots delay now s.transactions s → Asks (λ t. IsWithin count slots t → KeepsAll count slots delay now s t) now s
+    asks-kept now k ps news text are w = (asked-kept count slots delay now s k ps news are text w.0 w.1, asked-goes count slots delay now s k ps news are text)
+
+    by : (c : Call) → IsKept count slots delay (time_of before c) s.transactions s → IsQuiet c s → IsWithin count slots (state_after c s) → KeepsAll count slots delay (time_of before c) s (state_after c s)
+    by (Poll now) k quiet within =
+        polls (KeepsAll count slots delay now s) now s k.phase (all-early count slots delay now s k)
+        (none-over delay now s k.prompt k.in_range k.young k.heard)
+        (λ closes. (kept-aside count slots delay now s.transactions s s.ids s.events closes k, goes-same s (record s { closes = closes }) refl refl refl))
+    by (PollTransmit now) k quiet within =
+        let (kept, goes) = transmit-kept count slots delay now s k (none-due delay now s k.prompt k.in_range k.young k.heard) in
+        (kept, goes)
+    by PollEvent k quiet within = (kept-aside count slots delay before s.transactions s s.ids (drop 1 s.events) s.closes k, goes-same s (record s { events = drop 1 s.events }) refl refl refl)
+    by (SendTo transport peer bytes now) k quiet within =
+        sends (KeepsAll count slots delay now s) transport peer bytes now s (λ ids. (kept-aside count slots delay now s.transactions s ids s.events s.closes k, goes-same s (record s { ids = ids }) refl refl refl))
+    by (CreatePermission transport ip now) k quiet within =
+        creates (λ t. IsWithin count slots t → KeepsAll count slots delay now s t) count slots delay now s k (λ w. (k, goes-same s s refl refl refl)) (asks-kept now k) transport ip within
+    by (BindChannel transport peer now) k quiet within =
+        binds (λ t. IsWithin count slots t → KeepsAll count slots delay now s t) count slots delay now s k (λ w. (k, goes-same s s refl refl refl)) (asks-kept now k) transport peer within
+    by (Recv packet now) k (inl is) within =
+        subst (λ (x : State). KeepsAll count slots delay now s x) (sym (received packet now s k.phase is)) (kept-answered count slots delay now s k packet.payload is.answers)
+    by (Recv packet now) k (inr same) within = subst (KeepsAll count slots delay now s) (sym same) (k, goes-same s s refl refl refl)
+    by c k same within = subst (KeepsAll count slots delay (time_of before c) s) (sym same) (k, goes-same s s refl refl refl)
+
+all-kept : (count slots delay before : ℕ) (s : State) (calls : List Call) → IsKept count slots delay before s.transactions s → RunsSteadily count slots delay before s calls
+    → KeepsAll count slots delay (time_of_all before calls) s (state_after_all s calls)
+all-kept count slots delay before s [] k run = (k, goes-same s s refl refl refl)
+all-kept count slots delay before s (call ∷ calls) k (in_time, quiet, within, run) =
+    let (kept, goes) = call-kept count slots delay before s call k in_time quiet within in
+    let (last, as_well) = all-kept count slots delay (time_of before call) (state_after call s) calls kept run in
+    (last, goes-trans s.transactions (state_after call s).transactions (state_after_all (state_after call s) calls).transactions s (state_after call s) (state_after_all (state_after call s) calls) goes as_well)
+
+-- a run is that of its first calls, and then that of the others
+first-part : (count slots delay before : ℕ) (s : State) (earlier later : List Call) → RunsSteadily count slots delay before s (earlier ++ later) → RunsSteadily count slots delay before s earlier
+first-part count slots delay before s [] later run = tt
+first-part count slots delay before s (call ∷ earlier) later (in_time, quiet, within, run) =
+    (in_time, quiet, within, first-part count slots delay (time_of before call) (state_after call s) earlier later run)
+
+last-part : (count slots delay before : ℕ) (s : State) (earlier later : List Call) → RunsSteadily count slots delay before s (earlier ++ later)
+    → RunsSteadily count slots delay (time_of_all before earlier) (state_after_all s earlier) later
+last-part count slots delay before s [] later run = run
+last-part count slots delay before s (call ∷ earlier) later (in_time, quiet, within, run) = last-part count slots delay (time_of before call) (state_after call s) earlier later run
+
+joined : (s : State) (earlier later : List Call) → state_after_all s (earlier ++ later) ≡ state_after_all (state_after_all s earlier) later
+joined s [] later = refl
+joined s (call ∷ earlier) later = joined (state_after call s) earlier later
+
+-- ---- the first state
+
+force-granted : (now : ℕ) (g : Grant) → IsInForce now g → IsGranted g
+force-granted now (Allocation a) h = h.0
+force-granted now (Permission ip (Active expiry)) h = tt
+force-granted now (Channel number peer (Active expiry)) h = tt
+force-granted now g h = absurd h
+
+granted-force : (now : ℕ) (g : Grant) → IsGranted g → now < expiry_of g → IsInForce now g
+granted-force now (Allocation a) h early = (h, early)
+granted-force now (Permission ip (Active expiry)) h early = early
+granted-force now (Channel number peer (Active expiry)) h early = early
+granted-force now g h early = absurd h
+
+-- grants that differ are not for the same purpose
+none-double : (p : Purpose) → IsUnique p → (g : Grant) (gs : List Grant) → is_for p g ≡ true → AllByRecursion (λ h. is_double g h ≡ false) gs → passes (is_for p) gs ≡ 0
+none-double p unique g [] is all = refl
+none-double p unique g (h ∷ gs) is (differ, others) = let e = apart p unique g h is differ in rw e (omega (arith, none-double p unique g gs is others))
+  where
+    apart : (p : Purpose) → IsUnique p → (g h : Grant) → is_for p g ≡ true → is_double g h ≡ false → is_for p h ≡ false
+    apart (ForPermission ip) u (Permission a m) (Permission c n) is differ = by (same_ip c ip) refl
+      where
+        by : (b : Bool) → same_ip c ip ≡ b → same_ip c ip ≡ false
+        by false e = e
+        by true e =
+            let here : c ≡ ip = same_ip-true c ip e in
+            let no : true ≡ false = sym is ∙ (ap (same_ip a) (sym here) ∙ differ) in
+            cc
+    apart (ForChannel number peer) u (Channel a at m) (Channel c ct n) is differ = by (eqb c number) refl
+      where
+        by : (b : Bool) → eqb c number ≡ b → eqb c number ≡ false
+        by false e = e
+        by true e =
+            let here : c ≡ number = eqb-true c number e in
+            let no : true ≡ false = sym is ∙ (ap (eqb a) (sym here) ∙ differ) in
+            cc
+    apart p u g h is differ = grind arith
+
+single-first : (gs : List Grant) → IsDistinct is_double gs → AreSingle gs
+unfolding IsDistinct
+single-first [] distinct p unique = omega arith
+single-first (g ∷ gs) (apart, others) p unique = elim (cases_Bool (is_for p g)) [
+  | inl e ↦ rw e (omega (arith, none-double p unique g gs e apart))
+  | inr e ↦ rw e (omega (arith, single-first gs others p unique))
+]
+
+steady-kept : (count slots delay now : ℕ) (s : State) → IsSteady count slots delay now s → IsKept count slots delay now s.transactions s
+steady-kept count slots delay now s is = record {
+  phase = is.allocated;
+  requests = rw is.none_queued refl;
+  few = is.within.1;
+  prompt = is.prompt;
+  pace = is.room_for_more;
+  sent = is.sent_before;
+  young = λ x h. absurd (subst (λ (xs : List Transaction). Has x xs) is.none_outstanding h);
+  heard = λ x h. absurd (subst (λ (xs : List Transaction). Has x xs) is.none_outstanding h);
+  asked = λ l h. absurd (subst (λ (ls : List Listing). Has l ls) is.none_listed h);
+  size = is.within.0;
+  single = single-first s.grants is.distinct;
+  linked = λ id. rw is.none_listed tt;
+  in_range = is.in_range;
+  housed = λ g there. room-of (family_of_grant g) s (has-all (λ g. is_some (Rattle.turn_client_api.specs.Grants.find_allocation (family_of_grant g) s) ≡ true) g s.grants is.housed there);
+  each = λ g there. inr (stands g there);
+}
+  where
+    unasked : (g : Grant) (ls : List Listing) → ls ≡ [] → list_any (λ (l : Listing). is_for l.purpose g) ls ≡ false
+    unasked g ls e = rw e refl
+
+    none : length s.queue ≡ 0
+    none = rw is.none_queued refl
+
+    stands : (g : Grant) → Has g s.grants → Stands count slots delay now s.transactions s g
+    stands g there =
+        let early : now + ahead_of g ≤ expiry_of g = has-all (λ g. now + ahead_of g ≤ expiry_of g) g s.grants is.none_late there in
+        record {
+          granted = force-granted now g (has-all (IsInForce now) g s.grants is.in_force there);
+          room = has-all (λ g. HasRoom count slots delay (ahead_of g)) g s.grants is.room there;
+          long = omega (arith, early);
+          either = inr (record { unasked = unasked g s.listed is.none_listed; soon = omega (arith, early, none); paused = omega (arith, early, none, pause-le now s is.sent_before) });
+        }
+
+early-of : (count slots delay now : ℕ) (t : State) → IsKept count slots delay now t.transactions t → (h : Grant) → Has h t.grants → IsGranted h → now < expiry_of h
+early-of count slots delay now t k h here granted = elim (all-early count slots delay now t k h here) [
+  | inl waits ↦ absurd (let no : false ≡ true = sym (not-waiting h granted) ∙ waits in cc)
+  | inr (is, early) ↦ early
+]
+
+force-key : (now : ℕ) (g : Grant) → IsInForce now g → with_expiry 0 g ≡ as_granted g
+force-key now (Allocation a) h = refl
+force-key now (Permission ip (Active expiry)) h = refl
+force-key now (Channel number peer (Active expiry)) h = refl
+force-key now g h = absurd h
+
+requested-waits : (g : Grant) → IsRequested g → is_waiting g ≡ true
+requested-waits (Permission ip Pending) h = refl
+requested-waits (Channel number peer Pending) h = refl
+requested-waits g h = absurd h
+
+-- both parts of a run
+module _ (count slots delay now : ℕ) (s : State) (earlier later : List Call) (steady : IsSteady count slots delay now s) (run : RunsSteadily count slots delay now s (earlier ++ later)) where
+  abbrev between : ℕ
+  between = time_of_all now earlier
+
+  abbrev last : ℕ
+  last = time_of_all between later
+
+  abbrev mid : State
+  mid = state_after_all s earlier
+
+  abbrev end : State
+  end = state_after_all mid later
+
+  kept-mid : IsKept count slots delay between mid.transactions mid
+  kept-mid = (all-kept count slots delay now s earlier (steady-kept count slots delay now s steady) (first-part count slots delay now s earlier later run)).0
+
+  kept-end : KeepsAll count slots delay last mid end
+  kept-end = all-kept count slots delay between mid later kept-mid (last-part count slots delay now s earlier later run)
+
+  has-still : (g h : Grant) → Has h end.grants → with_expiry 0 h ≡ as_granted g → IsGranted h → HasStill g last (state_after_all s (earlier ++ later))
+  has-still g h here same granted =
+      subst (HasStill g last) (sym (joined s earlier later))
+      (h, has-contains h end.grants here, same, granted-force last h granted (early-of count slots delay last end kept-end.0 h here granted))
+
+  lasts : (g : Grant) → Contains mid.grants g → IsInForce between g → HasStill g last (state_after_all s (earlier ++ later))
+  lasts g there in_force =
+      let (h, here, same, granted) = kept-end.1.remain g (contains-has g mid.grants there) (force-granted between g in_force) in
+      has-still g h here (same ∙ force-key between g in_force) granted
+
+  succeeds : (g : Grant) → Contains mid.grants g → IsRequested g → between + delay < last → HasStill g last (state_after_all s (earlier ++ later))
+  succeeds g there requested late = by (kept-mid.each g here)
+    where
+      here : Has g mid.grants
+      here = contains-has g mid.grants there
+
+      waits : is_waiting g ≡ true
+      waits = requested-waits g requested
+
+      follows : Follows between end.transactions g end → HasStill g last (state_after_all s (earlier ++ later))
+      follows (inl (remains, p)) = let heard = kept-end.0.heard p.transaction p.there in let sent = p.sent in absurd (omega (arith, heard, sent, late))
+      follows (inr (h, now_there, same, granted)) = has-still g h now_there same granted
+
+      by : IsWell count slots delay between mid.transactions mid g → HasStill g last (state_after_all s (earlier ++ later))
+      by (inl (waits, pending)) = follows (kept-end.1.follow between g here waits pending)
+      by (inr stands) = absurd (let no : false ≡ true = sym (not-waiting g stands.granted) ∙ waits in cc)
+
+pub grants-last : GrantsLast
+grants-last count slots delay now s earlier later steady run = lasts count slots delay now s earlier later steady run
+
+pub requests-succeed : RequestsSucceed
+requests-succeed count slots delay now s earlier later steady run = succeeds count slots delay now s earlier later steady run

@@ -1,0 +1,284 @@
+-- How a client stands while no grant is lost: each grant is refreshed in time, or its refresh is on its way.
+use Rattle.std.proofs.Common.{◌≡◌, ◌⊎◌, ℕ, ◌+◌, ◌-◌, ◌*◌, ◌/◌, ◌^◌, ◌<◌, ◌≤◌, Bool, true, false, ◌||◌, leb, eqb, List, [], ◌∷◌, length, filter, Option, Some, None, refl, sym, subst, ◌∙◌, inl, inr, arith}
+use Rattle.std.specs.Prelude.{IfSome, ⊤, nat_le}
+use Rattle.std.proofs.lemmas.Bool.{cases_Bool, cases_lt}
+use Rattle.turn_agent.specs.Schedule.{wait_at}
+use Rattle.turn_agent.specs.declared.transaction.Transaction.{Transaction}
+use Rattle.turn_client_api.specs.Config.{timers_of}
+use Rattle.turn_client_api.specs.State.{State, later_by}
+use Rattle.turn_client_api.specs.declared.state.Phase.TheVariants.{Allocated}
+use Rattle.turn_client_api.specs.declared.grant.Grant.{Grant}
+use Rattle.turn_client_api.specs.declared.grant.Grant.TheVariants.{Allocation, Permission, Channel}
+use Rattle.turn_client_api.specs.declared.grant.Progress.TheVariants.{Active, Pending}
+use Rattle.turn_client_api.specs.declared.grant.Purpose.{Purpose}
+use Rattle.turn_client_api.specs.declared.grant.Purpose.TheVariants.{ForRefresh, ForPermission, ForChannel}
+use Rattle.turn_client_api.specs.declared.grant.Listing.{Listing}
+use Rattle.turn_client_api.specs.Grants.{family_of_grant, has_request, is_for}
+use Rattle.turn_client_api.specs.declared.grant.Relay.{Relay}
+use Rattle.turn_client_api.specs.Due.{has_reply, pause, pause_end, refresh_time_by_kind, short_lifetime}
+use Rattle.turn_client_laws.proofs.HasLemmas.{Has}
+use Rattle.turn_client_laws.proofs.InAllocationLemmas.{Room}
+use Rattle.turn_client_runs.specs.Lasting.{as_granted, with_expiry, ahead_of, expiry_of}
+use Rattle.turn_client_runs.proofs.LastingCounts.{passes, passes-less}
+
+-- the server granted it, whenever it expires
+abbrev pub IsGranted : Grant → Type 0
+IsGranted (Allocation a) = a.is_expired ≡ false
+IsGranted (Permission ip (Active expiry)) = ⊤
+IsGranted (Channel number peer (Active expiry)) = ⊤
+IsGranted _ = ⊥
+
+-- when its refresh falls due
+abbrev pub due_of : Grant → ℕ
+due_of g = expiry_of g - ahead_of g
+
+-- it is requested and not yet granted
+abbrev pub is_waiting : Grant → Bool
+is_waiting (Permission ip Pending) = true
+is_waiting (Channel number peer Pending) = true
+is_waiting _ = false
+
+-- it is being requested, or was refreshed since that time
+abbrev pub is_served : State → ℕ → Grant → Bool
+is_served s since g = is_waiting g || (has_request g s || nat_le (since + 240_000_000_000) (due_of g))
+
+abbrev pub served : State → ℕ → ℕ
+served s since = passes (is_served s since) s.grants
+
+-- the request for a refresh leaves by then
+abbrev pub bound : ℕ → State → Grant → ℕ
+bound slots s g = due_of g + 50_000_000 * (1 + slots + served s (due_of g))
+
+-- a request for it awaits its reply, which will come before the grant expires
+pub record IsAwaited (delay : ℕ) (transactions : List Transaction) (listed : List Listing) (g : Grant) : Type 0 where
+  pub transaction : Transaction
+  pub there : Has transaction transactions
+  pub listing : Listing
+  pub within : Has listing listed
+  pub for : is_for listing.purpose g ≡ true
+  pub same : transaction.id ≡ listing.id
+  pub in_time : transaction.last_send + delay < expiry_of g
+
+-- it is not too late to request it, once all that is queued was sent
+pub record IsIdle (slots now : ℕ) (s : State) (g : Grant) : Type 0 where
+  pub unasked : has_request g s ≡ false
+  pub soon : now + 50_000_000 * length s.queue ≤ bound slots s g
+  pub paused : pause_end s + 50_000_000 * length s.queue ≤ bound slots s g
+
+pub record Stands (count slots delay now : ℕ) (transactions : List Transaction) (s : State) (g : Grant) : Type 0 where
+  pub granted : IsGranted g
+  pub room : (count + slots) * 50_000_000 + delay < ahead_of g
+  pub long : ahead_of g ≤ expiry_of g
+  pub either : IsAwaited delay transactions s.listed g ⊎ IsIdle slots now s g
+
+-- its request awaits its reply, and was made by then
+pub record IsPending (until : ℕ) (transactions : List Transaction) (listed : List Listing) (g : Grant) : Type 0 where
+  pub transaction : Transaction
+  pub there : Has transaction transactions
+  pub listing : Listing
+  pub within : Has listing listed
+  pub for : is_for listing.purpose g ≡ true
+  pub same : transaction.id ≡ listing.id
+  pub sent : transaction.last_send ≤ until
+
+pub pending-later : (first until : ℕ) (xs : List Transaction) (ls : List Listing) (g : Grant) → first ≤ until → IsPending first xs ls g → IsPending until xs ls g
+pending-later first until xs ls g later p = record {
+  transaction = p.transaction;
+  there = p.there;
+  listing = p.listing;
+  within = p.within;
+  for = p.for;
+  same = p.same;
+  sent = let sent = p.sent in omega (arith, sent, later);
+}
+
+pub pending-more : (until : ℕ) (xs ys : List Transaction) (ls ms : List Listing) (g : Grant) → ((x : Transaction) → Has x xs → Has x ys) → ((l : Listing) → Has l ls → is_for l.purpose g ≡ true → Has l ms)
+    → IsPending until xs ls g → IsPending until ys ms g
+pending-more until xs ys ls ms g transactions listed p = record {
+  transaction = p.transaction;
+  there = transactions p.transaction p.there;
+  listing = p.listing;
+  within = listed p.listing p.within p.for;
+  for = p.for;
+  same = p.same;
+  sent = p.sent;
+}
+
+-- ---- what is granted stays, and what is requested is granted
+
+-- it is there and granted, maybe with another expiry
+abbrev pub Remains : Grant → State → Type 0
+Remains g t = (h : Grant) × Has h t.grants × (with_expiry 0 h ≡ with_expiry 0 g) × IsGranted h
+
+-- it is granted
+abbrev pub Becomes : Grant → State → Type 0
+Becomes g t = (h : Grant) × Has h t.grants × (with_expiry 0 h ≡ as_granted g) × IsGranted h
+
+abbrev pub AllRemain : State → State → Type 0
+AllRemain u t = (g : Grant) → Has g u.grants → IsGranted g → Remains g t
+
+-- it waits for its reply still, or is granted
+abbrev pub Follows : ℕ → List Transaction → Grant → State → Type 0
+Follows until xs g t = (Has g t.grants × IsPending until xs t.listed g) ⊎ Becomes g t
+
+pub record Goes (xs ys : List Transaction) (u t : State) : Type 0 where
+  pub remain : AllRemain u t
+  pub follow : (until : ℕ) (g : Grant) → Has g u.grants → is_waiting g ≡ true → IsPending until xs u.listed g → Follows until ys g t
+
+pub goes-trans : (xs ys zs : List Transaction) (u v t : State) → Goes xs ys u v → Goes ys zs v t → Goes xs zs u t
+goes-trans xs ys zs u v t first second = record {
+  remain = λ g there granted.
+      let (h, here, same, is) = first.remain g there granted in
+      let (i, now, again, as_well) = second.remain h here is in
+      (i, now, again ∙ same, as_well);
+  follow = λ until g there waits pending. elim (first.follow until g there waits pending) [
+    | inl (here, still) ↦ second.follow until g here waits still
+    | inr (h, here, same, is) ↦ let (i, now, again, as_well) = second.remain h here is in inr (i, now, again ∙ same, as_well)
+  ];
+}
+
+-- no grant changes, and requests are added at most
+pub goes-more : (xs ys : List Transaction) (u t : State) → t.grants ≡ u.grants → ((x : Transaction) → Has x xs → Has x ys) → ((l : Listing) → Has l u.listed → Has l t.listed) → Goes xs ys u t
+goes-more xs ys u t e transactions listed = record {
+  remain = λ g there granted. (g, subst (λ (gs : List Grant). Has g gs) (sym e) there, refl, granted);
+  follow = λ until g there waits pending. inl (subst (λ (gs : List Grant). Has g gs) (sym e) there, pending-more until xs ys u.listed t.listed g transactions (λ l h for. listed l h) pending);
+}
+
+-- it is not granted yet, or will be refreshed in time
+abbrev pub IsWell : ℕ → ℕ → ℕ → ℕ → List Transaction → State → Grant → Type 0
+IsWell count slots delay now transactions s g = ((is_waiting g ≡ true) × IsPending now transactions s.listed g) ⊎ Stands count slots delay now transactions s g
+
+-- a purpose of a refresh
+abbrev pub IsRefreshing : Purpose → Type 0
+IsRefreshing (ForRefresh family lifetime) = 1 ≤ lifetime
+IsRefreshing (ForPermission ip) = ⊤
+IsRefreshing (ForChannel number peer) = ⊤
+IsRefreshing _ = ⊥
+
+-- it is for one of these
+abbrev pub IsAsked : List Grant → Listing → Type 0
+IsAsked gs l = IsRefreshing l.purpose × ((g : Grant) × Has g gs × (is_for l.purpose g ≡ true))
+
+-- it is for one grant at most: a permission or a channel
+abbrev pub IsUnique : Purpose → Type 0
+IsUnique (ForPermission ip) = ⊤
+IsUnique (ForChannel number peer) = ⊤
+IsUnique _ = ⊥
+
+-- no two permissions are for one IP address, and no two channels have one number
+abbrev pub AreSingle : List Grant → Type 0
+AreSingle gs = (p : Purpose) → IsUnique p → passes (is_for p) gs ≤ 1
+
+-- what is listed under one ID: one purpose, or a channel that waits and the permission that it brings
+abbrev pub Brings : List Grant → Purpose → Purpose → Type 0
+Brings gs (ForChannel number peer) (ForPermission ip) =
+    (g : Grant) × Has g gs × (is_waiting g ≡ true) × (is_for (ForChannel number peer) g ≡ true)
+Brings gs _ _ = ⊥
+
+abbrev pub IsRequest : List Grant → List Listing → Type 0
+IsRequest gs [] = ⊤
+IsRequest gs (l ∷ []) = ⊤
+IsRequest gs (l ∷ m ∷ []) = Brings gs l.purpose m.purpose
+IsRequest gs _ = ⊥
+
+abbrev pub listed_as : ℕ → List Listing → List Listing
+listed_as id ls = filter (λ l. eqb l.id id) ls
+
+abbrev pub AreRequests : List Grant → List Listing → Type 0
+AreRequests gs ls = (id : ℕ) → IsRequest gs (listed_as id ls)
+
+pub brings-more : (gs hs : List Grant) (p q : Purpose) → ((g : Grant) → Has g gs → is_for p g ≡ true → Has g hs) → Brings gs p q → Brings hs p q
+brings-more gs hs (ForChannel number peer) (ForPermission ip) more (g, there, waits, for) = (g, more g there for, waits, for)
+brings-more gs hs p q more h = grind arith
+
+pub request-more : (gs hs : List Grant) (ls : List Listing) → ((g : Grant) → Has g gs → Has g hs) → IsRequest gs ls → IsRequest hs ls
+request-more gs hs [] more h = tt
+request-more gs hs (l ∷ []) more h = tt
+request-more gs hs (l ∷ m ∷ []) more h = brings-more gs hs l.purpose m.purpose (λ g there for. more g there) h
+request-more gs hs (l ∷ m ∷ n ∷ ls) more h = absurd h
+
+-- the transactions are those that requests await, of which some may have ended
+pub record IsKept (count slots delay now : ℕ) (transactions : List Transaction) (s : State) : Type 0 where
+  pub phase : s.phase ≡ Allocated
+  pub requests : has_reply s ≡ false
+  pub few : length s.queue ≤ slots
+  pub prompt : delay < wait_at (timers_of s.config) s.transport 0
+  pub pace : (count + slots) * 50_000_000 + delay < 60_000_000_000
+  pub sent : IfSome s.last_send (λ time. time ≤ now)
+  pub young : (x : Transaction) → Has x s.transactions → x.resends ≡ 0
+  pub heard : (x : Transaction) → Has x s.transactions → now ≤ x.last_send + delay
+  pub asked : (l : Listing) → Has l s.listed → IsAsked s.grants l
+  pub size : length s.grants ≤ count
+  pub single : AreSingle s.grants
+  pub linked : AreRequests s.grants s.listed
+  pub in_range : now ≤ 2 ^ 62
+  pub housed : (g : Grant) → Has g s.grants → Room s.grants (family_of_grant g)
+  pub each : (g : Grant) → Has g s.grants → IsWell count slots delay now transactions s g
+
+-- ---- numbers
+
+half : (n : ℕ) → n ≤ 120_000_000_000 → n / 2 ≤ 60_000_000_000
+half n h = omega (arith, h)
+
+pub ahead-le : (g : Grant) → ahead_of g ≤ 60_000_000_000
+ahead-le (Allocation a) = elim (cases_Bool (leb a.first_lifetime short_lifetime)) [
+  | inl e ↦ rw e (half a.first_lifetime (Rattle.std.proofs.lemmas.Bool.leb-true a.first_lifetime short_lifetime e))
+  | inr e ↦ rw e (omega arith)
+]
+ahead-le (Permission ip progress) = omega arith
+ahead-le g = omega arith
+
+pub kind-due : (g : Grant) → IsGranted g → refresh_time_by_kind g ≡ Some (due_of g)
+kind-due (Allocation a) h = elim (cases_Bool (leb a.first_lifetime short_lifetime)) [ inl e ↦ rw e refl | inr e ↦ rw e refl ]
+kind-due (Permission ip (Active expiry)) h = refl
+kind-due (Channel number peer (Active expiry)) h = refl
+kind-due g h = absurd h
+
+-- what is granted is not waiting
+pub not-waiting : (g : Grant) → IsGranted g → is_waiting g ≡ false
+not-waiting (Allocation a) h = refl
+not-waiting (Permission ip (Active expiry)) h = refl
+not-waiting (Channel number peer (Active expiry)) h = refl
+not-waiting g h = absurd h
+
+-- a grant that is idle is not counted among those that were served
+pub bound-le : (count slots delay now : ℕ) (transactions : List Transaction) (s : State) (g : Grant) → IsKept count slots delay now transactions s → Has g s.grants → IsGranted g → IsIdle slots now s g
+    → bound slots s g ≤ due_of g + (count + slots) * 50_000_000
+bound-le count slots delay now transactions s g k there granted idle =
+    let less = passes-less (is_served s (due_of g)) g s.grants there (rw (not-waiting g granted, idle.unasked) (late (due_of g))) in
+    omega (arith, less, k.size)
+  where
+    late : (r : ℕ) → leb (r + 240_000_000_000) r ≡ false
+    late r = grind arith
+
+pub pause-le : (now : ℕ) (s : State) → IfSome s.last_send (λ time. time ≤ now) → pause_end s ≤ now + 50_000_000
+pause-le now s h = by s.last_send h
+  where
+    by : (o : Option ℕ) → IfSome o (λ time. time ≤ now) → Rattle.std.specs.Option.option_map_or (later_by pause) o 0 ≤ now + 50_000_000
+    by None h = omega arith
+    by (Some time) h = omega (arith, h)
+
+-- what is granted has not expired
+pub stands-early : (count slots delay now : ℕ) (s : State) → IsKept count slots delay now s.transactions s → (g : Grant) → Has g s.grants → Stands count slots delay now s.transactions s g → now < expiry_of g
+stands-early count slots delay now s k g there stands = elim stands.either [
+  | inl a ↦ let late = k.heard a.transaction a.there in let t = a.in_time in omega (arith, late, t)
+  | inr idle ↦ omega (arith, idle.soon, bound-le count slots delay now s.transactions s g k there stands.granted idle, stands.room, stands.long)
+]
+
+-- no allocation is waiting, so each is granted
+pub allocation-stands : (count slots delay now : ℕ) (transactions : List Transaction) (s : State) → IsKept count slots delay now transactions s → (a : Relay) → Has (Allocation a) s.grants
+    → Stands count slots delay now transactions s (Allocation a)
+allocation-stands count slots delay now transactions s k a there = elim (k.each (Allocation a) there) [
+  | inl waits ↦ absurd (let no : false ≡ true = waits.0 in cc)
+  | inr stands ↦ stands
+]
+
+pub unique-refreshing : (p : Purpose) → IsUnique p → IsRefreshing p
+unique-refreshing (ForPermission ip) u = tt
+unique-refreshing (ForChannel number peer) u = tt
+unique-refreshing p u = absurd u
+
+pub unique-spares : (p : Purpose) → IsUnique p → (a : Relay) → is_for p (Allocation a) ≡ false
+unique-spares (ForPermission ip) u a = refl
+unique-spares (ForChannel number peer) u a = refl
+unique-spares p u a = absurd u

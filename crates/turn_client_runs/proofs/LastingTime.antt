@@ -1,0 +1,144 @@
+-- Time passes while no grant is lost.
+use Rattle.std.proofs.Common.{◌≡◌, ℕ, ◌+◌, ◌*◌, ◌<◌, ◌≤◌, max, true, false, List, [], ◌∷◌, length, Option, Some, None, refl, inl, inr, sym, ◌∙◌, arith}
+use Rattle.std.specs.Prelude.{IfSome, IsSome}
+use Rattle.std.proofs.Math.Nat.{max-le}
+use Rattle.std.proofs.lemmas.Bool.{cases_lt}
+use Rattle.turn_agent.specs.Agent.{due}
+use Rattle.turn_agent.specs.declared.transaction.Transaction.{Transaction}
+use Rattle.turn_client_api.specs.State.{State, agent_of}
+use Rattle.turn_client_api.specs.declared.grant.Grant.{Grant}
+use Rattle.turn_client_api.specs.declared.grant.Grant.TheVariants.{Allocation}
+use Rattle.turn_client_api.specs.declared.grant.Relay.{Relay}
+use Rattle.turn_client_api.specs.Grants.{allocations, as_allocation, family_of, family_of_grant, is_of}
+use Rattle.turn_client_api.specs.Due.{is_paused, pause_end}
+use Rattle.turn_client_api.specs.declared.state.Queued.{Queued}
+use Rattle.std.proofs.lemmas.Option.{none-some}
+use Rattle.std.proofs.lemmas.Bool.{le-ltb}
+use Rattle.turn_client_api.specs.Transmit.{next_transmit, queue_step, refresh_step, transmit_step}
+use Rattle.turn_client_laws.proofs.HasLemmas.{Has, filter_map-has, has-all}
+use Rattle.turn_client_laws.proofs.InAllocationLemmas.{same_family-self}
+use Rattle.turn_client_runs.specs.Lasting.{expiry_of}
+use Rattle.turn_client_runs.specs.OnTime.{IsInTime}
+use Rattle.turn_client_runs.proofs.LastingStands.{pending-later, IsIdle, IsKept, Stands, allocation-stands, bound, bound-le, due_of}
+use Rattle.turn_client_runs.proofs.LastingSends.{AllAnswered, due-sends, is-due, may-refresh, none-due, transmit-refreshes, transmits}
+
+-- what is refreshed by then is refreshed in time
+pub bound-early : (count slots delay now : ℕ) (transactions : List Transaction) (s : State) (g : Grant) → IsKept count slots delay now transactions s → Has g s.grants
+    → Stands count slots delay now transactions s g → IsIdle slots now s g → bound slots s g + delay < expiry_of g
+bound-early count slots delay now transactions s g k there stands idle =
+    omega (arith, bound-le count slots delay now transactions s g k there stands.granted idle, stands.room, stands.long)
+
+queue-sends : (time : ℕ) (s : State) (q : Queued) (qs : List Queued) → s.queue ≡ q ∷ qs → (queue_step time s).0 ≡ Some q.packet
+queue-sends time s q qs e = rw (e, queue_step) refl
+
+module _ (count slots delay before now : ℕ) (s : State) (k : IsKept count slots delay before s.transactions s) (in_time : IsInTime delay before now s) where
+  all-answered : AllAnswered delay now s
+  all-answered x h = has-all (λ (y : Transaction). now ≤ y.last_send + delay) x s.transactions in_time.answered h
+
+  none-was_due : (time : ℕ) → time < now → due (agent_of s) time ≡ None
+  none-was_due time early =
+      none-due delay time s k.prompt (let r = in_time.on_time.in_range in omega (arith, r, early)) k.young (λ x h. let a = all-answered x h in omega (arith, a, early))
+
+  -- with nothing queued, no refresh could be sent before now
+  sends-none : s.queue ≡ [] → (time : ℕ) → before ≤ time → time < now → pause_end s ≤ time → IsSome (refresh_step time s).0 → ⊥
+  sends-none empty time after early over some =
+      let is : transmit_step time s ≡ refresh_step time s = transmit-refreshes time s k.phase empty (none-was_due time early) over in
+      let e : (refresh_step time s).0 ≡ None = rw (sym is) (in_time.on_time.punctual time after early) in
+      let no : false ≡ true = rw e at some in
+      cc
+
+  -- what is queued is sent once the pause has ended
+  queue-late : (q : Queued) (qs : List Queued) → s.queue ≡ q ∷ qs → now ≤ max before (pause_end s)
+  queue-late q qs e = elim (cases_lt (max before (pause_end s)) now) [
+    | inl early ↦
+        let time = max before (pause_end s) in
+        let idle : is_paused time s ≡ false = le-ltb time (pause_end s) (omega arith) in
+        let is : transmit_step time s ≡ queue_step time s = transmits time s (none-was_due time early) ∙ rw idle refl in
+        let some : next_transmit time s ≡ Some q.packet = rw (is, next_transmit) (queue-sends time s q qs e) in
+        let none : next_transmit time s ≡ None = in_time.on_time.punctual time (omega arith) early in
+        absurd (none-some q.packet (sym none ∙ some))
+    | inr late ↦ late
+  ]
+
+  -- with the queue, by which it is decided
+  idle-early : (g : Grant) → Has g s.grants → Stands count slots delay before s.transactions s g → IsIdle slots before s g → (a : Relay) → Has a (allocations s) → is_of (family_of a.relayed) g ≡ true
+      → ((time : ℕ) → time < now → time < expiry_of g → time ≤ a.expiry) → now + 50_000_000 * length s.queue ≤ bound slots s g
+  idle-early g there stands idle a inside of goes_on = by s.queue refl
+    where
+      at_once : ℕ
+      at_once = max before (max (pause_end s) (due_of g))
+
+      within : at_once ≤ bound slots s g
+      within = let soon = idle.soon in let paused = idle.paused in
+          max-le {a = before} {b = max (pause_end s) (due_of g)} {k = bound slots s g} (omega (arith, soon)) (max-le {a = pause_end s} {b = due_of g} {k = bound slots s g} (omega (arith, paused)) (omega arith))
+
+      lasts : at_once < expiry_of g
+      lasts = omega (arith, within, bound-early count slots delay before s.transactions s g k there stands idle)
+
+      all : (b : Relay) → Has (Allocation b) s.grants → b.is_expired ≡ false
+      all b h = (allocation-stands count slots delay before s.transactions s k b h).granted
+
+      sends : at_once < now → IsSome (refresh_step at_once s).0
+      sends early =
+          due-sends at_once s g there stands.granted
+          (is-due at_once s g stands.granted (may-refresh s g all stands.granted (k.housed g there)) idle.unasked (omega arith))
+          lasts a inside of (goes_on at_once early lasts)
+
+      by : (queue : List Queued) → s.queue ≡ queue → now + 50_000_000 * length s.queue ≤ bound slots s g
+      by (q ∷ qs) e = let soon = idle.soon in let paused = idle.paused in omega (arith, queue-late q qs e, soon, paused)
+      by [] e = elim (cases_lt at_once now) [
+        | inl early ↦ absurd (sends-none e at_once (omega arith) early (omega arith) (sends early))
+        | inr late ↦ let none : length s.queue ≡ 0 = rw e refl in omega (arith, late, within, none)
+      ]
+
+  -- a request for it leaves in time, or its reply comes in time
+  early-by : (g : Grant) → Has g s.grants → Stands count slots delay before s.transactions s g → (IsIdle slots before s g → now + 50_000_000 * length s.queue ≤ bound slots s g) → now < expiry_of g
+  early-by g there stands idles = elim stands.either [
+    | inl awaited ↦ let late = all-answered awaited.transaction awaited.there in let t = awaited.in_time in omega (arith, late, t)
+    | inr idle ↦ omega (arith, idles idle, bound-early count slots delay before s.transactions s g k there stands idle)
+  ]
+
+  there-of : (a : Relay) → Has (Allocation a) s.grants → Has a (allocations s)
+  there-of a h = filter_map-has as_allocation (Allocation a) a s.grants h refl
+
+  allocation-early : (a : Relay) → Has (Allocation a) s.grants → now < a.expiry
+  allocation-early a there =
+      let stands = allocation-stands count slots delay before s.transactions s k a there in
+      early-by (Allocation a) there stands
+      (λ idle. idle-early (Allocation a) there stands idle a (there-of a there) (same_family-self (family_of a.relayed) (family_of a.relayed) refl) (λ time early less. omega (arith, less)))
+
+  idles : (g : Grant) → Has g s.grants → Stands count slots delay before s.transactions s g → IsIdle slots before s g → now + 50_000_000 * length s.queue ≤ bound slots s g
+  idles g there stands idle =
+      let (a, here, same) = k.housed g there in
+      idle-early g there stands idle a (there-of a here) (same_family-self (family_of_grant g) (family_of a.relayed) (sym same)) (λ time early less. omega (arith, early, allocation-early a here))
+
+  sent-earlier : (o : Option ℕ) → IfSome o (λ time. time ≤ before) → IfSome o (λ time. time ≤ now)
+  sent-earlier None h = tt
+  sent-earlier (Some time) h = let l = in_time.on_time.later in omega (arith, h, l)
+
+  pub time-kept : IsKept count slots delay now s.transactions s
+  time-kept = record {
+    phase = k.phase;
+    requests = k.requests;
+    few = k.few;
+    prompt = k.prompt;
+    pace = k.pace;
+    sent = sent-earlier s.last_send k.sent;
+    young = k.young;
+    heard = all-answered;
+    asked = k.asked;
+    size = k.size;
+    single = k.single;
+    linked = k.linked;
+    in_range = in_time.on_time.in_range;
+    housed = k.housed;
+    each = λ g there. elim (k.each g there) [ inl (waits, p) ↦ inl (waits, pending-later before now s.transactions s.listed g in_time.on_time.later p) | inr stands ↦ inr (later g there stands) ];
+  }
+    where
+      later : (g : Grant) → Has g s.grants → Stands count slots delay before s.transactions s g → Stands count slots delay now s.transactions s g
+      later g there was = record {
+        granted = was.granted;
+        room = was.room;
+        long = was.long;
+        either = elim was.either [ inl awaited ↦ inl awaited | inr idle ↦ inr (record { unasked = idle.unasked; soon = idles g there was idle; paused = idle.paused }) ];
+      }

@@ -1,0 +1,331 @@
+-- What `poll_transmit` changes while no grant is lost.
+use Rattle.std.proofs.Common.{◌≡◌, ◌⊎◌, ℕ, ◌+◌, ◌≤◌, Bool, true, false, cond, not, ◌&&◌, ◌||◌, leb, List, [], ◌∷◌, length, drop, Option, Some, None, refl, inl, inr, ap, sym, subst, ◌∙◌, arith}
+use Rattle.std.specs.Prelude.{filter, flat_map, slice_get, nat_le, option_and_then, if◌then◌else◌}
+use Rattle.std.specs.List.{list_any}
+use Rattle.std.specs.Option.{option_map_or}
+use Rattle.std.proofs.lemmas.Bool.{and_parts, cases_Bool, cases_lt, eq-eqb, leb-true, lt-leb, or_left, or_parts, or_right}
+use Rattle.std.proofs.lemmas.List.Folds.{list_any-append}
+use Rattle.std.proofs.lemmas.Option.{none-some, same_Some}
+use Rattle.std.proofs.lemmas.Slice.Eq.{bytes_eq-Decides}
+use Rattle.std.specs.Net.Addr.{ipv4_octets, ipv6_segments}
+use Rattle.std.specs.declared.net.ip_addr.IpAddr.{IpAddr}
+use Rattle.std.specs.declared.net.ip_addr.IpAddr.TheVariants.{V4, V6}
+use Rattle.turn_agent.specs.Agent.{due, first_sent}
+use Rattle.turn_client_api.specs.State.{State, agent_of}
+use Rattle.turn_client_api.specs.declared.state.Queued.{Queued}
+use Rattle.turn_client_api.specs.declared.grant.Grant.{Grant}
+use Rattle.turn_client_api.specs.declared.grant.Grant.TheVariants.{Allocation, Permission, Channel}
+use Rattle.turn_client_api.specs.declared.grant.Relay.{Relay}
+use Rattle.turn_client_api.specs.declared.grant.Progress.TheVariants.{Active, Pending}
+use Rattle.turn_client_api.specs.declared.grant.Listing.{Listing}
+use Rattle.turn_client_api.specs.declared.grant.Purpose.{Purpose}
+use Rattle.turn_client_api.specs.declared.grant.Purpose.TheVariants.{ForRefresh, ForPermission, ForChannel}
+use Rattle.turn_client_api.specs.Grants.{allocations, family_of, has_request, is_for, same_ip}
+use Rattle.turn_client_api.specs.Requests.{asked_lifetime, fresh_id, request_for}
+use Rattle.turn_client_api.specs.Due.{has_reply, is_paused, is_refreshable, refresh_time}
+use Rattle.turn_client_api.specs.Transmit.{is_due_in, is_ranked, is_refresh_due, queue_step, refresh_purpose, refresh_step, refreshes_in, refreshes_of_rank, reply_step, sent_at_once, transmit_step, without_first_reply}
+use Rattle.turn_client_laws.proofs.HasLemmas.{Has, first-has, has-append, has-filter, has-filter_map, has-flat_map, has-left, has-right}
+use Rattle.turn_client_laws.proofs.InAllocationLemmas.{same_family-self}
+use Rattle.turn_client_runs.proofs.LastingCounts.{passes, passes-more}
+use Rattle.turn_client_runs.proofs.LastingStands.{Goes, goes-more, pending-more, IsAwaited, IsGranted, IsIdle, IsKept, IsRefreshing, Stands, ahead-le, bound, bound-le, due_of, is_served, is_waiting, kind-due, not-waiting, served}
+use Rattle.turn_client_runs.proofs.LastingSends.{queue-idle, transmits}
+use Rattle.turn_client_runs.proofs.LastingListings.{requests-more}
+use Rattle.turn_client_runs.proofs.LastingTime.{bound-early}
+
+-- ---- what is refreshed next
+
+-- the grant is due, and this refreshes it
+pub record IsNext (now : ℕ) (s : State) (p : Purpose) : Type 0 where
+  pub grant : Grant
+  pub there : Has grant s.grants
+  pub is_due : is_refresh_due now s grant ≡ true
+  pub gives : refresh_purpose now grant ≡ Some p
+
+next-in : (now : ℕ) (s : State) (p : Purpose) (a : Relay) → Has p (refreshes_in now s a) → IsNext now s p
+next-in now s p a h = by (leb a.expiry a.expiry) (leb now a.expiry) h
+  where
+    of_rank : ℕ → List Purpose
+    of_rank = refreshes_of_rank now s (family_of a.relayed)
+
+    by : (c b : Bool) → Has p (cond b (flat_map of_rank (0 ∷ 1 ∷ 2 ∷ [])) []) → IsNext now s p
+    by c false h = absurd h
+    by c true h =
+        let came = has-flat_map of_rank p (0 ∷ 1 ∷ 2 ∷ []) h in
+        let test = is_due_in came.from (family_of a.relayed) now s in
+        let (g, there, gives) = has-filter_map (refresh_purpose now) p (filter test s.grants) came.gives in
+        let (here, passes) = has-filter test g s.grants there in
+        record { grant = g; there = here; is_due = (and_parts _ (is_refresh_due now s g) passes).1; gives = gives }
+
+pub next-of : (now : ℕ) (s : State) (p : Purpose) → slice_get (flat_map (refreshes_in now s) (allocations s)) 0 ≡ Some p → IsNext now s p
+next-of now s p e =
+    let came = has-flat_map (refreshes_in now s) p (allocations s) (first-has p (flat_map (refreshes_in now s) (allocations s)) e) in
+    next-in now s p came.from came.gives
+
+by-kind : (may asked : Bool) (time now : ℕ) → option_map_or (λ m. nat_le m now) (option_and_then (λ t. if may && not asked then Some t else None) (Some time)) false ≡ true
+    → (asked ≡ false) × (time ≤ now)
+by-kind true false time now e = (refl, leb-true time now e)
+by-kind true true time now e = cc
+by-kind false asked time now e = cc
+
+pub due-unasked : (now : ℕ) (s : State) (g : Grant) → IsGranted g → is_refresh_due now s g ≡ true → (has_request g s ≡ false) × (due_of g ≤ now)
+unfolding is_refresh_due refresh_time
+due-unasked now s g granted due = by-kind (is_refreshable g s) (has_request g s) (due_of g) now (rw (kind-due g granted) at due)
+
+-- ---- what it is for
+
+pub same_ip-self : (a : IpAddr) → same_ip a a ≡ true
+same_ip-self (V4 a) = (bytes_eq-Decides (ipv4_octets a) (ipv4_octets a)).1 refl
+same_ip-self (V6 a) = (bytes_eq-Decides (ipv6_segments a) (ipv6_segments a)).1 refl
+
+abbrev IsRefreshOf : Purpose → Grant → Type 0
+IsRefreshOf p g = IsRefreshing p × (is_for p g ≡ true)
+
+if-some : (b : Bool) (q p : Purpose) → cond b (Some q) None ≡ Some p → q ≡ p
+if-some true q p e = same_Some q p e
+if-some false q p e = absurd (none-some p e)
+
+pub refresh-for : (now : ℕ) (g : Grant) (p : Purpose) → IsGranted g → refresh_purpose now g ≡ Some p → IsRefreshOf p g
+refresh-for now g p granted e = by g granted e
+  where
+    by : (g : Grant) → IsGranted g → refresh_purpose now g ≡ Some p → IsRefreshOf p g
+    by (Allocation a) granted e =
+        subst (λ (q : Purpose). IsRefreshOf q (Allocation a)) (if-some (leb now a.expiry) (ForRefresh (family_of a.relayed) asked_lifetime) p e)
+        (omega arith, same_family-self (family_of a.relayed) (family_of a.relayed) refl)
+    by (Permission ip (Active expiry)) granted e =
+        subst (λ (q : Purpose). IsRefreshOf q (Permission ip (Active expiry))) (if-some _ (ForPermission ip) p e) (tt, same_ip-self ip)
+    by (Channel number peer (Active expiry)) granted e =
+        subst (λ (q : Purpose). IsRefreshOf q (Channel number peer (Active expiry))) (if-some _ (ForChannel number peer) p e) (tt, eq-eqb number number refl)
+    by g granted e = absurd granted
+
+-- ---- the refresh is sent
+
+or-false : (b : Bool) → (b || false) ≡ b
+or-false true = refl
+or-false false = refl
+
+module _ (count slots delay now : ℕ) (s : State) (k : IsKept count slots delay now s.transactions s) (empty : s.queue ≡ []) (p : Purpose) (next : IsNext now s p)
+    (stands-next : Stands count slots delay now s.transactions s next.grant) where
+  abbrev id : ℕ
+  id = fresh_id s
+
+  abbrev text : List ℕ
+  text = request_for s p id
+
+  abbrev t : State
+  t = (sent_at_once text p now s).1
+
+  abbrev listing : Listing
+  listing = record { id = id; purpose = p }
+
+  refresh : IsRefreshOf p next.grant
+  refresh = refresh-for now next.grant p stands-next.granted next.gives
+
+  unasked : (has_request next.grant s ≡ false) × (due_of next.grant ≤ now)
+  unasked = due-unasked now s next.grant stands-next.granted next.is_due
+
+  asked-more : (g : Grant) → has_request g t ≡ (has_request g s || is_for p g)
+  asked-more g = list_any-append (λ (l : Listing). is_for l.purpose g) s.listed (listing ∷ []) ∙ ap (λ b. has_request g s || b) (or-false (is_for p g))
+
+  still-asked : (g : Grant) → has_request g s ≡ true → has_request g t ≡ true
+  still-asked g e = asked-more g ∙ or_left (has_request g s) (is_for p g) e
+
+  now-asked : (g : Grant) → is_for p g ≡ true → has_request g t ≡ true
+  now-asked g e = asked-more g ∙ or_right (has_request g s) (is_for p g) e
+
+  not-asked : (g : Grant) → has_request g s ≡ false → is_for p g ≡ false → has_request g t ≡ false
+  not-asked g e f = asked-more g ∙ rw (e, f) refl
+
+  -- one grant more was served since then
+  serves-more : (g : Grant) → Has g s.grants → Stands count slots delay now s.transactions s g → IsIdle slots now s g → served s (due_of g) + 1 ≤ served t (due_of g)
+  serves-more g there stands idle =
+      passes-more (is_served s r) (is_served t r) next.grant s.grants still next.there (rw (not-waiting next.grant stands-next.granted, unasked.0, old) refl)
+      (or_right (is_waiting next.grant) _ (or_left (has_request next.grant t) _ (now-asked next.grant refresh.1)))
+    where
+      r : ℕ
+      r = due_of g
+
+      still : (x : Grant) → Has x s.grants → is_served s r x ≡ true → is_served t r x ≡ true
+      still x h e = elim (cases_Bool (is_waiting x)) [
+        | inl w ↦ or_left (is_waiting x) _ w
+        | inr w ↦ or_right (is_waiting x) _ (elim (cases_Bool (has_request x s)) [
+          | inl f ↦ or_left (has_request x t) _ (still-asked x f)
+          | inr f ↦ or_right (has_request x t) _ (rw (w, f) at e)
+        ])
+      ]
+
+      old : leb (r + 240_000_000_000) (due_of next.grant) ≡ false
+      old =
+          lt-leb (r + 240_000_000_000) (due_of next.grant)
+          (omega (arith, unasked.1, idle.soon, bound-le count slots delay now s.transactions s g k there stands.granted idle, stands.room, ahead-le g))
+
+  later : (g : Grant) → Has g s.grants → Stands count slots delay now s.transactions s g → IsIdle slots now s g → now + 50_000_000 ≤ bound slots t g
+  later g there stands idle = elim (cases_lt (due_of g) now) [
+    | inl past ↦ omega (arith, serves-more g there stands idle, idle.soon)
+    | inr early ↦ omega (arith, early)
+  ]
+
+  none-left : length s.queue ≡ 0
+  none-left = rw empty refl
+
+  stands-sent : (g : Grant) → Has g s.grants → Stands count slots delay now s.transactions s g → Stands count slots delay now t.transactions t g
+  stands-sent g there was = record { granted = was.granted; room = was.room; long = was.long; either = by was.either }
+    where
+      by : IsAwaited delay s.transactions s.listed g ⊎ IsIdle slots now s g → IsAwaited delay t.transactions t.listed g ⊎ IsIdle slots now t g
+      by (inl a) = inl (record {
+        transaction = a.transaction;
+        there = has-left a.transaction s.transactions (first_sent id s.remote now text ∷ []) a.there;
+        listing = a.listing;
+        within = has-left a.listing s.listed (listing ∷ []) a.within;
+        for = a.for;
+        same = a.same;
+        in_time = a.in_time;
+      })
+      by (inr idle) = elim (cases_Bool (is_for p g)) [
+        | inl for ↦ inl (record {
+          transaction = first_sent id s.remote now text;
+          there = has-right (first_sent id s.remote now text) s.transactions (first_sent id s.remote now text ∷ []) (inl refl);
+          listing = listing;
+          within = has-right listing s.listed (listing ∷ []) (inl refl);
+          for = for;
+          same = refl;
+          in_time = omega (arith, idle.soon, bound-early count slots delay now s.transactions s g k there was idle);
+        })
+        | inr other ↦
+            let more = later g there was idle in
+            inr (record { unasked = not-asked g idle.unasked other; soon = omega (arith, more, none-left); paused = omega (arith, more, none-left) })
+      ]
+
+  one-id : (l : Listing) → Has l (listing ∷ []) → l.id ≡ id
+  one-id l (inl e) = ap (λ (m : Listing). m.id) e
+  one-id l (inr none) = absurd none
+
+  pub kept-sent : IsKept count slots delay now t.transactions t
+  kept-sent = record {
+    phase = k.phase;
+    requests = k.requests;
+    few = k.few;
+    prompt = k.prompt;
+    pace = k.pace;
+    sent = omega arith;
+    young = λ x h. elim (has-append x s.transactions (first_sent id s.remote now text ∷ []) h) [
+      | inl old ↦ k.young x old
+      | inr (inl e) ↦ rw e refl
+      | inr (inr none) ↦ absurd none
+    ];
+    heard = λ x h. elim (has-append x s.transactions (first_sent id s.remote now text ∷ []) h) [
+      | inl old ↦ k.heard x old
+      | inr (inl e) ↦ rw e (omega arith)
+      | inr (inr none) ↦ absurd none
+    ];
+    asked = λ l h. elim (has-append l s.listed (listing ∷ []) h) [
+      | inl old ↦ k.asked l old
+      | inr (inl e) ↦ rw e (refresh.0, (next.grant, next.there, refresh.1))
+      | inr (inr none) ↦ absurd none
+    ];
+    size = k.size;
+    single = k.single;
+    linked = requests-more s s.grants (listing ∷ []) (λ g h. h) (λ l h. one-id l h) tt k.linked;
+    in_range = k.in_range;
+    housed = k.housed;
+    each = λ g there. elim (k.each g there) [ inl (waits, p) ↦ inl (waits, pending-more now s.transactions t.transactions s.listed t.listed g (λ x h. has-left x s.transactions _ h) (λ l h for. has-left l s.listed _ h) p) | inr stands ↦ inr (stands-sent g there stands) ];
+  }
+
+  pub goes-sent : Goes s.transactions t.transactions s t
+  goes-sent = goes-more s.transactions t.transactions s t refl (λ x h. has-left x s.transactions _ h) (λ l h. has-left l s.listed _ h)
+
+-- ---- what is queued
+
+no-reply_kept : (qs : List Queued) → list_any (λ q. not q.is_request) qs ≡ false → without_first_reply qs ≡ qs
+no-reply_kept [] none = refl
+no-reply_kept (q ∷ qs) none = grind (arith, no-reply_kept qs)
+
+no-reply_left : (qs : List Queued) → list_any (λ q. not q.is_request) qs ≡ false → list_any (λ q. not q.is_request) (drop 1 qs) ≡ false
+no-reply_left [] none = none
+no-reply_left (q ∷ qs) none = (or_parts (not q.is_request) (list_any (λ q. not q.is_request) qs) none).1
+
+module _ (count slots delay now : ℕ) (s : State) (k : IsKept count slots delay now s.transactions s) (q : Queued) (qs : List Queued) (front : s.queue ≡ q ∷ qs) where
+  abbrev v : State
+  v = record s { queue = drop 1 s.queue; last_send = Some now }
+
+  one-left : length v.queue + 1 ≡ length s.queue
+  one-left = rw front (omega arith)
+
+  stands-queued : (g : Grant) → Stands count slots delay now s.transactions s g → Stands count slots delay now s.transactions (record s { queue = drop 1 s.queue; last_send = Some now }) g
+  stands-queued g was = record {
+    granted = was.granted;
+    room = was.room;
+    long = was.long;
+    either = elim was.either [
+      | inl a ↦ inl a
+      | inr idle ↦ inr (record { unasked = idle.unasked; soon = let soon = idle.soon in omega (arith, soon, one-left); paused = let soon = idle.soon in omega (arith, soon, one-left) })
+    ];
+  }
+
+  pub kept-queued : IsKept count slots delay now s.transactions (record s { queue = drop 1 s.queue; last_send = Some now })
+  kept-queued = record {
+    phase = k.phase;
+    requests = no-reply_left s.queue k.requests;
+    few = let few = k.few in omega (arith, few, one-left);
+    prompt = k.prompt;
+    pace = k.pace;
+    sent = omega arith;
+    young = k.young;
+    heard = k.heard;
+    asked = k.asked;
+    size = k.size;
+    single = k.single;
+    linked = k.linked;
+    in_range = k.in_range;
+    housed = k.housed;
+    each = λ g there. elim (k.each g there) [ inl waits ↦ inl waits | inr stands ↦ inr (stands-queued g stands) ];
+  }
+
+-- ---- poll_transmit
+
+-- no grant changes
+abbrev pub KeepsOn : ℕ → ℕ → ℕ → ℕ → State → State → Type 0
+KeepsOn count slots delay now s t = IsKept count slots delay now t.transactions t × Goes s.transactions t.transactions s t
+
+empty-kept : (s : State) → has_reply s ≡ false → record s { queue = without_first_reply s.queue } ≡ s
+empty-kept s none = ap (λ (q : List Queued). record s { queue = q }) (no-reply_kept s.queue none)
+
+-- what is due is granted, and not waiting
+due-granted : (now : ℕ) (s : State) (g : Grant) → is_waiting g ≡ true → is_refresh_due now s g ≡ true → ⊥
+unfolding is_refresh_due refresh_time
+due-granted now s (Permission ip Pending) w e = cc
+due-granted now s (Channel number peer Pending) w e = cc
+due-granted now s g w e = cc
+
+pub transmit-kept : (count slots delay now : ℕ) (s : State) → IsKept count slots delay now s.transactions s → due (agent_of s) now ≡ None → KeepsOn count slots delay now s (transmit_step now s).1
+transmit-kept count slots delay now s k none = rw (transmits now s none) (by (is_paused now s))
+  where
+    Keeps : State → Type 0
+    Keeps t = KeepsOn count slots delay now s t
+
+    same : (t : State) → t ≡ s → Keeps t
+    same t e = subst Keeps (sym e) (k, goes-more s.transactions s.transactions s s refl (λ x h. h) (λ l h. h))
+
+    refreshes : s.queue ≡ [] → (o : Option Purpose) → slice_get (flat_map (refreshes_in now s) (allocations s)) 0 ≡ o
+        → Keeps (option_map_or (λ purpose. sent_at_once (request_for s purpose (fresh_id s)) purpose now s) o (None, s)).1
+    refreshes empty None e = (k, goes-more s.transactions s.transactions s s refl (λ x h. h) (λ l h. h))
+    refreshes empty (Some p) e =
+        let next = next-of now s p e in
+        elim (k.each next.grant next.there) [
+          | inl waits ↦ absurd (due-granted now s next.grant waits.0 next.is_due)
+          | inr stands ↦ (kept-sent count slots delay now s k empty p next stands, goes-sent count slots delay now s k empty p next stands)
+        ]
+
+    queued : (queue : List Queued) → s.queue ≡ queue → Keeps (queue_step now s).1
+    queued [] e = rw (queue-idle now s e k.phase) (refreshes e (slice_get (flat_map (refreshes_in now s) (allocations s)) 0) refl)
+    queued (q ∷ qs) e =
+        let is : (queue_step now s).1 ≡ record s { queue = drop 1 s.queue; last_send = Some now } = front s.queue e in
+        subst Keeps (sym is) (kept-queued count slots delay now s k q qs e, goes-more s.transactions s.transactions s (record s { queue = drop 1 s.queue; last_send = Some now }) refl (λ x h. h) (λ l h. h))
+      where
+        front : (queue : List Queued) → queue ≡ q ∷ qs
+            → (option_map_or (λ q. (Some q.packet, Rattle.turn_client_api.specs.Transmit.sent now (record s { queue = drop 1 s.queue }))) (slice_get queue 0) (Rattle.turn_client_api.specs.Transmit.idle_step s.phase now s)).1
+            ≡ record s { queue = drop 1 s.queue; last_send = Some now }
+        front queue e = rw e refl
+
+    by : (b : Bool) → Keeps (if b then reply_step s else queue_step now s).1
+    by true = same (reply_step s).1 (empty-kept s k.requests)
+    by false = queued s.queue refl

@@ -1,0 +1,189 @@
+-- No grant is lost while the server answers and the caller sends what is due (RFC 8656, sections 8, 9 and 12).
+use Rattle.std.specs.Prelude.{◌≡◌, ◌⊎◌, ℕ, ◌+◌, ◌*◌, ◌/◌, ◌^◌, ◌<◌, ◌≤◌, true, false, nat_le, if◌then◌else◌, List, [], ◌∷◌, ◌++◌, length}
+use Rattle.std.specs.Prelude.{IfSome, IsSomeAnd, All, ⊤}
+use Rattle.std.specs.Prelude.{IfSome, IsSomeAnd, All, ⊤}
+use Rattle.std.specs.List.{Contains}
+use Rattle.turn_stun.specs.Message.{id_of}
+use Rattle.turn_stun.specs.declared.message.header.MessageClass.TheVariants.{Success}
+use Rattle.turn_stun.specs.declared.transport.TransportType.TheVariants.{Udp}
+use Rattle.turn_stun.specs.declared.transport.Transmit.{Transmit}
+use Rattle.turn_auth.specs.Validation.{IsValidated, validation_of}
+use Rattle.turn_agent.specs.Agent.{is_outstanding}
+use Rattle.turn_agent.specs.Schedule.{wait_at}
+use Rattle.turn_client_api.specs.Config.{timers_of}
+use Rattle.turn_client_api.specs.State.{State, auth_of, seconds}
+use Rattle.turn_client_api.specs.declared.state.Phase.TheVariants.{Allocated}
+use Rattle.turn_client_api.specs.declared.grant.Grant.{Grant}
+use Rattle.turn_client_api.specs.declared.grant.Grant.TheVariants.{Allocation, Permission, Channel}
+use Rattle.turn_client_api.specs.declared.grant.Progress.TheVariants.{Active, Pending}
+use Rattle.turn_client_api.specs.declared.grant.Purpose.{Purpose}
+use Rattle.turn_client_api.specs.declared.grant.Purpose.TheVariants.{ForRefresh}
+use Rattle.turn_client_api.specs.Grants.{purposes_of}
+use Rattle.turn_client_api.specs.Requests.{method_for}
+use Rattle.turn_client_api.specs.Judgement.{class_in, lifetime_in, method_in}
+use Rattle.turn_client_api.specs.Alarm.{AllHaveAllocation}
+use Rattle.turn_client_api.specs.Steps.{state_after, state_after_all}
+use Rattle.turn_client_api.specs.Payloads.{message_step}
+use Rattle.turn_client_api.specs.declared.call.Call.{Call}
+use Rattle.turn_client_api.specs.declared.call.Call.TheVariants.{CreatePermission, BindChannel, SendTo, Recv, Poll, PollTransmit, PollEvent}
+use Rattle.turn_client_laws.specs.LawsDoubles.{HasNoDoubles}
+use Rattle.turn_client_runs.specs.OnTime.{IsFromServer, IsInTime, time_of, time_of_all}
+
+-- ---- grants in force
+
+-- the server granted it, and it has not expired
+abbrev pub IsInForce : ℕ → Grant → Type 0
+IsInForce now (Allocation a) = (a.is_expired ≡ false) × (now < a.expiry)
+IsInForce now (Permission ip (Active expiry)) = now < expiry
+IsInForce now (Channel number peer (Active expiry)) = now < expiry
+IsInForce now _ = ⊥
+
+-- when it expires
+abbrev pub expiry_of : Grant → ℕ
+expiry_of (Allocation a) = a.expiry
+expiry_of (Permission ip (Active expiry)) = expiry
+expiry_of (Channel number peer (Active expiry)) = expiry
+expiry_of _ = 0
+
+-- So long before its expiry it is to be refreshed. This and other numbers of ours are written out here, so that
+-- a machine with worse ones is refused.
+abbrev pub ahead_of : Grant → ℕ
+ahead_of (Allocation a) = if nat_le a.first_lifetime (seconds 120) then a.first_lifetime / 2 else seconds 60
+ahead_of _ = seconds 60
+
+-- the grant with another expiry
+abbrev pub with_expiry : ℕ → Grant → Grant
+with_expiry expiry (Allocation a) = Allocation (record a { expiry = expiry })
+with_expiry expiry (Permission ip (Active was)) = Permission ip (Active expiry)
+with_expiry expiry (Channel number peer (Active was)) = Channel number peer (Active expiry)
+with_expiry expiry grant = grant
+
+-- what a permission or channel that is requested becomes
+abbrev pub as_granted : Grant → Grant
+as_granted (Permission ip Pending) = Permission ip (Active 0)
+as_granted (Channel number peer Pending) = Channel number peer (Active 0)
+as_granted grant = with_expiry 0 grant
+
+-- a permission or a channel was requested, and is not granted yet
+abbrev pub IsRequested : Grant → Type 0
+IsRequested (Permission ip Pending) = ⊤
+IsRequested (Channel number peer Pending) = ⊤
+IsRequested _ = ⊥
+
+-- the client has the grant, or what was requested, maybe with another expiry, and it is in force at this time
+abbrev pub HasStill : Grant → ℕ → State → Type 0
+HasStill g now s = (h : Grant) × Contains s.grants h × (with_expiry 0 h ≡ as_granted g) × IsInForce now h
+
+-- ---- where it begins
+
+-- If so many grants are to be refreshed at one time, and so many requests are queued before them, one packet
+-- leaves every 50 ms. The last one leaves this long after that time, and its reply comes within the delay: that is
+-- before the grant expires, which is refreshed so long ahead.
+abbrev pub HasRoom : ℕ → ℕ → ℕ → ℕ → Type 0
+HasRoom count slots delay ahead = (count + slots) * 50_000_000 + delay < ahead
+
+-- the client has no more grants, and no more queued packets
+abbrev pub IsWithin : ℕ → ℕ → State → Type 0
+IsWithin count slots s = (length s.grants ≤ count) × (length s.queue ≤ slots)
+
+-- A client that has allocations, permissions and channels in force, awaits nothing and has nothing to send. No
+-- refresh is late, there is room for all of them, and a reply that comes within the delay comes before its
+-- request is retransmitted. Each grant has its allocation, and none is double, as in all runs
+-- (`grants_have_allocations`, `grants_are_distinct`).
+pub record IsSteady (count slots delay now : ℕ) (s : State) : Type 0 where
+  pub allocated : s.phase ≡ Allocated
+  pub none_queued : s.queue ≡ []
+  pub none_outstanding : s.transactions ≡ []
+  pub none_listed : s.listed ≡ []
+  pub sent_before : IfSome s.last_send (λ time. time ≤ now)
+  pub in_force : All (IsInForce now) s.grants
+  pub none_late : All (λ g. now + ahead_of g ≤ expiry_of g) s.grants
+  pub room : All (λ g. HasRoom count slots delay (ahead_of g)) s.grants
+  pub room_for_more : HasRoom count slots delay (seconds 60)
+  pub within : IsWithin count slots s
+  pub distinct : HasNoDoubles s
+  pub housed : AllHaveAllocation s
+  pub prompt : delay < wait_at (timers_of s.config) s.transport 0
+  pub in_range : now ≤ 2 ^ 62
+
+-- ---- the server
+
+-- The message grants what is requested for this purpose: it is of the request's method, and in reply to a REFRESH
+-- it prolongs the allocation by the default of 600 s or more (RFC 8656, section 7.2).
+abbrev pub Grants : List ℕ → Purpose → Type 0
+Grants message purpose = (method_in message ≡ method_for purpose) × lasts purpose
+  where
+    lasts : Purpose → Type 0
+    lasts (ForRefresh family lifetime) = IsSomeAnd (lifetime_in message) (λ n. 600 ≤ n)
+    lasts _ = ⊤
+
+-- the message grants what was requested, which is the first of these; a channel brings the permission of its
+-- peer, which is the other (RFC 8656, section 12)
+abbrev pub Answers : List ℕ → List Purpose → Type 0
+Answers message [] = ⊤
+Answers message (purpose ∷ others) = Grants message purpose
+
+-- the packet is processed as one message, and nothing that was received before it is
+abbrev pub IsOneMessage : Transmit (List ℕ) → ℕ → State → Type 0
+IsOneMessage packet now s = state_after (Recv packet now) s ≡ (message_step packet.payload now s).1
+
+-- The packet is a signed success, which grants what an outstanding request requests (RFC 8489, section 9.2.5).
+pub record IsSuccess (packet : Transmit (List ℕ)) (now : ℕ) (s : State) : Type 0 where
+  pub message : IsOneMessage packet now s
+  pub success : class_in packet.payload ≡ Success
+  pub signed : IsValidated (validation_of (auth_of s) packet.payload)
+  pub outstanding : is_outstanding (id_of packet.payload) s.transactions ≡ true
+  pub answers : Answers packet.payload (purposes_of (id_of packet.payload) s)
+
+-- ---- the run
+
+-- The call takes what is due or sends data, or time passes, or the caller requests a permission or a channel, or a
+-- success comes. Any other call changes nothing, as what strangers and peers send.
+abbrev pub IsQuiet : Call → State → Type 0
+IsQuiet (Poll now) s = ⊤
+IsQuiet (PollTransmit now) s = ⊤
+IsQuiet PollEvent s = ⊤
+IsQuiet (SendTo transport peer bytes now) s = ⊤
+IsQuiet (CreatePermission transport ip now) s = ⊤
+IsQuiet (BindChannel transport peer now) s = ⊤
+IsQuiet (Recv packet now) s = IsSuccess packet now s ⊎ (state_after (Recv packet now) s ≡ s)
+IsQuiet call s = state_after call s ≡ s
+
+-- The caller is on time, the server answers within the delay, and the client never has more grants and queued
+-- packets than these.
+abbrev pub RunsSteadily : ℕ → ℕ → ℕ → ℕ → State → List Call → Type 0
+RunsSteadily count slots delay before s [] = ⊤
+RunsSteadily count slots delay before s (call ∷ calls) =
+    IsInTime delay before (time_of before call) s × IsQuiet call s × IsWithin count slots (state_after call s)
+    × RunsSteadily count slots delay (time_of before call) (state_after call s) calls
+
+-- ---- what holds
+
+-- what is in force after some calls is in force after all later ones, whatever the run
+abbrev pub GrantsLast : Type 0
+GrantsLast =
+    (count slots delay now : ℕ) (s : State) (earlier later : List Call) → IsSteady count slots delay now s
+    → RunsSteadily count slots delay now s (earlier ++ later)
+    → let between = time_of_all now earlier in
+    (g : Grant) → Contains (state_after_all s earlier).grants g → IsInForce between g
+    → HasStill g (time_of_all between later) (state_after_all s (earlier ++ later))
+
+-- what was requested is in force once the delay is over
+abbrev pub RequestsSucceed : Type 0
+RequestsSucceed =
+    (count slots delay now : ℕ) (s : State) (earlier later : List Call) → IsSteady count slots delay now s
+    → RunsSteadily count slots delay now s (earlier ++ later)
+    → let between = time_of_all now earlier in
+    (g : Grant) → Contains (state_after_all s earlier).grants g → IsRequested g → between + delay < time_of_all between later
+    → HasStill g (time_of_all between later) (state_after_all s (earlier ++ later))
+
+-- a success ends its request, which awaits no other reply then
+abbrev pub SuccessesEndRequests : Type 0
+SuccessesEndRequests =
+    (packet : Transmit (List ℕ)) (now : ℕ) (s : State) → s.phase ≡ Allocated → IsSuccess packet now s
+    → is_outstanding (id_of packet.payload) (state_after (Recv packet now) s).transactions ≡ false
+
+-- over UDP, a message from the server's address to the client's is processed so
+abbrev pub DatagramsAreMessages : Type 0
+DatagramsAreMessages =
+    (packet : Transmit (List ℕ)) (now : ℕ) (s : State) → s.transport ≡ Udp → IsFromServer packet s → IsOneMessage packet now s

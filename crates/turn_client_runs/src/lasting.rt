@@ -1,0 +1,27 @@
+//! No grant is lost while the server answers and the caller sends what is due.
+
+ghost use Rattle.turn_client_runs.specs.Lasting.{DatagramsAreMessages, GrantsLast, RequestsSucceed, SuccessesEndRequests};
+
+/// While the server answers and the caller is on time, no allocation, permission or channel is lost: what is
+/// in force after some calls of a run is in force after all later ones (RFC 8656, sections 8, 9 and 12). A
+/// permission or channel that is requested is in force once `delay` has passed.
+///
+/// Assumed of the caller: it takes each packet as soon as the client has one, as one does that takes all
+/// packets and calls again at the time that `poll` returned (`runs_miss_no_deadline`). It requests
+/// permissions and channels, sends data, and never has more than `count` grants and `slots` queued packets.
+/// Of the server and the network: a request, whether it was sent or waits in the queue, is answered within
+/// `delay`, which is less than the wait before its first retransmission, by a signed success; replies come
+/// in any order, and a REFRESH is granted for 600 s or more. Of both: `(count + slots) * 50 ms + delay` is
+/// less than the minute by which a refresh is ahead, and less than half of a lifetime of at most two minutes.
+/// What strangers and peers send may come in between, as long as it changes nothing. Times are at most 2^62
+/// ns.
+///
+/// It does not speak of challenges, errors and retransmissions, of `delete`, of data connections, or of
+/// memory allocations that fail. The other clauses are what makes it speak of the server alone: a success
+/// ends its request, and a datagram of the server is processed as one message.
+pub fn grants_last_while_the_server_answers()
+    ensures last { GrantsLast }
+    ensures asked { RequestsSucceed }
+    ensures ended { SuccessesEndRequests }
+    ensures datagrams { DatagramsAreMessages }
+{}
