@@ -11,7 +11,7 @@ use Rattle.turn_auth.specs.declared.integrity.IntegrityAlgorithm.{IntegrityAlgor
 use Rattle.turn_auth.specs.declared.integrity.IntegrityAlgorithm.TheVariants.{Sha1, Sha256}
 use Rattle.turn_agent.specs.Schedule.{Timers, default_timers}
 
--- the settings; the timers of requests are `Some` only if they were set
+-- the settings, times in nanoseconds; the timers of requests are `Some` only if they were set
 pub record Config : Type 0 where
   pub allocation_transport : TransportType
   pub address_families : List AddressFamily
@@ -21,10 +21,16 @@ pub record Config : Type 0 where
   pub request_timers : Option Timers
   -- so many challenges are answered in sequence
   pub max_stale_nonces : ℕ
+  -- so long after a packet no other request is sent for the first time
+  pub request_cadence : ℕ
 
 -- unless another limit is set (our choice)
 abbrev pub default_max_stale_nonces : ℕ
 default_max_stale_nonces = 9
+
+-- unless another pause between two requests is set, so that a server is not flooded (our choice)
+abbrev pub default_request_cadence : ℕ
+default_request_cadence = 50_000_000
 
 -- when requests are retransmitted and time out: as it was set, or else as in RFC 8489, section 6.2.1
 abbrev pub timers_of : Config → Timers

@@ -11,10 +11,6 @@ use Rattle.turn_client_api.specs.Calls.{is_allocated}
 
 -- ---- numbers of ours
 
--- between two requests, so that a server is not flooded (our choice)
-abbrev pub pause : ℕ
-pause = 50_000_000
-
 -- a grant is refreshed so long before it expires (our choice: RFC 8656, section 8, suggests about a minute)
 abbrev pub refresh_ahead : ℕ
 refresh_ahead = seconds 60
@@ -35,9 +31,9 @@ has_reply s = list_any (λ q. not q.is_request) s.queue
 abbrev pub has_queued_request : State → Bool
 has_queued_request s = list_any (λ q. q.is_request) s.queue
 
--- before this time no new request is sent
+-- before this time no new request is sent: the pause after a packet is as it was configured
 abbrev pub pause_end : State → ℕ
-pause_end s = option_map_or (later_by pause) s.last_send 0
+pause_end s = option_map_or (later_by s.config.request_cadence) s.last_send 0
 
 abbrev pub is_paused : ℕ → State → Bool
 is_paused now s = nat_lt now (pause_end s)

@@ -53,5 +53,9 @@ same_user a b =
 abbrev pub same_limits : Config → Config → Bool
 same_limits a b = same_set_timers a.request_timers b.request_timers && (a.max_stale_nonces == b.max_stale_nonces)
 
+-- both send as often
+abbrev pub same_times : Config → Config → Bool
+same_times a b = a.request_cadence == b.request_cadence
+
 abbrev pub same_config : Config → Config → Bool
-same_config a b = same_request a b && same_user a b && same_limits a b
+same_config a b = same_request a b && same_user a b && same_limits a b && same_times a b

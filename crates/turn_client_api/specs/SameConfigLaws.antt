@@ -78,14 +78,15 @@ same_set_timers-Decides (Some a) (Some b) = in_other_words (same_timers-Decides 
 same_config-Decides : (a b : Config) → Decides (same_config a b) (a ≡ b)
 same_config-Decides a b =
     in_other_words
-    (both (both
+    (both (both (both
     (both (same_allocation_transport-Decides a.allocation_transport b.allocation_transport)
     (pointwise_decides same_family-Decides a.address_families b.address_families))
     (both (both (same_credentials-Decides a.credentials b.credentials)
     (pointwise_decides same_algorithm-Decides a.supported_integrity b.supported_integrity))
     (same_feature-Decides a.anonymous_username b.anonymous_username)))
     (both (same_set_timers-Decides a.request_timers b.request_timers) (unsigned_Decides a.max_stale_nonces b.max_stale_nonces)))
-    (λ (((transport, families), ((credentials, algorithms), anonymous)), (timers, limit)) i. record {
+    (unsigned_Decides a.request_cadence b.request_cadence))
+    (λ ((((transport, families), ((credentials, algorithms), anonymous)), (timers, limit)), cadence) i. record {
       allocation_transport = transport i;
       address_families = families i;
       credentials = credentials i;
@@ -93,13 +94,17 @@ same_config-Decides a b =
       anonymous_username = anonymous i;
       request_timers = timers i;
       max_stale_nonces = limit i;
+      request_cadence = cadence i;
     })
     (λ e. (
       (
-        (ap (λ c. c.allocation_transport) e, ap (λ c. c.address_families) e),
-        ((ap (λ c. c.credentials) e, ap (λ c. c.supported_integrity) e), ap (λ c. c.anonymous_username) e),
+        (
+          (ap (λ c. c.allocation_transport) e, ap (λ c. c.address_families) e),
+          ((ap (λ c. c.credentials) e, ap (λ c. c.supported_integrity) e), ap (λ c. c.anonymous_username) e),
+        ),
+        (ap (λ c. c.request_timers) e, ap (λ c. c.max_stale_nonces) e),
       ),
-      (ap (λ c. c.request_timers) e, ap (λ c. c.max_stale_nonces) e),
+      ap (λ c. c.request_cadence) e,
     ))
 
 pub same_config-equivalence : IsEquivalence same_config

@@ -1,11 +1,12 @@
 //! What a client requests from its server, and with which credentials.
 
 ghost use Rattle.std.specs.Prelude.{◌≡◌, ◌<◌, ◌≤◌, ◌≢◌, [], ◌∷◌, Some, None, length, IfOk, AllPairs, Contains};
+ghost use Rattle.std.specs.Duration.{as_nanos};
 ghost use Rattle.std.specs.Int.NonZero.{non_zero_u16_get};
 ghost use Rattle.turn_agent.specs.Schedule.{wait_of};
 ghost use Rattle.turn_auth.specs.LongTerm.{with_algorithm};
-ghost use Rattle.turn_client_api.specs.Config.{Config, default_max_stale_nonces, timers_of, with_family};
-ghost use Rattle.turn_client_api.specs.SameConfig.{same_limits, same_request, same_user};
+ghost use Rattle.turn_client_api.specs.Config.{Config, default_max_stale_nonces, default_request_cadence, timers_of, with_family};
+ghost use Rattle.turn_client_api.specs.SameConfig.{same_limits, same_request, same_times, same_user};
 
 use smallvec::SmallVec;
 use std::alloc::{AllocError, Global};
@@ -33,9 +34,11 @@ pub struct TurnConfig {
     anonymous_username: Feature,
     request_timers: Option<RequestTimers>,
     max_stale_nonces: NonZeroU16,
+    request_cadence: Duration,
 }
 
 impl Model for TurnConfig {
+    ghost use Rattle.std.specs.Duration.{as_nanos};
     ghost use Rattle.std.specs.Int.NonZero.{non_zero_u16_get};
     ghost use Rattle.turn_client_api.specs.Config.{Config, IsKeptConfig};
 
@@ -49,6 +52,7 @@ impl Model for TurnConfig {
       anonymous_username = c.anonymous_username;
       request_timers = c.request_timers;
       max_stale_nonces = non_zero_u16_get c.max_stale_nonces;
+      request_cadence = as_nanos c.request_cadence;
     } };
 
     ghost invariant = { λ c. IsKeptConfig c.address_families c.supported_integrity };
@@ -57,8 +61,8 @@ impl Model for TurnConfig {
 impl TurnConfig {
     /// The configuration of a client with these credentials: it requests an IPv4 address that
     /// relays over UDP, supports integrity with SHA-1, does not hide its user name (`Feature::Auto`),
-    /// retransmits at the times of RFC 8489, section 6.2.1, and answers nine challenges in a row.
-    /// Allocates no memory.
+    /// retransmits at the times of RFC 8489, section 6.2.1, answers nine challenges in a row, and
+    /// sends a request every 50 ms at most. Allocates no memory.
     pub fn new(alloc: Global, credentials: TurnCredentials) -> TurnConfig
         ensures { result ≡ record {
           allocation_transport = TransportType.Udp;
@@ -68,6 +72,7 @@ impl TurnConfig {
           anonymous_username = Feature.Auto;
           request_timers = None;
           max_stale_nonces = default_max_stale_nonces;
+          request_cadence = default_request_cadence;
         } }
     {
         TurnConfig {
@@ -78,6 +83,7 @@ impl TurnConfig {
             anonymous_username: Feature::Auto,
             request_timers: None,
             max_stale_nonces: NonZeroU16::new(9).unwrap(),
+            request_cadence: Duration::from_millis(50),
         }
     }
 
@@ -250,6 +256,29 @@ impl TurnConfig {
         self.max_stale_nonces
     }
 
+    /// Sets the pause between two requests (our choice: RFC 8656 names none): so long after a packet
+    /// that `poll_transmit` returned, no request is sent for the first time, so that a server is not
+    /// flooded. A reply to the server may leave within the pause, and does not extend it; a
+    /// retransmission does not wait for it. With 0 there is no pause.
+    ///
+    /// By default it is 50 ms. Set less for a client with many permissions and channels: those that
+    /// were granted together are refreshed together, one in each pause, all of them within the minute
+    /// before they expire. At 50 ms a client that waits for no answer refreshes 1,200 in a minute, and
+    /// at 5 ms ten times as many. The shorter the pause is, the more answers may be under way at once,
+    /// and each may be a challenge: set `set_max_stale_nonces` with it.
+    pub fn set_request_cadence(&mut self, request_cadence: Duration)
+        ensures { self.new ≡ record self.old { request_cadence = as_nanos request_cadence } }
+    {
+        self.request_cadence = request_cadence;
+    }
+
+    /// The pause between two requests, as `set_request_cadence` last set it, or else 50 ms.
+    pub fn request_cadence(&self) -> Duration
+        ensures { as_nanos result ≡ self.now.request_cadence }
+    {
+        self.request_cadence
+    }
+
     /// A configuration with the same settings.
     ///
     /// # Errors
@@ -268,6 +297,7 @@ impl TurnConfig {
             anonymous_username: self.anonymous_username,
             request_timers: self.request_timers,
             max_stale_nonces: self.max_stale_nonces,
+            request_cadence: self.request_cadence,
         })
     }
 
@@ -295,6 +325,13 @@ impl TurnConfig {
         self.request_timers == other.request_timers
             && self.max_stale_nonces.get() == other.max_stale_nonces.get()
     }
+
+    /// Whether both send as often.
+    fn is_same_times(&self, other: &TurnConfig) -> bool
+        ensures { result ≡ same_times self.now other.now }
+    {
+        self.request_cadence.as_nanos() == other.request_cadence.as_nanos()
+    }
 }
 
 /// By content. Times that were never set differ from the same times that were set.
@@ -312,7 +349,10 @@ impl PartialEq for TurnConfig {
         ensures settings { result ≡ same_config self.now other.now }
         ensures content { IsTrue result ↔ (self.now ≡ other.now) }
     {
-        self.is_same_request(other) && self.is_same_user(other) && self.is_same_limits(other)
+        self.is_same_request(other)
+            && self.is_same_user(other)
+            && self.is_same_limits(other)
+            && self.is_same_times(other)
     }
 }
 

@@ -31,8 +31,8 @@ pub enum Phase {
 pub struct Queued {
     /// The packet, with its source and destination.
     pub packet: Transmit<Data>,
-    /// Whether it is a request, which is sent no sooner than 50 ms after the one before. A reply to
-    /// the server does not wait for that.
+    /// Whether it is a request, which is sent no sooner than the configured pause after the one before.
+    /// A reply to the server does not wait for that.
     pub is_request: bool,
 }
 

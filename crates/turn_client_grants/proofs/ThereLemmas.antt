@@ -33,6 +33,7 @@ someone address = initial Udp address address
       anonymous_username = Disabled;
       request_timers = None;
       max_stale_nonces = 1;
+      request_cadence = 0;
     })
     []
 

@@ -13,7 +13,7 @@ use Rattle.turn_types.specs.declared.family.AddressFamily.TheVariants.{IPV4, IPV
 use Rattle.turn_auth.specs.LongTerm.{Challenge}
 use Rattle.turn_agent.specs.declared.transaction.Transaction.{Transaction}
 use Rattle.turn_agent.specs.Agent.{first_sent}
-use Rattle.turn_client_api.specs.Config.{default_max_stale_nonces}
+use Rattle.turn_client_api.specs.Config.{default_max_stale_nonces, default_request_cadence}
 use Rattle.turn_client_api.specs.State.{State}
 use Rattle.turn_client_api.specs.declared.state.Phase.TheVariants.{Requesting, Allocated}
 use Rattle.turn_client_api.specs.declared.grant.Purpose.TheVariants.{ForAllocation, ForRefresh}
@@ -53,7 +53,12 @@ peer = V4 (xor_v4 (10 ∷ 0 ∷ 0 ∷ 3 ∷ []) 9000)
 -- a client over UDP with these grants, that sent its last request at this time and awaits nothing
 abbrev pub granted_at : ℕ → List Grant → State → State
 granted_at time grants s = record s {
-  config = record s.config { allocation_transport = Udp; request_timers = None; max_stale_nonces = default_max_stale_nonces };
+  config = record s.config {
+    allocation_transport = Udp;
+    request_timers = None;
+    max_stale_nonces = default_max_stale_nonces;
+    request_cadence = default_request_cadence;
+  };
   transport = Udp;
   phase = Allocated;
   grants = grants;
@@ -92,6 +97,10 @@ abbrev pub asking_at_60_ms : State → State
 asking_at_60_ms s =
     (create_permission_step Udp ip_of_peer 60_000_000 (granted_at 50_000_000 (new_allocation 1800 50_000_000 relayed_v4 ∷ []) s)).1
 
+-- with this pause between two requests
+abbrev pub pausing : ℕ → State → State
+pausing cadence s = record s { config = record s.config { request_cadence = cadence } }
+
 -- ---- a server that does not respond
 
 -- 600 ms after the first send, 1 s at most after others, three sends, and 3 s after the last
@@ -102,7 +111,7 @@ short_timers = record { initial = 600_000_000; max = 1_000_000_000; transmission
 -- default
 abbrev pub requesting_by : Option Timers → TransportType → List ℕ → State → State
 requesting_by timers transport text s = record (requesting text s) {
-  config = record s.config { request_timers = timers };
+  config = record s.config { request_timers = timers; request_cadence = default_request_cadence };
   transport = transport;
 }
 

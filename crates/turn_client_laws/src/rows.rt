@@ -1,6 +1,6 @@
 //! Worked states.
 
-ghost use Rattle.std.specs.Prelude.{◌≡◌, ◌∷◌, true, map, ℕ, List, [], Some, None};
+ghost use Rattle.std.specs.Prelude.{◌≡◌, ◌∷◌, true, map, ℕ, List, [], Some, None, IsSome};
 ghost use Rattle.std.specs.declared.net.socket_addr.SocketAddr.{SocketAddr};
 ghost use Rattle.turn_stun.specs.declared.transport.TransportType.TheVariants.{Udp, Tcp};
 ghost use Rattle.turn_types.specs.declared.family.AddressFamily.TheVariants.{IPV4, IPV6};
@@ -13,7 +13,7 @@ ghost use Rattle.turn_client_api.specs.Calls.{free_number, relayed_addresses_of}
 ghost use Rattle.turn_client_api.specs.Poll.{poll_step};
 ghost use Rattle.turn_client_api.specs.Transmit.{next_transmit};
 ghost use Rattle.turn_client_laws.specs.LawsRows.{IsFirstAllocate, WaitsInSilence, WhenGivenUp, asking_at_60_ms, challenged_once, deleted_in_silence};
-ghost use Rattle.turn_client_laws.specs.LawsRows.{giving_back, granted_at, ip_of_peer, peer, short_timers, with_both_families, with_permission};
+ghost use Rattle.turn_client_laws.specs.LawsRows.{giving_back, granted_at, ip_of_peer, pausing, peer, short_timers, with_both_families, with_permission};
 ghost use Rattle.turn_client_api.specs.declared.event.TurnEvent.TheVariants.{ChannelCreateFailed, PermissionCreateFailed};
 ghost use Rattle.turn_client_api.specs.declared.poll.TurnPollRet.TheVariants as Do;
 
@@ -46,6 +46,11 @@ pub fn wakeups_are_reported()
     // A permission that is requested at 60 ms, 10 ms after the last request: the end of the pause.
     ensures queued { (s : State) → (poll_step 60_000_000 (asking_at_60_ms s)).0 ≡ Do.WaitUntil 100_000_000 }
     ensures paused { (s : State) → next_transmit 99_999_999 (asking_at_60_ms s) ≡ None }
+    // The same with a pause of 300 ms, of 1 ms, which has ended, and of none.
+    ensures longer { (s : State) → (poll_step 60_000_000 (pausing 300_000_000 (asking_at_60_ms s))).0 ≡ Do.WaitUntil 350_000_000 }
+    ensures silent { (s : State) → next_transmit 349_999_999 (pausing 300_000_000 (asking_at_60_ms s)) ≡ None }
+    ensures shorter { (s : State) → IsSome (next_transmit 60_000_000 (pausing 1_000_000 (asking_at_60_ms s))) }
+    ensures at_once { (s : State) → IsSome (next_transmit 50_000_000 (pausing 0 (asking_at_60_ms s))) }
 {}
 
 /// A first ALLOCATE that was sent at time 0 and gets no response (RFC 8489, sections 6.2.1 and 6.2.2): the

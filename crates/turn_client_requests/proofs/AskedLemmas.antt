@@ -50,6 +50,7 @@ someone =
       anonymous_username = Auto;
       request_timers = None;
       max_stale_nonces = 1;
+      request_cadence = 0;
     }) []
 
 -- a request is as long as the length with which it was begun

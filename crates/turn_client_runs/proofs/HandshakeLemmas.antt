@@ -1,5 +1,6 @@
 -- A client whose server answers its first requests.
-use Rattle.std.proofs.Common.{◌≡◌, ◌≢◌, ◌⊎◌, ℕ, ◌+◌, ◌^◌, ◌<◌, ◌≤◌, Bool, true, false, cond, not, ◌||◌, leb, ltb, eqb, List, [], ◌∷◌, ◌++◌, map, drop, Option, Some, None, refl, inl, inr, ap, sym, subst, ◌∙◌, arith}
+use Rattle.std.proofs.Common.{◌≡◌, ◌≢◌, ◌⊎◌, ℕ, ◌+◌, ◌^◌, ◌<◌, ◌≤◌, Bool, true, false, cond, not, ◌||◌, leb, ltb, eqb, List, [], ◌∷◌, ◌++◌, map, drop, Option, Some, None, refl, inl, inr, ap, sym}
+use Rattle.std.proofs.Common.{subst, ◌∙◌, arith}
 use Rattle.std.specs.Prelude.{IfSome, IsSome, filter, if◌then◌else◌, slice_get}
 use Rattle.std.specs.List.{list_any}
 use Rattle.std.specs.Option.{option_map_or}
@@ -45,6 +46,7 @@ use Rattle.turn_client_laws.proofs.GrantOriginLemmas.{has-mapped}
 use Rattle.turn_client_laws.proofs.LapseLemmas.{lapsed-shrinks}
 use Rattle.std.specs.declared.net.socket_addr.SocketAddr.TheVariants.{V4}
 use Rattle.turn_client_api.specs.Config.{Config}
+use Rattle.turn_client_runs.proofs.ChallengeLemmas.{run-configured}
 use Rattle.turn_client_api.specs.State.{later_by, seconds}
 use Rattle.turn_client_api.specs.declared.grant.Grant.{Grant}
 use Rattle.turn_client_api.specs.declared.grant.Grant.TheVariants.{Allocation}
@@ -464,7 +466,7 @@ fit-stays call s t leaves (fits, distinct, housed) =
     (leaves-steadies call s t leaves fits, leaves-single call s t leaves fits distinct, leaves-GrantsHaveAllocations call s t leaves housed)
 
 steady-next : (count slots delay start now lifetime : ℕ) (packet : Transmit (List ℕ)) (s : State) → AreFit s → IsPlain delay now s → (x : Transaction) → IsAsked delay now (start + delay) s x → now ≤ 2 ^ 62
-    → IsAllocating packet s → s.queue ≡ [] → lifetime_in packet.payload ≡ Some lifetime → min_lifetime ≤ lifetime → HasRoom count slots delay refresh_ahead
+    → IsAllocating packet s → s.queue ≡ [] → lifetime_in packet.payload ≡ Some lifetime → min_lifetime ≤ lifetime → HasRoom count slots s.config.request_cadence delay refresh_ahead
     → IsWithin count slots (state_after (Recv packet now) s) → IsSteady count slots delay now (state_after (Recv packet now) s)
 steady-next count slots delay start now lifetime packet s (fits, distinct, housed) p x a range is empty said enough room within =
     let after = fit-stays (Recv packet now) s (state_after (Recv packet now) s) (inl refl) (fits, distinct, housed) in
@@ -477,7 +479,7 @@ steady-next count slots delay start now lifetime packet s (fits, distinct, house
       sent_before = p.sent_before;
       in_force = all-has (IsInForce now) t.grants (λ g h. let (e, l) = made g h in rw e (refl, l));
       none_late = all-has (λ g. now + ahead_of g ≤ expiry_of g) t.grants (λ g h. let (e, l) = made g h in rw (e, long) (omega (arith, lasts)));
-      room = all-has (λ g. HasRoom count slots delay (ahead_of g)) t.grants (λ g h. let (e, l) = made g h in rw (e, long) room);
+      room = all-has (λ g. HasRoom count slots t.config.request_cadence delay (ahead_of g)) t.grants (λ g h. let (e, l) = made g h in rw (e, long) room);
       room_for_more = room;
       within = next.1;
       distinct = next.0.1;
@@ -540,8 +542,11 @@ run-steadily local remote config seed delay start now calls packet count slots l
     last : State
     last = state_after_all (initial Udp local remote config seed) calls
 
+    paced : HasRoom count slots last.config.request_cadence delay (seconds 60)
+    paced = subst (λ (c : Config). HasRoom count slots c.request_cadence delay (seconds 60)) (sym (run-configured (initial Udp local remote config seed) calls)) room
+
     by : IsStage delay start now last → AreFit last → IsSteady count slots delay now (state_after (Recv packet now) last)
     by (new p u none zero) fit = absurd (not-new last Authenticating is.phase (λ f. cc) u.phase)
     by (first p x a e q ps zero) fit = absurd (let no : Requesting ≡ Authenticating = sym e ∙ is.phase in cc)
-    by (second p x a e) fit = steady-next count slots delay start now lifetime packet last fit p x a t.on_time.in_range is empty said enough room within
+    by (second p x a e) fit = steady-next count slots delay start now lifetime packet last fit p x a t.on_time.in_range is empty said enough paced within
     by (done e) fit = absurd (let no : Allocated ≡ Authenticating = sym e ∙ is.phase in cc)

@@ -30,14 +30,18 @@ use Rattle.turn_client_api.specs.declared.grant.Progress.{Progress}
 use Rattle.turn_client_api.specs.declared.grant.Progress.TheVariants.{Pending}
 use Rattle.turn_client_api.specs.declared.grant.Purpose.{Purpose}
 use Rattle.turn_client_api.specs.declared.grant.Purpose.TheVariants.{ForChannel, ForPermission}
-use Rattle.turn_client_api.specs.Grants.{allocations, family_of, family_of_grant, family_of_ip, find_allocation, find_allocation_to, has_request, is_channel_of, is_for, is_past, is_permission_of, permission_progress, permission_state, same_transport}
+use Rattle.turn_client_api.specs.Grants.{allocations, family_of, family_of_grant, family_of_ip, find_allocation, find_allocation_to, has_request, is_channel_of, is_for, is_past, is_permission_of}
+use Rattle.turn_client_api.specs.Grants.{permission_progress, permission_state, same_transport}
 use Rattle.turn_client_api.specs.Grants.{with_grant}
 use Rattle.turn_client_api.specs.Requests.{fresh_id, listings, queued, request_for, request_started, requested, to_server}
-use Rattle.turn_client_api.specs.Calls.{bind_channel, bind_channel_step, bound_by, channel_numbers, channel_step, channels_to, create_permission_step, free_number, in_allocation, is_allocated, is_in_progress, is_number_taken, missing_permission, permission_step, reserved_from}
+use Rattle.turn_client_api.specs.Calls.{bind_channel, bind_channel_step, bound_by, channel_numbers, channel_step, channels_to, create_permission_step, free_number, in_allocation, is_allocated}
+use Rattle.turn_client_api.specs.Calls.{is_in_progress, is_number_taken, missing_permission, permission_step, reserved_from}
+use Rattle.turn_client_api.specs.Due.{pause_end}
 use Rattle.turn_client_laws.proofs.HasLemmas.{map-has, Has, filter_map-has, has-append, has-found, has-left, has-right}
 use Rattle.turn_client_laws.proofs.InAllocationLemmas.{any-has, Room, has-any, allocation-room, allocation-there, room-more}
 use Rattle.turn_client_runs.proofs.LastingCounts.{passes, passes-all, passes-append, passes-none}
-use Rattle.turn_client_runs.proofs.LastingStands.{Goes, IsPending, pending-more, AreSingle, IsAsked, IsRequest, IsAwaited, IsIdle, IsKept, IsUnique, Stands, allocation-stands, due_of, is_served, is_waiting, served, stands-early, unique-refreshing}
+use Rattle.turn_client_runs.proofs.LastingStands.{Goes, IsPending, pending-more, AreSingle, IsAsked, IsRequest, IsAwaited, IsIdle, IsKept, IsUnique, Stands, allocation-stands, due_of, more-paced}
+use Rattle.turn_client_runs.proofs.LastingStands.{is_served, is_waiting, served, stands-early, unique-refreshing}
 use Rattle.turn_client_runs.proofs.LastingTransmits.{same_ip-self}
 use Rattle.turn_client_api.specs.Grants.{with_more_grants}
 use Rattle.turn_client_laws.proofs.GrantOriginLemmas.{has-mapped}
@@ -138,8 +142,8 @@ module _ (count slots delay now : ℕ) (s : State) (k : IsKept count slots delay
           let paused = idle.paused in
           inr (record {
             unasked = not-asked g there idle.unasked;
-            soon = omega (arith, soon, more, one-more);
-            paused = omega (arith, paused, more, one-more);
+            soon = more-paced s.config.request_cadence now _ _ (due_of g) slots _ _ one-more more soon;
+            paused = more-paced s.config.request_cadence (pause_end s) _ _ (due_of g) slots _ _ one-more more paused;
           })
 
   room-left : (family : AddressFamily) → Room s.grants family → Room t.grants family

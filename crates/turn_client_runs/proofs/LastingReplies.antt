@@ -6,7 +6,8 @@ use Rattle.std.specs.List.{list_any}
 use Rattle.std.proofs.lemmas.Bool.{and_from, and_parts, cases_Bool, cases_lt, eqb-true, le-leb, not-true, not_from_false, or_left, or_right}
 use Rattle.turn_types.specs.declared.family.AddressFamily.{AddressFamily}
 use Rattle.turn_agent.specs.declared.transaction.Transaction.{Transaction}
-use Rattle.turn_client_api.specs.State.{State, later_by}
+use Rattle.turn_client_api.specs.Config.{Config}
+use Rattle.turn_client_api.specs.State.{State}
 use Rattle.turn_client_api.specs.declared.grant.Grant.{Grant}
 use Rattle.turn_client_api.specs.declared.grant.Grant.TheVariants.{Allocation, Permission, Channel}
 use Rattle.turn_client_api.specs.declared.grant.Progress.TheVariants.{Active, Pending}
@@ -14,9 +15,8 @@ use Rattle.turn_client_api.specs.declared.grant.Listing.{Listing}
 use Rattle.turn_client_api.specs.declared.grant.Purpose.{Purpose}
 use Rattle.turn_client_api.specs.declared.grant.Purpose.TheVariants.{ForRefresh, ForPermission, ForChannel}
 use Rattle.turn_client_api.specs.Grants.{family_of, family_of_grant, has_request, is_for, purposes_of}
-use Rattle.turn_client_api.specs.Due.{pause, pause_end}
+use Rattle.turn_client_api.specs.Due.{pause_end}
 use Rattle.turn_client_api.specs.declared.state.Queued.{Queued}
-use Rattle.std.specs.Option.{option_map_or}
 use Rattle.turn_client_api.specs.Effect.{effect}
 use Rattle.turn_client_laws.proofs.AddressLemmas.{same_ip-true}
 use Rattle.turn_client_laws.proofs.GrantOriginLemmas.{has-mapped}
@@ -24,7 +24,9 @@ use Rattle.turn_client_laws.proofs.HasLemmas.{Has, filter-has, has-append, has-f
 use Rattle.turn_client_laws.proofs.InAllocationLemmas.{Room, any-has, has-any, room-more, same_family-true}
 use Rattle.turn_client_runs.specs.Lasting.{as_granted, Answers, Grants, ahead_of, expiry_of, with_expiry}
 use Rattle.turn_client_runs.proofs.LastingCounts.{length-without, passes, passes-all, passes-append, passes-filter, passes-map, passes-mapped, passes-none, passes-split, passes-same, passes-two}
-use Rattle.turn_client_runs.proofs.LastingStands.{AllRemain, Follows, Goes, IsPending, goes-more, goes-trans, pending-more, AreRequests, Brings, IsRequest, brings-more, listed_as, IsAsked, IsAwaited, IsGranted, IsIdle, IsKept, IsRefreshing, Stands, ahead-le, due_of, is_served, not-waiting, pause-le, IsUnique, IsWell, is_waiting, served, unique-refreshing, unique-spares}
+use Rattle.turn_client_runs.proofs.LastingStands.{AllRemain, Follows, Goes, IsPending, goes-more, goes-trans, pending-more, AreRequests, Brings, IsRequest, brings-more, listed_as, IsAsked, IsAwaited}
+use Rattle.turn_client_runs.proofs.LastingStands.{IsGranted, IsIdle, IsKept, IsRefreshing, Stands, ahead-le, due_of, early-paced, still-paced, is_served, not-waiting, pause-le, IsUnique, IsWell}
+use Rattle.turn_client_runs.proofs.LastingStands.{is_waiting, served, unique-refreshing, unique-spares}
 use Rattle.turn_client_api.specs.Requests.{channel_bind_method, method_for}
 use Rattle.turn_client_api.specs.Judgement.{method_in}
 use Rattle.turn_client_api.specs.Payloads.{is_answered}
@@ -186,16 +188,22 @@ module _ (count slots delay now : ℕ) (transactions : List Transaction) (u : St
   pending-other : (until : ℕ) (g : Grant) → is_for p g ≡ false → IsPending until transactions u.listed g → IsPending until transactions (left p u) g
   pending-other until g other = pending-more until transactions transactions u.listed (left p u) g (λ x h. h) (λ l h for. stays l g h for other)
 
+  pauses-same : (t : State) → t.config ≡ u.config → t.last_send ≡ u.last_send → pause_end t ≡ pause_end u
+  pauses-same t same sends = rw (same, sends) refl
+
   -- if as many grants are served as before, the others stand as they did
-  stands-other : (t : State) → t.listed ≡ left p u → t.queue ≡ u.queue → t.last_send ≡ u.last_send → ((since : ℕ) → since ≤ now → served u since ≤ served t since)
+  stands-other : (t : State) → t.config ≡ u.config → t.listed ≡ left p u → t.queue ≡ u.queue → t.last_send ≡ u.last_send → ((since : ℕ) → since ≤ now → served u since ≤ served t since)
       → (g : Grant) → is_for p g ≡ false → Stands count slots delay now transactions u g → Stands count slots delay now transactions t g
-  stands-other t ls qs sends serves g other was = record { granted = was.granted; room = was.room; long = was.long; either = by was.either }
+  stands-other t same ls qs sends serves g other was = record { granted = was.granted; room = rw same was.room; long = was.long; either = by was.either }
     where
       len : length t.queue ≡ length u.queue
       len = ap (λ (q : List Queued). length q) qs
 
       pauses : pause_end t ≡ pause_end u
-      pauses = ap (λ (o : Option ℕ). option_map_or (later_by pause) o 0) sends
+      pauses = pauses-same t same sends
+
+      cadence : t.config.request_cadence ≡ u.config.request_cadence
+      cadence = ap (λ (c : Config). c.request_cadence) same
 
       asks : has_request g t ≡ list_any (λ (l : Listing). is_for l.purpose g) (left p u)
       asks = ap (λ (ls : List Listing). list_any (λ (l : Listing). is_for l.purpose g) ls) ls
@@ -213,27 +221,38 @@ module _ (count slots delay now : ℕ) (transactions : List Transaction) (u : St
       by (inr idle) = elim (cases_lt (due_of g) now) [
         | inl past ↦
             let no_fewer = serves (due_of g) (omega (arith, past)) in
-            inr (record { unasked = asks ∙ not-asked g idle.unasked; soon = omega (arith, idle.soon, no_fewer, len); paused = omega (arith, idle.paused, no_fewer, len, pauses) })
+            inr (record {
+              unasked = asks ∙ not-asked g idle.unasked;
+              soon = still-paced _ _ now _ _ (due_of g) slots _ _ cadence len no_fewer idle.soon;
+              paused = still-paced _ _ (pause_end t) _ _ (due_of g) slots _ _ cadence len no_fewer (rw pauses idle.paused);
+            })
         | inr early ↦
             let few = k.few in
-            inr (record { unasked = asks ∙ not-asked g idle.unasked; soon = omega (arith, early, few, len); paused = omega (arith, early, few, len, pauses, pause-le now u k.sent) })
+            inr (record {
+              unasked = asks ∙ not-asked g idle.unasked;
+              soon = early-paced _ _ now _ _ now (due_of g) slots _ cadence len few (omega arith) early;
+              paused = early-paced _ _ (pause_end t) _ _ now (due_of g) slots _ cadence len few (rw pauses (pause-le now u k.sent)) early;
+            })
       ]
 
   -- what was granted now is refreshed much later
-  stands-new : (t : State) → t.queue ≡ u.queue → t.last_send ≡ u.last_send → (h : Grant) → IsGranted h → (count + slots) * 50_000_000 + delay < ahead_of h → now + 300_000_000_000 ≤ expiry_of h
+  stands-new : (t : State) → t.config ≡ u.config → t.queue ≡ u.queue → t.last_send ≡ u.last_send → (h : Grant) → IsGranted h
+      → (count + slots) * u.config.request_cadence + delay < ahead_of h → now + 300_000_000_000 ≤ expiry_of h
       → has_request h t ≡ false → Stands count slots delay now transactions t h
-  stands-new t qs sends h granted room late unasked =
+  stands-new t same qs sends h granted room late unasked =
       let len : length t.queue ≡ length u.queue = ap (λ (q : List Queued). length q) qs in
-      let pauses : pause_end t ≡ pause_end u = ap (λ (o : Option ℕ). option_map_or (later_by pause) o 0) sends in
+      let pauses = pauses-same t same sends in
+      let cadence : t.config.request_cadence ≡ u.config.request_cadence = ap (λ (c : Config). c.request_cadence) same in
       let few = k.few in
+      let early : now ≤ due_of h = omega (arith, late, ahead-le h) in
       record {
         granted = granted;
-        room = room;
+        room = rw same room;
         long = omega (arith, late, ahead-le h);
         either = inr (record {
           unasked = unasked;
-          soon = omega (arith, late, ahead-le h, few, len);
-          paused = omega (arith, late, ahead-le h, few, len, pauses, pause-le now u k.sent);
+          soon = early-paced _ _ now _ _ now (due_of h) slots _ cadence len few (omega arith) early;
+          paused = early-paced _ _ (pause_end t) _ _ now (due_of h) slots _ cadence len few (rw pauses (pause-le now u k.sent)) early;
         });
       }
 
@@ -305,10 +324,11 @@ module _ (count slots delay now : ℕ) (transactions : List Transaction) (u : St
       by true e (inl (waits, pending)) = absurd (unanswered g there waits e)
       by true e (inr was) =
           let a = with-ahead expiry g in
-          inr (stands-new count slots delay now transactions u k p refreshing t refl refl (with_expiry expiry g) (with-granted expiry g was.granted) (omega (arith, a, was.room)) (expires-late g was.granted)
+          inr (stands-new count slots delay now transactions u k p refreshing t refl refl refl (with_expiry expiry g) (with-granted expiry g was.granted)
+          (omega (arith, a, was.room)) (expires-late g was.granted)
           (answered count slots delay now transactions u k p refreshing g (with_expiry expiry g) there e (λ l was for. sym (with-for l.purpose expiry g) ∙ for)))
       by false e (inl (waits, pending)) = inl (waits, pending-other count slots delay now transactions u k p refreshing now g e pending)
-      by false e (inr was) = inr (stands-other count slots delay now transactions u k p refreshing t refl refl refl serves g e was)
+      by false e (inr was) = inr (stands-other count slots delay now transactions u k p refreshing t refl refl refl refl serves g e was)
 
   pub renewed-kept : IsKept count slots delay now transactions t
   renewed-kept = record {
@@ -409,9 +429,13 @@ module _ (count slots delay now : ℕ) (transactions : List Transaction) (u : St
   well-anew g h = elim (which g h) [
     | inl (there, other) ↦ elim (k.each g there) [
       | inl (waits, pending) ↦ inl (waits, pending-other count slots delay now transactions u k p refreshing now g other pending)
-      | inr was ↦ inr (stands-other count slots delay now transactions u k p refreshing after refl refl refl serves-anew g other was)
+      | inr was ↦ inr (stands-other count slots delay now transactions u k p refreshing after refl refl refl refl serves-anew g other was)
     ]
-    | inr e ↦ subst (IsWell count slots delay now transactions after) (sym e) (inr (stands-new count slots delay now transactions u k p refreshing after refl refl new anew.granted (let pace = k.pace in let minute = anew.minute in omega (arith, pace, minute)) anew.late new-unasked))
+    | inr e ↦
+        let pace = k.pace in
+        let minute = anew.minute in
+        subst (IsWell count slots delay now transactions after) (sym e)
+        (inr (stands-new count slots delay now transactions u k p refreshing after refl refl refl new anew.granted (omega (arith, pace, minute)) anew.late new-unasked))
   ]
 
   single-anew : (q : Purpose) → IsUnique q → passes (is_for q) after.grants ≤ 1

@@ -41,10 +41,12 @@ use Rattle.turn_client_api.specs.declared.call.Call.TheVariants.{BindChannel, Cr
 use Rattle.turn_client_laws.proofs.HasLemmas.{Has, filter-has, has-all, has-filter, map-has}
 use Rattle.turn_client_laws.proofs.InAllocationLemmas.{room-of}
 use Rattle.turn_client_laws.proofs.TwoPurposes.{purpose-with}
-use Rattle.turn_client_runs.specs.Lasting.{with_expiry, IsRequested, RequestsSucceed, as_granted, Answers, DatagramsAreMessages, GrantsLast, HasRoom, HasStill, IsInForce, IsQuiet, IsSteady, IsSuccess, IsWithin, RunsSteadily, SuccessesEndRequests, ahead_of, expiry_of}
+use Rattle.turn_client_runs.specs.Lasting.{with_expiry, IsRequested, RequestsSucceed, as_granted, Answers, DatagramsAreMessages, GrantsLast, HasRoom, HasStill, IsInForce, IsQuiet, IsSteady, IsSuccess}
+use Rattle.turn_client_runs.specs.Lasting.{IsWithin, RunsSteadily, SuccessesEndRequests, ahead_of, expiry_of}
 use Rattle.turn_client_runs.proofs.MadeLemmas.{success-ends}
 use Rattle.turn_client_runs.specs.OnTime.{IsFromServer, IsInTime, time_of, time_of_all}
-use Rattle.turn_client_runs.proofs.LastingStands.{Follows, Goes, IsPending, IsWell, goes-more, goes-trans, is_waiting, AreSingle, IsAwaited, IsGranted, IsIdle, IsKept, IsUnique, Stands, not-waiting, pause-le, stands-early}
+use Rattle.turn_client_runs.proofs.LastingStands.{Follows, Goes, IsPending, IsWell, goes-more, goes-trans, is_waiting, AreSingle, IsAwaited, IsGranted, IsIdle, IsKept, IsUnique, Stands, not-waiting}
+use Rattle.turn_client_runs.proofs.LastingStands.{pause-le, stands-early}
 use Rattle.turn_client_runs.proofs.LastingCounts.{passes}
 use Rattle.turn_client_runs.proofs.LastingCalls.{Asks, asked-goes, asked-kept, binds, creates}
 use Rattle.turn_client_laws.specs.LawsDoubles.{is_double}
@@ -382,9 +384,9 @@ steady-kept count slots delay now s is = record {
         let early : now + ahead_of g ≤ expiry_of g = has-all (λ g. now + ahead_of g ≤ expiry_of g) g s.grants is.none_late there in
         record {
           granted = force-granted now g (has-all (IsInForce now) g s.grants is.in_force there);
-          room = has-all (λ g. HasRoom count slots delay (ahead_of g)) g s.grants is.room there;
+          room = has-all (λ g. HasRoom count slots s.config.request_cadence delay (ahead_of g)) g s.grants is.room there;
           long = omega (arith, early);
-          either = inr (record { unasked = unasked g s.listed is.none_listed; soon = omega (arith, early, none); paused = omega (arith, early, none, pause-le now s is.sent_before) });
+          either = inr (record { unasked = unasked g s.listed is.none_listed; soon = rw none (omega (arith, early)); paused = rw none (omega (arith, early, pause-le now s is.sent_before)) });
         }
 
 early-of : (count slots delay now : ℕ) (t : State) → IsKept count slots delay now t.transactions t → (h : Grant) → Has h t.grants → IsGranted h → now < expiry_of h

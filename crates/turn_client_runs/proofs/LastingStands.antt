@@ -1,7 +1,9 @@
 -- How a client stands while no grant is lost: each grant is refreshed in time, or its refresh is on its way.
-use Rattle.std.proofs.Common.{◌≡◌, ◌⊎◌, ℕ, ◌+◌, ◌-◌, ◌*◌, ◌/◌, ◌^◌, ◌<◌, ◌≤◌, Bool, true, false, ◌||◌, leb, eqb, List, [], ◌∷◌, length, filter, Option, Some, None, refl, sym, subst, ◌∙◌, inl, inr, arith}
+use Rattle.std.proofs.Common.{◌≡◌, ◌⊎◌, ℕ, ◌+◌, ◌-◌, ◌*◌, ◌/◌, ◌^◌, ◌<◌, ◌≤◌, Bool, true, false, ◌||◌, leb, eqb, List, [], ◌∷◌, length, filter, Option, Some, None, refl, sym, subst, ◌∙◌, inl, inr}
+use Rattle.std.proofs.Common.{arith}
 use Rattle.std.specs.Prelude.{IfSome, ⊤, nat_le}
 use Rattle.std.proofs.lemmas.Bool.{cases_Bool, cases_lt}
+use Rattle.std.proofs.lemmas.Nat.{mul-le}
 use Rattle.turn_agent.specs.Schedule.{wait_at}
 use Rattle.turn_agent.specs.declared.transaction.Transaction.{Transaction}
 use Rattle.turn_client_api.specs.Config.{timers_of}
@@ -15,7 +17,7 @@ use Rattle.turn_client_api.specs.declared.grant.Purpose.TheVariants.{ForRefresh,
 use Rattle.turn_client_api.specs.declared.grant.Listing.{Listing}
 use Rattle.turn_client_api.specs.Grants.{family_of_grant, has_request, is_for}
 use Rattle.turn_client_api.specs.declared.grant.Relay.{Relay}
-use Rattle.turn_client_api.specs.Due.{has_reply, pause, pause_end, refresh_time_by_kind, short_lifetime}
+use Rattle.turn_client_api.specs.Due.{has_reply, pause_end, refresh_time_by_kind, short_lifetime}
 use Rattle.turn_client_laws.proofs.HasLemmas.{Has}
 use Rattle.turn_client_laws.proofs.InAllocationLemmas.{Room}
 use Rattle.turn_client_runs.specs.Lasting.{as_granted, with_expiry, ahead_of, expiry_of}
@@ -47,7 +49,7 @@ served s since = passes (is_served s since) s.grants
 
 -- the request for a refresh leaves by then
 abbrev pub bound : ℕ → State → Grant → ℕ
-bound slots s g = due_of g + 50_000_000 * (1 + slots + served s (due_of g))
+bound slots s g = due_of g + s.config.request_cadence * (1 + slots + served s (due_of g))
 
 -- a request for it awaits its reply, which will come before the grant expires
 pub record IsAwaited (delay : ℕ) (transactions : List Transaction) (listed : List Listing) (g : Grant) : Type 0 where
@@ -62,12 +64,12 @@ pub record IsAwaited (delay : ℕ) (transactions : List Transaction) (listed : L
 -- it is not too late to request it, once all that is queued was sent
 pub record IsIdle (slots now : ℕ) (s : State) (g : Grant) : Type 0 where
   pub unasked : has_request g s ≡ false
-  pub soon : now + 50_000_000 * length s.queue ≤ bound slots s g
-  pub paused : pause_end s + 50_000_000 * length s.queue ≤ bound slots s g
+  pub soon : now + s.config.request_cadence * length s.queue ≤ bound slots s g
+  pub paused : pause_end s + s.config.request_cadence * length s.queue ≤ bound slots s g
 
 pub record Stands (count slots delay now : ℕ) (transactions : List Transaction) (s : State) (g : Grant) : Type 0 where
   pub granted : IsGranted g
-  pub room : (count + slots) * 50_000_000 + delay < ahead_of g
+  pub room : (count + slots) * s.config.request_cadence + delay < ahead_of g
   pub long : ahead_of g ≤ expiry_of g
   pub either : IsAwaited delay transactions s.listed g ⊎ IsIdle slots now s g
 
@@ -203,7 +205,7 @@ pub record IsKept (count slots delay now : ℕ) (transactions : List Transaction
   pub requests : has_reply s ≡ false
   pub few : length s.queue ≤ slots
   pub prompt : delay < wait_at (timers_of s.config) s.transport 0
-  pub pace : (count + slots) * 50_000_000 + delay < 60_000_000_000
+  pub pace : (count + slots) * s.config.request_cadence + delay < 60_000_000_000
   pub sent : IfSome s.last_send (λ time. time ≤ now)
   pub young : (x : Transaction) → Has x s.transactions → x.resends ≡ 0
   pub heard : (x : Transaction) → Has x s.transactions → now ≤ x.last_send + delay
@@ -241,20 +243,47 @@ not-waiting (Permission ip (Active expiry)) h = refl
 not-waiting (Channel number peer (Active expiry)) h = refl
 not-waiting g h = absurd h
 
+-- one packet leaves in each pause: if as many are served or more, none is late that was not
+pub still-paced : (c d x q r due slots n m : ℕ) → d ≡ c → q ≡ r → n ≤ m → x + c * r ≤ due + c * (1 + slots + n) → x + d * q ≤ due + d * (1 + slots + m)
+still-paced c d x q r due slots n m e f more h = rw (e, f) (omega (arith, h, mul-le c n c m (omega arith) more))
+
+-- what falls due later leaves in time behind the queue
+pub early-paced : (c d x q r now due slots n : ℕ) → d ≡ c → q ≡ r → r ≤ slots → x ≤ now + c → now ≤ due → x + d * q ≤ due + d * (1 + slots + n)
+early-paced c d x q r now due slots n e f fits paused late = rw (e, f) (omega (arith, paused, late, mul-le c r c slots (omega arith) fits))
+
+-- with one more served and nothing queued, one more pause is spared
+pub one-paced : (c now due slots n m : ℕ) → n + 1 ≤ m → now + c * 0 ≤ due + c * (1 + slots + n) → now + c ≤ due + c * (1 + slots + m)
+one-paced c now due slots n m more soon = omega (arith, soon, mul-le c (n + 1) c m (omega arith) more)
+
+-- one more is served, and one more is queued
+pub more-paced : (c x q r due slots n m : ℕ) → r ≡ q + 1 → n + 1 ≤ m → x + c * q ≤ due + c * (1 + slots + n) → x + c * r ≤ due + c * (1 + slots + m)
+more-paced c x q r due slots n m e more h = rw e (omega (arith, h, mul-le c (n + 1) c m (omega arith) more))
+
+-- one has left the queue, and the pause begins
+pub left-paced : (c now q r bound : ℕ) → q + 1 ≡ r → now + c * r ≤ bound → (now + c * q ≤ bound) × (now + c + c * q ≤ bound)
+left-paced c now q r bound e h =
+    let whole : now + c * (q + 1) ≤ bound = rw e h in
+    (omega (arith, whole), omega (arith, whole))
+
+-- no more are served than there are
+paced-all : (c slots count n due : ℕ) → n + 1 ≤ count → due + c * (1 + slots + n) ≤ due + (count + slots) * c
+paced-all c slots count n due few = omega (arith, mul-le c (n + 1) c count (omega arith) few)
+
 -- a grant that is idle is not counted among those that were served
 pub bound-le : (count slots delay now : ℕ) (transactions : List Transaction) (s : State) (g : Grant) → IsKept count slots delay now transactions s → Has g s.grants → IsGranted g → IsIdle slots now s g
-    → bound slots s g ≤ due_of g + (count + slots) * 50_000_000
+    → bound slots s g ≤ due_of g + (count + slots) * s.config.request_cadence
 bound-le count slots delay now transactions s g k there granted idle =
     let less = passes-less (is_served s (due_of g)) g s.grants there (rw (not-waiting g granted, idle.unasked) (late (due_of g))) in
-    omega (arith, less, k.size)
+    let few : served s (due_of g) + 1 ≤ count = omega (arith, less, k.size) in
+    paced-all s.config.request_cadence slots count (served s (due_of g)) (due_of g) few
   where
     late : (r : ℕ) → leb (r + 240_000_000_000) r ≡ false
     late r = grind arith
 
-pub pause-le : (now : ℕ) (s : State) → IfSome s.last_send (λ time. time ≤ now) → pause_end s ≤ now + 50_000_000
+pub pause-le : (now : ℕ) (s : State) → IfSome s.last_send (λ time. time ≤ now) → pause_end s ≤ now + s.config.request_cadence
 pause-le now s h = by s.last_send h
   where
-    by : (o : Option ℕ) → IfSome o (λ time. time ≤ now) → Rattle.std.specs.Option.option_map_or (later_by pause) o 0 ≤ now + 50_000_000
+    by : (o : Option ℕ) → IfSome o (λ time. time ≤ now) → Rattle.std.specs.Option.option_map_or (later_by s.config.request_cadence) o 0 ≤ now + s.config.request_cadence
     by None h = omega arith
     by (Some time) h = omega (arith, h)
 

@@ -62,7 +62,7 @@ module _ (count slots delay before now : ℕ) (s : State) (k : IsKept count slot
 
   -- with the queue, by which it is decided
   idle-early : (g : Grant) → Has g s.grants → Stands count slots delay before s.transactions s g → IsIdle slots before s g → (a : Relay) → Has a (allocations s) → is_of (family_of a.relayed) g ≡ true
-      → ((time : ℕ) → time < now → time < expiry_of g → time ≤ a.expiry) → now + 50_000_000 * length s.queue ≤ bound slots s g
+      → ((time : ℕ) → time < now → time < expiry_of g → time ≤ a.expiry) → now + s.config.request_cadence * length s.queue ≤ bound slots s g
   idle-early g there stands idle a inside of goes_on = by s.queue refl
     where
       at_once : ℕ
@@ -84,15 +84,16 @@ module _ (count slots delay before now : ℕ) (s : State) (k : IsKept count slot
           (is-due at_once s g stands.granted (may-refresh s g all stands.granted (k.housed g there)) idle.unasked (omega arith))
           lasts a inside of (goes_on at_once early lasts)
 
-      by : (queue : List Queued) → s.queue ≡ queue → now + 50_000_000 * length s.queue ≤ bound slots s g
+      by : (queue : List Queued) → s.queue ≡ queue → now + s.config.request_cadence * length s.queue ≤ bound slots s g
       by (q ∷ qs) e = let soon = idle.soon in let paused = idle.paused in omega (arith, queue-late q qs e, soon, paused)
       by [] e = elim (cases_lt at_once now) [
         | inl early ↦ absurd (sends-none e at_once (omega arith) early (omega arith) (sends early))
-        | inr late ↦ let none : length s.queue ≡ 0 = rw e refl in omega (arith, late, within, none)
+        | inr late ↦ let none : length s.queue ≡ 0 = rw e refl in rw none (omega (arith, late, within))
       ]
 
   -- a request for it leaves in time, or its reply comes in time
-  early-by : (g : Grant) → Has g s.grants → Stands count slots delay before s.transactions s g → (IsIdle slots before s g → now + 50_000_000 * length s.queue ≤ bound slots s g) → now < expiry_of g
+  early-by : (g : Grant) → Has g s.grants → Stands count slots delay before s.transactions s g → (IsIdle slots before s g → now + s.config.request_cadence * length s.queue ≤ bound slots s g)
+      → now < expiry_of g
   early-by g there stands idles = elim stands.either [
     | inl awaited ↦ let late = all-answered awaited.transaction awaited.there in let t = awaited.in_time in omega (arith, late, t)
     | inr idle ↦ omega (arith, idles idle, bound-early count slots delay before s.transactions s g k there stands idle)
@@ -107,7 +108,7 @@ module _ (count slots delay before now : ℕ) (s : State) (k : IsKept count slot
       early-by (Allocation a) there stands
       (λ idle. idle-early (Allocation a) there stands idle a (there-of a there) (same_family-self (family_of a.relayed) (family_of a.relayed) refl) (λ time early less. omega (arith, less)))
 
-  idles : (g : Grant) → Has g s.grants → Stands count slots delay before s.transactions s g → IsIdle slots before s g → now + 50_000_000 * length s.queue ≤ bound slots s g
+  idles : (g : Grant) → Has g s.grants → Stands count slots delay before s.transactions s g → IsIdle slots before s g → now + s.config.request_cadence * length s.queue ≤ bound slots s g
   idles g there stands idle =
       let (a, here, same) = k.housed g there in
       idle-early g there stands idle a (there-of a here) (same_family-self (family_of_grant g) (family_of a.relayed) (sym same)) (λ time early less. omega (arith, early, allocation-early a here))

@@ -1,5 +1,5 @@
 -- What `poll_transmit` changes while no grant is lost.
-use Rattle.std.proofs.Common.{◌≡◌, ◌⊎◌, ℕ, ◌+◌, ◌≤◌, Bool, true, false, cond, not, ◌&&◌, ◌||◌, leb, List, [], ◌∷◌, length, drop, Option, Some, None, refl, inl, inr, ap, sym, subst, ◌∙◌, arith}
+use Rattle.std.proofs.Common.{◌≡◌, ◌⊎◌, ℕ, ◌+◌, ◌*◌, ◌≤◌, Bool, true, false, cond, not, ◌&&◌, ◌||◌, leb, List, [], ◌∷◌, length, drop, Option, Some, None, refl, inl, inr, ap, sym, subst, ◌∙◌, arith}
 use Rattle.std.specs.Prelude.{filter, flat_map, slice_get, nat_le, option_and_then, if◌then◌else◌}
 use Rattle.std.specs.List.{list_any}
 use Rattle.std.specs.Option.{option_map_or}
@@ -23,11 +23,13 @@ use Rattle.turn_client_api.specs.declared.grant.Purpose.TheVariants.{ForRefresh,
 use Rattle.turn_client_api.specs.Grants.{allocations, family_of, has_request, is_for, same_ip}
 use Rattle.turn_client_api.specs.Requests.{asked_lifetime, fresh_id, request_for}
 use Rattle.turn_client_api.specs.Due.{has_reply, is_paused, is_refreshable, refresh_time}
-use Rattle.turn_client_api.specs.Transmit.{is_due_in, is_ranked, is_refresh_due, queue_step, refresh_purpose, refresh_step, refreshes_in, refreshes_of_rank, reply_step, sent_at_once, transmit_step, without_first_reply}
+use Rattle.turn_client_api.specs.Transmit.{is_due_in, is_ranked, is_refresh_due, queue_step, refresh_purpose, refresh_step, refreshes_in, refreshes_of_rank, reply_step, sent_at_once, transmit_step}
+use Rattle.turn_client_api.specs.Transmit.{without_first_reply}
 use Rattle.turn_client_laws.proofs.HasLemmas.{Has, first-has, has-append, has-filter, has-filter_map, has-flat_map, has-left, has-right}
 use Rattle.turn_client_laws.proofs.InAllocationLemmas.{same_family-self}
 use Rattle.turn_client_runs.proofs.LastingCounts.{passes, passes-more}
-use Rattle.turn_client_runs.proofs.LastingStands.{Goes, goes-more, pending-more, IsAwaited, IsGranted, IsIdle, IsKept, IsRefreshing, Stands, ahead-le, bound, bound-le, due_of, is_served, is_waiting, kind-due, not-waiting, served}
+use Rattle.turn_client_runs.proofs.LastingStands.{Goes, goes-more, pending-more, IsAwaited, IsGranted, IsIdle, IsKept, IsRefreshing, Stands, ahead-le, bound, bound-le, due_of, left-paced, one-paced}
+use Rattle.turn_client_runs.proofs.LastingStands.{is_served, is_waiting, kind-due, not-waiting, served}
 use Rattle.turn_client_runs.proofs.LastingSends.{queue-idle, transmits}
 use Rattle.turn_client_runs.proofs.LastingListings.{requests-more}
 use Rattle.turn_client_runs.proofs.LastingTime.{bound-early}
@@ -158,14 +160,17 @@ module _ (count slots delay now : ℕ) (s : State) (k : IsKept count slots delay
           lt-leb (r + 240_000_000_000) (due_of next.grant)
           (omega (arith, unasked.1, idle.soon, bound-le count slots delay now s.transactions s g k there stands.granted idle, stands.room, ahead-le g))
 
-  later : (g : Grant) → Has g s.grants → Stands count slots delay now s.transactions s g → IsIdle slots now s g → now + 50_000_000 ≤ bound slots t g
-  later g there stands idle = elim (cases_lt (due_of g) now) [
-    | inl past ↦ omega (arith, serves-more g there stands idle, idle.soon)
-    | inr early ↦ omega (arith, early)
-  ]
-
   none-left : length s.queue ≡ 0
   none-left = rw empty refl
+
+  later : (g : Grant) → Has g s.grants → Stands count slots delay now s.transactions s g → IsIdle slots now s g → now + s.config.request_cadence ≤ bound slots t g
+  later g there stands idle = elim (cases_lt (due_of g) now) [
+    | inl past ↦
+        let more = serves-more g there stands idle in
+        let soon : now + s.config.request_cadence * 0 ≤ due_of g + s.config.request_cadence * (1 + slots + served s (due_of g)) = rw none-left at idle.soon in
+        one-paced s.config.request_cadence now (due_of g) slots (served s (due_of g)) (served t (due_of g)) more soon
+    | inr early ↦ omega (arith, early)
+  ]
 
   stands-sent : (g : Grant) → Has g s.grants → Stands count slots delay now s.transactions s g → Stands count slots delay now t.transactions t g
   stands-sent g there was = record { granted = was.granted; room = was.room; long = was.long; either = by was.either }
@@ -192,7 +197,7 @@ module _ (count slots delay now : ℕ) (s : State) (k : IsKept count slots delay
         })
         | inr other ↦
             let more = later g there was idle in
-            inr (record { unasked = not-asked g idle.unasked other; soon = omega (arith, more, none-left); paused = omega (arith, more, none-left) })
+            inr (record { unasked = not-asked g idle.unasked other; soon = rw none-left (omega (arith, more)); paused = rw none-left (omega (arith, more)) })
       ]
 
   one-id : (l : Listing) → Has l (listing ∷ []) → l.id ≡ id
@@ -257,7 +262,9 @@ module _ (count slots delay now : ℕ) (s : State) (k : IsKept count slots delay
     long = was.long;
     either = elim was.either [
       | inl a ↦ inl a
-      | inr idle ↦ inr (record { unasked = idle.unasked; soon = let soon = idle.soon in omega (arith, soon, one-left); paused = let soon = idle.soon in omega (arith, soon, one-left) })
+      | inr idle ↦
+          let (soon, paused) = left-paced s.config.request_cadence now (length v.queue) (length s.queue) (bound slots s g) one-left idle.soon in
+          inr (record { unasked = idle.unasked; soon = soon; paused = omega (arith, paused) })
     ];
   }
 

@@ -72,5 +72,5 @@ HandshakeEndsSteadily =
     1 ≤ config.max_stale_nonces → delay < wait_at (timers_of config) Udp 0
     → RunsHandshake delay start first calls → IsInTime delay (time_of_all start calls) now last
     → IsAllocating packet last → last.queue ≡ [] → lifetime_in packet.payload ≡ Some lifetime → 600 ≤ lifetime
-    → HasRoom count slots delay (seconds 60) → IsWithin count slots next
+    → HasRoom count slots config.request_cadence delay (seconds 60) → IsWithin count slots next
     → IsSteady count slots delay now next

@@ -77,10 +77,10 @@ HasStill g now s = (h : Grant) × Contains s.grants h × (with_expiry 0 h ≡ as
 -- ---- where it begins
 
 -- If so many grants are to be refreshed at one time, and so many requests are queued before them, one packet
--- leaves every 50 ms. The last one leaves this long after that time, and its reply comes within the delay: that is
+-- leaves in each pause. The last one leaves this long after that time, and its reply comes within the delay: that is
 -- before the grant expires, which is refreshed so long ahead.
-abbrev pub HasRoom : ℕ → ℕ → ℕ → ℕ → Type 0
-HasRoom count slots delay ahead = (count + slots) * 50_000_000 + delay < ahead
+abbrev pub HasRoom : ℕ → ℕ → ℕ → ℕ → ℕ → Type 0
+HasRoom count slots cadence delay ahead = (count + slots) * cadence + delay < ahead
 
 -- the client has no more grants, and no more queued packets
 abbrev pub IsWithin : ℕ → ℕ → State → Type 0
@@ -98,8 +98,8 @@ pub record IsSteady (count slots delay now : ℕ) (s : State) : Type 0 where
   pub sent_before : IfSome s.last_send (λ time. time ≤ now)
   pub in_force : All (IsInForce now) s.grants
   pub none_late : All (λ g. now + ahead_of g ≤ expiry_of g) s.grants
-  pub room : All (λ g. HasRoom count slots delay (ahead_of g)) s.grants
-  pub room_for_more : HasRoom count slots delay (seconds 60)
+  pub room : All (λ g. HasRoom count slots s.config.request_cadence delay (ahead_of g)) s.grants
+  pub room_for_more : HasRoom count slots s.config.request_cadence delay (seconds 60)
   pub within : IsWithin count slots s
   pub distinct : HasNoDoubles s
   pub housed : AllHaveAllocation s

@@ -11,8 +11,9 @@ ghost use Rattle.turn_client_runs.specs.Lasting.{DatagramsAreMessages, GrantsLas
 /// permissions and channels, sends data, and never has more than `count` grants and `slots` queued packets.
 /// Of the server and the network: a request, whether it was sent or waits in the queue, is answered within
 /// `delay`, which is less than the wait before its first retransmission, by a signed success; replies come
-/// in any order, and a REFRESH is granted for 600 s or more. Of both: `(count + slots) * 50 ms + delay` is
-/// less than the minute by which a refresh is ahead, and less than half of a lifetime of at most two minutes.
+/// in any order, and a REFRESH is granted for 600 s or more. Of both: `(count + slots) * cadence + delay` is
+/// less than the minute by which a refresh is ahead, and less than half of a lifetime of at most two minutes,
+/// where the cadence is the configured one (`request_cadence`).
 /// What strangers and peers send may come in between, as long as it changes nothing. Times are at most 2^62
 /// ns.
 ///

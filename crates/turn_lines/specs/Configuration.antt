@@ -4,7 +4,7 @@ use Rattle.turn_types.specs.declared.family.AddressFamily.{AddressFamily}
 use Rattle.turn_auth.specs.Credentials.{Credentials}
 use Rattle.turn_auth.specs.LongTerm.{with_algorithm}
 use Rattle.turn_auth.specs.declared.integrity.IntegrityAlgorithm.{IntegrityAlgorithm}
-use Rattle.turn_client_api.specs.Config.{Config, default_max_stale_nonces, with_family}
+use Rattle.turn_client_api.specs.Config.{Config, default_max_stale_nonces, default_request_cadence, with_family}
 use Rattle.turn_client_api.specs.State.{State, initial}
 use Rattle.turn_agent.specs.Schedule.{Timers}
 use Rattle.turn_lines.specs.declared.head.Head.{Head}
@@ -40,6 +40,7 @@ config_with request credentials waits = record {
   anonymous_username = request.anonymous;
   request_timers = timers_with waits;
   max_stale_nonces = default_max_stale_nonces;
+  request_cadence = default_request_cadence;
 }
 
 -- the new client of a head

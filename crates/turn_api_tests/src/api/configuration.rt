@@ -43,6 +43,7 @@ fn a_new_configuration_asks_for_ipv4_over_udp(rt: HostRuntime) {
     signs_by(&rt, &config, &[IntegrityAlgorithm::Sha1], Feature::Auto);
     same(&rt, config.request_timers(), RequestTimers::default());
     same(&rt, config.max_stale_nonces().get(), 9);
+    same(&rt, config.request_cadence(), Duration::from_millis(50));
 }
 
 /// Sets each setting to another value than its default.
@@ -62,6 +63,17 @@ fn a_copy_has_the_limit_of_challenges(rt: HostRuntime) {
     let same_limit = copy(&rt, rt.alloc(), &first);
     same(&rt, same_limit.max_stale_nonces().get(), 65_535);
     check(&rt, *same_limit == *first);
+    check(&rt, *other != *first);
+}
+
+#[test]
+fn a_copy_has_the_pause_between_requests(rt: HostRuntime) {
+    let mut first = boxed_config(rt.alloc()).expect(&rt, "memory");
+    let other = copy(&rt, rt.alloc(), &first);
+    first.set_request_cadence(Duration::from_millis(5));
+    let same_pause = copy(&rt, rt.alloc(), &first);
+    same(&rt, same_pause.request_cadence(), Duration::from_millis(5));
+    check(&rt, *same_pause == *first);
     check(&rt, *other != *first);
 }
 

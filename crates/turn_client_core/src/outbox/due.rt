@@ -1,10 +1,10 @@
 //! When a request is to be sent, retransmitted or timed out (RFC 8489, section 6.2).
 
+ghost use Rattle.std.specs.Duration.{as_nanos};
 ghost use Rattle.std.specs.List.{list_any};
 ghost use Rattle.std.specs.Option.{option_map_or};
 ghost use Rattle.std.specs.Prelude.{◌≡◌, fold, map, min, not};
 ghost use Rattle.turn_agent.specs.Agent.{transaction_timeout};
-ghost use Rattle.turn_client_api.specs.Due.{pause};
 ghost use Rattle.turn_client_api.specs.State.{later_by};
 ghost use Rattle.turn_client_core.specs.Sending.{give_up_step};
 
@@ -14,17 +14,13 @@ use turn_agent::agent::StunAgentPollRet;
 use turn_stun::instant::Instant;
 use turn_stun::transaction::TransactionId;
 
-/// The pause after a request is sent, in milliseconds: before its end no other request is sent for the
-/// first time, so that the server is not flooded (our choice).
-const PAUSE_MILLIS: u64 = 50;
-
 impl Outbox {
-    /// The time before which no request is sent for the first time.
-    pub(crate) fn pause_end(&self) -> Instant
-        ensures { result ≡ option_map_or (later_by pause) self.now.last_send 0 }
+    /// The time so long after the last packet that started a pause.
+    pub(crate) fn after_last(&self, wait: Duration) -> Instant
+        ensures { result ≡ option_map_or (later_by (as_nanos wait)) self.now.last_send 0 }
     {
         match self.last_send {
-            Some(time) => time.plus(Duration::from_millis(PAUSE_MILLIS)),
+            Some(time) => time.plus(wait),
             None => Instant::ZERO,
         }
     }

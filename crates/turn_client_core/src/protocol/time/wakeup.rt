@@ -1,7 +1,7 @@
 //! When a client is to be polled again.
 
 ghost use Rattle.std.specs.Prelude.{◌≡◌, ◌∷◌, [], fold, if◌then◌else◌, min};
-ghost use Rattle.turn_client_api.specs.Due.{has_event, has_queued_request, has_reply, is_paused, least_due, max_wait, next_wakeup};
+ghost use Rattle.turn_client_api.specs.Due.{has_event, has_queued_request, has_reply, is_paused, least_due, max_wait, next_wakeup, pause_end};
 ghost use Rattle.turn_client_api.specs.State.{max_time, later_by};
 
 use crate::protocol::TurnClientProtocol;
@@ -46,14 +46,22 @@ impl TurnClientProtocol {
     pub(crate) fn is_paused(&self, now: Instant) -> bool
         ensures { result ≡ is_paused now self.now }
     {
-        now < self.outbox.pause_end()
+        now < self.pause_end()
+    }
+
+    /// The time before which no request is sent for the first time: the configured pause after the last
+    /// packet.
+    fn pause_end(&self) -> Instant
+        ensures { result ≡ pause_end self.now }
+    {
+        self.outbox.after_last(self.config.request_cadence())
     }
 
     /// The earliest time at which something is due.
     fn least_due(&self, now: Instant) -> Instant
         ensures { result ≡ least_due now self.now }
     {
-        let pause = self.outbox.pause_end();
+        let pause = self.pause_end();
         let first = self.first_due(now, pause);
         let second = self.outbox.earliest(first);
         self.ledger.table().soonest(second, now, pause)

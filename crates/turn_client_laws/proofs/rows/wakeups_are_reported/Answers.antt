@@ -10,5 +10,9 @@ returns c = record {
   lapse = λ s. refl;
   queued = λ s. refl;
   paused = λ s. refl;
+  longer = λ s. refl;
+  silent = λ s. refl;
+  shorter = λ s. refl;
+  at_once = λ s. refl;
   retry = λ text challenge s. refl;
 }

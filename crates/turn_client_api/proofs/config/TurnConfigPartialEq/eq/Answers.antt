@@ -3,12 +3,12 @@ use Rattle.turn_client_api.specs.SameConfig.{same_config}
 use Rattle.turn_client_api.specs.SameConfigLaws.{told_content}
 use Rattle.turn_client_api.proofs.config.TurnConfigPartialEq.eq.Goals as goal
 
-pub returns-then-is_same_user-clause-content : goal.returns-then-is_same_user-clause-content
-returns-then-is_same_user-clause-content c =
-    let settings : c.is_same_limits.result ≡ same_config c.args.self.now c.args.other.now = search rules in
+pub returns-then-is_same_limits-clause-content : goal.returns-then-is_same_limits-clause-content
+returns-then-is_same_limits-clause-content c =
+    let settings : c.is_same_times.result ≡ same_config c.args.self.now c.args.other.now = search rules in
     told_content _ _ _ settings
 
-pub returns-else-is_same_user-clause-content : goal.returns-else-is_same_user-clause-content
-returns-else-is_same_user-clause-content c =
-    let settings : c.if-is_same_request.value ≡ same_config c.args.self.now c.args.other.now = search rules in
+pub returns-else-is_same_limits-clause-content : goal.returns-else-is_same_limits-clause-content
+returns-else-is_same_limits-clause-content c =
+    let settings : c.if-is_same_user.value ≡ same_config c.args.self.now c.args.other.now = search rules in
     told_content _ _ _ settings

@@ -6,7 +6,8 @@ use Rattle.turn_client_core.proofs.protocol.TurnClientProtocol.least_due.Goals a
 pub returns : goal.returns
 returns c =
     let s = the_view c.self.inside in
+    let first = rw (← c.self.view_is) at c.first_due-first.ensures in
+    let pause = rw (← c.self.view_is) at c.pause_end-pause.ensures in
     rw (← c.self.view_is)
     (c.soonest.ensures s
-    ∙ rw (c.table.ensures.grants, c.table.ensures.listed, c.earliest-second.ensures, c.self.invariant.times, rw (← c.self.view_is) at c.first_due-first.ensures, c.pause_end-pause.ensures)
-    (least_due-is c.args.now s))
+    ∙ rw (c.table.ensures.grants, c.table.ensures.listed, c.earliest-second.ensures, c.self.invariant.times, first, pause) (least_due-is c.args.now s))
