@@ -23,6 +23,8 @@ pub record Config : Type 0 where
   pub max_stale_nonces : ℕ
   -- so long after a packet no other request is sent for the first time
   pub request_cadence : ℕ
+  -- so long after the last packet an indication keeps the path to the server alive, if ever
+  pub keepalive : Option ℕ
 
 -- unless another limit is set (our choice)
 abbrev pub default_max_stale_nonces : ℕ
@@ -31,6 +33,10 @@ default_max_stale_nonces = 9
 -- unless another pause between two requests is set, so that a server is not flooded (our choice)
 abbrev pub default_request_cadence : ℕ
 default_request_cadence = 50_000_000
+
+-- a path is kept alive no more often than once in a second (our choice)
+abbrev pub least_keepalive : ℕ
+least_keepalive = 1_000_000_000
 
 -- when requests are retransmitted and time out: as it was set, or else as in RFC 8489, section 6.2.1
 abbrev pub timers_of : Config → Timers

@@ -6,7 +6,7 @@ use Rattle.std.specs.List.{list_any}
 use Rattle.turn_agent.specs.Agent.{transaction_timeout}
 use Rattle.turn_client_api.specs.State.{State, Phase, New, Grant, Allocation, Permission, Channel, Connection, Relay, Active, agent_of, max_time, later_by}
 use Rattle.turn_client_api.specs.State.{seconds}
-use Rattle.turn_client_api.specs.Grants.{find_allocation, family_of_grant, has_request}
+use Rattle.turn_client_api.specs.Grants.{allocations, find_allocation, family_of_grant, has_request}
 use Rattle.turn_client_api.specs.Calls.{is_allocated}
 
 -- ---- numbers of ours
@@ -61,6 +61,20 @@ unfoldable pub refresh_time : State → Grant → Option ℕ
 refresh_time s grant =
     option_and_then (λ time. if is_refreshable grant s && not (has_request grant s) then Some time else None) (refresh_time_by_kind grant)
 
+-- ---- the path to the server
+
+-- an allocation is not marked as expired
+abbrev pub has_allocation_in_use : State → Bool
+has_allocation_in_use s = list_any (λ a. not a.is_expired) (allocations s)
+
+-- When an indication is to keep the path to the server alive, if that was configured: so long after the last packet,
+-- but not within the pause, and only while an allocation is in use.
+abbrev pub keepalive_times : State → List ℕ
+keepalive_times s =
+    if has_allocation_in_use s
+    then map (λ keepalive. max (pause_end s) (option_map_or (later_by keepalive) s.last_send 0)) (option_to_list s.config.keepalive)
+    else []
+
 -- ---- when a client has to be polled again
 
 -- the expiry of a grant; a past one of an allocation is not waited for
@@ -75,13 +89,14 @@ abbrev pub refresh_of : State → Grant → List ℕ
 refresh_of s grant = map (max (pause_end s)) (option_to_list (refresh_time s grant))
 
 -- Each time at which something is due: the longest wait, a queued request, a transaction, the expiry of a
--- grant, a refresh.
+-- grant, a refresh, and what keeps the path alive.
 abbrev pub due_times : ℕ → State → List ℕ
 due_times now s =
     later_by max_wait now
     ∷ (if has_queued_request s then pause_end s ∷ [] else [])
     ++ map (transaction_timeout (agent_of s).timers s.transport) s.transactions
     ++ flat_map (λ g. end_of now g ++ refresh_of s g) s.grants
+    ++ keepalive_times s
 
 abbrev pub least_due : ℕ → State → ℕ
 least_due now s = fold min max_time (due_times now s)

@@ -11,7 +11,7 @@ use Rattle.turn_stun.specs.Values.{error_code_value}
 use Rattle.turn_stun.specs.Writer.{header_of}
 use Rattle.turn_stun.specs.XorAddress.{xor_value, xor_v4, xor_v6}
 use Rattle.turn_stun.specs.declared.message.header.MessageClass.{MessageClass}
-use Rattle.turn_stun.specs.declared.message.header.MessageClass.TheVariants.{Request, Success, Error}
+use Rattle.turn_stun.specs.declared.message.header.MessageClass.TheVariants.{Request, Indication, Success, Error}
 use Rattle.turn_stun.specs.declared.transport.Transmit.{Transmit}
 use Rattle.turn_types.specs.Send.{peer_kind}
 use Rattle.turn_types.specs.Values.{number_value, channel_number_value, family_value, transport_value}
@@ -25,7 +25,10 @@ use Rattle.turn_client_api.specs.Grants.{is_listed}
 
 -- ---- numbers of the standards
 
--- methods (RFC 8656, section 17, and RFC 6062, section 6.1)
+-- methods (RFC 8489, section 18.2, RFC 8656, section 17, and RFC 6062, section 6.1)
+abbrev pub binding_method : ℕ
+binding_method = 0x001
+
 abbrev pub allocate_method : ℕ
 allocate_method = 0x003
 
@@ -179,6 +182,10 @@ method_for (ForBind local peer connection_id) = connection_bind_method
 -- the signed request for a purpose
 abbrev pub request_for : State → Purpose → ℕ → List ℕ
 request_for s purpose id = signed s (message_of (method_for purpose) Request (asked_attributes s purpose id) id)
+
+-- what keeps a path alive: a Binding indication, which has no attributes, and to which no server responds
+abbrev pub binding_indication : ℕ → List ℕ
+binding_indication id = message_of binding_method Indication [] id
 
 -- ---- requests are made
 

@@ -1,5 +1,5 @@
 -- When two configurations have the same settings.
-use Rattle.std.specs.Prelude.{Bool, true, false, ◌==◌, ◌&&◌, Option, Some, None}
+use Rattle.std.specs.Prelude.{ℕ, Bool, true, false, ◌==◌, ◌&&◌, Option, Some, None}
 use Rattle.std.specs.Cmp.Lexicographic.{pointwise}
 use Rattle.turn_stun.specs.declared.transport.TransportType.{TransportType}
 use Rattle.turn_stun.specs.declared.transport.TransportType.TheVariants.{Udp, Tcp}
@@ -53,9 +53,16 @@ same_user a b =
 abbrev pub same_limits : Config → Config → Bool
 same_limits a b = same_set_timers a.request_timers b.request_timers && (a.max_stale_nonces == b.max_stale_nonces)
 
+-- a path that is never kept alive is not the same as any that is
+abbrev pub same_keepalive : Option ℕ → Option ℕ → Bool
+same_keepalive None None = true
+same_keepalive None (Some b) = false
+same_keepalive (Some a) None = false
+same_keepalive (Some a) (Some b) = a == b
+
 -- both send as often
 abbrev pub same_times : Config → Config → Bool
-same_times a b = a.request_cadence == b.request_cadence
+same_times a b = (a.request_cadence == b.request_cadence) && same_keepalive a.keepalive b.keepalive
 
 abbrev pub same_config : Config → Config → Bool
 same_config a b = same_request a b && same_user a b && same_limits a b && same_times a b

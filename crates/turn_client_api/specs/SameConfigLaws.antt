@@ -1,5 +1,5 @@
 -- The test of equality of two configurations decides it, and so is an equivalence.
-use Rattle.std.specs.Prelude.{◌≡◌, Bool, true, false, IsTrue, ◌↔◌, ◌&&◌, Option, Some, None, refl}
+use Rattle.std.specs.Prelude.{◌≡◌, ℕ, Bool, true, false, IsTrue, ◌↔◌, ◌&&◌, Option, Some, None, refl}
 use Rattle.std.proofs.Common.{ap}
 use Rattle.std.specs.Bool.{Decides}
 use Rattle.std.specs.Cmp.{IsEquivalence, decided, unsigned_Decides}
@@ -16,7 +16,8 @@ use Rattle.turn_auth.specs.declared.integrity.IntegrityAlgorithm.{IntegrityAlgor
 use Rattle.turn_auth.specs.declared.integrity.IntegrityAlgorithm.TheVariants.{Sha1, Sha256}
 use Rattle.turn_agent.specs.Schedule.{Timers}
 use Rattle.turn_client_api.specs.Config.{Config, same_family}
-use Rattle.turn_client_api.specs.SameConfig.{same_config, same_credentials, same_feature, same_set_timers, same_timers, same_allocation_transport}
+use Rattle.turn_client_api.specs.SameConfig.{same_config, same_credentials, same_feature, same_keepalive, same_set_timers, same_timers}
+use Rattle.turn_client_api.specs.SameConfig.{same_allocation_transport}
 
 -- two tests decide whether two parts are the same
 both : {r s : Bool} {P Q : Type 0} → Decides r P → Decides s Q → Decides (r && s) (P × Q)
@@ -75,6 +76,12 @@ same_set_timers-Decides None (Some b) = (λ e. cc, λ e. cc)
 same_set_timers-Decides (Some a) None = (λ e. cc, λ e. cc)
 same_set_timers-Decides (Some a) (Some b) = in_other_words (same_timers-Decides a b) (λ e. ap Some e) (λ e. cc)
 
+same_keepalive-Decides : (a b : Option ℕ) → Decides (same_keepalive a b) (a ≡ b)
+same_keepalive-Decides None None = (λ _. refl, λ _. refl)
+same_keepalive-Decides None (Some b) = (λ e. cc, λ e. cc)
+same_keepalive-Decides (Some a) None = (λ e. cc, λ e. cc)
+same_keepalive-Decides (Some a) (Some b) = in_other_words (unsigned_Decides a b) (λ e. ap Some e) (λ e. cc)
+
 same_config-Decides : (a b : Config) → Decides (same_config a b) (a ≡ b)
 same_config-Decides a b =
     in_other_words
@@ -85,8 +92,8 @@ same_config-Decides a b =
     (pointwise_decides same_algorithm-Decides a.supported_integrity b.supported_integrity))
     (same_feature-Decides a.anonymous_username b.anonymous_username)))
     (both (same_set_timers-Decides a.request_timers b.request_timers) (unsigned_Decides a.max_stale_nonces b.max_stale_nonces)))
-    (unsigned_Decides a.request_cadence b.request_cadence))
-    (λ ((((transport, families), ((credentials, algorithms), anonymous)), (timers, limit)), cadence) i. record {
+    (both (unsigned_Decides a.request_cadence b.request_cadence) (same_keepalive-Decides a.keepalive b.keepalive)))
+    (λ ((((transport, families), ((credentials, algorithms), anonymous)), (timers, limit)), (cadence, keepalive)) i. record {
       allocation_transport = transport i;
       address_families = families i;
       credentials = credentials i;
@@ -95,6 +102,7 @@ same_config-Decides a b =
       request_timers = timers i;
       max_stale_nonces = limit i;
       request_cadence = cadence i;
+      keepalive = keepalive i;
     })
     (λ e. (
       (
@@ -104,7 +112,7 @@ same_config-Decides a b =
         ),
         (ap (λ c. c.request_timers) e, ap (λ c. c.max_stale_nonces) e),
       ),
-      ap (λ c. c.request_cadence) e,
+      (ap (λ c. c.request_cadence) e, ap (λ c. c.keepalive) e),
     ))
 
 pub same_config-equivalence : IsEquivalence same_config

@@ -2,16 +2,17 @@
 use Rattle.std.specs.Prelude.{ℕ, ◌==◌, slice_get, drop, nat_le, nat_lt, Bool, false, ◌&&◌, if◌then◌else◌, List, [], ◌∷◌, filter, filter_map, flat_map, Option}
 use Rattle.std.specs.Prelude.{Some, None}
 use Rattle.turn_stun.specs.declared.transport.Transmit.{Transmit}
+use Rattle.std.specs.List.{list_any}
 use Rattle.std.specs.Option.{option_map_or}
 use Rattle.turn_types.specs.declared.family.AddressFamily.{AddressFamily}
 use Rattle.turn_agent.specs.Agent.{due, resent}
 use Rattle.turn_client_api.specs.State.{State, Phase, New, Requesting, Allocated, Grant, Allocation, Permission, Channel, Relay, Active, Purpose, ForAllocation}
 use Rattle.turn_client_api.specs.State.{ForRefresh, ForPermission, ForChannel, Queued, agent_of}
 use Rattle.turn_client_api.specs.Grants.{allocations, family_of, is_of}
-use Rattle.turn_client_api.specs.Requests.{request_started, asked_lifetime, first_allocate, fresh_id, request_for, to_server}
-use Rattle.turn_client_api.specs.Due.{is_paused, refresh_time}
+use Rattle.turn_client_api.specs.Requests.{request_started, asked_lifetime, binding_indication, first_allocate, fresh_id, id_used, request_for, to_server}
+use Rattle.turn_client_api.specs.Due.{is_paused, keepalive_times, refresh_time}
 
--- a request was sent, so the pause begins anew
+-- a packet was sent, so the pause begins anew
 abbrev pub sent : ℕ → State → State
 sent now s = record s { last_send = Some now }
 
@@ -53,11 +54,23 @@ abbrev pub sent_at_once : List ℕ → Purpose → ℕ → State → Option (Tra
 sent_at_once text purpose now s =
     (Some (to_server s s.local text), sent now (request_started (fresh_id s) text (purpose ∷ []) now s))
 
--- the request that refreshes the first grant that is due
+-- the refresh of the first grant that is due
+abbrev pub next_refresh : ℕ → State → Option Purpose
+next_refresh now s = slice_get (flat_map (refreshes_in now s) (allocations s)) 0
+
+-- ---- the path to the server
+
+-- an indication keeps the path alive, if its time has come; it takes an ID, and asks for nothing
+abbrev pub keepalive_step : ℕ → State → Option (Transmit (List ℕ)) × State
+keepalive_step now s =
+    if list_any (λ time. nat_le time now) (keepalive_times s)
+    then (Some (to_server s s.local (binding_indication (fresh_id s))), sent now (id_used s))
+    else (None, s)
+
+-- the request that refreshes the first grant that is due, and if none is, what keeps the path alive
 abbrev pub refresh_step : ℕ → State → Option (Transmit (List ℕ)) × State
 refresh_step now s =
-    option_map_or (λ purpose. sent_at_once (request_for s purpose (fresh_id s)) purpose now s)
-    (slice_get (flat_map (refreshes_in now s) (allocations s)) 0) (None, s)
+    option_map_or (λ purpose. sent_at_once (request_for s purpose (fresh_id s)) purpose now s) (next_refresh now s) (keepalive_step now s)
 
 -- ---- queued packets
 
@@ -72,7 +85,7 @@ without_first_reply (q ∷ others) = if q.is_request then q ∷ without_first_re
 abbrev pub reply_step : State → Option (Transmit (List ℕ)) × State
 reply_step s = (slice_get (filter_map reply_in s.queue) 0, record s { queue = without_first_reply s.queue })
 
--- with nothing queued, a new client sends the first ALLOCATE, and one with allocations refreshes them
+-- with nothing queued, a new client sends the first ALLOCATE, and one with allocations keeps them
 abbrev pub idle_step : Phase → ℕ → State → Option (Transmit (List ℕ)) × State
 idle_step New now s = sent_at_once (first_allocate s (fresh_id s)) ForAllocation now (record s { phase = Requesting })
 idle_step Allocated now s = refresh_step now s

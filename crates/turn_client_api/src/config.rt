@@ -1,12 +1,12 @@
 //! What a client requests from its server, and with which credentials.
 
-ghost use Rattle.std.specs.Prelude.{◌≡◌, ◌<◌, ◌≤◌, ◌≢◌, [], ◌∷◌, Some, None, length, IfOk, AllPairs, Contains};
+ghost use Rattle.std.specs.Prelude.{◌≡◌, ◌<◌, ◌≤◌, ◌≢◌, [], ◌∷◌, Some, None, length, max, option_map, IfOk, AllPairs, Contains};
 ghost use Rattle.std.specs.Duration.{as_nanos};
 ghost use Rattle.std.specs.Int.NonZero.{non_zero_u16_get};
 ghost use Rattle.turn_agent.specs.Schedule.{wait_of};
 ghost use Rattle.turn_auth.specs.LongTerm.{with_algorithm};
-ghost use Rattle.turn_client_api.specs.Config.{Config, default_max_stale_nonces, default_request_cadence, timers_of, with_family};
-ghost use Rattle.turn_client_api.specs.SameConfig.{same_limits, same_request, same_times, same_user};
+ghost use Rattle.turn_client_api.specs.Config.{Config, default_max_stale_nonces, default_request_cadence, least_keepalive, timers_of, with_family};
+ghost use Rattle.turn_client_api.specs.SameConfig.{same_keepalive, same_limits, same_request, same_times, same_user};
 
 use smallvec::SmallVec;
 use std::alloc::{AllocError, Global};
@@ -35,10 +35,12 @@ pub struct TurnConfig {
     request_timers: Option<RequestTimers>,
     max_stale_nonces: NonZeroU16,
     request_cadence: Duration,
+    keepalive: Option<Duration>,
 }
 
 impl Model for TurnConfig {
     ghost use Rattle.std.specs.Duration.{as_nanos};
+    ghost use Rattle.std.specs.Prelude.{option_map};
     ghost use Rattle.std.specs.Int.NonZero.{non_zero_u16_get};
     ghost use Rattle.turn_client_api.specs.Config.{Config, IsKeptConfig};
 
@@ -53,6 +55,7 @@ impl Model for TurnConfig {
       request_timers = c.request_timers;
       max_stale_nonces = non_zero_u16_get c.max_stale_nonces;
       request_cadence = as_nanos c.request_cadence;
+      keepalive = option_map as_nanos c.keepalive;
     } };
 
     ghost invariant = { λ c. IsKeptConfig c.address_families c.supported_integrity };
@@ -61,8 +64,9 @@ impl Model for TurnConfig {
 impl TurnConfig {
     /// The configuration of a client with these credentials: it requests an IPv4 address that
     /// relays over UDP, supports integrity with SHA-1, does not hide its user name (`Feature::Auto`),
-    /// retransmits at the times of RFC 8489, section 6.2.1, answers nine challenges in a row, and
-    /// sends a request every 50 ms at most. Allocates no memory.
+    /// retransmits at the times of RFC 8489, section 6.2.1, answers nine challenges in a row, sends
+    /// a request every 50 ms at most, and does not keep its path to the server alive. Allocates no
+    /// memory.
     pub fn new(alloc: Global, credentials: TurnCredentials) -> TurnConfig
         ensures { result ≡ record {
           allocation_transport = TransportType.Udp;
@@ -73,6 +77,7 @@ impl TurnConfig {
           request_timers = None;
           max_stale_nonces = default_max_stale_nonces;
           request_cadence = default_request_cadence;
+          keepalive = None;
         } }
     {
         TurnConfig {
@@ -84,6 +89,7 @@ impl TurnConfig {
             request_timers: None,
             max_stale_nonces: NonZeroU16::new(9).unwrap(),
             request_cadence: Duration::from_millis(50),
+            keepalive: None,
         }
     }
 
@@ -279,6 +285,36 @@ impl TurnConfig {
         self.request_cadence
     }
 
+    /// Sets after how long without a packet the client keeps its path to the server alive, or that it
+    /// never does. A NAT on the way forgets a path over UDP that nothing takes for a while, which may
+    /// be as soon as two minutes (RFC 4787, section 4.3), and then no data of a peer arrives, nor does
+    /// the reply to a refresh.
+    ///
+    /// From the first allocation on, until all are deleted or have expired: so long after
+    /// `poll_transmit` last returned a packet, it returns a Binding indication (RFC 8489, section 5),
+    /// unless a packet is queued or a grant is to be refreshed. It has no attributes, and no reply to
+    /// it is awaited. `poll` says when. A packet that `send_to` made does not count, since the client
+    /// does not know whether it was sent.
+    ///
+    /// By default it never does. Less than a second is taken as a second (our choice). For a NAT, 15 s
+    /// are usual (RFC 8445, section 11).
+    pub fn set_keepalive(&mut self, keepalive: Option<Duration>)
+        ensures { self.new ≡ record self.old { keepalive = option_map (λ wait. max least_keepalive (as_nanos wait)) keepalive } }
+    {
+        self.keepalive = match keepalive {
+            Some(wait) => Some(at_least_a_second(wait)),
+            None => None,
+        };
+    }
+
+    /// After how long without a packet the client keeps its path to the server alive, as
+    /// `set_keepalive` last set it, or else never.
+    pub fn keepalive(&self) -> Option<Duration>
+        ensures { option_map as_nanos result ≡ self.now.keepalive }
+    {
+        self.keepalive
+    }
+
     /// A configuration with the same settings.
     ///
     /// # Errors
@@ -298,6 +334,7 @@ impl TurnConfig {
             request_timers: self.request_timers,
             max_stale_nonces: self.max_stale_nonces,
             request_cadence: self.request_cadence,
+            keepalive: self.keepalive,
         })
     }
 
@@ -331,6 +368,29 @@ impl TurnConfig {
         ensures { result ≡ same_times self.now other.now }
     {
         self.request_cadence.as_nanos() == other.request_cadence.as_nanos()
+            && is_same_keepalive(self.keepalive, other.keepalive)
+    }
+}
+
+/// The wait, or a second if that is longer.
+fn at_least_a_second(wait: Duration) -> Duration
+    ensures { as_nanos result ≡ max least_keepalive (as_nanos wait) }
+{
+    if wait.as_nanos() < 1_000_000_000 {
+        return Duration::from_secs(1);
+    }
+    wait
+}
+
+/// Whether both are never, or as long.
+fn is_same_keepalive(wait: Option<Duration>, other: Option<Duration>) -> bool
+    ensures { result ≡ same_keepalive (option_map as_nanos wait) (option_map as_nanos other) }
+{
+    match (wait, other) {
+        (Some(wait), Some(other)) => wait.as_nanos() == other.as_nanos(),
+        (None, None) => true,
+        (Some(_), None) => false,
+        (None, Some(_)) => false,
     }
 }
 

@@ -7,7 +7,7 @@ use Rattle.turn_agent.specs.Agent.{is_timed_out, transaction_timeout}
 use Rattle.turn_agent.specs.declared.transaction.Transaction.{Transaction}
 use Rattle.turn_client_api.specs.Calls.{is_allocated}
 use Rattle.turn_client_api.specs.Config.{timers_of}
-use Rattle.turn_client_api.specs.Due.{has_queued_request, least_due, max_wait, next_wakeup, pause_end}
+use Rattle.turn_client_api.specs.Due.{has_queued_request, keepalive_times, least_due, max_wait, next_wakeup, pause_end}
 use Rattle.turn_client_api.specs.Grants.{allocations}
 use Rattle.turn_client_api.specs.Poll.{answer_by, answer_step, timed_out_step, silent_step, timed_step}
 use Rattle.turn_client_api.specs.State.{State, max_time, later_by}
@@ -27,14 +27,15 @@ Answer = TurnPollRet × State
 
 -- ---- the next wake-up time
 
-pub least_due-is : (now : ℕ) (s : State) → fold min (fold min (fold min max_time (later_by max_wait now ∷ (if has_queued_request s then pause_end s ∷ [] else [])))
-    (map (transaction_timeout (timers_of s.config) s.transport) s.transactions)) (flat_map (times_of now (pause_end s) s) s.grants) ≡ least_due now s
+pub least_due-is : (now : ℕ) (s : State) → fold min (fold min (fold min (fold min max_time (later_by max_wait now ∷ (if has_queued_request s then pause_end s ∷ [] else [])))
+    (map (transaction_timeout (timers_of s.config) s.transport) s.transactions)) (flat_map (times_of now (pause_end s) s) s.grants)) (keepalive_times s) ≡ least_due now s
 least_due-is now s =
     let queued : List ℕ = if has_queued_request s then pause_end s ∷ [] else [] in
     let sends = map (transaction_timeout (timers_of s.config) s.transport) s.transactions in
     let ends = flat_map (times_of now (pause_end s) s) s.grants in
     let first = min max_time (later_by max_wait now) in
-    sym (fold-append min first (queued ++ sends) ends ∙ ap (λ n. fold min n ends) (fold-append min first queued sends))
+    sym (fold-append min first (queued ++ sends ++ ends) (keepalive_times s)
+    ∙ ap (λ n. fold min n (keepalive_times s)) (fold-append min first (queued ++ sends) ends ∙ ap (λ n. fold min n ends) (fold-append min first queued sends)))
 
 -- ---- what times out
 

@@ -11,7 +11,7 @@ use Rattle.turn_client_api.specs.Config.{timers_of}
 use Rattle.turn_client_api.specs.Grants.{allocations, with_more_grants}
 use Rattle.turn_client_api.specs.Requests.{request_started, first_allocate, fresh_id, request_for, to_server}
 use Rattle.turn_client_api.specs.State.{State}
-use Rattle.turn_client_api.specs.Transmit.{idle_step, queue_step, refresh_step, sent, sent_at_once, transmit_step}
+use Rattle.turn_client_api.specs.Transmit.{idle_step, keepalive_step, queue_step, refresh_step, sent, sent_at_once, transmit_step}
 use Rattle.turn_client_api.specs.declared.grant.Grant.{Grant}
 use Rattle.turn_client_api.specs.declared.grant.Purpose.{Purpose}
 use Rattle.turn_client_api.specs.declared.state.Queued.{Queued}
@@ -78,7 +78,7 @@ pub refresh-some : (now : ℕ) (s : State) (purpose : Purpose) → slice_get (fi
     → refresh_step now s ≡ sent_at_once (request_for s purpose (fresh_id s)) purpose now s
 refresh-some now s purpose found = rw (next_first now s (allocations s), found) refl
 
-pub refresh-none : (now : ℕ) (s : State) → slice_get (filter_map (first_refresh now s) (allocations s)) 0 ≡ None → ◌≡◌ {A = Packet × State} (None, s) (refresh_step now s)
+pub refresh-none : (now : ℕ) (s : State) → slice_get (filter_map (first_refresh now s) (allocations s)) 0 ≡ None → keepalive_step now s ≡ refresh_step now s
 refresh-none now s found = rw (next_first now s (allocations s), found) refl
 
 -- ---- when memory is needed

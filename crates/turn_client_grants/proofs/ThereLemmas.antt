@@ -34,6 +34,7 @@ someone address = initial Udp address address
       request_timers = None;
       max_stale_nonces = 1;
       request_cadence = 0;
+      keepalive = None;
     })
     []
 

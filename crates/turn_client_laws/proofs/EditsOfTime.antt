@@ -1,6 +1,6 @@
 -- The edits that time makes, and those of what is sent.
 use Rattle.std.proofs.Common.{◌≡◌, ℕ, Bool, true, false, cond, eqb, leb, ltb, ◌&&◌, ◌||◌, List, [], ◌∷◌, filter, Option, Some, None, refl, inl, inr, sym, subst, ◌∙◌}
-use Rattle.std.specs.Prelude.{drop, find, reverse, flat_map, slice_get}
+use Rattle.std.specs.Prelude.{drop, find, reverse, flat_map, nat_le, slice_get}
 use Rattle.std.specs.List.{list_any}
 use Rattle.std.proofs.lemmas.Bool.{and_from, and_left, and_right, eq-eqb}
 use Rattle.std.proofs.lemmas.Option.{cond_some, none-some}
@@ -20,13 +20,13 @@ use Rattle.turn_client_api.specs.declared.grant.Purpose.{Purpose}
 use Rattle.turn_client_api.specs.declared.grant.Purpose.TheVariants.{ForAllocation, ForRefresh, ForPermission, ForChannel}
 use Rattle.turn_client_api.specs.declared.state.Queued.{Queued}
 use Rattle.turn_client_api.specs.Grants.{allocations, family_of, is_connect, is_for_any, is_of, is_pending_channel, is_pending_permission}
-use Rattle.turn_client_api.specs.Requests.{request_started, asked_lifetime, first_allocate, fresh_id, request_for}
+use Rattle.turn_client_api.specs.Requests.{request_started, asked_lifetime, first_allocate, fresh_id, id_used, request_for}
 use Rattle.turn_client_api.specs.Effect.{closed, transaction_ended, reserved}
-use Rattle.turn_client_api.specs.Due.{has_event, has_reply, is_paused}
+use Rattle.turn_client_api.specs.Due.{has_event, has_reply, is_paused, keepalive_times}
 use Rattle.turn_client_api.specs.Poll.{answer_step, channel_lapsed, connections_unbound, timed_out_purposes, timed_out_step, allocation_expires, failed_by_timeout, is_timed_out_offer}
 use Rattle.turn_client_api.specs.Poll.{is_lapsed_channel, is_lapsed_permission, is_listed_for_allocation, is_over, is_unbound, lapsed, lapsed_allocation, lapsed_in, next_offer, offer_step}
 use Rattle.turn_client_api.specs.Poll.{offers_timed_out, permissions_lapsed, poll_step, silent_step, timed_step}
-use Rattle.turn_client_api.specs.Transmit.{idle_step, is_due_in, queue_step, refresh_purpose, refreshes_in, refreshes_of_rank, sent, transmit_step}
+use Rattle.turn_client_api.specs.Transmit.{idle_step, is_due_in, keepalive_step, queue_step, refresh_purpose, refreshes_in, refreshes_of_rank, sent, transmit_step}
 use Rattle.turn_client_api.specs.Transmit as T
 use Rattle.turn_client_laws.specs.LawsStates.{is_asked_by}
 use Rattle.turn_client_laws.proofs.AddressLemmas.{same_address-self}
@@ -186,6 +186,11 @@ module _ (R : State → State → Type 0) (k : KeepsEdits R) where
 
   -- ---- what is sent
 
+  keepalive-walk : (now : ℕ) (s : State) → s.phase ≡ Allocated → R s (keepalive_step now s).1
+  keepalive-walk now s phase =
+      either R k (list_any (λ time. nat_le time now) (keepalive_times s)) s _ _
+      (λ e. then s (id_used s) (sent now (id_used s)) (k.aside s (id_used s)) (k.sends now (id_used s) (λ new. absurd (let no : Allocated ≡ New = sym phase ∙ new in cc)))) (λ e. k.same s)
+
   idle-walk : (p : Phase) (now : ℕ) (s : State) → R (record s { phase = p }) (idle_step p now (record s { phase = p })).1
   idle-walk New now s =
       let u = record s { phase = New } in
@@ -195,11 +200,11 @@ module _ (R : State → State → Type 0) (k : KeepsEdits R) where
   idle-walk Allocated now s =
       let u = record s { phase = Allocated } in
       let wanted = flat_map (refreshes_in now u) (allocations u) in
-      found R k _ (slice_get wanted 0) u (None, u)
+      found R k _ (slice_get wanted 0) u (keepalive_step now u)
       (λ p e. let text = request_for u p (fresh_id u) in
       let t = request_started (fresh_id u) text (p ∷ []) now u in
       then u t (sent now t) (asked-walk R k (fresh_id u) text p now u tt (inr (inl (refreshes-there now u p (first-has p wanted e))))
-      (spelled-else (fresh_id u) text p u refl (refresh-other now u p (first-has p wanted e)))) (k.sends now t (λ new. cc))) (k.same u)
+      (spelled-else (fresh_id u) text p u refl (refresh-other now u p (first-has p wanted e)))) (k.sends now t (λ new. cc))) (keepalive-walk now u refl)
   idle-walk p now s = k.same (record s { phase = p })
 
   queue-walk : (now : ℕ) (s : State) → R s (queue_step now s).1

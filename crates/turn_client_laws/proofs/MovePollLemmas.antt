@@ -1,8 +1,8 @@
 -- What time removes, and what is requested as it passes.
 use Rattle.std.proofs.Common.{◌≡◌, ◌⊎◌, ℕ, ◌<◌, ◌≤◌, eqb, leb, Bool, true, false, cond, ◌&&◌, ◌||◌, List, [], ◌∷◌, fold, Option, Some, None, refl}
 use Rattle.std.proofs.Common.{sym, subst, inl, inr, arith}
-use Rattle.std.specs.Prelude.{All, IsSome, drop, find, flat_map, is_some, reverse, slice_get}
-use Rattle.std.specs.List.{Contains}
+use Rattle.std.specs.Prelude.{All, IsSome, drop, find, flat_map, is_some, nat_le, reverse, slice_get}
+use Rattle.std.specs.List.{Contains, list_any}
 use Rattle.std.proofs.lemmas.Bool.{leb-false, leb-true}
 use Rattle.std.specs.declared.net.socket_addr.SocketAddr.{SocketAddr}
 use Rattle.turn_types.specs.declared.family.AddressFamily.{AddressFamily}
@@ -19,13 +19,13 @@ use Rattle.turn_client_api.specs.declared.grant.Purpose.TheVariants.{ForAllocati
 use Rattle.turn_client_api.specs.declared.state.Phase.{Phase}
 use Rattle.turn_client_api.specs.declared.state.Phase.TheVariants.{New, Requesting, Authenticating, Allocated}
 use Rattle.turn_client_api.specs.Grants.{allocations, family_of, is_of, without_grants}
-use Rattle.turn_client_api.specs.Requests.{first_allocate, fresh_id, request_for, to_server}
+use Rattle.turn_client_api.specs.Requests.{first_allocate, fresh_id, id_used, request_for, to_server}
 use Rattle.turn_client_api.specs.Effect.{closed, transaction_ended}
-use Rattle.turn_client_api.specs.Due.{has_event, has_reply, is_paused}
+use Rattle.turn_client_api.specs.Due.{has_event, has_reply, is_paused, keepalive_times}
 use Rattle.turn_client_api.specs.Poll.{answer_by, answer_step, channel_lapsed, timed_out_purposes, timed_out_step, allocation_expires, is_lapsed_channel}
 use Rattle.turn_client_api.specs.Poll.{is_listed_for_allocation, lapsed, lapsed_allocation, lapsed_in, next_offer, offer_step, poll_step}
 use Rattle.turn_client_api.specs.Poll.{timed_step, as_reported, first_reported, unreported_in}
-use Rattle.turn_client_api.specs.Transmit.{idle_step, queue_step, refreshes_in, reply_step, sent, sent_at_once, transmit_step}
+use Rattle.turn_client_api.specs.Transmit.{idle_step, keepalive_step, queue_step, refreshes_in, reply_step, sent, sent_at_once, transmit_step}
 use Rattle.turn_client_api.specs.declared.call.Call.{Call}
 use Rattle.turn_client_api.specs.declared.call.Call.TheVariants.{Poll, PollTransmit}
 use Rattle.turn_client_laws.specs.LawsBodies.{expiry_times}
@@ -233,7 +233,9 @@ idle-does New now s =
     made = made-of ForAllocation now was _ text (inr (refl, refl, refl)) s.transactions refl
 idle-does Allocated now s =
     by_found (Does (PollTransmit now) u) (λ purpose. sent_at_once (request_for u purpose (fresh_id u)) purpose now u)
-    (slice_get (flat_map (refreshes_in now u) (allocations u)) 0) (None, u) refreshed (does-same (PollTransmit now) u)
+    (slice_get (flat_map (refreshes_in now u) (allocations u)) 0) (keepalive_step now u) refreshed
+    (by_test (Does (PollTransmit now) u) (list_any (λ time. nat_le time now) (keepalive_times u)) _ (None, u)
+    (does-settled (PollTransmit now) u (sent now (id_used u)) (settles-same (IsTakenBy (PollTransmit now) u) u)) (does-same (PollTransmit now) u))
   where
     u : State
     u = record s { phase = Allocated }

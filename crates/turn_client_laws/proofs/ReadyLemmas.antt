@@ -2,20 +2,21 @@
 use Rattle.std.proofs.Common.{◌≡◌, ◌≢◌, ℕ, suc, ◌+◌, ◌*◌, ◌-◌, ◌^◌, ◌<◌, ◌≤◌, min, max, Bool, true, false, ◌&&◌, not, ltb, leb, List, [], ◌∷◌, ◌++◌, length}
 use Rattle.std.proofs.lemmas.Bool.Decides.{nat_tests}
 use Rattle.std.proofs.Common.{map, filter, flat_map, filter_map, fold, Option, Some, None, ◌⊎◌, inl, inr, refl, sym, subst, ◌∙◌, arith}
-use Rattle.std.specs.Prelude.{if◌then◌else◌, is_some, IsSome, IfSome, ⊤, slice_get}
+use Rattle.std.specs.Prelude.{if◌then◌else◌, is_some, IsSome, IfSome, ⊤, slice_get, option_to_list}
 use Rattle.std.specs.List.{list_any}
 use Rattle.std.specs.Option.{option_map_or}
 use Rattle.std.proofs.Math.Nat.{le-min}
 use Rattle.std.proofs.lemmas.Option.{none-some, same_Some}
-use Rattle.std.proofs.lemmas.Bool.{not-true, false_from_ne_true, lt-ltb, le-leb, ltb-true, ltb-false, and_right, lt-leb, cases_Bool}
+use Rattle.std.proofs.lemmas.Bool.{not-true, false_from_ne_true, lt-ltb, le-leb, ltb-true, ltb-false, and_right, lt-leb, or_parts, cases_Bool}
 use Rattle.turn_agent.specs.Agent.{timed_out_transaction, due, is_due, is_timed_out, transaction_timeout}
 use Rattle.turn_agent.specs.declared.transaction.Transaction.{Transaction}
+use Rattle.turn_stun.specs.declared.transport.Transmit.{Transmit}
 use Rattle.turn_stun.specs.declared.transport.TransportType.{TransportType}
 use Rattle.turn_agent.specs.Schedule.{Timers}
 use Rattle.turn_types.specs.declared.family.AddressFamily.{AddressFamily}
 use Rattle.turn_types.specs.declared.family.AddressFamily.TheVariants.{IPV4, IPV6}
 use Rattle.turn_client_api.specs.Config.{same_family}
-use Rattle.turn_client_api.specs.State.{State, agent_of, max_time}
+use Rattle.turn_client_api.specs.State.{State, agent_of, later_by, max_time}
 use Rattle.turn_client_api.specs.declared.grant.Purpose.{Purpose}
 use Rattle.turn_client_api.specs.declared.grant.Purpose.TheVariants.{ForRefresh, ForPermission, ForChannel}
 use Rattle.turn_client_api.specs.declared.state.Phase.{Phase}
@@ -26,12 +27,13 @@ use Rattle.turn_client_api.specs.declared.grant.Relay.{Relay}
 use Rattle.turn_client_api.specs.declared.grant.Progress.TheVariants.{Active}
 use Rattle.turn_client_api.specs.declared.state.Queued.{Queued}
 use Rattle.turn_client_api.specs.Grants.{allocations, as_allocation, find_allocation, family_of, family_of_grant, family_of_ip, is_of}
-use Rattle.turn_client_api.specs.Requests.{asked_lifetime}
-use Rattle.turn_client_api.specs.Due.{due_times, end_of, is_refreshable, has_queued_request, has_reply, is_paused, least_due, pause_end, refresh_of}
+use Rattle.turn_client_api.specs.Requests.{asked_lifetime, binding_indication, fresh_id, id_used, request_for, to_server}
+use Rattle.turn_client_api.specs.Due.{due_times, end_of, is_refreshable, has_allocation_in_use, has_queued_request, has_reply, keepalive_times, is_paused, least_due, pause_end, refresh_of}
 use Rattle.turn_client_api.specs.Due.{refresh_time}
 use Rattle.turn_client_api.specs.Poll.{next_offer}
-use Rattle.turn_client_api.specs.Transmit.{idle_step, is_due_in, is_ranked, is_refresh_due, next_transmit, queue_step, refresh_purpose, refresh_step, refreshes_in, refreshes_of_rank, reply_in}
-use Rattle.turn_client_api.specs.Transmit.{reply_step, transmit_step, without_first_reply}
+use Rattle.turn_client_api.specs.Transmit.{idle_step, is_due_in, is_ranked, is_refresh_due, keepalive_step, next_refresh, next_transmit, queue_step, refresh_purpose, refresh_step, refreshes_in}
+use Rattle.turn_client_api.specs.Transmit.{refreshes_of_rank, reply_in}
+use Rattle.turn_client_api.specs.Transmit.{reply_step, sent, sent_at_once, transmit_step, without_first_reply}
 use Rattle.turn_client_api.specs.Alarm.{IsIdleUntil, Lasts}
 use Rattle.turn_client_laws.proofs.HasLemmas.{Has, has-append, has-left, has-right, map-has, flat_map-has, has-flat_map, has-found, filter-has, filter_map-has, has-filter_map, find-none, filter-none}
 use Rattle.turn_client_laws.proofs.HasLemmas.{least-le, all-has}
@@ -75,18 +77,25 @@ grant_part now t g = end_of now g ++ refresh_of t g
 least-queued : (now : ℕ) (t : State) → has_queued_request t ≡ true → least_due now t ≤ pause_end t
 least-queued now t queued =
     let others = flat_map (grant_part now t) t.grants in
-    least-member now (pause_end t) t (inr (has-left (pause_end t) (queued_part t ++ transactions_part t) others (has-left (pause_end t) (queued_part t) (transactions_part t) (rw queued (inl refl)))))
+    least-member now (pause_end t) t (inr (has-left (pause_end t) (queued_part t ++ transactions_part t ++ others) (keepalive_times t)
+    (has-left (pause_end t) (queued_part t ++ transactions_part t) others (has-left (pause_end t) (queued_part t) (transactions_part t) (rw queued (inl refl))))))
 
 least-transaction : (now : ℕ) (t : State) (x : Transaction) → Has x t.transactions → least_due now t ≤ transaction_timeout (agent_of t).timers t.transport x
 least-transaction now t x h =
     let next = transaction_timeout (agent_of t).timers t.transport in
     let others = flat_map (grant_part now t) t.grants in
-    least-member now (next x) t (inr (has-left (next x) (queued_part t ++ transactions_part t) others (has-right (next x) (queued_part t) (transactions_part t) (map-has next x t.transactions h))))
+    least-member now (next x) t (inr (has-left (next x) (queued_part t ++ transactions_part t ++ others) (keepalive_times t)
+    (has-left (next x) (queued_part t ++ transactions_part t) others (has-right (next x) (queued_part t) (transactions_part t) (map-has next x t.transactions h)))))
 
 least-grant : (now m : ℕ) (t : State) (g : Grant) → Has g t.grants → Has m (end_of now g ++ refresh_of t g) → least_due now t ≤ m
 least-grant now m t g h inside =
     let others = flat_map (grant_part now t) t.grants in
-    least-member now m t (inr (has-right m (queued_part t ++ transactions_part t) others (flat_map-has (grant_part now t) g m t.grants h inside)))
+    least-member now m t (inr (has-left m (queued_part t ++ transactions_part t ++ others) (keepalive_times t)
+    (has-right m (queued_part t ++ transactions_part t) others (flat_map-has (grant_part now t) g m t.grants h inside))))
+
+least-keepalive : (now m : ℕ) (t : State) → Has m (keepalive_times t) → least_due now t ≤ m
+least-keepalive now m t h =
+    least-member now m t (inr (has-right m (queued_part t ++ transactions_part t ++ flat_map (grant_part now t) t.grants) (keepalive_times t) h))
 
 -- ---- before the least of them
 
@@ -135,10 +144,21 @@ flat_map-none : {X Y : Type 0} (f : X → List Y) (xs : List X) → ((x : X) →
 flat_map-none f [] none = refl
 flat_map-none f (x ∷ xs) none = rw (none x) (flat_map-none f xs none)
 
+-- no time has come that is later
+none-reached : (m : ℕ) (ms : List ℕ) → ((k : ℕ) → Has k ms → m < k) → list_any (λ time. leb time m) ms ≡ false
+none-reached m [] later = refl
+none-reached m (k ∷ ms) later = rw (lt-leb k m (later k (inl refl)), none-reached m ms (λ j h. later j (inr h))) refl
+
+-- a time that has come is found
+some-reached : (m k : ℕ) (ms : List ℕ) → list_any (λ time. leb time m) ms ≡ false → Has k ms → m < k
+some-reached m k [] none h = absurd h
+some-reached m k (j ∷ ms) none (inl e) = grind (arith, nat_tests)
+some-reached m k (j ∷ ms) none (inr h) = some-reached m k ms (or_parts (leb j m) (list_any (λ time. leb time m) ms) none).1 h
+
 idle_silent : (now m : ℕ) (t : State) → m < least_due now t → is_paused m t ≡ false → (p : Phase) → p ≢ New → idle_step p m t ≡ (None, t)
 idle_silent now m t before idle New old = absurd (old refl)
 idle_silent now m t before idle Allocated old =
-    rw (flat_map-none (refreshes_in m t) (allocations t) (no_refreshes now m t before idle)) refl
+    rw (flat_map-none (refreshes_in m t) (allocations t) (no_refreshes now m t before idle), none-reached m (keepalive_times t) (λ k h. omega (arith, before, least-keepalive now k t h))) refl
 idle_silent now m t before idle p old = refl
 
 -- what is sent if nothing is to be retransmitted
@@ -214,12 +234,12 @@ waits_on timers transport now t not_due not_over = grind (arith, nat_tests)
 
 -- every time at which something is due is later, if those of the queue and the grants are
 all-later : (now : ℕ) (t : State) → IsReady now t → now ≤ 2 ^ 62 → (has_queued_request t ≡ true → now < pause_end t) → due (agent_of t) now ≡ None
-    → ((g : Grant) → Has g t.grants → (m : ℕ) → Has m (grant_part now t g) → now < m) → now < least_due now t
-all-later now t ready range queued none_due each = later-least now max_time (due_times now t) (omega (arith, range)) by
+    → ((g : Grant) → Has g t.grants → (m : ℕ) → Has m (grant_part now t g) → now < m) → ((m : ℕ) → Has m (keepalive_times t) → now < m) → now < least_due now t
+all-later now t ready range queued none_due each alive = later-least now max_time (due_times now t) (omega (arith, range)) by
   where
     by : (m : ℕ) → Has m (due_times now t) → now < m
     by m (inl e) = rw e (omega (arith, range, le-min {k = suc now} {a = now + 9999 * 1_000_000_000} {b = 2 ^ 63 - 1} (omega arith) (omega (arith, range))))
-    by m (inr h) = grants (has-append m (queued_part t ++ transactions_part t) (flat_map (grant_part now t) t.grants) h)
+    by m (inr h) = whole (has-append m (queued_part t ++ transactions_part t ++ flat_map (grant_part now t) t.grants) (keepalive_times t) h)
       where
         sends : Has m (queued_part t) ⊎ Has m (transactions_part t) → now < m
         sends (inl q) = has-queued now m t queued q
@@ -231,6 +251,10 @@ all-later now t ready range queued none_due each = later-least now max_time (due
         grants : Has m (queued_part t ++ transactions_part t) ⊎ Has m (flat_map (grant_part now t) t.grants) → now < m
         grants (inl s) = sends (has-append m (queued_part t) (transactions_part t) s)
         grants (inr g) = let came = has-flat_map (grant_part now t) m t.grants g in each came.from came.there m came.gives
+
+        whole : Has m (queued_part t ++ transactions_part t ++ flat_map (grant_part now t) t.grants) ⊎ Has m (keepalive_times t) → now < m
+        whole (inl p) = grants (has-append m (queued_part t ++ transactions_part t) (flat_map (grant_part now t) t.grants) p)
+        whole (inr k) = alive m k
 
 refresh-sends : (now : ℕ) (t : State) (ps : List Purpose) → flat_map (refreshes_in now t) (allocations t) ≡ ps → (p : Purpose) → Has p ps → IsSome (refresh_step now t).0
 refresh-sends now t [] e p h = absurd h
@@ -320,7 +344,30 @@ front-sends : (now : ℕ) (t : State) (qs : List Queued) → t.queue ≡ qs → 
 front-sends now t [] e some = absurd (omega (arith, some))
 front-sends now t (q ∷ qs) e some = rw e refl
 
--- while nothing is queued and the pause has ended, what is due is a refresh
+-- nothing keeps the path alive within the pause
+paused-kept : (now m : ℕ) (t : State) → now < pause_end t → Has m (keepalive_times t) → now < m
+paused-kept now m t pause h = by t.config.keepalive (has_allocation_in_use t) h
+  where
+    by : (o : Option ℕ) (b : Bool) → Has m (if b then map (λ keepalive. max (pause_end t) (option_map_or (later_by keepalive) t.last_send 0)) (option_to_list o) else []) → now < m
+    by o false h = absurd h
+    by None true h = absurd h
+    by (Some keepalive) true (inl e) = rw e (omega (arith, pause))
+    by (Some keepalive) true (inr none) = absurd none
+
+-- if nothing is sent, the time to keep the path alive has not come
+none-kept : (now m : ℕ) (t : State) → is_some (refresh_step now t).0 ≡ false → Has m (keepalive_times t) → now < m
+none-kept now m t none h = by (next_refresh now t) none
+  where
+    kept : (b : Bool) → list_any (λ time. leb time now) (keepalive_times t) ≡ b
+        → is_some (if◌then◌else◌ {A = Option (Transmit (List ℕ)) × State} b (Some (to_server t t.local (binding_indication (fresh_id t))), sent now (id_used t)) (None, t)).0 ≡ false → now < m
+    kept true e some = cc
+    kept false e some = some-reached now m (keepalive_times t) e h
+
+    by : (o : Option Purpose) → is_some (option_map_or (λ purpose. sent_at_once (request_for t purpose (fresh_id t)) purpose now t) o (keepalive_step now t)).0 ≡ false → now < m
+    by (Some p) some = cc
+    by None some = kept (list_any (λ time. leb time now) (keepalive_times t)) refl some
+
+-- while nothing is queued and the pause has ended, what is due is a refresh, or keeps the path alive
 refresh-or-later : (now : ℕ) (t : State) → IsReady now t → now ≤ 2 ^ 62 → due (agent_of t) now ≡ None → is_paused now t ≡ false → t.queue ≡ [] → least_due now t ≤ now
     → IsSome (idle_step t.phase now t).0
 refresh-or-later now t ready range none_due idle e reached = by ready.grants_later
@@ -330,7 +377,7 @@ refresh-or-later now t ready range none_due idle e reached = by ready.grants_lat
 
     by : (t.phase ≡ Allocated) ⊎ (t.grants ≡ []) → IsSome (idle_step t.phase now t).0
     by (inr no_grants) =
-        absurd (omega (arith, reached, all-later now t ready range nothing_queued none_due (λ g h. absurd (rw no_grants at h))))
+        absurd (omega (arith, reached, all-later now t ready range nothing_queued none_due (λ g h. absurd (rw no_grants at h)) (λ m h. absurd (rw no_grants at h))))
     by (inl live) = subst (λ p. IsSome (idle_step p now t).0) (sym live) (found (is_some (refresh_step now t).0) refl)
       where
         no_refresh : is_some (refresh_step now t).0 ≡ false → (g : Grant) → Has g t.grants → is_refresh_due now t g ≡ true → now < pause_end t
@@ -339,7 +386,7 @@ refresh-or-later now t ready range none_due idle e reached = by ready.grants_lat
         found : (b : Bool) → is_some (refresh_step now t).0 ≡ b → IsSome (refresh_step now t).0
         found true f = f
         found false f =
-            let later = all-later now t ready range nothing_queued none_due (λ g h m. grant-later now m t g (ready.alive g h) (no_refresh f g h)) in
+            let later = all-later now t ready range nothing_queued none_due (λ g h m. grant-later now m t g (ready.alive g h) (no_refresh f g h)) (λ m h. none-kept now m t f h) in
             absurd (omega (arith, reached, later))
 
 -- the client has something to send, if it has so while nothing is to be retransmitted
@@ -358,7 +405,7 @@ ready-busy now t ready range reached = busy-if now t (λ none. chosen none (is_p
     chosen : due (agent_of t) now ≡ None → (b : Bool) → is_paused now t ≡ b → IsSome (if is_paused now t then reply_step t else queue_step now t).0
     chosen none true idle =
         let pause = ltb-true now (pause_end t) idle in
-        let later = all-later now t ready range (λ q. pause) none (λ g h m. grant-later now m t g (ready.alive g h) (λ d. pause)) in
+        let later = all-later now t ready range (λ q. pause) none (λ g h m. grant-later now m t g (ready.alive g h) (λ d. pause)) (λ m h. paused-kept now m t pause h) in
         absurd (omega (arith, reached, later))
     chosen none false idle = rw idle (sends t.queue refl)
       where

@@ -5,8 +5,8 @@ use Rattle.std.proofs.Math.Nat.{min-le_right}
 use Rattle.turn_agent.specs.Agent.{transaction_timeout}
 use Rattle.turn_client_api.specs.State.{State, agent_of, max_time, later_by}
 use Rattle.turn_client_api.specs.declared.grant.Grant.{Grant}
-use Rattle.turn_client_api.specs.Due.{end_of, has_queued_request, least_due, max_wait, pause_end, refresh_of, refresh_time}
-use Rattle.turn_client_laws.specs.LawsBodies.{soonest, soonest_queued, soonest_transaction}
+use Rattle.turn_client_api.specs.Due.{end_of, has_queued_request, keepalive_times, least_due, max_wait, pause_end, refresh_of, refresh_time}
+use Rattle.turn_client_laws.specs.LawsBodies.{soonest, soonest_keepalive, soonest_queued, soonest_transaction}
 
 -- any start that is not above the greatest
 least-from : (greatest start : ℕ) (ms : List ℕ) → start ≤ greatest → fold min start ms ≡ min start (fold min greatest ms)
@@ -78,15 +78,16 @@ module _ (now : ℕ) (s : State) (greatest : ℕ) (within : pause_end s ≤ grea
 queued-part : (s : State) (greatest : ℕ) → pause_end s ≤ greatest → fold min greatest (cond (has_queued_request s) (pause_end s ∷ []) []) ≡ cond (has_queued_request s) (pause_end s) greatest
 queued-part s greatest within = grind arith
 
-in-row : (first q t e : ℕ) → min (min (min first q) t) e ≡ min first (min q (min t e))
-in-row first q t e = omega arith
+in-row : (first q t e k : ℕ) → min (min (min (min first q) t) e) k ≡ min first (min q (min t (min e k)))
+in-row first q t e k = omega arith
 
 pub due-parts : (now : ℕ) (s : State) → least_due now s ≡ soonest now s
 due-parts now s =
-    least-append max_time start (queued ++ transactions) grants below
-    ∙ (ap (λ x. min x (fold min max_time grants)) front
-    ∙ (in-row (later_by max_wait now) (soonest_queued s) (soonest_transaction s) (fold min max_time grants)
-    ∙ ap (λ x. min (later_by max_wait now) (min (soonest_queued s) (min (soonest_transaction s) x))) (grants-part now s max_time (pause-within s) s.grants)))
+    least-append max_time start (queued ++ transactions ++ grants) (keepalive_times s) below
+    ∙ (ap (λ x. min x (soonest_keepalive s)) (least-append max_time start (queued ++ transactions) grants below)
+    ∙ (ap (λ x. min (min x (fold min max_time grants)) (soonest_keepalive s)) front
+    ∙ (in-row (later_by max_wait now) (soonest_queued s) (soonest_transaction s) (fold min max_time grants) (soonest_keepalive s)
+    ∙ ap (λ x. min (later_by max_wait now) (min (soonest_queued s) (min (soonest_transaction s) (min x (soonest_keepalive s))))) (grants-part now s max_time (pause-within s) s.grants))))
   where
     queued : List ℕ
     queued = cond (has_queued_request s) (pause_end s ∷ []) []

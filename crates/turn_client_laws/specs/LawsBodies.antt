@@ -11,7 +11,7 @@ use Rattle.turn_client_api.specs.declared.grant.Progress.TheVariants.{Active, Re
 use Rattle.turn_client_api.specs.declared.state.Stream.{Stream}
 use Rattle.turn_client_api.specs.Grants.{has_request}
 use Rattle.turn_client_api.specs.Calls.{is_number_taken}
-use Rattle.turn_client_api.specs.Due.{end_of, has_queued_request, max_wait, pause_end, refresh_time}
+use Rattle.turn_client_api.specs.Due.{end_of, has_queued_request, keepalive_times, max_wait, pause_end, refresh_time}
 
 -- ---- expiry
 
@@ -66,11 +66,15 @@ soonest_end now s = least_of (flat_map (end_of now) s.grants)
 abbrev pub soonest_refresh : State → ℕ
 soonest_refresh s = max (pause_end s) (least_of (filter_map (refresh_time s) s.grants))
 
+-- when the path to the server is to be kept alive
+abbrev pub soonest_keepalive : State → ℕ
+soonest_keepalive s = least_of (keepalive_times s)
+
 -- the longest wait, or what is due before it
 abbrev pub soonest : ℕ → State → ℕ
 soonest now s =
     min (later_by max_wait now)
-    (min (soonest_queued s) (min (soonest_transaction s) (min (soonest_end now s) (soonest_refresh s))))
+    (min (soonest_queued s) (min (soonest_transaction s) (min (min (soonest_end now s) (soonest_refresh s)) (soonest_keepalive s))))
 
 -- ---- channel numbers
 

@@ -58,6 +58,7 @@ granted_at time grants s = record s {
     request_timers = None;
     max_stale_nonces = default_max_stale_nonces;
     request_cadence = default_request_cadence;
+    keepalive = None;
   };
   transport = Udp;
   phase = Allocated;
@@ -101,6 +102,18 @@ asking_at_60_ms s =
 abbrev pub pausing : ℕ → State → State
 pausing cadence s = record s { config = record s.config { request_cadence = cadence } }
 
+-- keeping its path to the server alive, so long after the last packet
+abbrev pub keeping_alive : ℕ → State → State
+keeping_alive wait s = record s { config = record s.config { keepalive = Some wait } }
+
+-- the same, 15 s after the last packet, which was sent at 100 ms
+abbrev pub kept_alive : State → State
+kept_alive s = keeping_alive 15_000_000_000 (with_permission 100_000_000 s)
+
+-- a Binding indication without attributes (RFC 8489, section 5)
+abbrev pub indication_bytes : ℕ → List ℕ
+indication_bytes id = (0x00 ∷ 0x11 ∷ 0x00 ∷ 0x00 ∷ 0x21 ∷ 0x12 ∷ 0xa4 ∷ 0x42 ∷ []) ++ id_bytes id
+
 -- ---- a server that does not respond
 
 -- 600 ms after the first send, 1 s at most after others, three sends, and 3 s after the last
@@ -111,7 +124,7 @@ short_timers = record { initial = 600_000_000; max = 1_000_000_000; transmission
 -- default
 abbrev pub requesting_by : Option Timers → TransportType → List ℕ → State → State
 requesting_by timers transport text s = record (requesting text s) {
-  config = record s.config { request_timers = timers; request_cadence = default_request_cadence };
+  config = record s.config { request_timers = timers; request_cadence = default_request_cadence; keepalive = None };
   transport = transport;
 }
 

@@ -18,7 +18,7 @@ use Rattle.turn_client_api.specs.declared.poll.Socket5Tuple.{Socket5Tuple}
 -- a client with an allocation over TCP and these grants, whose control stream holds nothing
 abbrev pub relaying_tcp : List Grant → State → State
 relaying_tcp grants s = record (over_tcp grants [] s) {
-  config = record s.config { allocation_transport = Tcp; request_timers = None; request_cadence = default_request_cadence };
+  config = record s.config { allocation_transport = Tcp; request_timers = None; request_cadence = default_request_cadence; keepalive = None };
 }
 
 -- the peer has a permission

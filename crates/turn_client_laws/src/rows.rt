@@ -5,15 +5,18 @@ ghost use Rattle.std.specs.declared.net.socket_addr.SocketAddr.{SocketAddr};
 ghost use Rattle.turn_stun.specs.declared.transport.TransportType.TheVariants.{Udp, Tcp};
 ghost use Rattle.turn_types.specs.declared.family.AddressFamily.TheVariants.{IPV4, IPV6};
 ghost use Rattle.turn_auth.specs.LongTerm.{Challenge};
+ghost use Rattle.turn_agent.specs.TransactionIds.{behind_id};
 ghost use Rattle.turn_client_api.specs.State.{State};
 ghost use Rattle.turn_client_api.specs.declared.grant.Grant.TheVariants.{Channel};
-ghost use Rattle.turn_client_api.specs.declared.grant.Purpose.TheVariants.{ForRefresh};
+ghost use Rattle.turn_client_api.specs.declared.grant.Purpose.TheVariants.{ForPermission, ForRefresh};
 ghost use Rattle.turn_client_api.specs.declared.grant.Progress.TheVariants.{Pending};
 ghost use Rattle.turn_client_api.specs.Calls.{free_number, relayed_addresses_of};
 ghost use Rattle.turn_client_api.specs.Poll.{poll_step};
-ghost use Rattle.turn_client_api.specs.Transmit.{next_transmit};
+ghost use Rattle.turn_client_api.specs.Requests.{fresh_id, to_server};
+ghost use Rattle.turn_client_api.specs.Transmit.{next_transmit, transmit_step};
 ghost use Rattle.turn_client_laws.specs.LawsRows.{IsFirstAllocate, WaitsInSilence, WhenGivenUp, asking_at_60_ms, challenged_once, deleted_in_silence};
-ghost use Rattle.turn_client_laws.specs.LawsRows.{giving_back, granted_at, ip_of_peer, pausing, peer, short_timers, with_both_families, with_permission};
+ghost use Rattle.turn_client_laws.specs.LawsRows.{giving_back, granted_at, indication_bytes, ip_of_peer, keeping_alive, kept_alive, pausing, peer};
+ghost use Rattle.turn_client_laws.specs.LawsRows.{short_timers, with_both_families, with_permission};
 ghost use Rattle.turn_client_api.specs.declared.event.TurnEvent.TheVariants.{ChannelCreateFailed, PermissionCreateFailed};
 ghost use Rattle.turn_client_api.specs.declared.poll.TurnPollRet.TheVariants as Do;
 
@@ -51,6 +54,26 @@ pub fn wakeups_are_reported()
     ensures silent { (s : State) → next_transmit 349_999_999 (pausing 300_000_000 (asking_at_60_ms s)) ≡ None }
     ensures shorter { (s : State) → IsSome (next_transmit 60_000_000 (pausing 1_000_000 (asking_at_60_ms s))) }
     ensures at_once { (s : State) → IsSome (next_transmit 50_000_000 (pausing 0 (asking_at_60_ms s))) }
+{}
+
+/// A client keeps its path to the server alive by Binding indications (RFC 8489, section 5).
+pub fn paths_are_kept_alive()
+    // `poll` tells when: 15 s after the last packet. None is sent before.
+    ensures told { (s : State) → (poll_step 100_000_000 (kept_alive s)).0 ≡ Do.WaitUntil 15_100_000_000 }
+    ensures early { (s : State) → next_transmit 15_099_999_999 (kept_alive s) ≡ None }
+    // It goes to the server under the next ID, which is used then. Nothing is requested.
+    ensures bytes { (s : State) → next_transmit 15_100_000_000 (kept_alive s)
+        ≡ Some (to_server (kept_alive s) s.local (indication_bytes (fresh_id (kept_alive s)))) }
+    ensures after { (s : State) → (transmit_step 15_100_000_000 (kept_alive s)).1
+        ≡ record (kept_alive s) { ids = behind_id s.ids; last_send = Some 15_100_000_000 } }
+    // The next one is due after as long again, and within the pause none is sent.
+    ensures next { (s : State) → (poll_step 15_100_000_000 (transmit_step 15_100_000_000 (kept_alive s)).1).0 ≡ Do.WaitUntil 30_100_000_000 }
+    ensures paused { (s : State) → next_transmit 15_100_000_000 (pausing 20_000_000_000 (kept_alive s)) ≡ None }
+    // A refresh that is due goes first: of the permission, a minute before it expires.
+    ensures refresh { (s : State) → map (λ l. l.purpose) (transmit_step 240_100_000_000 (kept_alive s)).1.listed ≡ ForPermission ip_of_peer ∷ [] }
+    // Without an allocation there is none, nor if it is not configured.
+    ensures unallocated { (s : State) → next_transmit 15_100_000_000 (keeping_alive 15_000_000_000 (granted_at 100_000_000 [] s)) ≡ None }
+    ensures default { (s : State) → next_transmit 200_000_000_000 (with_permission 100_000_000 s) ≡ None }
 {}
 
 /// A first ALLOCATE that was sent at time 0 and gets no response (RFC 8489, sections 6.2.1 and 6.2.2): the

@@ -51,6 +51,7 @@ someone =
       request_timers = None;
       max_stale_nonces = 1;
       request_cadence = 0;
+      keepalive = None;
     }) []
 
 -- a request is as long as the length with which it was begun

@@ -18,4 +18,4 @@ mod request_attributes;
 mod write;
 
 pub use reply::{AttemptRefusal, accepted_reply, refused_reply};
-pub use request::{delete_request, first_allocate, request_for, request_under};
+pub use request::{binding_indication, delete_request, first_allocate, request_for, request_under};

@@ -3,7 +3,7 @@
 ghost use Rattle.std.specs.Prelude.{◌≡◌, IfOk, IsSome};
 ghost use Rattle.turn_auth.specs.LongTerm.{with_challenge};
 ghost use Rattle.turn_client_api.specs.Calls.{delete_text};
-ghost use Rattle.turn_client_api.specs.Requests.{first_allocate, fresh_id};
+ghost use Rattle.turn_client_api.specs.Requests.{binding_indication, first_allocate, fresh_id};
 ghost use Rattle.turn_client_api.specs.State.{State, auth_of};
 ghost use Rattle.turn_client_requests.specs.RequestAttributes.{IsRequestFor, with_asked_families};
 
@@ -17,11 +17,27 @@ use turn_auth::server_challenge::ServerChallenge;
 use turn_client_api::Purpose;
 use turn_stun::data::Data;
 use turn_stun::message::header::MessageClass;
+use turn_stun::message::method::Method;
 use turn_stun::transaction::TransactionId;
 use turn_stun::transport::TransportType;
 use turn_types::AddressFamily;
 use turn_types::attribute::{DontFragment, Lifetime, RequestedTransport};
 use turn_types::message::{ALLOCATE, REFRESH};
+
+/// The method of STUN's Binding (RFC 8489, section 18.2).
+const BINDING: Method = Method { value: 0x001 };
+
+/// The Binding indication that keeps a path alive. It has no attributes, and is not signed.
+///
+/// # Errors
+///
+/// `AllocError` if memory allocation fails.
+pub fn binding_indication(alloc: Global, id: TransactionId) -> Result<Data, AllocError>
+    ensures { IfOk result (λ text. text ≡ binding_indication id) }
+{
+    let message = begun(alloc, MessageClass::Indication, BINDING, id, HEADER_LEN)?;
+    Ok(Data::from(message.finish()))
+}
 
 /// The first ALLOCATE, for addresses of these families that relay over this transport. It is not signed,
 /// since the server has named no realm yet (RFC 8489, section 9.2.3.1).

@@ -1,6 +1,6 @@
 -- Which events a call adds that processes no input.
 use Rattle.std.proofs.Common.{◌≡◌, ◌⊎◌, ℕ, Bool, true, false, not, ◌&&◌, ◌||◌, leb, List, [], ◌∷◌, map, drop, filter_map, flat_map, Option, Some, None, Result, refl, subst, inl, inr}
-use Rattle.std.specs.Prelude.{find, is_some, slice_get}
+use Rattle.std.specs.Prelude.{find, is_some, nat_le, slice_get}
 use Rattle.std.specs.List.{list_any}
 use Rattle.std.specs.Net.Socket.{socket_ip}
 use Rattle.std.specs.declared.net.ip_addr.IpAddr.{IpAddr}
@@ -24,12 +24,12 @@ use Rattle.turn_client_api.specs.Calls.{active_channel, bound_by, bound_to, can_
 use Rattle.turn_client_api.specs.Calls.{free_number, in_allocation, is_allocated, is_closed, is_control, is_in_progress, is_local_taken, offer_origin, on_channel, on_connection}
 use Rattle.turn_client_api.specs.Calls.{permission_step, reserved_from, send_over, socket_opened, socket_refused, socket_step}
 use Rattle.turn_client_api.specs.Connections.{connection_at, is_connected, is_connecting}
-use Rattle.turn_client_api.specs.Due.{is_paused}
+use Rattle.turn_client_api.specs.Due.{is_paused, keepalive_times}
 use Rattle.turn_client_api.specs.Effect.{closed, fail_all}
 use Rattle.turn_client_api.specs.Grants.{allocations, as_connection, find_allocation_to, has_active_permission, is_past, permission_state, same_transport}
 use Rattle.turn_client_api.specs.Receive.{connection_gone}
 use Rattle.turn_client_api.specs.Steps.{state_after}
-use Rattle.turn_client_api.specs.Transmit.{idle_step, queue_step, refreshes_in, reply_step, transmit_step}
+use Rattle.turn_client_api.specs.Transmit.{idle_step, keepalive_step, queue_step, refreshes_in, reply_step, transmit_step}
 use Rattle.turn_client_laws.specs.LawsHandled.{TakesInput}
 use Rattle.turn_client_laws.proofs.CaseLemmas.{by_found, by_test}
 use Rattle.turn_client_laws.proofs.GrantOriginLemmas.{has-mapped}
@@ -82,7 +82,8 @@ module _ (s : State) where
 
   idle-leaves : (p : Phase) (now : ℕ) → Leaves (idle_step p now s)
   idle-leaves New now = refl
-  idle-leaves Allocated now = by_found Leaves _ (slice_get (flat_map (refreshes_in now s) (allocations s)) 0) (None, s) (λ purpose e. refl) refl
+  idle-leaves Allocated now = by_found Leaves _ (slice_get (flat_map (refreshes_in now s) (allocations s)) 0) (keepalive_step now s) (λ purpose e. refl)
+      (by_test Leaves (list_any (λ time. nat_le time now) (keepalive_times s)) _ (None, s) (λ e. refl) (λ e. refl))
   idle-leaves p now = refl
 
   transmit-leaves : (now : ℕ) → Leaves (transmit_step now s)

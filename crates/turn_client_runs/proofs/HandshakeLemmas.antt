@@ -1,7 +1,7 @@
 -- A client whose server answers its first requests.
 use Rattle.std.proofs.Common.{◌≡◌, ◌≢◌, ◌⊎◌, ℕ, ◌+◌, ◌^◌, ◌<◌, ◌≤◌, Bool, true, false, cond, not, ◌||◌, leb, ltb, eqb, List, [], ◌∷◌, ◌++◌, map, drop, Option, Some, None, refl, inl, inr, ap, sym}
 use Rattle.std.proofs.Common.{subst, ◌∙◌, arith}
-use Rattle.std.specs.Prelude.{IfSome, IsSome, filter, if◌then◌else◌, slice_get}
+use Rattle.std.specs.Prelude.{IfSome, IsSome, filter, if◌then◌else◌, nat_le, slice_get}
 use Rattle.std.specs.List.{list_any}
 use Rattle.std.specs.Option.{option_map_or}
 use Rattle.std.proofs.lemmas.Bool.{and_parts, cases_Bool, eq-eqb, eqb-true, lt-ltb}
@@ -29,13 +29,13 @@ use Rattle.turn_client_api.specs.declared.grant.Purpose.TheVariants.{ForAllocati
 use Rattle.turn_client_api.specs.declared.grant.DataOffer.{DataOffer}
 use Rattle.turn_client_api.specs.declared.grant.Relay.{Relay}
 use Rattle.turn_client_api.specs.Grants.{allocations, is_for_allocation, purposes_of}
-use Rattle.turn_client_api.specs.Requests.{first_allocate, fresh_id, listings, request_for}
+use Rattle.turn_client_api.specs.Requests.{binding_indication, first_allocate, fresh_id, id_used, listings, request_for}
 use Rattle.turn_client_api.specs.Judgement.{Challenged, SignedSuccess, answers_one, answers_allocate, challenge_in, class_in, judgement_of, lifetime_in}
 use Rattle.turn_client_api.specs.Effect.{allocate_granted, allocated, phase_with, relayed_in, taken_addresses, transaction_ended}
 use Rattle.turn_client_api.specs.Retry.{state_after_retry}
-use Rattle.turn_client_api.specs.Due.{has_event, has_reply, is_paused}
+use Rattle.turn_client_api.specs.Due.{has_event, has_reply, is_paused, keepalive_times}
 use Rattle.turn_client_api.specs.Payloads.{Outcome, Handled, challenge_step, message_step, signed_step}
-use Rattle.turn_client_api.specs.Transmit.{idle_step, queue_step, refresh_step, reply_step, sent_at_once, transmit_step, without_first_reply}
+use Rattle.turn_client_api.specs.Transmit.{idle_step, keepalive_step, queue_step, refresh_step, reply_step, sent_at_once, transmit_step, without_first_reply}
 use Rattle.turn_client_api.specs.Poll.{answer_by, answer_step, lapsed, next_offer, offer_step, poll_step, timed_out_step, timed_step}
 use Rattle.turn_client_api.specs.Steps.{packet_step, state_after, state_after_all}
 use Rattle.turn_client_api.specs.declared.call.Call.{Call}
@@ -330,8 +330,13 @@ sent-allocated now s e = again (due (agent_of s) now)
     Is : Option (Transmit (List ℕ)) × State → Type 0
     Is z = z.1.phase ≡ Allocated
 
-    refresh : (o : Option Purpose) → Is (option_map_or (λ purpose. sent_at_once (request_for s purpose (fresh_id s)) purpose now s) o (None, s))
-    refresh None = e
+    keeps : (b : Bool)
+        → Is (if b then (Some (Rattle.turn_client_api.specs.Requests.to_server s s.local (binding_indication (fresh_id s))), Rattle.turn_client_api.specs.Transmit.sent now (id_used s)) else (None, s))
+    keeps true = e
+    keeps false = e
+
+    refresh : (o : Option Purpose) → Is (option_map_or (λ purpose. sent_at_once (request_for s purpose (fresh_id s)) purpose now s) o (keepalive_step now s))
+    refresh None = keeps (list_any (λ time. nat_le time now) (keepalive_times s))
     refresh (Some p) = e
 
     idle : (f : Phase) → f ≡ Allocated → Is (idle_step f now s)

@@ -18,9 +18,10 @@ use Rattle.turn_client_api.specs.declared.grant.Progress.TheVariants.{Active}
 use Rattle.turn_client_api.specs.declared.grant.Purpose.{Purpose}
 use Rattle.turn_client_api.specs.declared.grant.Purpose.TheVariants.{ForRefresh, ForPermission, ForChannel}
 use Rattle.turn_client_api.specs.Grants.{allocations, family_of, family_of_grant, find_allocation, has_request, is_of}
-use Rattle.turn_client_api.specs.Requests.{asked_lifetime}
+use Rattle.turn_client_api.specs.Requests.{asked_lifetime, fresh_id, request_for}
 use Rattle.turn_client_api.specs.Due.{is_paused, is_refreshable, pause_end, refresh_time}
-use Rattle.turn_client_api.specs.Transmit.{is_due_in, is_ranked, is_refresh_due, queue_step, refresh_purpose, refresh_step, refreshes_in, refreshes_of_rank, reply_step, transmit_step}
+use Rattle.turn_client_api.specs.Transmit.{is_due_in, is_ranked, is_refresh_due, keepalive_step, next_refresh, queue_step, refresh_purpose, refresh_step, refreshes_in, refreshes_of_rank, reply_step}
+use Rattle.turn_client_api.specs.Transmit.{sent_at_once, transmit_step}
 use Rattle.turn_client_laws.proofs.HasLemmas.{Has, filter-has, filter_map-has, find-none, flat_map-has}
 use Rattle.turn_client_laws.proofs.InAllocationLemmas.{Room, allocation-there, of-room}
 use Rattle.turn_client_laws.proofs.HasLemmas.{has-found}
@@ -60,13 +61,13 @@ transmit-refreshes time s p e none over =
     let idle : is_paused time s ≡ false = le-ltb time (pause_end s) over in
     transmits time s none ∙ rw idle (queue-idle time s e p)
 
-refresh-sends : (time : ℕ) (s : State) (ps : List Purpose) → flat_map (refreshes_in time s) (allocations s) ≡ ps → (p : Purpose) → Has p ps → IsSome (refresh_step time s).0
+refresh-sends : (time : ℕ) (s : State) (ps : List Purpose) → flat_map (refreshes_in time s) (allocations s) ≡ ps → (p : Purpose) → Has p ps → IsSome (next_refresh time s)
 refresh-sends time s [] e p h = absurd h
 refresh-sends time s (q ∷ qs) e p h = rw e refl
 
 -- a grant whose time has come is refreshed, or another one before it
 refreshed-once : (time : ℕ) (s : State) (g : Grant) (a : Relay) (rank : ℕ) (p : Purpose) → Has g s.grants → Has a (allocations s) → time ≤ a.expiry → is_of (family_of a.relayed) g ≡ true
-    → Has rank (0 ∷ 1 ∷ 2 ∷ []) → is_ranked rank g ≡ true → is_refresh_due time s g ≡ true → refresh_purpose time g ≡ Some p → IsSome (refresh_step time s).0
+    → Has rank (0 ∷ 1 ∷ 2 ∷ []) → is_ranked rank g ≡ true → is_refresh_due time s g ≡ true → refresh_purpose time g ≡ Some p → IsSome (next_refresh time s)
 refreshed-once time s g a rank p h inside goes_on here ranked is due gives =
     let test = is_due_in rank (family_of a.relayed) time s in
     let of_rank = refreshes_of_rank time s (family_of a.relayed) in
@@ -74,6 +75,14 @@ refreshed-once time s g a rank p h inside goes_on here ranked is due gives =
     let in_rank : Has p (of_rank rank) = filter_map-has (refresh_purpose time) g p (filter test s.grants) (filter-has test g s.grants h passes) gives in
     let in_allocation : Has p (refreshes_in time s a) = rw (le-leb time a.expiry goes_on) (flat_map-has of_rank rank p (0 ∷ 1 ∷ 2 ∷ []) ranked in_rank) in
     refresh-sends time s _ refl p (flat_map-has (refreshes_in time s) a p (allocations s) inside in_allocation)
+
+-- with something to refresh, a packet is sent
+pub next-sends : (time : ℕ) (s : State) → IsSome (next_refresh time s) → IsSome (refresh_step time s).0
+next-sends time s some = by (next_refresh time s) some
+  where
+    by : (o : Option Purpose) → IsSome o → IsSome (option_map_or (λ purpose. sent_at_once (request_for s purpose (fresh_id s)) purpose time s) o (keepalive_step time s)).0
+    by None some = absurd (let no : false ≡ true = some in cc)
+    by (Some p) some = refl
 
 -- ---- a refresh is due
 
@@ -106,10 +115,10 @@ is-due time s g granted may unasked now = rw (kind-due g granted, may, unasked) 
 
 -- the allocation of a grant that is due has not expired, so something is sent
 pub due-sends : (time : ℕ) (s : State) (g : Grant) → Has g s.grants → IsGranted g → is_refresh_due time s g ≡ true → time < expiry_of g
-    → (a : Relay) → Has a (allocations s) → is_of (family_of a.relayed) g ≡ true → time ≤ a.expiry → IsSome (refresh_step time s).0
+    → (a : Relay) → Has a (allocations s) → is_of (family_of a.relayed) g ≡ true → time ≤ a.expiry → IsSome (next_refresh time s)
 due-sends time s g h granted due early a inside of goes_on = by g h granted due early of
   where
-    by : (g : Grant) → Has g s.grants → IsGranted g → is_refresh_due time s g ≡ true → time < expiry_of g → is_of (family_of a.relayed) g ≡ true → IsSome (refresh_step time s).0
+    by : (g : Grant) → Has g s.grants → IsGranted g → is_refresh_due time s g ≡ true → time < expiry_of g → is_of (family_of a.relayed) g ≡ true → IsSome (next_refresh time s)
     by (Allocation b) h granted due early of =
         refreshed-once time s (Allocation b) a 0 (ForRefresh (family_of b.relayed) asked_lifetime) h inside goes_on of (inl refl) refl due (rw (le-leb time b.expiry (omega (arith, early))) refl)
     by (Permission ip (Active expiry)) h granted due early of =

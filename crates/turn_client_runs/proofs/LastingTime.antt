@@ -14,13 +14,13 @@ use Rattle.turn_client_api.specs.Due.{is_paused, pause_end}
 use Rattle.turn_client_api.specs.declared.state.Queued.{Queued}
 use Rattle.std.proofs.lemmas.Option.{none-some}
 use Rattle.std.proofs.lemmas.Bool.{le-ltb}
-use Rattle.turn_client_api.specs.Transmit.{next_transmit, queue_step, refresh_step, transmit_step}
+use Rattle.turn_client_api.specs.Transmit.{next_refresh, next_transmit, queue_step, refresh_step, transmit_step}
 use Rattle.turn_client_laws.proofs.HasLemmas.{Has, filter_map-has, has-all}
 use Rattle.turn_client_laws.proofs.InAllocationLemmas.{same_family-self}
 use Rattle.turn_client_runs.specs.Lasting.{expiry_of}
 use Rattle.turn_client_runs.specs.OnTime.{IsInTime}
 use Rattle.turn_client_runs.proofs.LastingStands.{pending-later, IsIdle, IsKept, Stands, allocation-stands, bound, bound-le, due_of}
-use Rattle.turn_client_runs.proofs.LastingSends.{AllAnswered, due-sends, is-due, may-refresh, none-due, transmit-refreshes, transmits}
+use Rattle.turn_client_runs.proofs.LastingSends.{AllAnswered, due-sends, is-due, may-refresh, next-sends, none-due, transmit-refreshes, transmits}
 
 -- what is refreshed by then is refreshed in time
 pub bound-early : (count slots delay now : ℕ) (transactions : List Transaction) (s : State) (g : Grant) → IsKept count slots delay now transactions s → Has g s.grants
@@ -40,11 +40,11 @@ module _ (count slots delay before now : ℕ) (s : State) (k : IsKept count slot
       none-due delay time s k.prompt (let r = in_time.on_time.in_range in omega (arith, r, early)) k.young (λ x h. let a = all-answered x h in omega (arith, a, early))
 
   -- with nothing queued, no refresh could be sent before now
-  sends-none : s.queue ≡ [] → (time : ℕ) → before ≤ time → time < now → pause_end s ≤ time → IsSome (refresh_step time s).0 → ⊥
+  sends-none : s.queue ≡ [] → (time : ℕ) → before ≤ time → time < now → pause_end s ≤ time → IsSome (next_refresh time s) → ⊥
   sends-none empty time after early over some =
       let is : transmit_step time s ≡ refresh_step time s = transmit-refreshes time s k.phase empty (none-was_due time early) over in
       let e : (refresh_step time s).0 ≡ None = rw (sym is) (in_time.on_time.punctual time after early) in
-      let no : false ≡ true = rw e at some in
+      let no : false ≡ true = rw e at (next-sends time s some) in
       cc
 
   -- what is queued is sent once the pause has ended
@@ -78,7 +78,7 @@ module _ (count slots delay before now : ℕ) (s : State) (k : IsKept count slot
       all : (b : Relay) → Has (Allocation b) s.grants → b.is_expired ≡ false
       all b h = (allocation-stands count slots delay before s.transactions s k b h).granted
 
-      sends : at_once < now → IsSome (refresh_step at_once s).0
+      sends : at_once < now → IsSome (next_refresh at_once s)
       sends early =
           due-sends at_once s g there stands.granted
           (is-due at_once s g stands.granted (may-refresh s g all stands.granted (k.housed g there)) idle.unasked (omega arith))

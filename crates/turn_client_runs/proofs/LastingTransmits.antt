@@ -1,5 +1,6 @@
 -- What `poll_transmit` changes while no grant is lost.
-use Rattle.std.proofs.Common.{◌≡◌, ◌⊎◌, ℕ, ◌+◌, ◌*◌, ◌≤◌, Bool, true, false, cond, not, ◌&&◌, ◌||◌, leb, List, [], ◌∷◌, length, drop, Option, Some, None, refl, inl, inr, ap, sym, subst, ◌∙◌, arith}
+use Rattle.std.proofs.Common.{◌≡◌, ◌⊎◌, ℕ, ◌+◌, ◌*◌, ◌<◌, ◌≤◌, Bool, true, false, cond, not, ◌&&◌, ◌||◌, leb, List, [], ◌∷◌, length, drop, Option, Some, None, refl, inl, inr, ap, sym, subst, ◌∙◌}
+use Rattle.std.proofs.Common.{arith}
 use Rattle.std.specs.Prelude.{filter, flat_map, slice_get, nat_le, option_and_then, if◌then◌else◌}
 use Rattle.std.specs.List.{list_any}
 use Rattle.std.specs.Option.{option_map_or}
@@ -10,6 +11,7 @@ use Rattle.std.proofs.lemmas.Slice.Eq.{bytes_eq-Decides}
 use Rattle.std.specs.Net.Addr.{ipv4_octets, ipv6_segments}
 use Rattle.std.specs.declared.net.ip_addr.IpAddr.{IpAddr}
 use Rattle.std.specs.declared.net.ip_addr.IpAddr.TheVariants.{V4, V6}
+use Rattle.turn_stun.specs.declared.transport.Transmit.{Transmit}
 use Rattle.turn_agent.specs.Agent.{due, first_sent}
 use Rattle.turn_client_api.specs.State.{State, agent_of}
 use Rattle.turn_client_api.specs.declared.state.Queued.{Queued}
@@ -20,17 +22,17 @@ use Rattle.turn_client_api.specs.declared.grant.Progress.TheVariants.{Active, Pe
 use Rattle.turn_client_api.specs.declared.grant.Listing.{Listing}
 use Rattle.turn_client_api.specs.declared.grant.Purpose.{Purpose}
 use Rattle.turn_client_api.specs.declared.grant.Purpose.TheVariants.{ForRefresh, ForPermission, ForChannel}
-use Rattle.turn_client_api.specs.Grants.{allocations, family_of, has_request, is_for, same_ip}
-use Rattle.turn_client_api.specs.Requests.{asked_lifetime, fresh_id, request_for}
-use Rattle.turn_client_api.specs.Due.{has_reply, is_paused, is_refreshable, refresh_time}
-use Rattle.turn_client_api.specs.Transmit.{is_due_in, is_ranked, is_refresh_due, queue_step, refresh_purpose, refresh_step, refreshes_in, refreshes_of_rank, reply_step, sent_at_once, transmit_step}
-use Rattle.turn_client_api.specs.Transmit.{without_first_reply}
-use Rattle.turn_client_laws.proofs.HasLemmas.{Has, first-has, has-append, has-filter, has-filter_map, has-flat_map, has-left, has-right}
+use Rattle.turn_client_api.specs.Grants.{allocations, as_allocation, family_of, family_of_grant, has_request, is_for, same_ip}
+use Rattle.turn_client_api.specs.Requests.{asked_lifetime, binding_indication, fresh_id, id_used, request_for, to_server}
+use Rattle.turn_client_api.specs.Due.{has_reply, is_paused, is_refreshable, keepalive_times, refresh_time}
+use Rattle.turn_client_api.specs.Transmit.{is_due_in, is_ranked, is_refresh_due, keepalive_step, next_refresh, queue_step, refresh_purpose, refresh_step, refreshes_in, refreshes_of_rank, reply_step}
+use Rattle.turn_client_api.specs.Transmit.{sent_at_once, transmit_step, without_first_reply}
+use Rattle.turn_client_laws.proofs.HasLemmas.{Has, filter_map-has, first-has, has-append, has-filter, has-filter_map, has-flat_map, has-left, has-right}
 use Rattle.turn_client_laws.proofs.InAllocationLemmas.{same_family-self}
 use Rattle.turn_client_runs.proofs.LastingCounts.{passes, passes-more}
-use Rattle.turn_client_runs.proofs.LastingStands.{Goes, goes-more, pending-more, IsAwaited, IsGranted, IsIdle, IsKept, IsRefreshing, Stands, ahead-le, bound, bound-le, due_of, left-paced, one-paced}
-use Rattle.turn_client_runs.proofs.LastingStands.{is_served, is_waiting, kind-due, not-waiting, served}
-use Rattle.turn_client_runs.proofs.LastingSends.{queue-idle, transmits}
+use Rattle.turn_client_runs.proofs.LastingStands.{Goes, goes-more, pending-more, IsAwaited, IsGranted, IsIdle, IsKept, IsRefreshing, Stands, allocation-stands, stands-early, ahead-le, bound, bound-le}
+use Rattle.turn_client_runs.proofs.LastingStands.{due_of, left-paced, one-paced, is_served, is_waiting, kind-due, not-waiting, served}
+use Rattle.turn_client_runs.proofs.LastingSends.{due-sends, is-due, may-refresh, queue-idle, transmits}
 use Rattle.turn_client_runs.proofs.LastingListings.{requests-more}
 use Rattle.turn_client_runs.proofs.LastingTime.{bound-early}
 
@@ -287,6 +289,61 @@ module _ (count slots delay now : ℕ) (s : State) (k : IsKept count slots delay
     each = λ g there. elim (k.each g there) [ inl waits ↦ inl waits | inr stands ↦ inr (stands-queued g stands) ];
   }
 
+-- ---- the path is kept alive
+
+-- With nothing to refresh, each refresh is still to come, so a pause that begins now delays none.
+module _ (count slots delay now : ℕ) (s : State) (k : IsKept count slots delay now s.transactions s) (empty : s.queue ≡ []) (nothing : next_refresh now s ≡ None) where
+  kept-in_use : (b : Relay) → Has (Allocation b) s.grants → b.is_expired ≡ false
+  kept-in_use b h = (allocation-stands count slots delay now s.transactions s k b h).granted
+
+  still-early : (g : Grant) → Has g s.grants → Stands count slots delay now s.transactions s g → IsIdle slots now s g → now < due_of g
+  still-early g there stands idle = elim (cases_lt now (due_of g)) [
+    | inl early ↦ early
+    | inr past ↦
+        let (a, here, same) = k.housed g there in
+        let inside : Has a (allocations s) = filter_map-has as_allocation (Allocation a) a s.grants here refl in
+        let is = is-due now s g stands.granted (may-refresh s g kept-in_use stands.granted (k.housed g there)) idle.unasked past in
+        let housed = allocation-stands count slots delay now s.transactions s k a here in
+        let goes_on : now ≤ a.expiry = let early = stands-early count slots delay now s k (Allocation a) here housed in omega (arith, early) in
+        let alive = stands-early count slots delay now s k g there stands in
+        let some = due-sends now s g there stands.granted is alive a inside (same_family-self (family_of_grant g) (family_of a.relayed) (sym same)) goes_on in
+        absurd (let no : false ≡ true = rw nothing at some in cc)
+  ]
+
+  stands-alive : (g : Grant) → Has g s.grants → Stands count slots delay now s.transactions s g
+      → Stands count slots delay now s.transactions (record s { ids = (id_used s).ids; last_send = Some now }) g
+  stands-alive g there was = record {
+    granted = was.granted;
+    room = was.room;
+    long = was.long;
+    either = elim was.either [
+      | inl a ↦ inl a
+      | inr idle ↦
+          let none : length s.queue ≡ 0 = rw empty refl in
+          let early = still-early g there was idle in
+          inr (record { unasked = idle.unasked; soon = idle.soon; paused = rw none (omega (arith, early)) })
+    ];
+  }
+
+  pub kept-alive : IsKept count slots delay now s.transactions (record s { ids = (id_used s).ids; last_send = Some now })
+  kept-alive = record {
+    phase = k.phase;
+    requests = k.requests;
+    few = k.few;
+    prompt = k.prompt;
+    pace = k.pace;
+    sent = omega arith;
+    young = k.young;
+    heard = k.heard;
+    asked = k.asked;
+    size = k.size;
+    single = k.single;
+    linked = k.linked;
+    in_range = k.in_range;
+    housed = k.housed;
+    each = λ g there. elim (k.each g there) [ inl waits ↦ inl waits | inr stands ↦ inr (stands-alive g there stands) ];
+  }
+
 -- ---- poll_transmit
 
 -- no grant changes
@@ -312,9 +369,14 @@ transmit-kept count slots delay now s k none = rw (transmits now s none) (by (is
     same : (t : State) → t ≡ s → Keeps t
     same t e = subst Keeps (sym e) (k, goes-more s.transactions s.transactions s s refl (λ x h. h) (λ l h. h))
 
-    refreshes : s.queue ≡ [] → (o : Option Purpose) → slice_get (flat_map (refreshes_in now s) (allocations s)) 0 ≡ o
-        → Keeps (option_map_or (λ purpose. sent_at_once (request_for s purpose (fresh_id s)) purpose now s) o (None, s)).1
-    refreshes empty None e = (k, goes-more s.transactions s.transactions s s refl (λ x h. h) (λ l h. h))
+    keeps : (b : Bool) → s.queue ≡ [] → next_refresh now s ≡ None
+        → Keeps (cond {A = Option (Transmit (List ℕ)) × State} b (Some (to_server s s.local (binding_indication (fresh_id s))), Rattle.turn_client_api.specs.Transmit.sent now (id_used s)) (None, s)).1
+    keeps true empty e = (kept-alive count slots delay now s k empty e, goes-more s.transactions s.transactions s (record s { ids = (id_used s).ids; last_send = Some now }) refl (λ x h. h) (λ l h. h))
+    keeps false empty e = (k, goes-more s.transactions s.transactions s s refl (λ x h. h) (λ l h. h))
+
+    refreshes : s.queue ≡ [] → (o : Option Purpose) → next_refresh now s ≡ o
+        → Keeps (option_map_or (λ purpose. sent_at_once (request_for s purpose (fresh_id s)) purpose now s) o (keepalive_step now s)).1
+    refreshes empty None e = keeps (list_any (λ time. nat_le time now) (keepalive_times s)) empty e
     refreshes empty (Some p) e =
         let next = next-of now s p e in
         elim (k.each next.grant next.there) [
@@ -323,7 +385,7 @@ transmit-kept count slots delay now s k none = rw (transmits now s none) (by (is
         ]
 
     queued : (queue : List Queued) → s.queue ≡ queue → Keeps (queue_step now s).1
-    queued [] e = rw (queue-idle now s e k.phase) (refreshes e (slice_get (flat_map (refreshes_in now s) (allocations s)) 0) refl)
+    queued [] e = rw (queue-idle now s e k.phase) (refreshes e (next_refresh now s) refl)
     queued (q ∷ qs) e =
         let is : (queue_step now s).1 ≡ record s { queue = drop 1 s.queue; last_send = Some now } = front s.queue e in
         subst Keeps (sym is) (kept-queued count slots delay now s k q qs e, goes-more s.transactions s.transactions s (record s { queue = drop 1 s.queue; last_send = Some now }) refl (λ x h. h) (λ l h. h))

@@ -1,16 +1,17 @@
 -- A client that has ended and returns nothing has nothing left to return.
 use Rattle.std.proofs.Common.{◌≡◌, ◌∙◌, ℕ, Bool, true, false, cond, List, [], ◌∷◌, Option, Some, None, ap, filter_map, refl, slice_get, subst, sym}
 use Rattle.std.specs.Option.{option_map_or}
-use Rattle.std.specs.List.{cons_option}
+use Rattle.std.specs.List.{cons_option, list_any}
 use Rattle.turn_stun.specs.declared.transport.Transmit.{Transmit}
 use Rattle.turn_agent.specs.Agent.{due}
-use Rattle.std.specs.Prelude.{IfOk, OnOk, Result, Ok, Err}
+use Rattle.std.specs.Prelude.{IfOk, OnOk, Result, Ok, Err, nat_le}
 use Rattle.turn_client_api.specs.State.{State, agent_of}
 use Rattle.turn_client_api.specs.declared.state.Phase.{Phase}
 use Rattle.turn_client_api.specs.declared.state.Phase.TheVariants.{New, Requesting, Authenticating, Allocated, Closed}
 use Rattle.turn_client_api.specs.declared.state.Queued.{Queued}
-use Rattle.turn_client_api.specs.Due.{is_paused}
-use Rattle.turn_client_api.specs.Transmit.{idle_step, queue_step, refresh_step, reply_in, reply_step, transmit_step, without_first_reply}
+use Rattle.turn_client_api.specs.Due.{is_paused, keepalive_times}
+use Rattle.turn_client_api.specs.Requests.{binding_indication, fresh_id, id_used, to_server}
+use Rattle.turn_client_api.specs.Transmit.{idle_step, keepalive_step, queue_step, refresh_step, reply_in, reply_step, sent, transmit_step, without_first_reply}
 use Rattle.turn_client_api.specs.declared.event.TurnEvent.{TurnEvent}
 use Rattle.turn_client_api.specs.Answers.{event_step}
 use Rattle.turn_driver.specs.Next.{AnswersRest, answer_of, to_send, to_tell, waiting}
@@ -45,8 +46,15 @@ replies-kept (q ∷ queue) none = by q.is_request (replies-kept queue) none
 reply-IsIdle : (s : State) → IsIdle s (reply_step s)
 reply-IsIdle s none = ap (λ (queue : List Queued). record s { queue = queue }) (replies-kept s.queue none)
 
+keepalive-IsIdle : (now : ℕ) (s : State) → IsIdle s (keepalive_step now s)
+keepalive-IsIdle now s = by (list_any (λ time. nat_le time now) (keepalive_times s))
+  where
+    by : (due : Bool) → IsIdle s (cond {A = Option (Transmit (List ℕ)) × State} due (Some (to_server s s.local (binding_indication (fresh_id s))), sent now (id_used s)) (None, s))
+    by true = some-IsIdle s _ _
+    by false = λ none. refl
+
 refresh-IsIdle : (now : ℕ) (s : State) → IsIdle s (refresh_step now s)
-refresh-IsIdle now s = option-IsIdle s _ _ (None, s) (λ purpose. some-IsIdle s _ _) (λ none. refl)
+refresh-IsIdle now s = option-IsIdle s _ _ (keepalive_step now s) (λ purpose. some-IsIdle s _ _) (keepalive-IsIdle now s)
 
 idle-IsIdle : (phase : Phase) (now : ℕ) (s : State) → IsIdle s (idle_step phase now s)
 idle-IsIdle New now s = some-IsIdle s _ _

@@ -41,6 +41,7 @@ config_with request credentials waits = record {
   request_timers = timers_with waits;
   max_stale_nonces = default_max_stale_nonces;
   request_cadence = default_request_cadence;
+  keepalive = None;
 }
 
 -- the new client of a head

@@ -44,6 +44,7 @@ fn a_new_configuration_asks_for_ipv4_over_udp(rt: HostRuntime) {
     same(&rt, config.request_timers(), RequestTimers::default());
     same(&rt, config.max_stale_nonces().get(), 9);
     same(&rt, config.request_cadence(), Duration::from_millis(50));
+    same(&rt, config.keepalive(), None);
 }
 
 /// Sets each setting to another value than its default.
@@ -75,6 +76,25 @@ fn a_copy_has_the_pause_between_requests(rt: HostRuntime) {
     same(&rt, same_pause.request_cadence(), Duration::from_millis(5));
     check(&rt, *same_pause == *first);
     check(&rt, *other != *first);
+}
+
+#[test]
+fn a_keepalive_is_at_least_a_second(rt: HostRuntime) {
+    let mut first = boxed_config(rt.alloc()).expect(&rt, "memory");
+    let other = copy(&rt, rt.alloc(), &first);
+    first.set_keepalive(Some(Duration::from_millis(10)));
+    same(&rt, first.keepalive(), Some(Duration::from_secs(1)));
+    first.set_keepalive(Some(Duration::from_secs(15)));
+    let same_keepalive = copy(&rt, rt.alloc(), &first);
+    same(
+        &rt,
+        same_keepalive.keepalive(),
+        Some(Duration::from_secs(15)),
+    );
+    check(&rt, *same_keepalive == *first);
+    check(&rt, *other != *first);
+    first.set_keepalive(None);
+    check(&rt, *other == *first);
 }
 
 /// Compares the times with those of `set_times`.

@@ -1,18 +1,19 @@
 //! What a client sends next (RFC 8489, section 6.2; RFC 8656, sections 7 to 12).
 
 ghost use Rattle.std.specs.List.{list_any};
-ghost use Rattle.std.specs.Prelude.{◌≡◌, ◌≤◌, ◌^◌, ◌==◌, false, IfOk, IsSome, OnErr, OnOk, Some};
+ghost use Rattle.std.specs.Prelude.{◌≡◌, ◌≤◌, ◌^◌, ◌==◌, false, nat_le, IfOk, IsSome, OnErr, OnOk, Some};
 ghost use Rattle.turn_agent.specs.Agent.{is_outstanding};
+ghost use Rattle.turn_client_api.specs.Due.{keepalive_times};
 ghost use Rattle.turn_client_api.specs.Effect.{closed};
 ghost use Rattle.turn_client_api.specs.Requests.{fresh_id};
-ghost use Rattle.turn_client_api.specs.Transmit.{idle_step, next_transmit, queue_step, refresh_step, reply_step, sent_at_once, transmit_step};
+ghost use Rattle.turn_client_api.specs.Transmit.{idle_step, keepalive_step, next_transmit, queue_step, refresh_step, reply_step, sent_at_once, transmit_step};
 ghost use Rattle.turn_client_core.specs.Sending.{waiting_step};
 
 use crate::protocol::TurnClientProtocol;
 use std::alloc::AllocError;
 use turn_client_api::{Phase, Purpose};
 use turn_client_grants::Purposes;
-use turn_client_requests::first_allocate;
+use turn_client_requests::{binding_indication, first_allocate};
 use turn_stun::data::Data;
 use turn_stun::instant::Instant;
 use turn_stun::transaction::TransactionId;
@@ -85,7 +86,7 @@ impl TurnClientProtocol {
     }
 
     /// The next request that the client has to make: a new client sends the first ALLOCATE, and one
-    /// with allocations refreshes its grants.
+    /// with allocations keeps them.
     fn send_asked(&mut self, now: Instant) -> Result<Option<Transmit<Data>>, AllocError>
         ensures step { IfOk result (λ packet. (packet, self.new) ≡ idle_step self.old.phase now self.old) }
         ensures err { OnErr result (self.new ≡ self.old) }
@@ -126,7 +127,8 @@ impl TurnClientProtocol {
         Ok(Some(packet))
     }
 
-    /// The request for the first grant that is due for a refresh.
+    /// The request for the first grant that is due for a refresh, and if none is, what keeps the path to
+    /// the server alive.
     fn refresh(&mut self, now: Instant) -> Result<Option<Transmit<Data>>, AllocError>
         requires { self.old.phase ≡ Phase.Allocated }
         ensures step { IfOk result (λ packet. (packet, self.new) ≡ refresh_step now self.old) }
@@ -134,12 +136,38 @@ impl TurnClientProtocol {
         ensures free { OnErr result (IsSome (refresh_step now self.old).0) }
     {
         let Some(purpose) = self.ledger.table().first_refresh(now) else {
-            return Ok(None);
+            return self.keep_alive(now);
         };
         let id = self.fresh_id();
         let text = self.text_for(&purpose, id)?;
         let packet = self.send_at_once(id, text, &purpose, now)?;
         Ok(Some(packet))
+    }
+
+    /// The indication that keeps the path to the server alive, if its time has come.
+    fn keep_alive(&mut self, now: Instant) -> Result<Option<Transmit<Data>>, AllocError>
+        ensures step { IfOk result (λ packet. (packet, self.new) ≡ keepalive_step now self.old) }
+        ensures err { OnErr result (self.new ≡ self.old) }
+        ensures free { OnErr result (IsSome (keepalive_step now self.old).0) }
+    {
+        if !self.is_keepalive_due(now) {
+            return Ok(None);
+        }
+        let id = self.fresh_id();
+        let text = binding_indication(self.alloc, id)?;
+        self.outbox.draw();
+        self.outbox.note_sent(now);
+        Ok(Some(self.outbox.packet(text)))
+    }
+
+    /// Whether the time to keep the path to the server alive has come.
+    fn is_keepalive_due(&self, now: Instant) -> bool
+        ensures { result ≡ list_any (λ time. nat_le time now) (keepalive_times self.now) }
+    {
+        match self.keepalive_time() {
+            Some(time) => time <= now,
+            None => false,
+        }
     }
 
     /// Makes a request with this ID, the next one, for this purpose, which is sent at once.

@@ -1,12 +1,14 @@
 //! When a client is to be polled again.
 
-ghost use Rattle.std.specs.Prelude.{◌≡◌, ◌∷◌, [], fold, if◌then◌else◌, min};
-ghost use Rattle.turn_client_api.specs.Due.{has_event, has_queued_request, has_reply, is_paused, least_due, max_wait, next_wakeup, pause_end};
+ghost use Rattle.std.specs.Prelude.{◌≡◌, ◌∷◌, [], fold, if◌then◌else◌, min, not, option_to_list, false};
+ghost use Rattle.std.specs.Option.{option_map_or};
+ghost use Rattle.turn_client_api.specs.Due.{has_allocation_in_use, has_event, has_queued_request, has_reply, is_paused, keepalive_times, least_due, max_wait};
+ghost use Rattle.turn_client_api.specs.Due.{next_wakeup, pause_end};
 ghost use Rattle.turn_client_api.specs.State.{max_time, later_by};
 
 use crate::protocol::TurnClientProtocol;
 use std::time::Duration;
-use turn_client_api::Phase;
+use turn_client_api::{Phase, Relay};
 use turn_stun::instant::Instant;
 
 /// The longest wait of a caller, in seconds (our choice).
@@ -64,7 +66,29 @@ impl TurnClientProtocol {
         let pause = self.pause_end();
         let first = self.first_due(now, pause);
         let second = self.outbox.earliest(first);
-        self.ledger.table().soonest(second, now, pause)
+        let third = self.ledger.table().soonest(second, now, pause);
+        sooner(third, self.keepalive_time())
+    }
+
+    /// When the path to the server is to be kept alive, if it ever is.
+    pub(crate) fn keepalive_time(&self) -> Option<Instant>
+        ensures { option_to_list result ≡ keepalive_times self.now }
+    {
+        let keepalive = self.config.keepalive()?;
+        if !self.has_allocation_in_use() {
+            return None;
+        }
+        let pause = self.pause_end();
+        Some(pause.max(self.outbox.after_last(keepalive)))
+    }
+
+    /// Whether an allocation is not marked as expired.
+    fn has_allocation_in_use(&self) -> bool
+        ensures { result ≡ has_allocation_in_use self.now }
+    {
+        let first = self.ledger.table().nth_allocation(0);
+        let second = self.ledger.table().nth_allocation(1);
+        is_in_use(&first) || is_in_use(&second)
     }
 
     /// The end of the longest wait, or that of the pause if a request is queued and it is sooner.
@@ -76,5 +100,25 @@ impl TurnClientProtocol {
             return latest.min(pause);
         }
         latest
+    }
+}
+
+/// The earlier of the time and the other one, if there is one.
+fn sooner(time: Instant, other: Option<Instant>) -> Instant
+    ensures { result ≡ fold min time (option_to_list other) }
+{
+    match other {
+        Some(other) => time.min(other),
+        None => time,
+    }
+}
+
+/// Whether there is an allocation, and it is not marked as expired.
+fn is_in_use(relay: &Option<Relay>) -> bool
+    ensures { result ≡ option_map_or (λ a. not a.is_expired) relay.now false }
+{
+    match relay {
+        Some(relay) => !relay.is_expired,
+        None => false,
     }
 }

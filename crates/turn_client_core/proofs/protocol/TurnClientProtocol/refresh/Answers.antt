@@ -1,10 +1,10 @@
-use Rattle.std.proofs.Common.{◌∙◌, ap, List, refl, sym, ℕ}
-use Rattle.std.specs.Prelude.{IsSome}
+use Rattle.std.proofs.Common.{◌≡◌, ◌∙◌, ap, List, refl, subst, sym, ℕ}
+use Rattle.std.specs.Prelude.{IfOk, IsSome, OnErr}
 use Rattle.turn_client_api.specs.Requests.{request_for}
 use Rattle.turn_client_api.specs.State.{State}
 use Rattle.turn_client_api.specs.Transmit.{refresh_step, sent_at_once}
 use Rattle.turn_client_core.proofs.ResultLemmas.{on-err}
-use Rattle.turn_client_core.proofs.TransmitLemmas.{refresh-none, refresh-some}
+use Rattle.turn_client_core.proofs.TransmitLemmas.{Packet, refresh-none, refresh-some}
 use Rattle.turn_client_core.proofs.protocol.TurnClientProtocol.refresh.Goals as goal
 
 pub returns-in_default-clause-step : goal.returns-in_default-clause-step
@@ -12,7 +12,16 @@ returns-in_default-clause-step c =
     let s = c.args.self.now in
     let grants = c.table.ensures.grants ∙ ap (λ (t : State). t.grants) c.self.view_is in
     let listed = c.table.ensures.listed ∙ ap (λ (t : State). t.listed) c.self.view_is in
-    refresh-none c.args.now s (rw (grants, listed) at (sym (c.first_refresh.ensures s) ∙ c.in_default.is))
+    let none = refresh-none c.args.now s (rw (grants, listed) at (sym (c.first_refresh.ensures s) ∙ c.in_default.is)) in
+    subst (λ (r : Packet × State). IfOk c.keep_alive.result (λ packet. ◌≡◌ {A = Packet × State} (packet, c.keep_alive.new.self) r)) none c.keep_alive.ensures.step
+
+pub returns-in_default-clause-free : goal.returns-in_default-clause-free
+returns-in_default-clause-free c =
+    let s = c.args.self.now in
+    let grants = c.table.ensures.grants ∙ ap (λ (t : State). t.grants) c.self.view_is in
+    let listed = c.table.ensures.listed ∙ ap (λ (t : State). t.listed) c.self.view_is in
+    let none = refresh-none c.args.now s (rw (grants, listed) at (sym (c.first_refresh.ensures s) ∙ c.in_default.is)) in
+    subst (λ (r : Packet × State). OnErr c.keep_alive.result (IsSome r.0)) none c.keep_alive.ensures.free
 
 pub returns-clause-step : goal.returns-clause-step
 returns-clause-step c =

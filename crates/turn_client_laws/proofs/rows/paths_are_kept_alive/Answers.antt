@@ -1,0 +1,18 @@
+use Rattle.std.proofs.Common.{refl}
+use Rattle.turn_client_api.specs.Due.{refresh_time}
+use Rattle.turn_client_api.specs.Transmit.{is_refresh_due}
+use Rattle.turn_client_laws.proofs.rows.paths_are_kept_alive.Goals as goal
+
+pub returns : goal.returns
+unfolding refresh_time is_refresh_due
+returns c = record {
+  told = λ s. refl;
+  early = λ s. refl;
+  bytes = λ s. refl;
+  after = λ s. refl;
+  next = λ s. refl;
+  paused = λ s. refl;
+  refresh = λ s. refl;
+  unallocated = λ s. refl;
+  default = λ s. refl;
+}
