@@ -25,6 +25,8 @@ pub record Config : Type 0 where
   pub request_cadence : ℕ
   -- so long after the last packet an indication keeps the path to the server alive, if ever
   pub keepalive : Option ℕ
+  -- so long before its expiry a grant is refreshed, but not before half of its lifetime is over
+  pub refresh_ahead : ℕ
 
 -- unless another limit is set (our choice)
 abbrev pub default_max_stale_nonces : ℕ
@@ -33,6 +35,13 @@ default_max_stale_nonces = 9
 -- unless another pause between two requests is set, so that a server is not flooded (our choice)
 abbrev pub default_request_cadence : ℕ
 default_request_cadence = 50_000_000
+
+-- unless another time is set (our choice: RFC 8656, section 8, suggests about a minute), and at least this
+abbrev pub default_refresh_ahead : ℕ
+default_refresh_ahead = 60_000_000_000
+
+abbrev pub least_refresh_ahead : ℕ
+least_refresh_ahead = 1_000_000_000
 
 -- a path is kept alive no more often than once in a second (our choice)
 abbrev pub least_keepalive : ℕ

@@ -8,16 +8,9 @@ use Rattle.turn_client_api.specs.State.{State, Phase, New, Grant, Allocation, Pe
 use Rattle.turn_client_api.specs.State.{seconds}
 use Rattle.turn_client_api.specs.Grants.{allocations, find_allocation, family_of_grant, has_request}
 use Rattle.turn_client_api.specs.Calls.{is_allocated}
+use Rattle.turn_client_api.specs.Effect.{channel_lifetime, min_lifetime, permission_lifetime}
 
 -- ---- numbers of ours
-
--- a grant is refreshed so long before it expires (our choice: RFC 8656, section 8, suggests about a minute)
-abbrev pub refresh_ahead : ℕ
-refresh_ahead = seconds 60
-
--- an allocation whose first lifetime is no longer is refreshed half of it before it expires (our choice)
-abbrev pub short_lifetime : ℕ
-short_lifetime = seconds 120
 
 -- how long a caller waits at most (our choice)
 abbrev pub max_wait : ℕ
@@ -40,9 +33,15 @@ is_paused now s = nat_lt now (pause_end s)
 
 -- ---- refreshes
 
-abbrev pub refresh_time_of : Relay → ℕ
-refresh_time_of a =
-    if nat_le a.first_lifetime short_lifetime then a.expiry - a.first_lifetime / 2 else a.expiry - refresh_ahead
+-- A grant of this lifetime is refreshed so long before it expires: as was configured, but no more than half of the
+-- lifetime (our choice).
+abbrev pub time_ahead : ℕ → ℕ → ℕ
+time_ahead ahead lifetime = min ahead (lifetime / 2)
+
+-- Of an allocation the first lifetime counts, and no more of it than the least one that a refresh grants: so none is due
+-- again as soon as it is answered.
+abbrev pub refresh_time_of : ℕ → Relay → ℕ
+refresh_time_of ahead a = a.expiry - time_ahead ahead (min a.first_lifetime (seconds min_lifetime))
 
 -- an expired allocation is refreshed no more, nor are the grants in it
 abbrev pub is_refreshable : Grant → State → Bool
@@ -50,16 +49,17 @@ is_refreshable (Allocation a) s = not a.is_expired
 is_refreshable grant s = option_map_or (λ a. not a.is_expired) (find_allocation (family_of_grant grant) s) false
 
 -- when a grant of its kind is refreshed, if ever
-abbrev pub refresh_time_by_kind : Grant → Option ℕ
-refresh_time_by_kind (Allocation a) = Some (refresh_time_of a)
-refresh_time_by_kind (Permission ip (Active expiry)) = Some (expiry - refresh_ahead)
-refresh_time_by_kind (Channel number peer (Active expiry)) = Some (expiry - refresh_ahead)
-refresh_time_by_kind _ = None
+abbrev pub refresh_time_by_kind : ℕ → Grant → Option ℕ
+refresh_time_by_kind ahead (Allocation a) = Some (refresh_time_of ahead a)
+refresh_time_by_kind ahead (Permission ip (Active expiry)) = Some (expiry - time_ahead ahead permission_lifetime)
+refresh_time_by_kind ahead (Channel number peer (Active expiry)) = Some (expiry - time_ahead ahead channel_lifetime)
+refresh_time_by_kind ahead _ = None
 
 -- when the grant is to be refreshed, unless a request for it is pending
 unfoldable pub refresh_time : State → Grant → Option ℕ
 refresh_time s grant =
-    option_and_then (λ time. if is_refreshable grant s && not (has_request grant s) then Some time else None) (refresh_time_by_kind grant)
+    option_and_then (λ time. if is_refreshable grant s && not (has_request grant s) then Some time else None)
+    (refresh_time_by_kind s.config.refresh_ahead grant)
 
 -- ---- the path to the server
 

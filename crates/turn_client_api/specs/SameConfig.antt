@@ -60,9 +60,10 @@ same_keepalive None (Some b) = false
 same_keepalive (Some a) None = false
 same_keepalive (Some a) (Some b) = a == b
 
--- both send as often
+-- both send and refresh at the same times
 abbrev pub same_times : Config → Config → Bool
-same_times a b = (a.request_cadence == b.request_cadence) && same_keepalive a.keepalive b.keepalive
+same_times a b =
+    (a.request_cadence == b.request_cadence) && same_keepalive a.keepalive b.keepalive && (a.refresh_ahead == b.refresh_ahead)
 
 abbrev pub same_config : Config → Config → Bool
 same_config a b = same_request a b && same_user a b && same_limits a b && same_times a b

@@ -92,8 +92,9 @@ same_config-Decides a b =
     (pointwise_decides same_algorithm-Decides a.supported_integrity b.supported_integrity))
     (same_feature-Decides a.anonymous_username b.anonymous_username)))
     (both (same_set_timers-Decides a.request_timers b.request_timers) (unsigned_Decides a.max_stale_nonces b.max_stale_nonces)))
-    (both (unsigned_Decides a.request_cadence b.request_cadence) (same_keepalive-Decides a.keepalive b.keepalive)))
-    (λ ((((transport, families), ((credentials, algorithms), anonymous)), (timers, limit)), (cadence, keepalive)) i. record {
+    (both (both (unsigned_Decides a.request_cadence b.request_cadence) (same_keepalive-Decides a.keepalive b.keepalive))
+    (unsigned_Decides a.refresh_ahead b.refresh_ahead)))
+    (λ ((((transport, families), ((credentials, algorithms), anonymous)), (timers, limit)), ((cadence, keepalive), ahead)) i. record {
       allocation_transport = transport i;
       address_families = families i;
       credentials = credentials i;
@@ -103,6 +104,7 @@ same_config-Decides a b =
       max_stale_nonces = limit i;
       request_cadence = cadence i;
       keepalive = keepalive i;
+      refresh_ahead = ahead i;
     })
     (λ e. (
       (
@@ -112,7 +114,7 @@ same_config-Decides a b =
         ),
         (ap (λ c. c.request_timers) e, ap (λ c. c.max_stale_nonces) e),
       ),
-      (ap (λ c. c.request_cadence) e, ap (λ c. c.keepalive) e),
+      ((ap (λ c. c.request_cadence) e, ap (λ c. c.keepalive) e), ap (λ c. c.refresh_ahead) e),
     ))
 
 pub same_config-equivalence : IsEquivalence same_config

@@ -5,7 +5,8 @@ ghost use Rattle.std.specs.Duration.{as_nanos};
 ghost use Rattle.std.specs.Int.NonZero.{non_zero_u16_get};
 ghost use Rattle.turn_agent.specs.Schedule.{wait_of};
 ghost use Rattle.turn_auth.specs.LongTerm.{with_algorithm};
-ghost use Rattle.turn_client_api.specs.Config.{Config, default_max_stale_nonces, default_request_cadence, least_keepalive, timers_of, with_family};
+ghost use Rattle.turn_client_api.specs.Config.{Config, default_max_stale_nonces, default_refresh_ahead, default_request_cadence, least_keepalive};
+ghost use Rattle.turn_client_api.specs.Config.{least_refresh_ahead, timers_of, with_family};
 ghost use Rattle.turn_client_api.specs.SameConfig.{same_keepalive, same_limits, same_request, same_times, same_user};
 
 use smallvec::SmallVec;
@@ -36,6 +37,7 @@ pub struct TurnConfig {
     max_stale_nonces: NonZeroU16,
     request_cadence: Duration,
     keepalive: Option<Duration>,
+    refresh_ahead: Duration,
 }
 
 impl Model for TurnConfig {
@@ -56,6 +58,7 @@ impl Model for TurnConfig {
       max_stale_nonces = non_zero_u16_get c.max_stale_nonces;
       request_cadence = as_nanos c.request_cadence;
       keepalive = option_map as_nanos c.keepalive;
+      refresh_ahead = as_nanos c.refresh_ahead;
     } };
 
     ghost invariant = { λ c. IsKeptConfig c.address_families c.supported_integrity };
@@ -65,8 +68,8 @@ impl TurnConfig {
     /// The configuration of a client with these credentials: it requests an IPv4 address that
     /// relays over UDP, supports integrity with SHA-1, does not hide its user name (`Feature::Auto`),
     /// retransmits at the times of RFC 8489, section 6.2.1, answers nine challenges in a row, sends
-    /// a request every 50 ms at most, and does not keep its path to the server alive. Allocates no
-    /// memory.
+    /// a request every 50 ms at most, does not keep its path to the server alive, and refreshes a
+    /// minute ahead. Allocates no memory.
     pub fn new(alloc: Global, credentials: TurnCredentials) -> TurnConfig
         ensures { result ≡ record {
           allocation_transport = TransportType.Udp;
@@ -78,6 +81,7 @@ impl TurnConfig {
           max_stale_nonces = default_max_stale_nonces;
           request_cadence = default_request_cadence;
           keepalive = None;
+          refresh_ahead = default_refresh_ahead;
         } }
     {
         TurnConfig {
@@ -90,6 +94,7 @@ impl TurnConfig {
             max_stale_nonces: NonZeroU16::new(9).unwrap(),
             request_cadence: Duration::from_millis(50),
             keepalive: None,
+            refresh_ahead: Duration::from_secs(60),
         }
     }
 
@@ -315,6 +320,30 @@ impl TurnConfig {
         self.keepalive
     }
 
+    /// Sets how long before its expiry a grant is refreshed (RFC 8656, section 8, suggests about a
+    /// minute), but not before half of its lifetime is over (our choice): a permission at most 150 s
+    /// before its expiry, and a channel at most 300 s; an allocation at most half of its first
+    /// lifetime, and at most 300 s, since a refresh may grant 600 s. Once a refresh is due, it is
+    /// retransmitted until it is answered or times out (`set_request_retransmits`), and then made
+    /// anew, until the grant expires.
+    ///
+    /// By default it is a minute. Less than a second is taken as a second. Set more for a link that
+    /// loses answers for a minute or longer, or for more permissions and channels than leave in a
+    /// minute (`set_request_cadence`).
+    pub fn set_refresh_ahead(&mut self, refresh_ahead: Duration)
+        ensures { self.new ≡ record self.old { refresh_ahead = max least_refresh_ahead (as_nanos refresh_ahead) } }
+    {
+        self.refresh_ahead = at_least_a_second(refresh_ahead);
+    }
+
+    /// How long before its expiry a grant is refreshed, as `set_refresh_ahead` last set it, or else a
+    /// minute.
+    pub fn refresh_ahead(&self) -> Duration
+        ensures { as_nanos result ≡ self.now.refresh_ahead }
+    {
+        self.refresh_ahead
+    }
+
     /// A configuration with the same settings.
     ///
     /// # Errors
@@ -335,6 +364,7 @@ impl TurnConfig {
             max_stale_nonces: self.max_stale_nonces,
             request_cadence: self.request_cadence,
             keepalive: self.keepalive,
+            refresh_ahead: self.refresh_ahead,
         })
     }
 
@@ -363,12 +393,13 @@ impl TurnConfig {
             && self.max_stale_nonces.get() == other.max_stale_nonces.get()
     }
 
-    /// Whether both send as often.
+    /// Whether both send and refresh at the same times.
     fn is_same_times(&self, other: &TurnConfig) -> bool
         ensures { result ≡ same_times self.now other.now }
     {
         self.request_cadence.as_nanos() == other.request_cadence.as_nanos()
             && is_same_keepalive(self.keepalive, other.keepalive)
+            && self.refresh_ahead.as_nanos() == other.refresh_ahead.as_nanos()
     }
 }
 

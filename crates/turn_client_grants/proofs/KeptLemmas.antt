@@ -1,17 +1,17 @@
 -- What a change leaves of the table and of its summary: grants are added at the end, pending ones are
 -- removed, and requests are listed and unlisted that are for no grant that is refreshed.
-use Rattle.std.proofs.Common.{arith, ◌≡◌, ◌∙◌, ◌∷◌, ◌++◌, ℕ, Bool, true, false, List, [], append-nil, ap, append_assoc, filter, not, refl, sym}
+use Rattle.std.proofs.Common.{arith, ◌≡◌, ◌∙◌, ◌∷◌, ◌++◌, ℕ, zero, suc, Bool, true, false, List, [], append-nil, ap, append_assoc, filter, not, refl, sym}
 use Rattle.std.specs.Prelude.{◌&&◌, ◌||◌, Option, Some, None, filter_map, fold, is_some, min, option_to_list, slice_get}
 use Rattle.std.specs.List.{list_any}
+use Rattle.std.specs.Option.{option_map_or}
 use Rattle.std.proofs.lemmas.Grind.{fold-append}
 use Rattle.std.proofs.lemmas.List.Elements.{filter_map-append}
 use Rattle.std.proofs.lemmas.List.Folds.{list_any-append}
-use Rattle.turn_client_api.specs.Due.{refresh_time}
 use Rattle.turn_client_api.specs.Grants.{as_allocation, is_connect_to, is_connection_from, is_for, is_for_any}
 use Rattle.turn_client_api.specs.Requests.{listings}
 use Rattle.turn_client_api.specs.State.{State, max_time}
 use Rattle.turn_client_api.specs.declared.grant.Grant.{Grant}
-use Rattle.turn_client_api.specs.declared.grant.Grant.TheVariants.{Allocation}
+use Rattle.turn_client_api.specs.declared.grant.Grant.TheVariants.{Allocation, Permission, Channel, Connect, Offer, Connection}
 use Rattle.turn_client_api.specs.declared.grant.Listing.{Listing}
 use Rattle.turn_client_api.specs.declared.grant.Purpose.{Purpose}
 use Rattle.turn_client_api.specs.declared.grant.Purpose.TheVariants.{ForAllocation, ForRefresh, ForPermission, ForChannel, ForConnect, ForBind}
@@ -21,7 +21,7 @@ use Rattle.turn_client_grants.specs.Index.{IsIndex}
 use Rattle.turn_client_grants.specs.Keys.{is_found_by}
 use Rattle.turn_client_grants.specs.Lists.{find_allocation_in, with_lists}
 use Rattle.turn_client_grants.specs.Pending.{is_pending, is_refreshed}
-use Rattle.turn_client_grants.specs.Summary.{IsSummary, end_in, is_requested, is_reserved, is_untold, lapse_in, never}
+use Rattle.turn_client_grants.specs.Summary.{IsSummary, end_in, far, is_kept, is_requested, is_reserved, is_untold, kept_expiry, lapse_in, never}
 use Rattle.turn_client_grants.specs.Table.{unlisted_in}
 use Rattle.turn_client_grants.specs.GrantFilter.{purposes_in}
 use Rattle.turn_client_grants.specs.declared.key.Key.{Key}
@@ -40,15 +40,16 @@ filter_map-agree f h same (g ∷ gs) = rw (same g, filter_map-agree f h same gs)
 abbrev requests_for : Grant → List Listing → Bool
 requests_for g listed = list_any (λ l. is_for l.purpose g) listed
 
-refresh-same : (rows others : List Grant) (listed later : List Listing) (s : State) (g : Grant) → filter_map as_allocation rows ≡ filter_map as_allocation others
-    → requests_for g listed ≡ requests_for g later → refresh_time (with_lists rows listed s) g ≡ refresh_time (with_lists others later s) g
-unfolding refresh_time
-refresh-same rows others listed later s g relays same = grind arith
+refresh-same : (of_channels : Bool) (rows others : List Grant) (listed later : List Listing) (s : State) (g : Grant) → filter_map as_allocation rows ≡ filter_map as_allocation others
+    → requests_for g listed ≡ requests_for g later → kept_expiry of_channels (with_lists rows listed s) g ≡ kept_expiry of_channels (with_lists others later s) g
+unfolding kept_expiry
+refresh-same of_channels rows others listed later s g relays same = grind arith
 
-refreshes-same : (rows others gs : List Grant) (listed : List Listing) (s : State) → filter_map as_allocation rows ≡ filter_map as_allocation others
-    → filter_map (refresh_time (with_lists rows listed s)) gs ≡ filter_map (refresh_time (with_lists others listed s)) gs
-refreshes-same rows others gs listed s relays =
-    filter_map-agree (refresh_time (with_lists rows listed s)) (refresh_time (with_lists others listed s)) (λ g. refresh-same rows others listed listed s g relays refl) gs
+refreshes-same : (of_channels : Bool) (rows others gs : List Grant) (listed : List Listing) (s : State) → filter_map as_allocation rows ≡ filter_map as_allocation others
+    → filter_map (kept_expiry of_channels (with_lists rows listed s)) gs ≡ filter_map (kept_expiry of_channels (with_lists others listed s)) gs
+refreshes-same of_channels rows others gs listed s relays =
+    filter_map-agree (kept_expiry of_channels (with_lists rows listed s)) (kept_expiry of_channels (with_lists others listed s))
+    (λ g. refresh-same of_channels rows others listed listed s g relays refl) gs
 
 -- ---- grants are added at the end
 
@@ -70,23 +71,32 @@ pub summary-joined : (was now : Summary) (rows others last : List Grant) (listed
     → now.first ≡ was.first → now.second ≡ was.second
     → now.end ≡ fold min was.end (filter_map end_in last)
     → now.lapse ≡ fold min was.lapse (filter_map (lapse_in listed) last)
-    → ((s : State) → now.refresh ≡ fold min was.refresh (filter_map (refresh_time (with_lists rows listed s)) last))
+    → now.keeps_first ≡ was.keeps_first → now.keeps_second ≡ was.keeps_second
+    → ((s : State) → now.permissions ≡ fold min was.permissions (filter_map (kept_expiry false (with_lists rows listed s)) last))
+    → ((s : State) → now.channels ≡ fold min was.channels (filter_map (kept_expiry true (with_lists rows listed s)) last))
     → now.has_untold ≡ (was.has_untold || list_any is_untold last)
     → now.has_requested ≡ (was.has_requested || list_any is_requested last)
     → now.has_reserved ≡ (was.has_reserved || list_any is_reserved last)
     → IsSummary was others listed → IsSummary now rows listed
-summary-joined was now rows others last listed none are first second end lapse refresh untold requested reserved summed =
+summary-joined was now rows others last listed none are first second end lapse keeps_first keeps_second permissions channels untold requested reserved summed =
     let relays : filter_map as_allocation rows ≡ filter_map as_allocation others = ap (filter_map as_allocation) are ∙ relays-joined others last none in
     record {
       first = first ∙ (summed.first ∙ ap (λ xs. slice_get xs 0) (sym relays));
       second = second ∙ (summed.second ∙ ap (λ xs. slice_get xs 1) (sym relays));
       end = end ∙ (least-joined end_in max_time was.end others last summed.end ∙ ap (λ gs. fold min max_time (filter_map end_in gs)) (sym are));
       lapse = lapse ∙ (least-joined (lapse_in listed) never was.lapse others last summed.lapse ∙ ap (λ gs. fold min never (filter_map (lapse_in listed) gs)) (sym are));
-      refresh = λ s.
-          refresh s
-          ∙ (least-joined (refresh_time (with_lists rows listed s)) max_time was.refresh others last
-          (summed.refresh s ∙ ap (λ xs. fold min max_time xs) (sym (refreshes-same rows others others listed s relays)))
-          ∙ ap (λ gs. fold min max_time (filter_map (refresh_time (with_lists rows listed s)) gs)) (sym are));
+      keeps_first = keeps_first ∙ (summed.keeps_first ∙ ap (λ xs. option_map_or (is_kept listed) (slice_get xs 0) false) (sym relays));
+      keeps_second = keeps_second ∙ (summed.keeps_second ∙ ap (λ xs. option_map_or (is_kept listed) (slice_get xs 1) false) (sym relays));
+      permissions = λ s.
+          permissions s
+          ∙ (least-joined (kept_expiry false (with_lists rows listed s)) far was.permissions others last
+          (summed.permissions s ∙ ap (λ xs. fold min far xs) (sym (refreshes-same false rows others others listed s relays)))
+          ∙ ap (λ gs. fold min far (filter_map (kept_expiry false (with_lists rows listed s)) gs)) (sym are));
+      channels = λ s.
+          channels s
+          ∙ (least-joined (kept_expiry true (with_lists rows listed s)) far was.channels others last
+          (summed.channels s ∙ ap (λ xs. fold min far xs) (sym (refreshes-same true rows others others listed s relays)))
+          ∙ ap (λ gs. fold min far (filter_map (kept_expiry true (with_lists rows listed s)) gs)) (sym are));
       untold = untold ∙ (any-joined is_untold was.has_untold others last summed.untold ∙ ap (list_any is_untold) (sym are));
       requested = requested ∙ (any-joined is_requested was.has_requested others last summed.requested ∙ ap (list_any is_requested) (sym are));
       reserved = reserved ∙ (any-joined is_reserved was.has_reserved others last summed.reserved ∙ ap (list_any is_reserved) (sym are));
@@ -121,9 +131,9 @@ no-lapse listed g h = grind arith
 pub not-refreshed : (g : Grant) → is_pending g ≡ true → is_refreshed g ≡ false
 not-refreshed g h = grind arith
 
-no-refresh : (s : State) (g : Grant) → is_refreshed g ≡ false → refresh_time s g ≡ None
-unfolding refresh_time
-no-refresh s g h = grind arith
+no-refresh : (of_channels : Bool) (s : State) (g : Grant) → is_refreshed g ≡ false → kept_expiry of_channels s g ≡ None
+unfolding kept_expiry
+no-refresh of_channels s g h = grind arith
 
 not-untold : (g : Grant) → is_pending g ≡ true → is_untold g ≡ false
 not-untold g h = grind arith
@@ -145,15 +155,21 @@ summary-without summary gone rows listed are summed =
       second = summed.second ∙ ap (λ xs. slice_get xs 1) (sym relays);
       end = summed.end ∙ ap (λ xs. fold min max_time xs) (sym (given-without end_in no-end gone rows are));
       lapse = summed.lapse ∙ ap (λ xs. fold min never xs) (sym (given-without (lapse_in listed) (no-lapse listed) gone rows are));
-      refresh = λ s.
-          summed.refresh s
-          ∙ ap (λ xs. fold min max_time xs)
-          (sym (refreshes-same left rows left listed s relays ∙ given-without (refresh_time (with_lists rows listed s))
-          (λ g h. no-refresh (with_lists rows listed s) g (not-refreshed g h)) gone rows are));
+      keeps_first = summed.keeps_first ∙ ap (λ xs. option_map_or (is_kept listed) (slice_get xs 0) false) (sym relays);
+      keeps_second = summed.keeps_second ∙ ap (λ xs. option_map_or (is_kept listed) (slice_get xs 1) false) (sym relays);
+      permissions = λ s. summed.permissions s ∙ ap (λ xs. fold min far xs) (sym (kept false s relays));
+      channels = λ s. summed.channels s ∙ ap (λ xs. fold min far xs) (sym (kept true s relays));
       untold = summed.untold ∙ sym (any-without is_untold not-untold gone rows are);
       requested = summed.requested ∙ sym (any-without is_requested not-requested gone rows are);
       reserved = summed.reserved ∙ sym (any-without is_reserved not-reserved gone rows are);
     }
+  where
+    kept : (of_channels : Bool) (s : State) → filter_map as_allocation (filter (λ g. not (gone g)) rows) ≡ filter_map as_allocation rows
+        → filter_map (kept_expiry of_channels (with_lists (filter (λ g. not (gone g)) rows) listed s)) (filter (λ g. not (gone g)) rows)
+        ≡ filter_map (kept_expiry of_channels (with_lists rows listed s)) rows
+    kept of_channels s relays =
+        refreshes-same of_channels (filter (λ g. not (gone g)) rows) rows (filter (λ g. not (gone g)) rows) listed s relays
+        ∙ given-without (kept_expiry of_channels (with_lists rows listed s)) (λ g h. no-refresh of_channels (with_lists rows listed s) g (not-refreshed g h)) gone rows are
 
 -- ---- requests are listed and unlisted
 
@@ -167,14 +183,26 @@ lapses-alike [] listed later alike = refl
 lapses-alike (Allocation a ∷ rows) listed later alike = rw (alike.0 refl, lapses-alike rows listed later alike.1) refl
 lapses-alike (g ∷ rows) listed later alike = grind (arith, lapses-alike rows listed later alike.1)
 
-refreshes-alike : (all rows : List Grant) (listed later : List Listing) (s : State) → AreAlike rows listed later
-    → filter_map (refresh_time (with_lists all later s)) rows ≡ filter_map (refresh_time (with_lists all listed s)) rows
-refreshes-alike all [] listed later s alike = refl
-refreshes-alike all (g ∷ rows) listed later s alike = rw (by (is_refreshed g) refl, refreshes-alike all rows listed later s alike.1) refl
+refreshes-alike : (of_channels : Bool) (all rows : List Grant) (listed later : List Listing) (s : State) → AreAlike rows listed later
+    → filter_map (kept_expiry of_channels (with_lists all later s)) rows ≡ filter_map (kept_expiry of_channels (with_lists all listed s)) rows
+refreshes-alike of_channels all [] listed later s alike = refl
+refreshes-alike of_channels all (g ∷ rows) listed later s alike = rw (by (is_refreshed g) refl, refreshes-alike of_channels all rows listed later s alike.1) refl
   where
-    by : (b : Bool) → is_refreshed g ≡ b → refresh_time (with_lists all later s) g ≡ refresh_time (with_lists all listed s) g
-    by true e = refresh-same all all later listed s g refl (alike.0 e)
-    by false e = no-refresh (with_lists all later s) g e ∙ sym (no-refresh (with_lists all listed s) g e)
+    by : (b : Bool) → is_refreshed g ≡ b → kept_expiry of_channels (with_lists all later s) g ≡ kept_expiry of_channels (with_lists all listed s) g
+    by true e = refresh-same of_channels all all later listed s g refl (alike.0 e)
+    by false e = no-refresh of_channels (with_lists all later s) g e ∙ sym (no-refresh of_channels (with_lists all listed s) g e)
+
+-- an allocation has a request in both lists, or in neither
+keeps-alike : (place : ℕ) (rows : List Grant) (listed later : List Listing) → AreAlike rows listed later
+    → option_map_or (is_kept later) (slice_get (filter_map as_allocation rows) place) false ≡ option_map_or (is_kept listed) (slice_get (filter_map as_allocation rows) place) false
+keeps-alike place [] listed later alike = refl
+keeps-alike zero (Allocation a ∷ rows) listed later alike = rw (alike.0 refl) refl
+keeps-alike (suc place) (Allocation a ∷ rows) listed later alike = keeps-alike place rows listed later alike.1
+keeps-alike place (Permission ip progress ∷ rows) listed later alike = keeps-alike place rows listed later alike.1
+keeps-alike place (Channel number peer progress ∷ rows) listed later alike = keeps-alike place rows listed later alike.1
+keeps-alike place (Connect peer ∷ rows) listed later alike = keeps-alike place rows listed later alike.1
+keeps-alike place (Offer offer ∷ rows) listed later alike = keeps-alike place rows listed later alike.1
+keeps-alike place (Connection c ∷ rows) listed later alike = keeps-alike place rows listed later alike.1
 
 summary-alike : (summary : Summary) (rows : List Grant) (listed later : List Listing) → AreAlike rows listed later → IsSummary summary rows listed → IsSummary summary rows later
 summary-alike summary rows listed later alike summed = record {
@@ -182,7 +210,10 @@ summary-alike summary rows listed later alike summed = record {
   second = summed.second;
   end = summed.end;
   lapse = summed.lapse ∙ ap (λ xs. fold min never xs) (sym (lapses-alike rows listed later alike));
-  refresh = λ s. summed.refresh s ∙ ap (λ xs. fold min max_time xs) (sym (refreshes-alike rows rows listed later s alike));
+  keeps_first = summed.keeps_first ∙ sym (keeps-alike 0 rows listed later alike);
+  keeps_second = summed.keeps_second ∙ sym (keeps-alike 1 rows listed later alike);
+  permissions = λ s. summed.permissions s ∙ ap (λ xs. fold min far xs) (sym (refreshes-alike false rows rows listed later s alike));
+  channels = λ s. summed.channels s ∙ ap (λ xs. fold min far xs) (sym (refreshes-alike true rows rows listed later s alike));
   untold = summed.untold;
   requested = summed.requested;
   reserved = summed.reserved;

@@ -36,11 +36,11 @@ fold-min-acc : (n x : ℕ) (xs : List ℕ) → fold min (min n x) xs ≡ min x (
 fold-min-acc n x [] = omega arith
 fold-min-acc n x (y ∷ ys) = let turned : min (min n x) y ≡ min (min n y) x = omega arith in rw turned (fold-min-acc (min n y) x ys)
 
-fold-min-append : (n : ℕ) (xs ys : List ℕ) → fold min n (xs ++ ys) ≡ min (fold min n xs) (fold min n ys)
+pub fold-min-append : (n : ℕ) (xs ys : List ℕ) → fold min n (xs ++ ys) ≡ min (fold min n xs) (fold min n ys)
 fold-min-append n [] ys = omega (arith, fold-min-le n ys)
 fold-min-append n (x ∷ xs) ys = omega (arith, fold-min-append (min n x) xs ys, fold-min-acc n x ys, fold-min-le (min n x) xs)
 
-fold-min-both : {G : Type 0} (n : ℕ) (f h : G → List ℕ) (gs : List G) → fold min n (flat_map (λ g. f g ++ h g) gs) ≡ min (fold min n (flat_map f gs)) (fold min n (flat_map h gs))
+pub fold-min-both : {G : Type 0} (n : ℕ) (f h : G → List ℕ) (gs : List G) → fold min n (flat_map (λ g. f g ++ h g) gs) ≡ min (fold min n (flat_map f gs)) (fold min n (flat_map h gs))
 fold-min-both n f h [] = omega arith
 fold-min-both n f h (g ∷ gs) = grind (arith, fold-min-append, fold-min-both n f h gs)
 
@@ -49,7 +49,7 @@ fold-min-max p n [] le = omega arith
 fold-min-max p n (x ∷ xs) le = omega (arith, fold-min-max p n xs le, fold-min-acc n (max p x) (map (max p) xs), fold-min-acc n x xs)
 
 -- a start value that is not less changes nothing, if the lesser one is counted too
-fold-min-from : (m n : ℕ) (xs : List ℕ) → m ≤ n → fold min m xs ≡ min m (fold min n xs)
+pub fold-min-from : (m n : ℕ) (xs : List ℕ) → m ≤ n → fold min m xs ≡ min m (fold min n xs)
 fold-min-from m n xs le = let same : m ≡ min n m = omega (arith, le) in ap (λ (k : ℕ). fold min k xs) same ∙ fold-min-acc n m xs
 
 -- ---- before the earliest time
@@ -119,11 +119,11 @@ relay_end_in now _ = []
 end-parts : (now : ℕ) (g : Grant) → end_of now g ≡ relay_end_in now g ++ option_to_list (end_in g)
 end-parts now g = grind (arith, append-nil)
 
-flat-same : (f h : Grant → List ℕ) → ((g : Grant) → f g ≡ h g) → (gs : List Grant) → flat_map f gs ≡ flat_map h gs
+pub flat-same : (f h : Grant → List ℕ) → ((g : Grant) → f g ≡ h g) → (gs : List Grant) → flat_map f gs ≡ flat_map h gs
 flat-same f h same [] = refl
 flat-same f h same (g ∷ gs) = rw (same g, flat-same f h same gs) refl
 
-flat-options : (f : Grant → Option ℕ) (gs : List Grant) → flat_map (λ g. option_to_list (f g)) gs ≡ filter_map f gs
+pub flat-options : (f : Grant → Option ℕ) (gs : List Grant) → flat_map (λ g. option_to_list (f g)) gs ≡ filter_map f gs
 flat-options f [] = refl
 flat-options f (g ∷ gs) = grind (arith, flat-options f gs)
 

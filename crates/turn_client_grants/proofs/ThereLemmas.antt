@@ -35,6 +35,7 @@ someone address = initial Udp address address
       max_stale_nonces = 1;
       request_cadence = 0;
       keepalive = None;
+      refresh_ahead = 0;
     })
     []
 

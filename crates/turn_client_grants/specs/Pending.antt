@@ -1,6 +1,8 @@
 -- Which grants the summary counts.
-use Rattle.std.specs.Prelude.{◌&&◌, ◌||◌, Bool, List, Option, is_some, option_to_list}
+use Rattle.std.specs.Prelude.{◌&&◌, ◌||◌, Bool, true, false, List, Option, is_some, option_to_list}
 use Rattle.std.specs.List.{list_any}
+use Rattle.turn_client_api.specs.declared.grant.Progress.{Progress}
+use Rattle.turn_client_api.specs.declared.grant.Progress.TheVariants.{Active}
 use Rattle.turn_client_api.specs.Due.{refresh_time_by_kind}
 use Rattle.turn_client_api.specs.Grants.{is_for_any, is_pending_channel, is_pending_permission}
 use Rattle.turn_client_api.specs.declared.grant.Grant.{Grant}
@@ -11,9 +13,13 @@ use Rattle.turn_client_grants.specs.declared.purposes.Purposes.{Purposes}
 abbrev pub is_pending : Grant → Bool
 is_pending g = is_pending_permission g || is_pending_channel g
 
--- a grant of this kind is refreshed, and the requests for it decide when
+abbrev pub is_active : Progress → Bool
+is_active (Active expiry) = true
+is_active _ = false
+
+-- a grant of this kind is refreshed, however long ahead, and the requests for it decide when
 abbrev pub is_refreshed : Grant → Bool
-is_refreshed g = is_some (refresh_time_by_kind g)
+is_refreshed g = is_some (refresh_time_by_kind 0 g)
 
 -- there is a purpose, and it is for a grant that is refreshed
 abbrev pub is_for_refreshed : Option Purpose → List Grant → Bool

@@ -1,8 +1,12 @@
 -- What is read from all grants at once.
-use Rattle.std.specs.Prelude.{ℕ, ◌≡◌, ◌+◌, ◌^◌, ◌&&◌, if◌then◌else◌, min, not, Bool, true, false, List, filter_map, fold, slice_get, Option, Some, None}
+use Rattle.std.specs.Prelude.{ℕ, ◌≡◌, ◌+◌, ◌-◌, ◌^◌, ◌&&◌, if◌then◌else◌, min, not, Bool, true, false, List, filter_map, fold, slice_get, option_and_then}
+use Rattle.std.specs.Prelude.{option_to_list, Option, Some, None}
 use Rattle.std.specs.List.{list_any}
-use Rattle.turn_client_api.specs.Due.{refresh_time}
-use Rattle.turn_client_api.specs.Grants.{as_allocation, is_for}
+use Rattle.std.specs.Option.{option_map_or}
+use Rattle.turn_client_api.specs.Due.{is_refreshable, refresh_time_of, time_ahead}
+use Rattle.turn_client_api.specs.Effect.{channel_lifetime, permission_lifetime}
+use Rattle.turn_client_api.specs.declared.grant.Relay.{Relay}
+use Rattle.turn_client_api.specs.Grants.{as_allocation, has_request, is_for}
 use Rattle.turn_client_api.specs.State.{State, max_time}
 use Rattle.turn_client_api.specs.declared.grant.Grant.{Grant}
 use Rattle.turn_client_api.specs.declared.grant.Grant.TheVariants.{Allocation, Permission, Channel, Offer, Connection}
@@ -35,6 +39,40 @@ lapse_in listed _ = None
 abbrev pub never : ℕ
 never = 2 ^ 63
 
+-- ---- refreshes: what is kept of them does not depend on how long ahead they are
+
+-- the expiry of an active channel, or of an active permission
+abbrev pub expiry_by_kind : Bool → Grant → Option ℕ
+expiry_by_kind true (Channel number peer (Active expiry)) = Some expiry
+expiry_by_kind false (Permission ip (Active expiry)) = Some expiry
+expiry_by_kind of_channels _ = None
+
+-- the same, if it is to be refreshed: its allocation is in use, and no request for it is pending
+unfoldable pub kept_expiry : Bool → State → Grant → Option ℕ
+kept_expiry of_channels s g =
+    option_and_then (λ expiry. if is_refreshable g s && not (has_request g s) then Some expiry else None) (expiry_by_kind of_channels g)
+
+-- an allocation is to be refreshed
+abbrev pub is_kept : List Listing → Relay → Bool
+is_kept listed a = not a.is_expired && not (list_any (λ l. is_for l.purpose (Allocation a)) listed)
+
+-- later than each time by more than a refresh is ahead
+abbrev pub far : ℕ
+far = 2 ^ 64 - 1
+
+-- when the allocation is refreshed, if it is to be
+abbrev pub relay_refresh : ℕ → Bool → Option Relay → Option ℕ
+relay_refresh ahead keeps relay = option_and_then (λ a. if keeps then Some (refresh_time_of ahead a) else None) relay
+
+-- when the first of all these is refreshed
+abbrev pub refresh_in : ℕ → Summary → ℕ
+refresh_in ahead summary =
+    min (fold min (fold min max_time (option_to_list (relay_refresh ahead summary.keeps_first summary.first)))
+    (option_to_list (relay_refresh ahead summary.keeps_second summary.second)))
+    (min (summary.permissions - time_ahead ahead permission_lifetime) (summary.channels - time_ahead ahead channel_lifetime))
+
+-- ---- offers and channels
+
 -- an offer that was not reported
 abbrev pub is_untold : Grant → Bool
 is_untold (Offer offer) = not offer.is_reported
@@ -60,7 +98,10 @@ pub record IsSummary (summary : Summary) (grants : List Grant) (listed : List Li
   pub second : summary.second ≡ slice_get (filter_map as_allocation grants) 1
   pub end : summary.end ≡ fold min max_time (filter_map end_in grants)
   pub lapse : summary.lapse ≡ fold min never (filter_map (lapse_in listed) grants)
-  pub refresh : (s : State) → summary.refresh ≡ fold min max_time (filter_map (refresh_time (with_lists grants listed s)) grants)
+  pub keeps_first : summary.keeps_first ≡ option_map_or (is_kept listed) (slice_get (filter_map as_allocation grants) 0) false
+  pub keeps_second : summary.keeps_second ≡ option_map_or (is_kept listed) (slice_get (filter_map as_allocation grants) 1) false
+  pub permissions : (s : State) → summary.permissions ≡ fold min far (filter_map (kept_expiry false (with_lists grants listed s)) grants)
+  pub channels : (s : State) → summary.channels ≡ fold min far (filter_map (kept_expiry true (with_lists grants listed s)) grants)
   pub untold : summary.has_untold ≡ list_any is_untold grants
   pub requested : summary.has_requested ≡ list_any is_requested grants
   pub reserved : summary.has_reserved ≡ list_any is_reserved grants

@@ -1,26 +1,40 @@
 //! When a grant is to be refreshed, and the earlier of two times.
 
+ghost use Rattle.std.specs.Duration.{as_nanos};
 ghost use Rattle.std.specs.Option.{option_map_or};
 ghost use Rattle.std.specs.Prelude.{◌≡◌, ◌-◌, false, fold, map, max, min, not, option_to_list};
-ghost use Rattle.turn_client_api.specs.Due.{is_refreshable, refresh_time, refresh_time_by_kind, refresh_time_of};
+ghost use Rattle.turn_client_api.specs.Due.{is_refreshable, refresh_time, refresh_time_by_kind, refresh_time_of, time_ahead};
 ghost use Rattle.turn_client_api.specs.State.{State};
-ghost use Rattle.turn_client_grants.specs.Lists.{find_allocation_in, with_lists};
-ghost use Rattle.turn_client_grants.specs.Pending.{is_refreshed};
+ghost use Rattle.turn_client_grants.specs.Lists.{find_allocation_in, with_ahead, with_lists};
+ghost use Rattle.turn_client_grants.specs.Pending.{is_active, is_refreshed};
 
 use crate::kind::{family_of, family_of_ip};
 use crate::listed::has_request;
 use crate::reads::find_allocation;
+use std::time::Duration;
 use turn_client_api::{Grant, Listing, Progress, Relay};
 use turn_stun::instant::Instant;
 use turn_types::AddressFamily;
 
-/// How long before its expiry a grant is refreshed, in nanoseconds: 60 s (our choice; RFC 8656,
-/// section 8, suggests about a minute).
-const REFRESH_AHEAD: u64 = 60_000_000_000;
+/// The lifetimes of a permission and of a channel, in nanoseconds (RFC 8656, sections 9 and 12).
+pub(crate) const PERMISSION_LIFETIME: u64 = 300_000_000_000;
 
-/// An allocation whose first lifetime is at most 120 s, in nanoseconds, is refreshed half of that
-/// lifetime before its expiry (our choice).
-const SHORT_LIFETIME: u64 = 120_000_000_000;
+pub(crate) const CHANNEL_LIFETIME: u64 = 600_000_000_000;
+
+/// The least lifetime that a refresh of an allocation grants, in nanoseconds (RFC 8656, section 7.2).
+const MIN_LIFETIME: u64 = 600_000_000_000;
+
+/// How long before its expiry a grant of this lifetime is refreshed, in nanoseconds: no more than half
+/// of the lifetime (our choice).
+pub(crate) fn time_ahead(ahead: Duration, lifetime: u64) -> u64
+    ensures { result ≡ time_ahead (as_nanos ahead) lifetime }
+{
+    let half = lifetime / 2;
+    match u64::try_from(ahead.as_nanos()) {
+        Ok(nanos) => nanos.min(half),
+        Err(_) => half,
+    }
+}
 
 /// The time so many nanoseconds earlier, or the start of the clock if that is later.
 fn earlier(time: Instant, nanos: u64) -> Instant
@@ -30,13 +44,11 @@ fn earlier(time: Instant, nanos: u64) -> Instant
 }
 
 /// When the allocation is to be refreshed.
-fn refresh_time_of(relay: &Relay) -> Instant
-    ensures { result ≡ refresh_time_of relay.now }
+pub(crate) fn refresh_time_of(ahead: Duration, relay: &Relay) -> Instant
+    ensures { result ≡ refresh_time_of (as_nanos ahead) relay.now }
 {
-    if relay.first_lifetime <= SHORT_LIFETIME {
-        return earlier(relay.expiry, relay.first_lifetime / 2);
-    }
-    earlier(relay.expiry, REFRESH_AHEAD)
+    let lifetime = relay.first_lifetime.min(MIN_LIFETIME);
+    earlier(relay.expiry, time_ahead(ahead, lifetime))
 }
 
 /// Whether there is an allocation of this family that is not expired.
@@ -50,7 +62,7 @@ fn is_family_in_use(grants: &[Grant], family: AddressFamily) -> bool
 }
 
 /// Whether the grant is in an allocation that is not expired.
-fn is_in_use(grants: &[Grant], listed: &[Listing], grant: &Grant) -> bool
+pub(crate) fn is_in_use(grants: &[Grant], listed: &[Listing], grant: &Grant) -> bool
     ensures { (s : State) → result ≡ is_refreshable grant.now (with_lists grants.now listed.now s) }
 {
     match grant {
@@ -64,15 +76,19 @@ fn is_in_use(grants: &[Grant], listed: &[Listing], grant: &Grant) -> bool
 }
 
 /// When a grant of its kind is refreshed, if ever.
-fn refresh_time_by_kind(grant: &Grant) -> Option<Instant>
-    ensures { result ≡ refresh_time_by_kind grant.now }
+fn refresh_time_by_kind(ahead: Duration, grant: &Grant) -> Option<Instant>
+    ensures { result ≡ refresh_time_by_kind (as_nanos ahead) grant.now }
 {
     match grant {
-        Grant::Allocation(relay) => Some(refresh_time_of(relay)),
-        Grant::Permission(_, Progress::Active(expiry)) => Some(earlier(*expiry, REFRESH_AHEAD)),
+        Grant::Allocation(relay) => Some(refresh_time_of(ahead, relay)),
+        Grant::Permission(_, Progress::Active(expiry)) => {
+            Some(earlier(*expiry, time_ahead(ahead, PERMISSION_LIFETIME)))
+        }
         Grant::Permission(_, Progress::Pending) => None,
         Grant::Permission(_, Progress::Reserved(_)) => None,
-        Grant::Channel(_, _, Progress::Active(expiry)) => Some(earlier(*expiry, REFRESH_AHEAD)),
+        Grant::Channel(_, _, Progress::Active(expiry)) => {
+            Some(earlier(*expiry, time_ahead(ahead, CHANNEL_LIFETIME)))
+        }
         Grant::Channel(_, _, Progress::Pending) => None,
         Grant::Channel(_, _, Progress::Reserved(_)) => None,
         Grant::Connect(_) => None,
@@ -85,15 +101,34 @@ fn refresh_time_by_kind(grant: &Grant) -> Option<Instant>
 pub(crate) fn is_refreshed(grant: &Grant) -> bool
     ensures { result ≡ is_refreshed grant.now }
 {
-    refresh_time_by_kind(grant).is_some()
+    match grant {
+        Grant::Allocation(_) => true,
+        Grant::Permission(_, progress) => is_active(progress),
+        Grant::Channel(_, _, progress) => is_active(progress),
+        Grant::Connect(_) => false,
+        Grant::Offer(_) => false,
+        Grant::Connection(_) => false,
+    }
+}
+
+/// Whether the server granted it, and it is not reserved.
+fn is_active(progress: &Progress) -> bool
+    ensures { result ≡ is_active progress.now }
+{
+    matches!(progress, Progress::Active(_))
 }
 
 /// When the grant is to be refreshed, or `None` if a request for that is pending.
 #[tactic(auto, unfolding(turn_client_api::specs::Due::refresh_time))]
-pub(crate) fn refresh_time(grants: &[Grant], listed: &[Listing], grant: &Grant) -> Option<Instant>
-    ensures { (s : State) → result ≡ refresh_time (with_lists grants.now listed.now s) grant.now }
+pub(crate) fn refresh_time(
+    ahead: Duration,
+    grants: &[Grant],
+    listed: &[Listing],
+    grant: &Grant,
+) -> Option<Instant>
+    ensures { (s : State) → result ≡ refresh_time (with_ahead (as_nanos ahead) (with_lists grants.now listed.now s)) grant.now }
 {
-    let time = refresh_time_by_kind(grant)?;
+    let time = refresh_time_by_kind(ahead, grant)?;
     if !is_in_use(grants, listed, grant) {
         return None;
     }

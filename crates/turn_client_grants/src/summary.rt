@@ -1,19 +1,24 @@
 //! What is read from all grants at once, and kept until they change.
 
 ghost use Rattle.std.specs.Prelude.{◌≡◌, ◌&&◌, ◌||◌, ◌++◌, List, false, filter_map, fold, is_some, min, option_to_list};
+ghost use Rattle.std.specs.Duration.{as_nanos};
 ghost use Rattle.std.specs.List.{list_any};
-ghost use Rattle.turn_client_api.specs.Due.{refresh_time};
+ghost use Rattle.std.specs.Option.{option_map_or};
 ghost use Rattle.turn_client_api.specs.Grants.{as_allocation, is_for};
 ghost use Rattle.turn_client_api.specs.State.{State};
 ghost use Rattle.turn_client_api.specs.declared.grant.Grant.{Grant};
 ghost use Rattle.turn_client_api.specs.declared.grant.Grant.TheVariants.{Allocation};
 ghost use Rattle.turn_client_grants.specs.Lists.{with_lists};
-ghost use Rattle.turn_client_grants.specs.Summary.{IsSummary, end_in, is_requested, is_reserved, is_untold, lapse_in};
+ghost use Rattle.turn_client_grants.specs.Summary.{IsSummary, end_in, expiry_by_kind, is_kept, kept_expiry, refresh_in, relay_refresh, is_requested};
+ghost use Rattle.turn_client_grants.specs.Summary.{is_reserved, is_untold, lapse_in};
 
-use crate::due::{least, refresh_time};
+use crate::due::{
+    CHANNEL_LIFETIME, PERMISSION_LIFETIME, is_in_use, least, refresh_time_of, time_ahead,
+};
 use crate::kind::is_allocation;
 use crate::listed::has_request;
 use crate::reads::nth_allocation;
+use std::time::Duration;
 use turn_client_api::{Grant, Listing, Origin, Progress, Relay};
 use turn_stun::instant::Instant;
 
@@ -35,8 +40,14 @@ pub struct Summary {
     pub end: Instant,
     /// The earliest time at which a grant expires, in nanoseconds, or 2^63 if none does.
     pub lapse: u64,
-    /// The earliest time at which a grant is to be refreshed, or the greatest time.
-    pub refresh: Instant,
+    /// Whether the allocation that the server granted first is to be refreshed.
+    pub keeps_first: bool,
+    /// Whether the other one is.
+    pub keeps_second: bool,
+    /// The earliest expiry of a permission that is to be refreshed, in nanoseconds, or 2^64 - 1.
+    pub permissions: u64,
+    /// The earliest expiry of a channel that is to be refreshed, in nanoseconds, or 2^64 - 1.
+    pub channels: u64,
     /// Whether there is an offer that was not reported.
     pub has_untold: bool,
     /// Whether there is an offer that the server made by a request.
@@ -53,7 +64,10 @@ pub(crate) fn summary_of(grants: &[Grant], listed: &[Listing]) -> Summary
     let second = nth_allocation(grants, 1);
     let end = next_end(Instant::from_nanos(GREATEST), grants);
     let lapse = next_lapse(NEVER, grants, listed);
-    let refresh = next_refresh(Instant::from_nanos(GREATEST), grants, grants, listed);
+    let keeps_first = is_kept(listed, &first);
+    let keeps_second = is_kept(listed, &second);
+    let permissions = next_kept(false, u64::MAX, grants, grants, listed);
+    let channels = next_kept(true, u64::MAX, grants, grants, listed);
     let has_untold = any_untold(grants);
     let has_requested = any_requested(grants);
     let has_reserved = any_reserved(grants);
@@ -62,7 +76,10 @@ pub(crate) fn summary_of(grants: &[Grant], listed: &[Listing]) -> Summary
         second,
         end,
         lapse,
-        refresh,
+        keeps_first,
+        keeps_second,
+        permissions,
+        channels,
         has_untold,
         has_requested,
         has_reserved,
@@ -111,7 +128,8 @@ fn joined(summary: &Summary, grants: &[Grant], listed: &[Listing], last: &[Grant
 {
     let end = next_end(summary.end, last);
     let lapse = next_lapse(summary.lapse, last, listed);
-    let refresh = next_refresh(summary.refresh, last, grants, listed);
+    let permissions = next_kept(false, summary.permissions, last, grants, listed);
+    let channels = next_kept(true, summary.channels, last, grants, listed);
     let has_untold = untold_with(summary, last);
     let has_requested = requested_with(summary, last);
     let has_reserved = reserved_with(summary, last);
@@ -120,7 +138,10 @@ fn joined(summary: &Summary, grants: &[Grant], listed: &[Listing], last: &[Grant
         second: summary.second,
         end,
         lapse,
-        refresh,
+        keeps_first: summary.keeps_first,
+        keeps_second: summary.keeps_second,
+        permissions,
+        channels,
         has_untold,
         has_requested,
         has_reserved,
@@ -208,16 +229,96 @@ fn next_lapse(time: u64, grants: &[Grant], listed: &[Listing]) -> u64
     soonest
 }
 
-/// The earliest of the time and of those at which one of these grants is to be refreshed. `grants` are
-/// all grants.
-fn next_refresh(time: Instant, these: &[Grant], grants: &[Grant], listed: &[Listing]) -> Instant
-    ensures { (s : State) → result ≡ fold min time (filter_map (refresh_time (with_lists grants.now listed.now s)) these.now) }
+/// Whether the allocation is to be refreshed: it is not marked as expired, and no request for it is
+/// pending.
+fn is_kept(listed: &[Listing], relay: &Option<Relay>) -> bool
+    ensures { result ≡ option_map_or (is_kept listed.now) relay.now false }
+{
+    match relay {
+        Some(relay) => !relay.is_expired && !has_request(listed, &Grant::Allocation(*relay)),
+        None => false,
+    }
+}
+
+/// The expiry of an active channel, or of an active permission, in nanoseconds.
+fn expiry_by_kind(of_channels: bool, grant: &Grant) -> Option<u64>
+    ensures { result ≡ expiry_by_kind of_channels grant.now }
+{
+    match grant {
+        Grant::Permission(_, Progress::Active(expiry)) if !of_channels => Some(expiry.as_nanos()),
+        Grant::Channel(_, _, Progress::Active(expiry)) if of_channels => Some(expiry.as_nanos()),
+        _ => None,
+    }
+}
+
+/// The same, if it is to be refreshed.
+#[tactic(auto, unfolding(crate::specs::Summary::kept_expiry))]
+fn kept_expiry(
+    of_channels: bool,
+    grants: &[Grant],
+    listed: &[Listing],
+    grant: &Grant,
+) -> Option<u64>
+    ensures { (s : State) → result ≡ kept_expiry of_channels (with_lists grants.now listed.now s) grant.now }
+{
+    let expiry = expiry_by_kind(of_channels, grant)?;
+    if !is_in_use(grants, listed, grant) {
+        return None;
+    }
+    if has_request(listed, grant) {
+        return None;
+    }
+    Some(expiry)
+}
+
+/// The earliest of the time and of the expiries of those of these channels, or permissions, that are to
+/// be refreshed, in nanoseconds. `grants` are all grants.
+fn next_kept(
+    of_channels: bool,
+    time: u64,
+    these: &[Grant],
+    grants: &[Grant],
+    listed: &[Listing],
+) -> u64
+    ensures { (s : State) → result ≡ fold min time (filter_map (kept_expiry of_channels (with_lists grants.now listed.now s)) these.now) }
 {
     let mut soonest = time;
     for grant in these {
-        soonest = least(soonest, refresh_time(grants, listed, grant));
+        soonest = least_nanos(soonest, kept_expiry(of_channels, grants, listed, grant));
     }
     soonest
+}
+
+/// When the allocation is refreshed, if it is to be.
+fn relay_refresh(ahead: Duration, keeps: bool, relay: &Option<Relay>) -> Option<Instant>
+    ensures { result ≡ relay_refresh (as_nanos ahead) keeps relay.now }
+{
+    match relay {
+        Some(relay) if keeps => Some(refresh_time_of(ahead, relay)),
+        _ => None,
+    }
+}
+
+/// The earliest time at which a grant is to be refreshed so long ahead, or the greatest time.
+pub(crate) fn refresh_of(summary: &Summary, ahead: Duration) -> Instant
+    ensures { result ≡ refresh_in (as_nanos ahead) summary.now }
+{
+    let latest = Instant::from_nanos(GREATEST);
+    let first = least(
+        latest,
+        relay_refresh(ahead, summary.keeps_first, &summary.first),
+    );
+    let second = least(
+        first,
+        relay_refresh(ahead, summary.keeps_second, &summary.second),
+    );
+    let permissions = summary
+        .permissions
+        .saturating_sub(time_ahead(ahead, PERMISSION_LIFETIME));
+    let channels = summary
+        .channels
+        .saturating_sub(time_ahead(ahead, CHANNEL_LIFETIME));
+    second.min(Instant::from_nanos(permissions.min(channels)))
 }
 
 /// Whether the grant is an offer that was not reported.

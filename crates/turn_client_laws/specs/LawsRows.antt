@@ -13,7 +13,7 @@ use Rattle.turn_types.specs.declared.family.AddressFamily.TheVariants.{IPV4, IPV
 use Rattle.turn_auth.specs.LongTerm.{Challenge}
 use Rattle.turn_agent.specs.declared.transaction.Transaction.{Transaction}
 use Rattle.turn_agent.specs.Agent.{first_sent}
-use Rattle.turn_client_api.specs.Config.{default_max_stale_nonces, default_request_cadence}
+use Rattle.turn_client_api.specs.Config.{default_max_stale_nonces, default_refresh_ahead, default_request_cadence}
 use Rattle.turn_client_api.specs.State.{State}
 use Rattle.turn_client_api.specs.declared.state.Phase.TheVariants.{Requesting, Allocated}
 use Rattle.turn_client_api.specs.declared.grant.Purpose.TheVariants.{ForAllocation, ForRefresh}
@@ -59,6 +59,7 @@ granted_at time grants s = record s {
     max_stale_nonces = default_max_stale_nonces;
     request_cadence = default_request_cadence;
     keepalive = None;
+    refresh_ahead = default_refresh_ahead;
   };
   transport = Udp;
   phase = Allocated;
@@ -102,6 +103,19 @@ asking_at_60_ms s =
 abbrev pub pausing : ℕ → State → State
 pausing cadence s = record s { config = record s.config { request_cadence = cadence } }
 
+-- refreshing so long ahead
+abbrev pub refreshing_ahead : ℕ → State → State
+refreshing_ahead ahead s = record s { config = record s.config { refresh_ahead = ahead } }
+
+-- an allocation over IPv4 of so many seconds from 50 ms on, a channel of 600 s and a permission of 300 s from 100 ms on
+abbrev pub with_all : ℕ → State → State
+with_all lifetime s =
+    granted_at 50_000_000
+    (new_allocation lifetime 50_000_000 relayed_v4
+    ∷ Channel 0x4000 peer (Active 600_100_000_000)
+    ∷ Permission ip_of_peer (Active 300_100_000_000)
+    ∷ []) s
+
 -- keeping its path to the server alive, so long after the last packet
 abbrev pub keeping_alive : ℕ → State → State
 keeping_alive wait s = record s { config = record s.config { keepalive = Some wait } }
@@ -124,7 +138,7 @@ short_timers = record { initial = 600_000_000; max = 1_000_000_000; transmission
 -- default
 abbrev pub requesting_by : Option Timers → TransportType → List ℕ → State → State
 requesting_by timers transport text s = record (requesting text s) {
-  config = record s.config { request_timers = timers; request_cadence = default_request_cadence; keepalive = None };
+  config = record s.config { request_timers = timers; request_cadence = default_request_cadence; keepalive = None; refresh_ahead = default_refresh_ahead };
   transport = transport;
 }
 

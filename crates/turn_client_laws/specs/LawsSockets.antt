@@ -2,7 +2,7 @@
 use Rattle.std.specs.Prelude.{ℕ, List, [], ◌∷◌, ◌++◌, Option, None, Result}
 use Rattle.std.specs.declared.net.socket_addr.SocketAddr.{SocketAddr}
 use Rattle.turn_stun.specs.declared.transport.TransportType.TheVariants.{Tcp}
-use Rattle.turn_client_api.specs.Config.{default_request_cadence}
+use Rattle.turn_client_api.specs.Config.{default_refresh_ahead, default_request_cadence}
 use Rattle.turn_client_api.specs.State.{State, seconds}
 use Rattle.turn_client_api.specs.declared.grant.Grant.{Grant}
 use Rattle.turn_client_api.specs.declared.grant.Grant.TheVariants.{Permission}
@@ -18,7 +18,13 @@ use Rattle.turn_client_api.specs.declared.poll.Socket5Tuple.{Socket5Tuple}
 -- a client with an allocation over TCP and these grants, whose control stream holds nothing
 abbrev pub relaying_tcp : List Grant → State → State
 relaying_tcp grants s = record (over_tcp grants [] s) {
-  config = record s.config { allocation_transport = Tcp; request_timers = None; request_cadence = default_request_cadence; keepalive = None };
+  config = record s.config {
+    allocation_transport = Tcp;
+    request_timers = None;
+    request_cadence = default_request_cadence;
+    keepalive = None;
+    refresh_ahead = default_refresh_ahead;
+  };
 }
 
 -- the peer has a permission

@@ -1,19 +1,25 @@
 //! Worked states.
 
-ghost use Rattle.std.specs.Prelude.{◌≡◌, ◌∷◌, true, map, ℕ, List, [], Some, None, IsSome};
+ghost use Rattle.std.specs.Prelude.{◌≡◌, ◌∷◌, true, map, ℕ, List, [], Some, None, IsSome, ◌-◌, ◌+◌, ◌/◌, ◌≤◌, ◌^◌, nat_le, if◌then◌else◌};
 ghost use Rattle.std.specs.declared.net.socket_addr.SocketAddr.{SocketAddr};
 ghost use Rattle.turn_stun.specs.declared.transport.TransportType.TheVariants.{Udp, Tcp};
 ghost use Rattle.turn_types.specs.declared.family.AddressFamily.TheVariants.{IPV4, IPV6};
 ghost use Rattle.turn_auth.specs.LongTerm.{Challenge};
 ghost use Rattle.turn_agent.specs.TransactionIds.{behind_id};
-ghost use Rattle.turn_client_api.specs.State.{State};
-ghost use Rattle.turn_client_api.specs.declared.grant.Grant.TheVariants.{Channel};
+ghost use Rattle.turn_client_api.specs.State.{State, later_by, seconds};
+ghost use Rattle.turn_client_api.specs.Config.{default_refresh_ahead};
+ghost use Rattle.turn_client_api.specs.Due.{refresh_time_by_kind, refresh_time_of};
+ghost use Rattle.turn_client_api.specs.Effect.{min_lifetime};
+ghost use Rattle.turn_client_api.specs.declared.grant.Relay.{Relay};
+ghost use Rattle.std.specs.declared.net.ip_addr.IpAddr.{IpAddr};
+ghost use Rattle.turn_client_api.specs.declared.grant.Grant.TheVariants.{Channel, Permission};
 ghost use Rattle.turn_client_api.specs.declared.grant.Purpose.TheVariants.{ForPermission, ForRefresh};
-ghost use Rattle.turn_client_api.specs.declared.grant.Progress.TheVariants.{Pending};
+ghost use Rattle.turn_client_api.specs.declared.grant.Progress.TheVariants.{Active, Pending};
 ghost use Rattle.turn_client_api.specs.Calls.{free_number, relayed_addresses_of};
 ghost use Rattle.turn_client_api.specs.Poll.{poll_step};
 ghost use Rattle.turn_client_api.specs.Requests.{fresh_id, to_server};
 ghost use Rattle.turn_client_api.specs.Transmit.{next_transmit, transmit_step};
+ghost use Rattle.turn_client_laws.specs.LawsRows.{refreshing_ahead, with_all};
 ghost use Rattle.turn_client_laws.specs.LawsRows.{IsFirstAllocate, WaitsInSilence, WhenGivenUp, asking_at_60_ms, challenged_once, deleted_in_silence};
 ghost use Rattle.turn_client_laws.specs.LawsRows.{giving_back, granted_at, indication_bytes, ip_of_peer, keeping_alive, kept_alive, pausing, peer};
 ghost use Rattle.turn_client_laws.specs.LawsRows.{short_timers, with_both_families, with_permission};
@@ -74,6 +80,31 @@ pub fn paths_are_kept_alive()
     // Without an allocation there is none, nor if it is not configured.
     ensures unallocated { (s : State) → next_transmit 15_100_000_000 (keeping_alive 15_000_000_000 (granted_at 100_000_000 [] s)) ≡ None }
     ensures default { (s : State) → next_transmit 200_000_000_000 (with_permission 100_000_000 s) ≡ None }
+{}
+
+/// A grant is refreshed so long before its expiry as was configured, but not before half of its lifetime is
+/// over (our choice; RFC 8656, section 8, suggests about a minute).
+pub fn refreshes_are_ahead()
+    // By default by a minute, or half of the first lifetime of an allocation of at most two minutes.
+    ensures default { (a : Relay) → refresh_time_of default_refresh_ahead a
+        ≡ (if nat_le a.first_lifetime (seconds 120) then a.expiry - a.first_lifetime / 2 else a.expiry - seconds 60) }
+    ensures default_permission { (ip : IpAddr) (expiry : ℕ) → refresh_time_by_kind default_refresh_ahead (Permission ip (Active expiry))
+        ≡ Some (expiry - seconds 60) }
+    ensures default_channel { (number expiry : ℕ) → refresh_time_by_kind default_refresh_ahead (Channel number peer (Active expiry)) ≡ Some (expiry - seconds 60) }
+    // Two minutes ahead: `poll` tells the time of the permission, the first to expire, and it is refreshed then.
+    ensures told { (s : State) → (poll_step 100_000_000 (refreshing_ahead (seconds 120) (with_all 1800 s))).0 ≡ Do.WaitUntil 180_100_000_000 }
+    ensures early { (s : State) → next_transmit 180_099_999_999 (refreshing_ahead (seconds 120) (with_all 1800 s)) ≡ None }
+    ensures refresh { (s : State) → map (λ l. l.purpose) (transmit_step 180_100_000_000 (refreshing_ahead (seconds 120) (with_all 1800 s))).1.listed
+        ≡ ForPermission ip_of_peer ∷ [] }
+    // An allocation of 200 s goes before it, at half of its lifetime.
+    ensures short { (s : State) → (poll_step 100_000_000 (refreshing_ahead (seconds 120) (with_all 200 s))).0 ≡ Do.WaitUntil 100_050_000_000 }
+    // 400 s ahead is too much for each: half of the lifetime.
+    ensures permission { (ip : IpAddr) → refresh_time_by_kind (seconds 400) (Permission ip (Active (seconds 1000))) ≡ Some (seconds 850) }
+    ensures channel { (number : ℕ) → refresh_time_by_kind (seconds 400) (Channel number peer (Active (seconds 1000))) ≡ Some (seconds 700) }
+    ensures allocation { (s : State) → (poll_step 50_000_000 (refreshing_ahead (seconds 400) (with_both_families s))).0 ≡ Do.WaitUntil 700_050_000_000 }
+    // However long ahead, a refresh that is granted for the default of 600 s or more is not due again for 300 s.
+    ensures granted { (ahead now lifetime : ℕ) (a : Relay) → now ≤ 2 ^ 62 → min_lifetime ≤ lifetime
+        → now + seconds 300 ≤ refresh_time_of ahead (record a { expiry = later_by (seconds lifetime) now }) }
 {}
 
 /// A first ALLOCATE that was sent at time 0 and gets no response (RFC 8489, sections 6.2.1 and 6.2.2): the

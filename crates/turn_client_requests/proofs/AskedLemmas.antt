@@ -52,6 +52,7 @@ someone =
       max_stale_nonces = 1;
       request_cadence = 0;
       keepalive = None;
+      refresh_ahead = 0;
     }) []
 
 -- a request is as long as the length with which it was begun

@@ -1,5 +1,5 @@
 -- A client whose server answers its first requests.
-use Rattle.std.proofs.Common.{◌≡◌, ◌≢◌, ◌⊎◌, ℕ, ◌+◌, ◌^◌, ◌<◌, ◌≤◌, Bool, true, false, cond, not, ◌||◌, leb, ltb, eqb, List, [], ◌∷◌, ◌++◌, map, drop, Option, Some, None, refl, inl, inr, ap, sym}
+use Rattle.std.proofs.Common.{◌≡◌, ◌≢◌, ◌⊎◌, ℕ, ◌+◌, ◌^◌, ◌<◌, ◌≤◌, min, Bool, true, false, cond, not, ◌||◌, leb, ltb, eqb, List, [], ◌∷◌, ◌++◌, map, drop, Option, Some, None, refl, inl, inr, ap, sym}
 use Rattle.std.proofs.Common.{subst, ◌∙◌, arith}
 use Rattle.std.specs.Prelude.{IfSome, IsSome, filter, if◌then◌else◌, nat_le, slice_get}
 use Rattle.std.specs.List.{list_any}
@@ -51,7 +51,6 @@ use Rattle.turn_client_api.specs.State.{later_by, seconds}
 use Rattle.turn_client_api.specs.declared.grant.Grant.{Grant}
 use Rattle.turn_client_api.specs.declared.grant.Grant.TheVariants.{Allocation}
 use Rattle.turn_client_api.specs.Effect.{min_lifetime, new_allocation}
-use Rattle.turn_client_api.specs.Due.{refresh_ahead}
 use Rattle.turn_client_api.specs.Steps.{Leaves}
 use Rattle.turn_client_laws.specs.LawsDoubles.{HasNoDoubles}
 use Rattle.turn_client_laws.specs.LawsOrder.{FitsPhase, IsUngranted}
@@ -471,7 +470,8 @@ fit-stays call s t leaves (fits, distinct, housed) =
     (leaves-steadies call s t leaves fits, leaves-single call s t leaves fits distinct, leaves-GrantsHaveAllocations call s t leaves housed)
 
 steady-next : (count slots delay start now lifetime : ℕ) (packet : Transmit (List ℕ)) (s : State) → AreFit s → IsPlain delay now s → (x : Transaction) → IsAsked delay now (start + delay) s x → now ≤ 2 ^ 62
-    → IsAllocating packet s → s.queue ≡ [] → lifetime_in packet.payload ≡ Some lifetime → min_lifetime ≤ lifetime → HasRoom count slots s.config.request_cadence delay refresh_ahead
+    → IsAllocating packet s → s.queue ≡ [] → lifetime_in packet.payload ≡ Some lifetime → min_lifetime ≤ lifetime
+    → HasRoom count slots s.config.request_cadence delay (min s.config.refresh_ahead (seconds 150))
     → IsWithin count slots (state_after (Recv packet now) s) → IsSteady count slots delay now (state_after (Recv packet now) s)
 steady-next count slots delay start now lifetime packet s (fits, distinct, housed) p x a range is empty said enough room within =
     let after = fit-stays (Recv packet now) s (state_after (Recv packet now) s) (inl refl) (fits, distinct, housed) in
@@ -483,8 +483,8 @@ steady-next count slots delay start now lifetime packet s (fits, distinct, house
       none_listed = filter-none _ s.listed (λ l h. rw (p.allocates l h) refl);
       sent_before = p.sent_before;
       in_force = all-has (IsInForce now) t.grants (λ g h. let (e, l) = made g h in rw e (refl, l));
-      none_late = all-has (λ g. now + ahead_of g ≤ expiry_of g) t.grants (λ g h. let (e, l) = made g h in rw (e, long) (omega (arith, lasts)));
-      room = all-has (λ g. HasRoom count slots t.config.request_cadence delay (ahead_of g)) t.grants (λ g h. let (e, l) = made g h in rw (e, long) room);
+      none_late = all-has (λ g. now + ahead_of t.config.refresh_ahead g ≤ expiry_of g) t.grants (λ g h. let (e, l) = made g h in rw e (omega (arith, lasts)));
+      room = all-has (λ g. HasRoom count slots t.config.request_cadence delay (ahead_of t.config.refresh_ahead g)) t.grants (λ g h. let (e, l) = made g h in rw e (omega (arith, room, enough)));
       room_for_more = room;
       within = next.1;
       distinct = next.0.1;
@@ -524,10 +524,7 @@ steady-next count slots delay start now lifetime packet s (fits, distinct, house
     none : s.grants ≡ []
     none = fits.3 (subst IsUngranted (sym is.phase) tt)
 
-    long : leb (seconds lifetime) 120_000_000_000 ≡ false
-    long = lt-leb (seconds lifetime) 120_000_000_000 (omega (arith, enough))
-
-    lasts : now + 60_000_000_000 ≤ later_by (seconds lifetime) now
+    lasts : now + 300_000_000_000 ≤ later_by (seconds lifetime) now
     lasts = omega (arith, range, enough)
 
     made : (g : Grant) → Has g t.grants → (g ≡ Allocation (record { relayed = (allocation_at g).relayed; first_lifetime = seconds lifetime; expiry = later_by (seconds lifetime) now; is_expired = false })) × (now < later_by (seconds lifetime) now)
@@ -547,8 +544,8 @@ run-steadily local remote config seed delay start now calls packet count slots l
     last : State
     last = state_after_all (initial Udp local remote config seed) calls
 
-    paced : HasRoom count slots last.config.request_cadence delay (seconds 60)
-    paced = subst (λ (c : Config). HasRoom count slots c.request_cadence delay (seconds 60)) (sym (run-configured (initial Udp local remote config seed) calls)) room
+    paced : HasRoom count slots last.config.request_cadence delay (min last.config.refresh_ahead (seconds 150))
+    paced = subst (λ (c : Config). HasRoom count slots c.request_cadence delay (min c.refresh_ahead (seconds 150))) (sym (run-configured (initial Udp local remote config seed) calls)) room
 
     by : IsStage delay start now last → AreFit last → IsSteady count slots delay now (state_after (Recv packet now) last)
     by (new p u none zero) fit = absurd (not-new last Authenticating is.phase (λ f. cc) u.phase)

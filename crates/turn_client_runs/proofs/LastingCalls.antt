@@ -137,13 +137,13 @@ module _ (count slots delay now : ℕ) (s : State) (k : IsKept count slots delay
         in_time = a.in_time;
       })
       by (inr idle) =
-          let more = serves-more (due_of g) in
+          let more = serves-more (due_of s g) in
           let soon = idle.soon in
           let paused = idle.paused in
           inr (record {
             unasked = not-asked g there idle.unasked;
-            soon = more-paced s.config.request_cadence now _ _ (due_of g) slots _ _ one-more more soon;
-            paused = more-paced s.config.request_cadence (pause_end s) _ _ (due_of g) slots _ _ one-more more paused;
+            soon = more-paced s.config.request_cadence now _ _ (due_of s g) slots _ _ one-more more soon;
+            paused = more-paced s.config.request_cadence (pause_end s) _ _ (due_of s g) slots _ _ one-more more paused;
           })
 
   room-left : (family : AddressFamily) → Room s.grants family → Room t.grants family

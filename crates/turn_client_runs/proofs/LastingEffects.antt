@@ -1,5 +1,5 @@
 -- What a success changes for one purpose of its request, while no grant is lost.
-use Rattle.std.proofs.Common.{◌≡◌, ◌⊎◌, ℕ, ◌+◌, ◌^◌, ◌≤◌, Bool, true, false, cond, not, ◌&&◌, eqb, List, [], ◌∷◌, ◌++◌, map, Option, Some, None, refl, inl, inr, ap, sym, subst, ◌∙◌, arith}
+use Rattle.std.proofs.Common.{◌≡◌, ◌⊎◌, ℕ, ◌+◌, ◌^◌, ◌≤◌, min, Bool, true, false, cond, not, ◌&&◌, eqb, List, [], ◌∷◌, ◌++◌, map, Option, Some, None, refl, inl, inr, ap, sym, subst, ◌∙◌, arith}
 use Rattle.std.specs.Prelude.{IsSomeAnd, filter, filter_map, slice_get, if◌then◌else◌}
 use Rattle.std.specs.List.{list_any}
 use Rattle.std.specs.Option.{option_map_or}
@@ -17,7 +17,8 @@ use Rattle.turn_client_api.specs.declared.grant.Progress.TheVariants.{Active, Pe
 use Rattle.turn_client_api.specs.declared.grant.Listing.{Listing}
 use Rattle.turn_client_api.specs.declared.grant.Purpose.{Purpose}
 use Rattle.turn_client_api.specs.declared.grant.Purpose.TheVariants.{ForRefresh, ForPermission, ForChannel}
-use Rattle.turn_client_api.specs.Grants.{as_allocation, channel_at, changed_allocation, family_of_grant, family_of_ip, first_in, is_channel_of, is_for, is_of, is_of_family, is_permission_of, permission_progress, permission_state, purposes_of, same_ip}
+use Rattle.turn_client_api.specs.Grants.{as_allocation, channel_at, changed_allocation, family_of_grant, family_of_ip, first_in, is_channel_of, is_for, is_of, is_of_family, is_permission_of}
+use Rattle.turn_client_api.specs.Grants.{permission_progress, permission_state, purposes_of, same_ip}
 use Rattle.turn_client_api.specs.Judgement.{lifetime_in}
 use Rattle.turn_client_api.specs.Effect.{channel_answered, channel_lifetime, effect, lasting_if, min_lifetime, permission_answered, permission_lifetime, prolonged, refreshed}
 use Rattle.turn_client_laws.proofs.HasLemmas.{Has, filter-has, filter_map-has, first-has, has-filter_map, has-left, map-has}
@@ -54,6 +55,11 @@ granted_by p new events challenges u = record u {
 abbrev pub AllKnown : State → Type 0
 AllKnown u = (g : Grant) → Has g u.grants → (is_waiting g ≡ true) ⊎ IsGranted g
 
+-- for so long a success grants it, or longer
+abbrev pub granted_for : Purpose → ℕ
+granted_for (ForPermission ip) = 300_000_000_000
+granted_for _ = 600_000_000_000
+
 -- the purpose is for a permission or a channel that waits, which is granted for 300 s or more
 pub record IsGrantedAnew (p : Purpose) (now : ℕ) (u t : State) : Type 0 where
   pub unique : IsUnique p
@@ -64,9 +70,9 @@ pub record IsGrantedAnew (p : Purpose) (now : ℕ) (u t : State) : Type 0 where
   pub new : Grant
   pub for : is_for p new ≡ true
   pub granted : IsGranted new
-  pub minute : ahead_of new ≡ 60_000_000_000
+  pub minute : min u.config.refresh_ahead 150_000_000_000 ≤ ahead_of u.config.refresh_ahead new
   pub family : family_of_grant waits ≡ family_of_grant new
-  pub late : now + 300_000_000_000 ≤ expiry_of new
+  pub late : now + 150_000_000_000 + ahead_of u.config.refresh_ahead new ≤ expiry_of new
   pub becomes : with_expiry 0 new ≡ as_granted waits
   pub events : List TurnEvent
   pub challenges : ℕ
@@ -79,7 +85,7 @@ IsForGranted p u =
 
 -- it does so, for 300 s or more
 abbrev pub Renews : Purpose → ℕ → State → State → Type 0
-Renews p now u t = (expiry : ℕ) × (challenges : ℕ) × (now + 300_000_000_000 ≤ expiry) × (t ≡ renewed_by p expiry challenges u) × IsForGranted p u
+Renews p now u t = (expiry : ℕ) × (challenges : ℕ) × (now + granted_for p ≤ expiry) × (t ≡ renewed_by p expiry challenges u) × IsForGranted p u
 
 -- ---- lists
 
@@ -121,7 +127,7 @@ allocation-changes : (family : AddressFamily) (lifetime expiry : ℕ) (g : Grant
 allocation-changes family lifetime expiry (Allocation a) = refl
 allocation-changes family lifetime expiry g = refl
 
-long-enough : (n now : ℕ) → now ≤ 2 ^ 62 → 600 ≤ n → now + 300_000_000_000 ≤ later_by (seconds n) now
+long-enough : (n now : ℕ) → now ≤ 2 ^ 62 → 600 ≤ n → now + 600_000_000_000 ≤ later_by (seconds n) now
 long-enough n now range h = omega (arith, range, h)
 
 refresh-renews : (family : AddressFamily) (lifetime : ℕ) (message : List ℕ) (now : ℕ) (u : State) → now ≤ 2 ^ 62 → 1 ≤ lifetime → IsSomeAnd (lifetime_in message) (λ n. min_lifetime ≤ n)
@@ -232,7 +238,7 @@ permission-does ip now u range all g there is = elim (permission-known ip u all 
     new = Permission ip (Active (later_by permission_lifetime now));
     for = permission-self ip x of;
     granted = tt;
-    minute = refl;
+    minute = omega arith;
     family = permission-family ip x of;
     becomes = permission-becomes ip x of waits;
     late = omega (arith, range);
@@ -324,7 +330,7 @@ channel-anew number peer to now v t range here events is = inr (record {
   new = Channel number to (Active (later_by channel_lifetime now));
   for = eq-eqb number number refl;
   granted = tt;
-  minute = refl;
+  minute = omega arith;
   family = refl;
   becomes = refl;
   late = omega (arith, range);

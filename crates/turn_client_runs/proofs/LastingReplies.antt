@@ -25,14 +25,14 @@ use Rattle.turn_client_laws.proofs.InAllocationLemmas.{Room, any-has, has-any, r
 use Rattle.turn_client_runs.specs.Lasting.{as_granted, Answers, Grants, ahead_of, expiry_of, with_expiry}
 use Rattle.turn_client_runs.proofs.LastingCounts.{length-without, passes, passes-all, passes-append, passes-filter, passes-map, passes-mapped, passes-none, passes-split, passes-same, passes-two}
 use Rattle.turn_client_runs.proofs.LastingStands.{AllRemain, Follows, Goes, IsPending, goes-more, goes-trans, pending-more, AreRequests, Brings, IsRequest, brings-more, listed_as, IsAsked, IsAwaited}
-use Rattle.turn_client_runs.proofs.LastingStands.{IsGranted, IsIdle, IsKept, IsRefreshing, Stands, ahead-le, due_of, early-paced, still-paced, is_served, not-waiting, pause-le, IsUnique, IsWell}
-use Rattle.turn_client_runs.proofs.LastingStands.{is_waiting, served, unique-refreshing, unique-spares}
+use Rattle.turn_client_runs.proofs.LastingStands.{IsGranted, IsIdle, IsKept, IsRefreshing, Stands, due_of, early-paced, still-paced, is_served, not-waiting, pause-le, IsUnique, IsWell, is_waiting}
+use Rattle.turn_client_runs.proofs.LastingStands.{served, unique-refreshing, unique-spares}
 use Rattle.turn_client_api.specs.Requests.{channel_bind_method, method_for}
 use Rattle.turn_client_api.specs.Judgement.{method_in}
 use Rattle.turn_client_api.specs.Payloads.{is_answered}
 use Rattle.std.proofs.lemmas.Bool.{eq-eqb}
 use Rattle.turn_client_runs.proofs.LastingListings.{filter-swap}
-use Rattle.turn_client_runs.proofs.LastingEffects.{IsForGranted, Does, IsGrantedAnew, effect-brings, effect-does, granted_by, is_shared, renewed_by, renews}
+use Rattle.turn_client_runs.proofs.LastingEffects.{IsForGranted, Does, granted_for, IsGrantedAnew, effect-brings, effect-does, granted_by, is_shared, renewed_by, renews}
 
 -- ---- two requests for one grant are for the same grants
 
@@ -72,11 +72,18 @@ with-granted expiry g h = grind arith
 with-expires : (expiry : ℕ) (g : Grant) → IsGranted g → expiry_of (with_expiry expiry g) ≡ expiry
 with-expires expiry g h = grind arith
 
-with-ahead : (expiry : ℕ) (g : Grant) → ahead_of (with_expiry expiry g) ≡ ahead_of g
-with-ahead expiry (Allocation a) = refl
-with-ahead expiry (Permission ip (Active w)) = refl
-with-ahead expiry (Channel number peer (Active w)) = refl
-with-ahead expiry g = grind arith
+with-ahead : (ahead expiry : ℕ) (g : Grant) → ahead_of ahead (with_expiry expiry g) ≡ ahead_of ahead g
+with-ahead ahead expiry (Allocation a) = refl
+with-ahead ahead expiry (Permission ip (Active w)) = refl
+with-ahead ahead expiry (Channel number peer (Active w)) = refl
+with-ahead ahead expiry g = grind arith
+
+-- a grant is granted for longer than its refresh is ahead
+for-longer : (ahead : ℕ) (p : Purpose) (g : Grant) → IsRefreshing p → is_for p g ≡ true → ahead_of ahead g + 150_000_000_000 ≤ granted_for p
+for-longer ahead (ForRefresh family lifetime) (Allocation a) r for = omega arith
+for-longer ahead (ForPermission ip) (Permission other progress) r for = omega arith
+for-longer ahead (ForChannel number peer) (Channel other to progress) r for = omega arith
+for-longer ahead p g r for = grind arith
 
 with-family : (expiry : ℕ) (g : Grant) → family_of_grant (with_expiry expiry g) ≡ family_of_grant g
 with-family expiry g = grind arith
@@ -194,13 +201,16 @@ module _ (count slots delay now : ℕ) (transactions : List Transaction) (u : St
   -- if as many grants are served as before, the others stand as they did
   stands-other : (t : State) → t.config ≡ u.config → t.listed ≡ left p u → t.queue ≡ u.queue → t.last_send ≡ u.last_send → ((since : ℕ) → since ≤ now → served u since ≤ served t since)
       → (g : Grant) → is_for p g ≡ false → Stands count slots delay now transactions u g → Stands count slots delay now transactions t g
-  stands-other t same ls qs sends serves g other was = record { granted = was.granted; room = rw same was.room; long = was.long; either = by was.either }
+  stands-other t same ls qs sends serves g other was = record { granted = was.granted; room = rw same was.room; long = rw same was.long; either = by was.either }
     where
       len : length t.queue ≡ length u.queue
       len = ap (λ (q : List Queued). length q) qs
 
       pauses : pause_end t ≡ pause_end u
       pauses = pauses-same t same sends
+
+      dues : due_of t g ≡ due_of u g
+      dues = rw same refl
 
       cadence : t.config.request_cadence ≡ u.config.request_cadence
       cadence = ap (λ (c : Config). c.request_cadence) same
@@ -218,62 +228,62 @@ module _ (count slots delay now : ℕ) (transactions : List Transaction) (u : St
         same = a.same;
         in_time = a.in_time;
       })
-      by (inr idle) = elim (cases_lt (due_of g) now) [
+      by (inr idle) = elim (cases_lt (due_of u g) now) [
         | inl past ↦
-            let no_fewer = serves (due_of g) (omega (arith, past)) in
+            let no_fewer : served u (due_of u g) ≤ served t (due_of t g) = subst (λ (since : ℕ). served u (due_of u g) ≤ served t since) (sym dues) (serves (due_of u g) (omega (arith, past))) in
             inr (record {
               unasked = asks ∙ not-asked g idle.unasked;
-              soon = still-paced _ _ now _ _ (due_of g) slots _ _ cadence len no_fewer idle.soon;
-              paused = still-paced _ _ (pause_end t) _ _ (due_of g) slots _ _ cadence len no_fewer (rw pauses idle.paused);
+              soon = still-paced _ _ now _ _ (due_of u g) (due_of t g) slots _ _ cadence len dues no_fewer idle.soon;
+              paused = still-paced _ _ (pause_end t) _ _ (due_of u g) (due_of t g) slots _ _ cadence len dues no_fewer (rw pauses idle.paused);
             })
         | inr early ↦
             let few = k.few in
             inr (record {
               unasked = asks ∙ not-asked g idle.unasked;
-              soon = early-paced _ _ now _ _ now (due_of g) slots _ cadence len few (omega arith) early;
-              paused = early-paced _ _ (pause_end t) _ _ now (due_of g) slots _ cadence len few (rw pauses (pause-le now u k.sent)) early;
+              soon = early-paced _ _ now _ _ now (due_of t g) slots _ cadence len few (omega arith) (rw dues early);
+              paused = early-paced _ _ (pause_end t) _ _ now (due_of t g) slots _ cadence len few (rw pauses (pause-le now u k.sent)) (rw dues early);
             })
       ]
 
   -- what was granted now is refreshed much later
   stands-new : (t : State) → t.config ≡ u.config → t.queue ≡ u.queue → t.last_send ≡ u.last_send → (h : Grant) → IsGranted h
-      → (count + slots) * u.config.request_cadence + delay < ahead_of h → now + 300_000_000_000 ≤ expiry_of h
+      → (count + slots) * u.config.request_cadence + delay < ahead_of u.config.refresh_ahead h → now + 150_000_000_000 + ahead_of u.config.refresh_ahead h ≤ expiry_of h
       → has_request h t ≡ false → Stands count slots delay now transactions t h
   stands-new t same qs sends h granted room late unasked =
       let len : length t.queue ≡ length u.queue = ap (λ (q : List Queued). length q) qs in
       let pauses = pauses-same t same sends in
       let cadence : t.config.request_cadence ≡ u.config.request_cadence = ap (λ (c : Config). c.request_cadence) same in
       let few = k.few in
-      let early : now ≤ due_of h = omega (arith, late, ahead-le h) in
+      let early : now ≤ due_of t h = rw same (omega (arith, late)) in
       record {
         granted = granted;
         room = rw same room;
-        long = omega (arith, late, ahead-le h);
+        long = rw same (omega (arith, late));
         either = inr (record {
           unasked = unasked;
-          soon = early-paced _ _ now _ _ now (due_of h) slots _ cadence len few (omega arith) early;
-          paused = early-paced _ _ (pause_end t) _ _ now (due_of h) slots _ cadence len few (rw pauses (pause-le now u k.sent)) early;
+          soon = early-paced _ _ now _ _ now (due_of t h) slots _ cadence len few (omega arith) early;
+          paused = early-paced _ _ (pause_end t) _ _ now (due_of t h) slots _ cadence len few (rw pauses (pause-le now u k.sent)) early;
         });
       }
 
   -- what waits or is asked for is served, and so is what was granted now
-  serves-other : (t : State) → t.listed ≡ left p u → (since : ℕ) (g : Grant) → is_for p g ≡ false → is_served u since g ≡ true → is_served t since g ≡ true
-  serves-other t ls since g other e = elim (cases_Bool (is_waiting g)) [
+  serves-other : (t : State) → t.config ≡ u.config → t.listed ≡ left p u → (since : ℕ) (g : Grant) → is_for p g ≡ false → is_served u since g ≡ true → is_served t since g ≡ true
+  serves-other t same ls since g other e = elim (cases_Bool (is_waiting g)) [
     | inl w ↦ or_left (is_waiting g) _ w
     | inr w ↦ or_right (is_waiting g) _ (elim (cases_Bool (has_request g u)) [
       | inl asked ↦ or_left (has_request g t) _ (ap (λ (ls : List Listing). list_any (λ (l : Listing). is_for l.purpose g) ls) ls ∙ still-asked g asked other)
-      | inr not ↦ or_right (has_request g t) _ (rw (w, not) at e)
+      | inr not ↦ or_right (has_request g t) _ (rw same (rw (w, not) at e))
     ])
   ]
 
-  serves-new : (t : State) (since : ℕ) (h : Grant) → since ≤ now → now + 300_000_000_000 ≤ expiry_of h → is_served t since h ≡ true
-  serves-new t since h past late =
-      or_right (is_waiting h) _ (or_right (has_request h t) _ (le-leb (since + 240_000_000_000) (due_of h) (omega (arith, past, late, ahead-le h))))
+  serves-new : (t : State) → t.config ≡ u.config → (since : ℕ) (h : Grant) → since ≤ now → now + 150_000_000_000 + ahead_of u.config.refresh_ahead h ≤ expiry_of h → is_served t since h ≡ true
+  serves-new t same since h past late =
+      or_right (is_waiting h) _ (or_right (has_request h t) _ (le-leb (since + 150_000_000_000) (due_of t h) (rw same (omega (arith, past, late)))))
 
 -- ---- a refresh
 
 module _ (count slots delay now : ℕ) (transactions : List Transaction) (u : State) (k : IsKept count slots delay now transactions u) (p : Purpose) (refreshing : IsRefreshing p) (expiry challenges : ℕ)
-    (late : now + 300_000_000_000 ≤ expiry) (alone : IsForGranted p u) where
+    (late : now + granted_for p ≤ expiry) (alone : IsForGranted p u) where
   abbrev t : State
   t = renewed_by p expiry challenges u
 
@@ -285,8 +295,12 @@ module _ (count slots delay now : ℕ) (transactions : List Transaction) (u : St
       let one = k.single p unique in
       absurd (omega (arith, two, one))
 
-  expires-late : (g : Grant) → IsGranted g → now + 300_000_000_000 ≤ expiry_of (with_expiry expiry g)
-  expires-late g h = let e = with-expires expiry g h in omega (arith, e, late)
+  expires-late : (g : Grant) → IsGranted g → is_for p g ≡ true → now + 150_000_000_000 + ahead_of u.config.refresh_ahead (with_expiry expiry g) ≤ expiry_of (with_expiry expiry g)
+  expires-late g h for =
+      let e = with-expires expiry g h in
+      let a = with-ahead u.config.refresh_ahead expiry g in
+      let longer = for-longer u.config.refresh_ahead p g refreshing for in
+      omega (arith, e, a, longer, late)
 
   serves : (since : ℕ) → since ≤ now → served u since ≤ served t since
   serves since past = passes-map (is_served u since) (is_served t since) (renews p expiry) u.grants each
@@ -297,9 +311,9 @@ module _ (count slots delay now : ℕ) (transactions : List Transaction) (u : St
           by : (b : Bool) → is_for p g ≡ b → is_served t since (cond b (with_expiry expiry g) g) ≡ true
           by true f = elim (k.each g there) [
             | inl (waits, pending) ↦ or_left (is_waiting (with_expiry expiry g)) _ (ap is_waiting (with-waiting expiry g waits) ∙ waits)
-            | inr stands ↦ serves-new count slots delay now transactions u k p refreshing t since (with_expiry expiry g) past (expires-late g stands.granted)
+            | inr stands ↦ serves-new count slots delay now transactions u k p refreshing t refl since (with_expiry expiry g) past (expires-late g stands.granted f)
           ]
-          by false f = serves-other count slots delay now transactions u k p refreshing t refl since g f e
+          by false f = serves-other count slots delay now transactions u k p refreshing t refl refl since g f e
 
   -- what has an allocation has it still
   has-room : (family : AddressFamily) → Room u.grants family → Room t.grants family
@@ -323,9 +337,9 @@ module _ (count slots delay now : ℕ) (transactions : List Transaction) (u : St
       by : (b : Bool) → is_for p g ≡ b → IsWell count slots delay now transactions u g → IsWell count slots delay now transactions t (cond b (with_expiry expiry g) g)
       by true e (inl (waits, pending)) = absurd (unanswered g there waits e)
       by true e (inr was) =
-          let a = with-ahead expiry g in
+          let a = with-ahead u.config.refresh_ahead expiry g in
           inr (stands-new count slots delay now transactions u k p refreshing t refl refl refl (with_expiry expiry g) (with-granted expiry g was.granted)
-          (omega (arith, a, was.room)) (expires-late g was.granted)
+          (omega (arith, a, was.room)) (expires-late g was.granted e)
           (answered count slots delay now transactions u k p refreshing g (with_expiry expiry g) there e (λ l was for. sym (with-for l.purpose expiry g) ∙ for)))
       by false e (inl (waits, pending)) = inl (waits, pending-other count slots delay now transactions u k p refreshing now g e pending)
       by false e (inr was) = inr (stands-other count slots delay now transactions u k p refreshing t refl refl refl refl serves g e was)
@@ -408,7 +422,7 @@ module _ (count slots delay now : ℕ) (transactions : List Transaction) (u : St
   new-there = has-right new others (new ∷ []) (inl refl)
 
   new-serves : (since : ℕ) → since ≤ now → is_served after since new ≡ true
-  new-serves since past = serves-new count slots delay now transactions u k p refreshing after since new past anew.late
+  new-serves since past = serves-new count slots delay now transactions u k p refreshing after refl since new past anew.late
 
   serves-anew : (since : ℕ) → since ≤ now → served u since ≤ served after since
   serves-anew since past =
@@ -416,7 +430,7 @@ module _ (count slots delay now : ℕ) (transactions : List Transaction) (u : St
       let one = k.single p anew.unique in
       let same = passes-all (is_served u since) (is_served after since) others
       (λ g h e. let (there, not) = has-filter (λ (g : Grant). not (is_for p g)) g u.grants h in
-      serves-other count slots delay now transactions u k p refreshing after refl since g (not-true (is_for p g) not) e) in
+      serves-other count slots delay now transactions u k p refreshing after refl refl since g (not-true (is_for p g) not) e) in
       let more = passes-append (is_served after since) others (new ∷ []) in
       let last : passes (is_served after since) (new ∷ []) ≡ 1 = rw (new-serves since past) refl in
       omega (arith, split, one, same, more, last)

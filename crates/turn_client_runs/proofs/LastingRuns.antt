@@ -381,10 +381,10 @@ steady-kept count slots delay now s is = record {
 
     stands : (g : Grant) → Has g s.grants → Stands count slots delay now s.transactions s g
     stands g there =
-        let early : now + ahead_of g ≤ expiry_of g = has-all (λ g. now + ahead_of g ≤ expiry_of g) g s.grants is.none_late there in
+        let early : now + ahead_of s.config.refresh_ahead g ≤ expiry_of g = has-all (λ g. now + ahead_of s.config.refresh_ahead g ≤ expiry_of g) g s.grants is.none_late there in
         record {
           granted = force-granted now g (has-all (IsInForce now) g s.grants is.in_force there);
-          room = has-all (λ g. HasRoom count slots s.config.request_cadence delay (ahead_of g)) g s.grants is.room there;
+          room = has-all (λ g. HasRoom count slots s.config.request_cadence delay (ahead_of s.config.refresh_ahead g)) g s.grants is.room there;
           long = omega (arith, early);
           either = inr (record { unasked = unasked g s.listed is.none_listed; soon = rw none (omega (arith, early)); paused = rw none (omega (arith, early, pause-le now s is.sent_before)) });
         }

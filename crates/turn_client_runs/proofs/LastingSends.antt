@@ -109,9 +109,9 @@ may-refresh s g all granted room = by g granted room
     by (Channel number peer (Active expiry)) granted room = within (family_of_grant (Channel number peer (Active expiry))) room
     by g granted room = absurd granted
 
-pub is-due : (time : ℕ) (s : State) (g : Grant) → IsGranted g → is_refreshable g s ≡ true → has_request g s ≡ false → due_of g ≤ time → is_refresh_due time s g ≡ true
+pub is-due : (time : ℕ) (s : State) (g : Grant) → IsGranted g → is_refreshable g s ≡ true → has_request g s ≡ false → due_of s g ≤ time → is_refresh_due time s g ≡ true
 unfolding is_refresh_due refresh_time
-is-due time s g granted may unasked now = rw (kind-due g granted, may, unasked) (le-leb (due_of g) time now)
+is-due time s g granted may unasked now = rw (kind-due s.config.refresh_ahead g granted, may, unasked) (le-leb (due_of s g) time now)
 
 -- the allocation of a grant that is due has not expired, so something is sent
 pub due-sends : (time : ℕ) (s : State) (g : Grant) → Has g s.grants → IsGranted g → is_refresh_due time s g ≡ true → time < expiry_of g

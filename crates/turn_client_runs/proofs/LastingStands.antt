@@ -1,6 +1,6 @@
 -- How a client stands while no grant is lost: each grant is refreshed in time, or its refresh is on its way.
-use Rattle.std.proofs.Common.{◌≡◌, ◌⊎◌, ℕ, ◌+◌, ◌-◌, ◌*◌, ◌/◌, ◌^◌, ◌<◌, ◌≤◌, Bool, true, false, ◌||◌, leb, eqb, List, [], ◌∷◌, length, filter, Option, Some, None, refl, sym, subst, ◌∙◌, inl, inr}
-use Rattle.std.proofs.Common.{arith}
+use Rattle.std.proofs.Common.{◌≡◌, ◌⊎◌, ℕ, ◌+◌, ◌-◌, ◌*◌, ◌/◌, ◌^◌, ◌<◌, ◌≤◌, min, Bool, true, false, ◌||◌, leb, eqb, List, [], ◌∷◌, length, filter, Option, Some, None, refl, sym, subst, ◌∙◌, inl}
+use Rattle.std.proofs.Common.{inr, arith}
 use Rattle.std.specs.Prelude.{IfSome, ⊤, nat_le}
 use Rattle.std.proofs.lemmas.Bool.{cases_Bool, cases_lt}
 use Rattle.std.proofs.lemmas.Nat.{mul-le}
@@ -17,7 +17,7 @@ use Rattle.turn_client_api.specs.declared.grant.Purpose.TheVariants.{ForRefresh,
 use Rattle.turn_client_api.specs.declared.grant.Listing.{Listing}
 use Rattle.turn_client_api.specs.Grants.{family_of_grant, has_request, is_for}
 use Rattle.turn_client_api.specs.declared.grant.Relay.{Relay}
-use Rattle.turn_client_api.specs.Due.{has_reply, pause_end, refresh_time_by_kind, short_lifetime}
+use Rattle.turn_client_api.specs.Due.{has_reply, pause_end, refresh_time_by_kind}
 use Rattle.turn_client_laws.proofs.HasLemmas.{Has}
 use Rattle.turn_client_laws.proofs.InAllocationLemmas.{Room}
 use Rattle.turn_client_runs.specs.Lasting.{as_granted, with_expiry, ahead_of, expiry_of}
@@ -31,8 +31,8 @@ IsGranted (Channel number peer (Active expiry)) = ⊤
 IsGranted _ = ⊥
 
 -- when its refresh falls due
-abbrev pub due_of : Grant → ℕ
-due_of g = expiry_of g - ahead_of g
+abbrev pub due_of : State → Grant → ℕ
+due_of s g = expiry_of g - ahead_of s.config.refresh_ahead g
 
 -- it is requested and not yet granted
 abbrev pub is_waiting : Grant → Bool
@@ -42,14 +42,14 @@ is_waiting _ = false
 
 -- it is being requested, or was refreshed since that time
 abbrev pub is_served : State → ℕ → Grant → Bool
-is_served s since g = is_waiting g || (has_request g s || nat_le (since + 240_000_000_000) (due_of g))
+is_served s since g = is_waiting g || (has_request g s || nat_le (since + 150_000_000_000) (due_of s g))
 
 abbrev pub served : State → ℕ → ℕ
 served s since = passes (is_served s since) s.grants
 
 -- the request for a refresh leaves by then
 abbrev pub bound : ℕ → State → Grant → ℕ
-bound slots s g = due_of g + s.config.request_cadence * (1 + slots + served s (due_of g))
+bound slots s g = due_of s g + s.config.request_cadence * (1 + slots + served s (due_of s g))
 
 -- a request for it awaits its reply, which will come before the grant expires
 pub record IsAwaited (delay : ℕ) (transactions : List Transaction) (listed : List Listing) (g : Grant) : Type 0 where
@@ -69,8 +69,8 @@ pub record IsIdle (slots now : ℕ) (s : State) (g : Grant) : Type 0 where
 
 pub record Stands (count slots delay now : ℕ) (transactions : List Transaction) (s : State) (g : Grant) : Type 0 where
   pub granted : IsGranted g
-  pub room : (count + slots) * s.config.request_cadence + delay < ahead_of g
-  pub long : ahead_of g ≤ expiry_of g
+  pub room : (count + slots) * s.config.request_cadence + delay < ahead_of s.config.refresh_ahead g
+  pub long : ahead_of s.config.refresh_ahead g ≤ expiry_of g
   pub either : IsAwaited delay transactions s.listed g ⊎ IsIdle slots now s g
 
 -- its request awaits its reply, and was made by then
@@ -205,7 +205,7 @@ pub record IsKept (count slots delay now : ℕ) (transactions : List Transaction
   pub requests : has_reply s ≡ false
   pub few : length s.queue ≤ slots
   pub prompt : delay < wait_at (timers_of s.config) s.transport 0
-  pub pace : (count + slots) * s.config.request_cadence + delay < 60_000_000_000
+  pub pace : (count + slots) * s.config.request_cadence + delay < min s.config.refresh_ahead 150_000_000_000
   pub sent : IfSome s.last_send (λ time. time ≤ now)
   pub young : (x : Transaction) → Has x s.transactions → x.resends ≡ 0
   pub heard : (x : Transaction) → Has x s.transactions → now ≤ x.last_send + delay
@@ -219,22 +219,11 @@ pub record IsKept (count slots delay now : ℕ) (transactions : List Transaction
 
 -- ---- numbers
 
-half : (n : ℕ) → n ≤ 120_000_000_000 → n / 2 ≤ 60_000_000_000
-half n h = omega (arith, h)
-
-pub ahead-le : (g : Grant) → ahead_of g ≤ 60_000_000_000
-ahead-le (Allocation a) = elim (cases_Bool (leb a.first_lifetime short_lifetime)) [
-  | inl e ↦ rw e (half a.first_lifetime (Rattle.std.proofs.lemmas.Bool.leb-true a.first_lifetime short_lifetime e))
-  | inr e ↦ rw e (omega arith)
-]
-ahead-le (Permission ip progress) = omega arith
-ahead-le g = omega arith
-
-pub kind-due : (g : Grant) → IsGranted g → refresh_time_by_kind g ≡ Some (due_of g)
-kind-due (Allocation a) h = elim (cases_Bool (leb a.first_lifetime short_lifetime)) [ inl e ↦ rw e refl | inr e ↦ rw e refl ]
-kind-due (Permission ip (Active expiry)) h = refl
-kind-due (Channel number peer (Active expiry)) h = refl
-kind-due g h = absurd h
+pub kind-due : (ahead : ℕ) (g : Grant) → IsGranted g → refresh_time_by_kind ahead g ≡ Some (expiry_of g - ahead_of ahead g)
+kind-due ahead (Allocation a) h = refl
+kind-due ahead (Permission ip (Active expiry)) h = refl
+kind-due ahead (Channel number peer (Active expiry)) h = refl
+kind-due ahead g h = absurd h
 
 -- what is granted is not waiting
 pub not-waiting : (g : Grant) → IsGranted g → is_waiting g ≡ false
@@ -244,8 +233,8 @@ not-waiting (Channel number peer (Active expiry)) h = refl
 not-waiting g h = absurd h
 
 -- one packet leaves in each pause: if as many are served or more, none is late that was not
-pub still-paced : (c d x q r due slots n m : ℕ) → d ≡ c → q ≡ r → n ≤ m → x + c * r ≤ due + c * (1 + slots + n) → x + d * q ≤ due + d * (1 + slots + m)
-still-paced c d x q r due slots n m e f more h = rw (e, f) (omega (arith, h, mul-le c n c m (omega arith) more))
+pub still-paced : (c d x q r due later slots n m : ℕ) → d ≡ c → q ≡ r → later ≡ due → n ≤ m → x + c * r ≤ due + c * (1 + slots + n) → x + d * q ≤ later + d * (1 + slots + m)
+still-paced c d x q r due later slots n m e f moved more h = rw (e, f, moved) (omega (arith, h, mul-le c n c m (omega arith) more))
 
 -- what falls due later leaves in time behind the queue
 pub early-paced : (c d x q r now due slots n : ℕ) → d ≡ c → q ≡ r → r ≤ slots → x ≤ now + c → now ≤ due → x + d * q ≤ due + d * (1 + slots + n)
@@ -271,13 +260,13 @@ paced-all c slots count n due few = omega (arith, mul-le c (n + 1) c count (omeg
 
 -- a grant that is idle is not counted among those that were served
 pub bound-le : (count slots delay now : ℕ) (transactions : List Transaction) (s : State) (g : Grant) → IsKept count slots delay now transactions s → Has g s.grants → IsGranted g → IsIdle slots now s g
-    → bound slots s g ≤ due_of g + (count + slots) * s.config.request_cadence
+    → bound slots s g ≤ due_of s g + (count + slots) * s.config.request_cadence
 bound-le count slots delay now transactions s g k there granted idle =
-    let less = passes-less (is_served s (due_of g)) g s.grants there (rw (not-waiting g granted, idle.unasked) (late (due_of g))) in
-    let few : served s (due_of g) + 1 ≤ count = omega (arith, less, k.size) in
-    paced-all s.config.request_cadence slots count (served s (due_of g)) (due_of g) few
+    let less = passes-less (is_served s (due_of s g)) g s.grants there (rw (not-waiting g granted, idle.unasked) (late (due_of s g))) in
+    let few : served s (due_of s g) + 1 ≤ count = omega (arith, less, k.size) in
+    paced-all s.config.request_cadence slots count (served s (due_of s g)) (due_of s g) few
   where
-    late : (r : ℕ) → leb (r + 240_000_000_000) r ≡ false
+    late : (r : ℕ) → leb (r + 150_000_000_000) r ≡ false
     late r = grind arith
 
 pub pause-le : (now : ℕ) (s : State) → IfSome s.last_send (λ time. time ≤ now) → pause_end s ≤ now + s.config.request_cadence

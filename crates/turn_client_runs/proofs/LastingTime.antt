@@ -66,11 +66,12 @@ module _ (count slots delay before now : ℕ) (s : State) (k : IsKept count slot
   idle-early g there stands idle a inside of goes_on = by s.queue refl
     where
       at_once : ℕ
-      at_once = max before (max (pause_end s) (due_of g))
+      at_once = max before (max (pause_end s) (due_of s g))
 
       within : at_once ≤ bound slots s g
       within = let soon = idle.soon in let paused = idle.paused in
-          max-le {a = before} {b = max (pause_end s) (due_of g)} {k = bound slots s g} (omega (arith, soon)) (max-le {a = pause_end s} {b = due_of g} {k = bound slots s g} (omega (arith, paused)) (omega arith))
+          max-le {a = before} {b = max (pause_end s) (due_of s g)} {k = bound slots s g} (omega (arith, soon))
+          (max-le {a = pause_end s} {b = due_of s g} {k = bound slots s g} (omega (arith, paused)) (omega arith))
 
       lasts : at_once < expiry_of g
       lasts = omega (arith, within, bound-early count slots delay before s.transactions s g k there stands idle)

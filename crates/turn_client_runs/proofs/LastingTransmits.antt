@@ -30,8 +30,8 @@ use Rattle.turn_client_api.specs.Transmit.{sent_at_once, transmit_step, without_
 use Rattle.turn_client_laws.proofs.HasLemmas.{Has, filter_map-has, first-has, has-append, has-filter, has-filter_map, has-flat_map, has-left, has-right}
 use Rattle.turn_client_laws.proofs.InAllocationLemmas.{same_family-self}
 use Rattle.turn_client_runs.proofs.LastingCounts.{passes, passes-more}
-use Rattle.turn_client_runs.proofs.LastingStands.{Goes, goes-more, pending-more, IsAwaited, IsGranted, IsIdle, IsKept, IsRefreshing, Stands, allocation-stands, stands-early, ahead-le, bound, bound-le}
-use Rattle.turn_client_runs.proofs.LastingStands.{due_of, left-paced, one-paced, is_served, is_waiting, kind-due, not-waiting, served}
+use Rattle.turn_client_runs.proofs.LastingStands.{Goes, goes-more, pending-more, IsAwaited, IsGranted, IsIdle, IsKept, IsRefreshing, Stands, allocation-stands, stands-early, bound, bound-le, due_of}
+use Rattle.turn_client_runs.proofs.LastingStands.{left-paced, one-paced, is_served, is_waiting, kind-due, not-waiting, served}
 use Rattle.turn_client_runs.proofs.LastingSends.{due-sends, is-due, may-refresh, queue-idle, transmits}
 use Rattle.turn_client_runs.proofs.LastingListings.{requests-more}
 use Rattle.turn_client_runs.proofs.LastingTime.{bound-early}
@@ -71,9 +71,9 @@ by-kind true false time now e = (refl, leb-true time now e)
 by-kind true true time now e = cc
 by-kind false asked time now e = cc
 
-pub due-unasked : (now : ℕ) (s : State) (g : Grant) → IsGranted g → is_refresh_due now s g ≡ true → (has_request g s ≡ false) × (due_of g ≤ now)
+pub due-unasked : (now : ℕ) (s : State) (g : Grant) → IsGranted g → is_refresh_due now s g ≡ true → (has_request g s ≡ false) × (due_of s g ≤ now)
 unfolding is_refresh_due refresh_time
-due-unasked now s g granted due = by-kind (is_refreshable g s) (has_request g s) (due_of g) now (rw (kind-due g granted) at due)
+due-unasked now s g granted due = by-kind (is_refreshable g s) (has_request g s) (due_of s g) now (rw (kind-due s.config.refresh_ahead g granted) at due)
 
 -- ---- what it is for
 
@@ -124,7 +124,7 @@ module _ (count slots delay now : ℕ) (s : State) (k : IsKept count slots delay
   refresh : IsRefreshOf p next.grant
   refresh = refresh-for now next.grant p stands-next.granted next.gives
 
-  unasked : (has_request next.grant s ≡ false) × (due_of next.grant ≤ now)
+  unasked : (has_request next.grant s ≡ false) × (due_of s next.grant ≤ now)
   unasked = due-unasked now s next.grant stands-next.granted next.is_due
 
   asked-more : (g : Grant) → has_request g t ≡ (has_request g s || is_for p g)
@@ -140,13 +140,13 @@ module _ (count slots delay now : ℕ) (s : State) (k : IsKept count slots delay
   not-asked g e f = asked-more g ∙ rw (e, f) refl
 
   -- one grant more was served since then
-  serves-more : (g : Grant) → Has g s.grants → Stands count slots delay now s.transactions s g → IsIdle slots now s g → served s (due_of g) + 1 ≤ served t (due_of g)
+  serves-more : (g : Grant) → Has g s.grants → Stands count slots delay now s.transactions s g → IsIdle slots now s g → served s (due_of s g) + 1 ≤ served t (due_of s g)
   serves-more g there stands idle =
       passes-more (is_served s r) (is_served t r) next.grant s.grants still next.there (rw (not-waiting next.grant stands-next.granted, unasked.0, old) refl)
       (or_right (is_waiting next.grant) _ (or_left (has_request next.grant t) _ (now-asked next.grant refresh.1)))
     where
       r : ℕ
-      r = due_of g
+      r = due_of s g
 
       still : (x : Grant) → Has x s.grants → is_served s r x ≡ true → is_served t r x ≡ true
       still x h e = elim (cases_Bool (is_waiting x)) [
@@ -157,20 +157,20 @@ module _ (count slots delay now : ℕ) (s : State) (k : IsKept count slots delay
         ])
       ]
 
-      old : leb (r + 240_000_000_000) (due_of next.grant) ≡ false
+      old : leb (r + 150_000_000_000) (due_of s next.grant) ≡ false
       old =
-          lt-leb (r + 240_000_000_000) (due_of next.grant)
-          (omega (arith, unasked.1, idle.soon, bound-le count slots delay now s.transactions s g k there stands.granted idle, stands.room, ahead-le g))
+          lt-leb (r + 150_000_000_000) (due_of s next.grant)
+          (omega (arith, unasked.1, idle.soon, bound-le count slots delay now s.transactions s g k there stands.granted idle, k.pace))
 
   none-left : length s.queue ≡ 0
   none-left = rw empty refl
 
   later : (g : Grant) → Has g s.grants → Stands count slots delay now s.transactions s g → IsIdle slots now s g → now + s.config.request_cadence ≤ bound slots t g
-  later g there stands idle = elim (cases_lt (due_of g) now) [
+  later g there stands idle = elim (cases_lt (due_of s g) now) [
     | inl past ↦
         let more = serves-more g there stands idle in
-        let soon : now + s.config.request_cadence * 0 ≤ due_of g + s.config.request_cadence * (1 + slots + served s (due_of g)) = rw none-left at idle.soon in
-        one-paced s.config.request_cadence now (due_of g) slots (served s (due_of g)) (served t (due_of g)) more soon
+        let soon : now + s.config.request_cadence * 0 ≤ due_of s g + s.config.request_cadence * (1 + slots + served s (due_of s g)) = rw none-left at idle.soon in
+        one-paced s.config.request_cadence now (due_of s g) slots (served s (due_of s g)) (served t (due_of s g)) more soon
     | inr early ↦ omega (arith, early)
   ]
 
@@ -296,8 +296,8 @@ module _ (count slots delay now : ℕ) (s : State) (k : IsKept count slots delay
   kept-in_use : (b : Relay) → Has (Allocation b) s.grants → b.is_expired ≡ false
   kept-in_use b h = (allocation-stands count slots delay now s.transactions s k b h).granted
 
-  still-early : (g : Grant) → Has g s.grants → Stands count slots delay now s.transactions s g → IsIdle slots now s g → now < due_of g
-  still-early g there stands idle = elim (cases_lt now (due_of g)) [
+  still-early : (g : Grant) → Has g s.grants → Stands count slots delay now s.transactions s g → IsIdle slots now s g → now < due_of s g
+  still-early g there stands idle = elim (cases_lt now (due_of s g)) [
     | inl early ↦ early
     | inr past ↦
         let (a, here, same) = k.housed g there in

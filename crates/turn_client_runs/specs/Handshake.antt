@@ -1,5 +1,5 @@
 -- A client whose server answers its first requests (RFC 8489, section 9.2; RFC 8656, section 7).
-use Rattle.std.specs.Prelude.{◌≡◌, ◌≢◌, ◌⊎◌, ℕ, ◌+◌, ◌<◌, ◌≤◌, true, List, [], ◌∷◌, Some, IsSome, ⊤}
+use Rattle.std.specs.Prelude.{◌≡◌, ◌≢◌, ◌⊎◌, ℕ, ◌+◌, ◌<◌, ◌≤◌, min, true, List, [], ◌∷◌, Some, IsSome, ⊤}
 use Rattle.std.specs.declared.net.socket_addr.SocketAddr.{SocketAddr}
 use Rattle.turn_stun.specs.Message.{id_of}
 use Rattle.turn_stun.specs.declared.message.header.MessageClass.TheVariants.{Success}
@@ -72,5 +72,5 @@ HandshakeEndsSteadily =
     1 ≤ config.max_stale_nonces → delay < wait_at (timers_of config) Udp 0
     → RunsHandshake delay start first calls → IsInTime delay (time_of_all start calls) now last
     → IsAllocating packet last → last.queue ≡ [] → lifetime_in packet.payload ≡ Some lifetime → 600 ≤ lifetime
-    → HasRoom count slots config.request_cadence delay (seconds 60) → IsWithin count slots next
+    → HasRoom count slots config.request_cadence delay (min config.refresh_ahead (seconds 150)) → IsWithin count slots next
     → IsSteady count slots delay now next

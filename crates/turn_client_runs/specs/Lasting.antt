@@ -1,5 +1,5 @@
 -- No grant is lost while the server answers and the caller sends what is due (RFC 8656, sections 8, 9 and 12).
-use Rattle.std.specs.Prelude.{◌≡◌, ◌⊎◌, ℕ, ◌+◌, ◌*◌, ◌/◌, ◌^◌, ◌<◌, ◌≤◌, true, false, nat_le, if◌then◌else◌, List, [], ◌∷◌, ◌++◌, length}
+use Rattle.std.specs.Prelude.{◌≡◌, ◌⊎◌, ℕ, ◌+◌, ◌*◌, ◌/◌, ◌^◌, ◌<◌, ◌≤◌, min, true, false, List, [], ◌∷◌, ◌++◌, length}
 use Rattle.std.specs.Prelude.{IfSome, IsSomeAnd, All, ⊤}
 use Rattle.std.specs.Prelude.{IfSome, IsSomeAnd, All, ⊤}
 use Rattle.std.specs.List.{Contains}
@@ -45,11 +45,12 @@ expiry_of (Permission ip (Active expiry)) = expiry
 expiry_of (Channel number peer (Active expiry)) = expiry
 expiry_of _ = 0
 
--- So long before its expiry it is to be refreshed. This and other numbers of ours are written out here, so that
--- a machine with worse ones is refused.
-abbrev pub ahead_of : Grant → ℕ
-ahead_of (Allocation a) = if nat_le a.first_lifetime (seconds 120) then a.first_lifetime / 2 else seconds 60
-ahead_of _ = seconds 60
+-- So long before its expiry it is to be refreshed, if this long ahead was configured. Other numbers of ours are
+-- written out here, so that a machine with worse ones is refused.
+abbrev pub ahead_of : ℕ → Grant → ℕ
+ahead_of ahead (Allocation a) = min ahead (min a.first_lifetime (seconds 600) / 2)
+ahead_of ahead (Channel number peer progress) = min ahead (seconds 300)
+ahead_of ahead _ = min ahead (seconds 150)
 
 -- the grant with another expiry
 abbrev pub with_expiry : ℕ → Grant → Grant
@@ -97,9 +98,9 @@ pub record IsSteady (count slots delay now : ℕ) (s : State) : Type 0 where
   pub none_listed : s.listed ≡ []
   pub sent_before : IfSome s.last_send (λ time. time ≤ now)
   pub in_force : All (IsInForce now) s.grants
-  pub none_late : All (λ g. now + ahead_of g ≤ expiry_of g) s.grants
-  pub room : All (λ g. HasRoom count slots s.config.request_cadence delay (ahead_of g)) s.grants
-  pub room_for_more : HasRoom count slots s.config.request_cadence delay (seconds 60)
+  pub none_late : All (λ g. now + ahead_of s.config.refresh_ahead g ≤ expiry_of g) s.grants
+  pub room : All (λ g. HasRoom count slots s.config.request_cadence delay (ahead_of s.config.refresh_ahead g)) s.grants
+  pub room_for_more : HasRoom count slots s.config.request_cadence delay (min s.config.refresh_ahead (seconds 150))
   pub within : IsWithin count slots s
   pub distinct : HasNoDoubles s
   pub housed : AllHaveAllocation s

@@ -12,8 +12,8 @@ ghost use Rattle.turn_client_runs.specs.Lasting.{DatagramsAreMessages, GrantsLas
 /// Of the server and the network: a request, whether it was sent or waits in the queue, is answered within
 /// `delay`, which is less than the wait before its first retransmission, by a signed success; replies come
 /// in any order, and a REFRESH is granted for 600 s or more. Of both: `(count + slots) * cadence + delay` is
-/// less than the minute by which a refresh is ahead, and less than half of a lifetime of at most two minutes,
-/// where the cadence is the configured one (`request_cadence`).
+/// less than the time by which each refresh is ahead, where the cadence and that time are the configured ones
+/// (`request_cadence`, and `refresh_ahead` or half of a lifetime).
 /// What strangers and peers send may come in between, as long as it changes nothing. Times are at most 2^62
 /// ns.
 ///

@@ -4,7 +4,7 @@ use Rattle.turn_types.specs.declared.family.AddressFamily.{AddressFamily}
 use Rattle.turn_auth.specs.Credentials.{Credentials}
 use Rattle.turn_auth.specs.LongTerm.{with_algorithm}
 use Rattle.turn_auth.specs.declared.integrity.IntegrityAlgorithm.{IntegrityAlgorithm}
-use Rattle.turn_client_api.specs.Config.{Config, default_max_stale_nonces, default_request_cadence, with_family}
+use Rattle.turn_client_api.specs.Config.{Config, default_max_stale_nonces, default_refresh_ahead, default_request_cadence, with_family}
 use Rattle.turn_client_api.specs.State.{State, initial}
 use Rattle.turn_agent.specs.Schedule.{Timers}
 use Rattle.turn_lines.specs.declared.head.Head.{Head}
@@ -42,6 +42,7 @@ config_with request credentials waits = record {
   max_stale_nonces = default_max_stale_nonces;
   request_cadence = default_request_cadence;
   keepalive = None;
+  refresh_ahead = default_refresh_ahead;
 }
 
 -- the new client of a head

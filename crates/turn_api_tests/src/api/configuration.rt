@@ -45,6 +45,7 @@ fn a_new_configuration_asks_for_ipv4_over_udp(rt: HostRuntime) {
     same(&rt, config.max_stale_nonces().get(), 9);
     same(&rt, config.request_cadence(), Duration::from_millis(50));
     same(&rt, config.keepalive(), None);
+    same(&rt, config.refresh_ahead(), Duration::from_secs(60));
 }
 
 /// Sets each setting to another value than its default.
@@ -95,6 +96,19 @@ fn a_keepalive_is_at_least_a_second(rt: HostRuntime) {
     check(&rt, *other != *first);
     first.set_keepalive(None);
     check(&rt, *other == *first);
+}
+
+#[test]
+fn a_refresh_is_at_least_a_second_ahead(rt: HostRuntime) {
+    let mut first = boxed_config(rt.alloc()).expect(&rt, "memory");
+    let other = copy(&rt, rt.alloc(), &first);
+    first.set_refresh_ahead(Duration::from_millis(10));
+    same(&rt, first.refresh_ahead(), Duration::from_secs(1));
+    first.set_refresh_ahead(Duration::from_secs(120));
+    let same_ahead = copy(&rt, rt.alloc(), &first);
+    same(&rt, same_ahead.refresh_ahead(), Duration::from_secs(120));
+    check(&rt, *same_ahead == *first);
+    check(&rt, *other != *first);
 }
 
 /// Compares the times with those of `set_times`.

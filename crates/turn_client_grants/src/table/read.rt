@@ -2,6 +2,7 @@
 
 ghost use Rattle.std.specs.Prelude.{◌≡◌, ◌==◌, ◌<◌, ◌&&◌, All, map, filter, filter_map, find, fold, length, min, nat_le, nat_lt, not, option_map};
 ghost use Rattle.std.specs.Prelude.{option_copied, option_to_list, reverse, slice_get, false, true, IfSome};
+ghost use Rattle.std.specs.Duration.{as_nanos};
 ghost use Rattle.std.specs.List.{list_all, list_any};
 ghost use Rattle.turn_agent.specs.Agent.{same_address};
 ghost use Rattle.turn_client_api.specs.Addresses.{permitted_left, permitted_in_use, relayed_left, relayed_in_use};
@@ -17,7 +18,7 @@ ghost use Rattle.turn_client_api.specs.declared.grant.Progress.TheVariants.{Pend
 ghost use Rattle.turn_client_api.specs.declared.state.Phase.TheVariants.{Allocated};
 ghost use Rattle.turn_client_grants.specs.Due.{all_times, relay_ends};
 ghost use Rattle.turn_client_laws.specs.LawsBodies.{expiry_times};
-ghost use Rattle.turn_client_grants.specs.Lists.{both_of, first_among};
+ghost use Rattle.turn_client_grants.specs.Lists.{both_of, first_among, with_ahead};
 ghost use Rattle.turn_client_grants.specs.Refresh.{first_refresh};
 ghost use Rattle.turn_client_grants.specs.Table.{is_numbered, with_table};
 ghost use Rattle.turn_client_grants.specs.GrantFilter.{purposes_in};
@@ -26,9 +27,11 @@ use crate::due::{after_pause, least};
 use crate::key::Key;
 use crate::kind::is_of_family;
 use crate::purposes::Purposes;
+use crate::summary::refresh_of;
 use crate::table::GrantTable;
 use crate::{connections, listed, numbers, offers, reads, refresh};
 use std::net::{IpAddr, SocketAddr};
+use std::time::Duration;
 use turn_client_api::{
     DataConnection, DataOffer, Grant, Origin, PermissionAddressesIter, Progress, Purpose, Relay,
     RelayedAddressesIter,
@@ -317,10 +320,10 @@ impl GrantTable {
         is_own
     }
 
-    /// The earliest of the time and those at which a grant expires or is to be refreshed, where no
-    /// request is sent before the pause ends.
-    pub fn soonest(&self, time: Instant, now: Instant, pause: Instant) -> Instant
-        ensures { (s : State) → result ≡ fold min time (all_times now pause (with_table self.now s)) }
+    /// The earliest of the time and those at which a grant expires or is to be refreshed so long ahead,
+    /// where no request is sent before the pause ends.
+    pub fn soonest(&self, time: Instant, now: Instant, pause: Instant, ahead: Duration) -> Instant
+        ensures { (s : State) → result ≡ fold min time (all_times now pause (with_ahead (as_nanos ahead) (with_table self.now s))) }
     {
         let _time = time.as_nanos();
         let _pause = pause.as_nanos();
@@ -329,19 +332,21 @@ impl GrantTable {
         let first = least(ends, first_end);
         let second_end = relay_end(&self.summary.second, now);
         let second = least(first, second_end);
-        let later = after_pause(pause, Some(self.summary.refresh));
+        let later = after_pause(pause, Some(refresh_of(&self.summary, ahead)));
         least(second, later)
     }
 
-    /// The purpose of the first refresh.
-    pub fn first_refresh(&self, now: Instant) -> Option<Purpose>
-        ensures { (s : State) → result ≡ slice_get (filter_map (first_refresh now (with_table self.now s)) (allocations (with_table self.now s))) 0 }
+    /// The purpose of the first refresh, if grants are refreshed so long ahead.
+    pub fn first_refresh(&self, now: Instant, ahead: Duration) -> Option<Purpose>
+        ensures { (s : State) → result
+            ≡ slice_get (filter_map (first_refresh now (with_ahead (as_nanos ahead) (with_table self.now s))) (allocations (with_table self.now s))) 0 }
     {
-        let is_early = now < self.summary.refresh;
+        let first = refresh_of(&self.summary, ahead);
+        let is_early = now < first;
         if is_early {
             return None;
         }
-        refresh::first_refresh(self.grants.as_slice(), self.listed.as_slice(), now)
+        refresh::first_refresh(ahead, self.grants.as_slice(), self.listed.as_slice(), now)
     }
 
     /// Whether nothing expires at this time or earlier.

@@ -11,6 +11,7 @@ use std::alloc::{AllocError, Global};
 use std::net::{IpAddr, Ipv4Addr, Ipv6Addr, SocketAddr};
 use std::process::Abort;
 use std::test::Fail;
+use std::time::Duration;
 use turn_client_api::{DataConnection, Grant, Progress, Purpose, Relay};
 use turn_client_grants::{GrantLedger, Purposes};
 use turn_stun::instant::Instant;
@@ -137,7 +138,7 @@ fn first_refresh(
         Grant::Allocation(relay(300)),
     ];
     let ledger = holding(alloc, &grants, asked)?;
-    Ok(ledger.table().first_refresh(now))
+    Ok(ledger.table().first_refresh(now, Duration::from_secs(60)))
 }
 
 /// An allocation is refreshed 60 s before its expiry, and before the grants in it (our choice).
@@ -158,7 +159,12 @@ fn soonest(alloc: Global, now: u64, pause: u64) -> Result<Instant, AllocError> {
     let grants = [Grant::Allocation(relay(1_800)), permission];
     let ledger = holding(alloc, &grants, &Purposes::none())?;
     let far = seconds(9_999);
-    Ok(ledger.table().soonest(far, seconds(now), seconds(pause)))
+    let ahead = Duration::from_secs(60);
+    Ok(
+        ledger
+            .table()
+            .soonest(far, seconds(now), seconds(pause), ahead),
+    )
 }
 
 /// An expiry within the pause comes before the refresh, which has to wait for the pause.

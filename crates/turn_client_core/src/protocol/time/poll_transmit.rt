@@ -135,7 +135,8 @@ impl TurnClientProtocol {
         ensures err { OnErr result (self.new ≡ self.old) }
         ensures free { OnErr result (IsSome (refresh_step now self.old).0) }
     {
-        let Some(purpose) = self.ledger.table().first_refresh(now) else {
+        let ahead = self.config.refresh_ahead();
+        let Some(purpose) = self.ledger.table().first_refresh(now, ahead) else {
             return self.keep_alive(now);
         };
         let id = self.fresh_id();

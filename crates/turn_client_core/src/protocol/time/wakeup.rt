@@ -66,7 +66,8 @@ impl TurnClientProtocol {
         let pause = self.pause_end();
         let first = self.first_due(now, pause);
         let second = self.outbox.earliest(first);
-        let third = self.ledger.table().soonest(second, now, pause);
+        let ahead = self.config.refresh_ahead();
+        let third = self.ledger.table().soonest(second, now, pause, ahead);
         sooner(third, self.keepalive_time())
     }
 

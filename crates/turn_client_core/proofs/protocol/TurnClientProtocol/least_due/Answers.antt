@@ -12,5 +12,5 @@ returns c =
     let alive = rw (← c.self.view_is) at c.keepalive_time.ensures in
     rw (← c.self.view_is)
     (c.sooner.ensures
-    ∙ rw (alive, third, c.table.ensures.grants, c.table.ensures.listed, c.earliest-second.ensures, c.self.invariant.times, first, pause)
+    ∙ rw (alive, third, c.refresh_ahead-ahead.ensures, c.table.ensures.grants, c.table.ensures.listed, c.earliest-second.ensures, c.self.invariant.times, first, pause)
     (least_due-is c.args.now s))
