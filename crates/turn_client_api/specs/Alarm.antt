@@ -13,8 +13,8 @@ use Rattle.turn_client_api.specs.declared.poll.TurnPollRet.TheVariants.{WaitUnti
 -- the grant does not expire before this time; an expired allocation has done so already
 abbrev pub Lasts : ℕ → Grant → Type 0
 Lasts time (Allocation a) = a.is_expired ≡ false → time ≤ a.expiry
-Lasts time (Permission ip (Active expiry)) = time ≤ expiry
-Lasts time (Channel number peer (Active expiry)) = time ≤ expiry
+Lasts time (Permission ip (Active lease)) = time ≤ lease.expiry
+Lasts time (Channel number peer (Active lease)) = time ≤ lease.expiry
 Lasts time (Connection c) = IfSome c.deadline (λ deadline. time ≤ deadline)
 Lasts time _ = ⊤
 

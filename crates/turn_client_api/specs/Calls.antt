@@ -19,8 +19,8 @@ use Rattle.turn_client_api.specs.State.{State, Phase, Allocated, Closed, Grant, 
 use Rattle.turn_client_api.specs.State.{Pending, Active, Reserved, Origin, ServerRequest, ForRefresh, ForPermission, ForChannel, ForConnect, ForBind, Waiting}
 use Rattle.turn_client_api.specs.State.{later_by}
 use Rattle.turn_client_api.specs.Grants.{allocations, find_allocation_to, as_connection, family_of, family_of_ip, in_sequence, is_channel_of, is_past}
-use Rattle.turn_client_api.specs.Grants.{has_active_permission, as_offer, permission_state, same_transport, with_allocations, with_expired, with_grant}
-use Rattle.turn_client_api.specs.Grants.{with_more_grants, without_grants}
+use Rattle.turn_client_api.specs.Grants.{has_active_permission, as_offer, is_permission_of, permission_state, same_transport, with_allocations}
+use Rattle.turn_client_api.specs.Grants.{with_expired, with_grant, with_more_grants, without_grants}
 use Rattle.turn_client_api.specs.Requests.{request_started, connection_timed_out, id_used, fresh_id, lifetime_attribute, message_of, queued, refresh_method}
 use Rattle.turn_client_api.specs.Requests.{request_for, requested, signed, to_server, accepted_reply, refused_reply, replied}
 use Rattle.turn_client_api.specs.Effect.{closed, fail_all}
@@ -31,12 +31,14 @@ use Rattle.turn_client_api.specs.declared.poll.Socket5Tuple.{Socket5Tuple}
 use Rattle.turn_client_api.specs.declared.error.BindChannelError.TheVariants as Bind
 use Rattle.turn_client_api.specs.declared.error.CreatePermissionError.TheVariants as Create
 use Rattle.turn_client_api.specs.declared.error.DeleteError.TheVariants as Delete
+use Rattle.turn_client_api.specs.declared.error.KeepError.TheVariants as Keep
 use Rattle.turn_client_api.specs.declared.error.SendError.TheVariants as Send
 use Rattle.turn_client_api.specs.declared.error.TcpAllocateError.TheVariants as Socket
 use Rattle.turn_client_api.specs.declared.error.TcpConnectError.TheVariants as Join
 use Rattle.turn_client_api.specs.declared.error.BindChannelError.{BindChannelError}
 use Rattle.turn_client_api.specs.declared.error.CreatePermissionError.{CreatePermissionError}
 use Rattle.turn_client_api.specs.declared.error.DeleteError.{DeleteError}
+use Rattle.turn_client_api.specs.declared.error.KeepError.{KeepError}
 use Rattle.turn_client_api.specs.declared.error.SendError.{SendError}
 use Rattle.turn_client_api.specs.declared.error.TcpAllocateError.{TcpAllocateError}
 use Rattle.turn_client_api.specs.declared.error.TcpConnectError.{TcpConnectError}
@@ -65,7 +67,7 @@ is_in_use transport relayed s =
     && list_any (λ a. same_address a.relayed relayed) (allocations_in_use s)
 
 abbrev pub permitted_in : AddressFamily → Grant → Option IpAddr
-permitted_in family (Permission ip (Active expiry)) = if same_family (family_of_ip ip) family then Some ip else None
+permitted_in family (Permission ip (Active lease)) = if same_family (family_of_ip ip) family then Some ip else None
 permitted_in family _ = None
 
 -- the IP addresses with a permission in an allocation, in the order in which the server granted them
@@ -92,7 +94,7 @@ abbrev pub permission_step : IpAddr → ℕ → State → Result Unit CreatePerm
 permission_step ip now s =
     if is_some (permission_state ip s) then (Err Create.AlreadyExists, s)
     else (if not (is_allocated s.phase) then (Err Create.NoAllocation, s)
-    else (Ok tt, requested (fresh_id s) (ForPermission ip) now (with_grant (Permission ip Pending) s)))
+    else (Ok tt, requested (fresh_id s) (ForPermission ip) now (with_grant (Permission ip (Pending true)) s)))
 
 abbrev pub create_permission_step : TransportType → IpAddr → ℕ → State → Result Unit CreatePermissionError × State
 create_permission_step transport ip now s =
@@ -138,7 +140,7 @@ bind_channel number peer now s =
     let text = request_for s (ForChannel number peer) (fresh_id s) in
     let ips = missing_permission peer s in
     in_sequence (
-    with_more_grants (Channel number peer Pending ∷ map (λ ip. Permission ip Pending) ips)
+    with_more_grants (Channel number peer (Pending true) ∷ map (λ ip. Permission ip (Pending true)) ips)
     ∷ request_started (fresh_id s) text (ForChannel number peer ∷ map ForPermission ips) now
     ∷ queued true s.local text
     ∷ []
@@ -160,6 +162,40 @@ channel_step peer now s =
 abbrev pub bind_channel_step : TransportType → SocketAddr → ℕ → State → Result Unit BindChannelError × State
 bind_channel_step transport peer now s =
     in_allocation (find_allocation_to transport (socket_ip peer) s) (socket_ip peer) now Bind.NoAllocation s (channel_step peer now s)
+
+-- ---- what is kept (our choice: a permission or a channel that is not refreshed ends by itself)
+
+-- from now on it is kept, or not, and only that changes
+abbrev pub marked : Bool → Grant → Grant
+marked is_kept (Permission ip (Pending was)) = Permission ip (Pending is_kept)
+marked is_kept (Permission ip (Active lease)) = Permission ip (Active (record lease { is_kept = is_kept }))
+marked is_kept (Channel number peer (Pending was)) = Channel number peer (Pending is_kept)
+marked is_kept (Channel number peer (Active lease)) = Channel number peer (Active (record lease { is_kept = is_kept }))
+marked is_kept grant = grant
+
+abbrev pub marked_if : (Grant → Bool) → Bool → Grant → Grant
+marked_if which is_kept grant = if which grant then marked is_kept grant else grant
+
+-- each keeps its place
+abbrev pub with_marks : (Grant → Bool) → Bool → State → State
+with_marks which is_kept s = record s { grants = map (marked_if which is_kept) s.grants }
+
+-- such a grant is there, pending or active, and the allocations relay over this transport
+abbrev pub keep_step : TransportType → (Grant → Bool) → Bool → State → Result Unit KeepError × State
+keep_step transport which is_kept s =
+    if same_transport transport s.config.allocation_transport && list_any which s.grants then (Ok tt, with_marks which is_kept s)
+    else (Err Keep.NotGranted, s)
+
+abbrev pub permission_kept_step : TransportType → IpAddr → Bool → State → Result Unit KeepError × State
+permission_kept_step transport ip is_kept s = keep_step transport (is_permission_of ip) is_kept s
+
+-- the channel of this peer that is pending or active
+abbrev pub is_open_to : SocketAddr → Grant → Bool
+is_open_to peer (Channel number other progress) = is_in_progress progress && same_address other peer
+is_open_to peer _ = false
+
+abbrev pub channel_kept_step : TransportType → SocketAddr → Bool → State → Result Unit KeepError × State
+channel_kept_step transport peer is_kept s = keep_step transport (is_open_to peer) is_kept s
 
 -- ---- data connections (RFC 6062, sections 4.3 and 4.4)
 
@@ -240,8 +276,8 @@ allocated_tcp_socket_step id tuple peer local now s =
 -- ---- the end (RFC 8656, section 8)
 
 abbrev pub is_granted_in : Grant → Bool
-is_granted_in (Permission ip (Active expiry)) = true
-is_granted_in (Channel number peer (Active expiry)) = true
+is_granted_in (Permission ip (Active lease)) = true
+is_granted_in (Channel number peer (Active lease)) = true
 is_granted_in _ = false
 
 -- the allocations are used no more, and expire now
@@ -280,7 +316,7 @@ on_connection None bytes s = (Err Send.NoTcpSocket, s)
 
 -- the first active channel to the peer: its number and its expiry
 abbrev pub active_channel : SocketAddr → Grant → Option (ℕ × ℕ)
-active_channel peer (Channel number other (Active expiry)) = if same_address other peer then Some (number, expiry) else None
+active_channel peer (Channel number other (Active lease)) = if same_address other peer then Some (number, lease.expiry) else None
 active_channel peer _ = None
 
 abbrev pub as_indication : SocketAddr → List ℕ → State → Result (Transmit (List ℕ)) SendError × State

@@ -4,8 +4,8 @@ use Rattle.std.specs.Prelude.{fold, length, Option, Some, None, option_and_then,
 use Rattle.std.specs.Option.{option_map_or}
 use Rattle.std.specs.List.{list_any}
 use Rattle.turn_agent.specs.Agent.{transaction_timeout}
-use Rattle.turn_client_api.specs.State.{State, Phase, New, Grant, Allocation, Permission, Channel, Connection, Relay, Active, agent_of, max_time, later_by}
-use Rattle.turn_client_api.specs.State.{seconds}
+use Rattle.turn_client_api.specs.State.{State, Phase, New, Grant, Allocation, Permission, Channel, Connection, Relay, agent_of, max_time}
+use Rattle.turn_client_api.specs.State.{Progress, Pending, Active, Reserved, later_by, seconds}
 use Rattle.turn_client_api.specs.Grants.{allocations, find_allocation, family_of_grant, has_request}
 use Rattle.turn_client_api.specs.Calls.{is_allocated}
 use Rattle.turn_client_api.specs.Effect.{channel_lifetime, min_lifetime, permission_lifetime}
@@ -43,16 +43,27 @@ time_ahead ahead lifetime = min ahead (lifetime / 2)
 abbrev pub refresh_time_of : ℕ → Relay → ℕ
 refresh_time_of ahead a = a.expiry - time_ahead ahead (min a.first_lifetime (seconds min_lifetime))
 
--- an expired allocation is refreshed no more, nor are the grants in it
+-- a permission or a channel is kept until the caller says otherwise
+abbrev pub keeps : Progress → Bool
+keeps (Pending is_kept) = is_kept
+keeps (Active lease) = lease.is_kept
+keeps (Reserved until) = true
+
+abbrev pub is_kept : Grant → Bool
+is_kept (Permission ip progress) = keeps progress
+is_kept (Channel number peer progress) = keeps progress
+is_kept grant = true
+
+-- an expired allocation is refreshed no more, nor are the grants in it, nor what is not kept
 abbrev pub is_refreshable : Grant → State → Bool
 is_refreshable (Allocation a) s = not a.is_expired
-is_refreshable grant s = option_map_or (λ a. not a.is_expired) (find_allocation (family_of_grant grant) s) false
+is_refreshable grant s = is_kept grant && option_map_or (λ a. not a.is_expired) (find_allocation (family_of_grant grant) s) false
 
 -- when a grant of its kind is refreshed, if ever
 abbrev pub refresh_time_by_kind : ℕ → Grant → Option ℕ
 refresh_time_by_kind ahead (Allocation a) = Some (refresh_time_of ahead a)
-refresh_time_by_kind ahead (Permission ip (Active expiry)) = Some (expiry - time_ahead ahead permission_lifetime)
-refresh_time_by_kind ahead (Channel number peer (Active expiry)) = Some (expiry - time_ahead ahead channel_lifetime)
+refresh_time_by_kind ahead (Permission ip (Active lease)) = Some (lease.expiry - time_ahead ahead permission_lifetime)
+refresh_time_by_kind ahead (Channel number peer (Active lease)) = Some (lease.expiry - time_ahead ahead channel_lifetime)
 refresh_time_by_kind ahead _ = None
 
 -- when the grant is to be refreshed, unless a request for it is pending
@@ -80,8 +91,8 @@ keepalive_times s =
 -- the expiry of a grant; a past one of an allocation is not waited for
 abbrev pub end_of : ℕ → Grant → List ℕ
 end_of now (Allocation a) = if nat_lt now a.expiry then a.expiry ∷ [] else []
-end_of now (Permission ip (Active expiry)) = expiry ∷ []
-end_of now (Channel number peer (Active expiry)) = expiry ∷ []
+end_of now (Permission ip (Active lease)) = lease.expiry ∷ []
+end_of now (Channel number peer (Active lease)) = lease.expiry ∷ []
 end_of now (Connection c) = option_to_list c.deadline
 end_of now _ = []
 

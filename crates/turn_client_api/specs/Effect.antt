@@ -167,8 +167,8 @@ refreshed family lifetime is_granted message now s =
 
 -- what is active gets another expiry, and only that
 abbrev pub lasting : ℕ → Grant → Grant
-lasting expiry (Permission ip (Active was)) = Permission ip (Active expiry)
-lasting expiry (Channel number peer (Active was)) = Channel number peer (Active expiry)
+lasting expiry (Permission ip (Active was)) = Permission ip (Active (record was { expiry = expiry }))
+lasting expiry (Channel number peer (Active was)) = Channel number peer (Active (record was { expiry = expiry }))
 lasting expiry grant = grant
 
 abbrev pub lasting_if : (Grant → Bool) → ℕ → Grant → Grant
@@ -178,12 +178,16 @@ lasting_if which expiry grant = if which grant then lasting expiry grant else gr
 abbrev pub renewed : (Grant → Bool) → ℕ → State → State
 renewed which expiry s = record s { grants = map (lasting_if which expiry) s.grants }
 
+-- it is granted until then, and kept as it was
+abbrev pub granted_until : ℕ → Bool → Progress
+granted_until expiry is_kept = Active (record { expiry = expiry; is_kept = is_kept })
+
 -- one that was pending is active from now on, after all others, or is removed
-abbrev pub pending_permission_answered : IpAddr → Bool → ℕ → State → State
-pending_permission_answered ip true now s =
+abbrev pub pending_permission_answered : IpAddr → Bool → Bool → ℕ → State → State
+pending_permission_answered ip is_kept true now s =
     wait (PermissionCreated s.config.allocation_transport ip ∷ [])
-    (with_grant (Permission ip (Active (later_by permission_lifetime now))) (without_grants (is_permission_of ip) s))
-pending_permission_answered ip false now s =
+    (with_grant (Permission ip (granted_until (later_by permission_lifetime now) is_kept)) (without_grants (is_permission_of ip) s))
+pending_permission_answered ip is_kept false now s =
     wait (PermissionCreateFailed s.config.allocation_transport ip ∷ []) (without_grants (is_permission_of ip) s)
 
 -- one that was active and is refreshed
@@ -197,8 +201,8 @@ abbrev pub permission_answered : IpAddr → Bool → ℕ → State → State
 permission_answered ip is_granted now s = by (permission_state ip s)
   where
     by : Option Progress → State
-    by (Some Pending) = pending_permission_answered ip is_granted now s
-    by (Some (Active expiry)) = active_permission_answered ip is_granted now s
+    by (Some (Pending is_kept)) = pending_permission_answered ip is_kept is_granted now s
+    by (Some (Active lease)) = active_permission_answered ip is_granted now s
     by _ = s
 
 -- the permission that a purpose names
@@ -228,15 +232,15 @@ permission_refused_too purposes s =
 
 -- One that was pending. The binding grants a permission too, if one was requested with it (RFC 8656,
 -- section 12.2), and a refusal removes it too.
-abbrev pub pending_channel_answered : ℕ → SocketAddr → ℕ → Bool → ℕ → State → State
-pending_channel_answered number peer id true now s = in_sequence (
+abbrev pub pending_channel_answered : ℕ → SocketAddr → Bool → ℕ → Bool → ℕ → State → State
+pending_channel_answered number peer is_kept id true now s = in_sequence (
     listed_permissions_answered id true now
     ∷ without_grants (is_channel_of number)
-    ∷ with_grant (Channel number peer (Active (later_by channel_lifetime now)))
+    ∷ with_grant (Channel number peer (granted_until (later_by channel_lifetime now) is_kept))
     ∷ wait (ChannelCreated s.config.allocation_transport peer ∷ [])
     ∷ []
     ) s
-pending_channel_answered number peer id false now s = in_sequence (
+pending_channel_answered number peer is_kept id false now s = in_sequence (
     without_grants (is_channel_of number)
     ∷ wait (ChannelCreateFailed s.config.allocation_transport peer ∷ [])
     ∷ permission_refused_too (purposes_of id s)
@@ -254,8 +258,8 @@ abbrev pub channel_answered : ℕ → ℕ → Bool → ℕ → State → State
 channel_answered number id is_granted now s = by (first_in (channel_at number) s)
   where
     by : Option (SocketAddr × Progress) → State
-    by (Some (peer, Pending)) = pending_channel_answered number peer id is_granted now s
-    by (Some (peer, Active expiry)) = active_channel_answered number peer expiry is_granted now s
+    by (Some (peer, Pending is_kept)) = pending_channel_answered number peer is_kept id is_granted now s
+    by (Some (peer, Active lease)) = active_channel_answered number peer lease.expiry is_granted now s
     by _ = s
 
 -- ---- CONNECT (RFC 6062, section 4.3)

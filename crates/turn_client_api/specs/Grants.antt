@@ -92,7 +92,7 @@ abbrev pub permission_state : IpAddr → State → Option Progress
 permission_state ip s = first_in (permission_progress ip) s
 
 abbrev pub is_active : Option Progress → Bool
-is_active (Some (Active expiry)) = true
+is_active (Some (Active lease)) = true
 is_active _ = false
 
 -- this IP address is permitted
@@ -106,7 +106,7 @@ channel_at number _ = None
 
 -- the peer of the active channel of this number
 abbrev pub channel_peer : ℕ → Grant → Option SocketAddr
-channel_peer number (Channel other peer (Active expiry)) = if other == number then Some peer else None
+channel_peer number (Channel other peer (Active lease)) = if other == number then Some peer else None
 channel_peer number _ = None
 
 -- ---- kinds of grants
@@ -140,11 +140,11 @@ as_offer (Offer offer) = Some offer
 as_offer _ = None
 
 abbrev pub is_pending_permission : Grant → Bool
-is_pending_permission (Permission ip Pending) = true
+is_pending_permission (Permission ip (Pending is_kept)) = true
 is_pending_permission _ = false
 
 abbrev pub is_pending_channel : Grant → Bool
-is_pending_channel (Channel number peer Pending) = true
+is_pending_channel (Channel number peer (Pending is_kept)) = true
 is_pending_channel _ = false
 
 -- ---- which grant a request is for

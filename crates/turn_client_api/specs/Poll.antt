@@ -37,11 +37,11 @@ failed which s = jump (failures_among which s) (without_grants which s)
 
 -- a permission or channel is expired from its expiry on
 abbrev pub is_lapsed_permission : ℕ → Grant → Bool
-is_lapsed_permission now (Permission ip (Active expiry)) = nat_le expiry now
+is_lapsed_permission now (Permission ip (Active lease)) = nat_le lease.expiry now
 is_lapsed_permission now _ = false
 
 abbrev pub is_lapsed_channel : ℕ → Grant → Bool
-is_lapsed_channel now (Channel number peer (Active expiry)) = nat_le expiry now
+is_lapsed_channel now (Channel number peer (Active lease)) = nat_le lease.expiry now
 is_lapsed_channel now _ = false
 
 abbrev pub is_over : ℕ → Grant → Bool
@@ -56,8 +56,8 @@ is_unbound purposes now _ = false
 
 -- one channel per allocation and call: its failure is queued first, and its number and peer are reserved
 abbrev pub channel_lapsed : Option Grant → State → State
-channel_lapsed (Some (Channel number peer (Active expiry))) s =
-    jump (ChannelCreateFailed s.config.allocation_transport peer ∷ []) (reserved number peer expiry s)
+channel_lapsed (Some (Channel number peer (Active lease))) s =
+    jump (ChannelCreateFailed s.config.allocation_transport peer ∷ []) (reserved number peer lease.expiry s)
 channel_lapsed _ s = s
 
 -- connections that are not bound are to be closed, after all others

@@ -14,6 +14,7 @@ pub use Rattle.turn_client_api.specs.declared.state.Phase.{Phase}
 pub use Rattle.turn_client_api.specs.declared.state.Phase.TheVariants.{New, Requesting, Authenticating, Allocated, Closed}
 pub use Rattle.turn_client_api.specs.declared.grant.Progress.{Progress}
 pub use Rattle.turn_client_api.specs.declared.grant.Progress.TheVariants.{Pending, Active, Reserved}
+pub use Rattle.turn_client_api.specs.declared.grant.Lease.{Lease}
 pub use Rattle.turn_client_api.specs.declared.grant.Relay.{Relay}
 pub use Rattle.turn_client_api.specs.declared.grant.Origin.{Origin}
 pub use Rattle.turn_client_api.specs.declared.grant.Origin.TheVariants.{OwnConnect, ServerRequest, ServerIndication}

@@ -7,14 +7,14 @@ use Rattle.turn_client_api.specs.Effect.{closed}
 use Rattle.turn_client_api.specs.Streams.{poll_recv_step}
 use Rattle.turn_client_api.specs.Receive.{recv_step, tcp_closed_step}
 use Rattle.turn_client_api.specs.Calls.{allocated_tcp_socket_step, bind_channel_step, create_permission_step, delete_step, protocol_error_step, send_to_step}
-use Rattle.turn_client_api.specs.Calls.{tcp_connect_step}
+use Rattle.turn_client_api.specs.Calls.{channel_kept_step, permission_kept_step, tcp_connect_step}
 use Rattle.turn_client_api.specs.Poll.{poll_step}
 use Rattle.turn_client_api.specs.Transmit.{transmit_step}
 use Rattle.turn_client_api.specs.Answers.{EndsAfterSteps, RecvEnds, event_step, takes_no_memory}
 pub use Rattle.turn_client_api.specs.declared.call.Call.{Call}
 pub use Rattle.turn_client_api.specs.declared.call.Call.TheVariants.{Delete, CreatePermission, BindChannel, TcpConnect, AllocatedTcpSocket, TcpClosed, SendTo}
 pub use Rattle.turn_client_api.specs.declared.call.Call.TheVariants.{Recv, PollRecv, Poll, PollTransmit, PollEvent, ProtocolError, RelayedAddresses}
-pub use Rattle.turn_client_api.specs.declared.call.Call.TheVariants.{Permissions, HavePermission}
+pub use Rattle.turn_client_api.specs.declared.call.Call.TheVariants.{Permissions, HavePermission, SetPermissionKept, SetChannelKept}
 
 -- what a packet, or a piece of a stream, does
 abbrev pub packet_step : Transmit (List ℕ) → ℕ → State → Outcome × State
@@ -38,6 +38,8 @@ state_after ProtocolError s = protocol_error_step s
 state_after RelayedAddresses s = s
 state_after (Permissions transport relayed) s = s
 state_after (HavePermission transport to) s = s
+state_after (SetPermissionKept transport peer is_kept) s = (permission_kept_step transport peer is_kept s).1
+state_after (SetChannelKept transport peer is_kept) s = (channel_kept_step transport peer is_kept s).1
 
 -- the client after these calls, without an allocation failure
 abbrev pub state_after_all : State → List Call → State
@@ -58,6 +60,8 @@ EndsWithoutMemory PollEvent s t = ⊥
 EndsWithoutMemory RelayedAddresses s t = ⊥
 EndsWithoutMemory (Permissions transport relayed) s t = ⊥
 EndsWithoutMemory (HavePermission transport to) s t = ⊥
+EndsWithoutMemory (SetPermissionKept transport peer is_kept) s t = ⊥
+EndsWithoutMemory (SetChannelKept transport peer is_kept) s t = ⊥
 EndsWithoutMemory _ s t = t ≡ s
 
 -- a state that the call may leave

@@ -22,8 +22,8 @@ sent now s = record s { last_send = Some now }
 -- its expiry
 abbrev pub refresh_purpose : ℕ → Grant → Option Purpose
 refresh_purpose now (Allocation a) = if nat_le now a.expiry then Some (ForRefresh (family_of a.relayed) asked_lifetime) else None
-refresh_purpose now (Permission ip (Active expiry)) = if nat_lt now expiry then Some (ForPermission ip) else None
-refresh_purpose now (Channel number peer (Active expiry)) = if nat_lt now expiry then Some (ForChannel number peer) else None
+refresh_purpose now (Permission ip (Active lease)) = if nat_lt now lease.expiry then Some (ForPermission ip) else None
+refresh_purpose now (Channel number peer (Active lease)) = if nat_lt now lease.expiry then Some (ForChannel number peer) else None
 refresh_purpose now _ = None
 
 -- the time to refresh the grant has come

@@ -8,7 +8,7 @@ use turn_stun::transport::{Transmit, TransportType};
 
 /// One call of [`TurnClientApi`](crate::TurnClientApi), with its arguments.
 ///
-/// Laws over all calls of a client speak of these. The last three change nothing. The client's
+/// Laws over all calls of a client speak of these. Those that only read change nothing. The client's
 /// transport and its two addresses are not among them: no call changes them.
 #[derive(Debug, Drop)]
 pub enum Call {
@@ -116,5 +116,23 @@ pub enum Call {
         transport: TransportType,
         /// The peer's IP address.
         to: IpAddr,
+    },
+    /// `set_permission_kept` for this peer address.
+    SetPermissionKept {
+        /// The transport that the allocation relays over.
+        transport: TransportType,
+        /// The peer's IP address.
+        peer_addr: IpAddr,
+        /// Whether the permission is refreshed from now on.
+        is_kept: bool,
+    },
+    /// `set_channel_kept` for the channel to this peer.
+    SetChannelKept {
+        /// The transport that the allocation relays over.
+        transport: TransportType,
+        /// The peer.
+        peer_addr: SocketAddr,
+        /// Whether the channel is refreshed from now on.
+        is_kept: bool,
     },
 }

@@ -7,7 +7,7 @@ ghost use Rattle.turn_client_api.specs.State.{State, Requesting};
 ghost use Rattle.turn_client_api.specs.Addresses.{relayed_left, permitted_left};
 ghost use Rattle.turn_client_api.specs.Effect.{closed};
 ghost use Rattle.turn_client_api.specs.Calls.{allocated_tcp_socket_step, bind_channel_step, create_permission_step, delete_step, can_send_to, permissions_of};
-ghost use Rattle.turn_client_api.specs.Calls.{protocol_error_step, relayed_addresses_of, send_to_step, tcp_connect_step};
+ghost use Rattle.turn_client_api.specs.Calls.{channel_kept_step, permission_kept_step, protocol_error_step, relayed_addresses_of, send_to_step, tcp_connect_step};
 ghost use Rattle.turn_client_api.specs.Receive.{recv_step, tcp_closed_step};
 ghost use Rattle.turn_client_api.specs.Streams.{HoldsLittle, poll_recv_step};
 ghost use Rattle.turn_client_api.specs.Poll.{poll_step};
@@ -18,7 +18,7 @@ ghost use Rattle.turn_client_api.specs.Answers.{TakesSocket, event_step, given_p
 
 use crate::addresses::{PermissionAddressesIter, RelayedAddressesIter};
 use crate::error::{
-    BindChannelError, CreatePermissionError, DeleteError, SendError, TcpAllocateError,
+    BindChannelError, CreatePermissionError, DeleteError, KeepError, SendError, TcpAllocateError,
     TcpConnectError,
 };
 use crate::event::TurnEvent;
@@ -111,7 +111,7 @@ pub trait TurnClientApi: Debug + Drop {
     ///
     /// In this order: `NoAllocation` if no allocation relays over this transport to addresses of
     /// this IP version, or if its expiry has passed (it is marked as expired then); `AlreadyExists`
-    /// if the permission is active or pending; `NoAllocation` if the client has ended;
+    /// if the permission is active or pending, kept or not; `NoAllocation` if the client has ended;
     /// `OutOfMemory`. Nothing else changes then.
     fn create_permission(
         &mut self,
@@ -133,7 +133,7 @@ pub trait TurnClientApi: Debug + Drop {
     /// # Errors
     ///
     /// In this order: `NoAllocation` as for `create_permission`; `AlreadyExists` if the peer has an
-    /// active or a pending channel; `ExpiredChannelExists` if it had one that is still reserved,
+    /// active or a pending channel, kept or not; `ExpiredChannelExists` if it had one that is still reserved,
     /// with the time until which the first of these is reserved; `NoAllocation` if the client has
     /// ended; `AlreadyExists` if all channel numbers are taken; `OutOfMemory`. Nothing else changes
     /// then.
@@ -145,6 +145,47 @@ pub trait TurnClientApi: Debug + Drop {
     ) -> Result<(), BindChannelError>
         requires now_in_range { now ≤ 2 ^ 62 }
         ensures step { BindsChannel result (state self.old) (state self.new) (bind_channel_step transport peer_addr now (state self.old)) };
+
+    /// Says whether the permission for this IP address is kept, which means refreshed. It is until a
+    /// call says otherwise. One that is not kept is used until it expires, and no refresh of it begins
+    /// any more: it ends with `PermissionCreateFailed`, which is then the expected end. A request for
+    /// it that awaits its answer runs on, and its success prolongs the permission once more. One that
+    /// is pending is still granted. Once it is kept again, it is refreshed when its time comes, by the
+    /// next `poll_transmit` where that has passed. A later permission for the same address is a new
+    /// one, and kept. Sends nothing, queues no event and allocates no memory.
+    ///
+    /// A channel to a peer and the permission for it are two grants: where the permission ends first,
+    /// nothing is sent over the channel. Let both go, or the channel alone if other ports use the
+    /// permission.
+    ///
+    /// # Errors
+    ///
+    /// `NotGranted` if the allocations do not relay over this transport, or if no permission for this
+    /// address is active or pending. One that has expired is there until `poll` removes it. Nothing
+    /// changes then.
+    fn set_permission_kept(
+        &mut self,
+        transport: TransportType,
+        peer_addr: IpAddr,
+        is_kept: bool,
+    ) -> Result<(), KeepError>
+        ensures step { (result, state self.new) ≡ permission_kept_step transport peer_addr is_kept (state self.old) };
+
+    /// Says whether the channel to this peer is kept, as `set_permission_kept` does for a permission.
+    /// One that is not kept ends with `ChannelCreateFailed`, and its number and its peer are reserved
+    /// for a while, as always.
+    ///
+    /// # Errors
+    ///
+    /// `NotGranted` if the allocations do not relay over this transport, or if no channel to this peer
+    /// is active or pending. Nothing changes then.
+    fn set_channel_kept(
+        &mut self,
+        transport: TransportType,
+        peer_addr: SocketAddr,
+        is_kept: bool,
+    ) -> Result<(), KeepError>
+        ensures step { (result, state self.new) ≡ channel_kept_step transport peer_addr is_kept (state self.old) };
 
     /// Requests a data connection to this peer: queues a CONNECT (RFC 6062, section 4.3).
     ///

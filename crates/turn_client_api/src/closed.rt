@@ -6,7 +6,7 @@ use crate::addresses::{PermissionAddressesIter, RelayedAddressesIter};
 use crate::client::TurnClientApi;
 use crate::config::TurnConfig;
 use crate::error::{
-    BindChannelError, CreatePermissionError, DeleteError, SendError, TcpAllocateError,
+    BindChannelError, CreatePermissionError, DeleteError, KeepError, SendError, TcpAllocateError,
     TcpConnectError,
 };
 use crate::event::TurnEvent;
@@ -84,6 +84,24 @@ impl TurnClientApi for ClosedClient {
         _now: Instant,
     ) -> Result<(), BindChannelError> {
         Err(BindChannelError::NoAllocation)
+    }
+
+    fn set_permission_kept(
+        &mut self,
+        _transport: TransportType,
+        _peer_addr: IpAddr,
+        _is_kept: bool,
+    ) -> Result<(), KeepError> {
+        Err(KeepError::NotGranted)
+    }
+
+    fn set_channel_kept(
+        &mut self,
+        _transport: TransportType,
+        _peer_addr: SocketAddr,
+        _is_kept: bool,
+    ) -> Result<(), KeepError> {
+        Err(KeepError::NotGranted)
     }
 
     fn tcp_connect(

@@ -51,6 +51,15 @@ pub enum DeleteError {
     OutOfMemory,
 }
 
+/// Why it is not changed whether a permission or a channel is kept.
+#[derive(Clone, Copy, Debug, PartialEq, Eq, Error)]
+pub enum KeepError {
+    /// There is no such permission, or no channel to this peer, that is pending or active, or the
+    /// allocations do not relay over this transport.
+    #[error("There is no such permission or channel")]
+    NotGranted,
+}
+
 /// Why data is not sent to a peer.
 #[derive(Clone, Copy, Debug, PartialEq, Eq, Error)]
 pub enum SendError {

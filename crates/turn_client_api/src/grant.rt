@@ -8,14 +8,23 @@ use turn_types::AddressFamily;
 /// The progress of a permission or a channel.
 #[derive(Clone, Copy, Debug, PartialEq, Eq)]
 pub enum Progress {
-    /// It is requested, and the server has not answered.
-    Pending,
-    /// The server granted it, and it expires at this time. Each success of a later request for it
-    /// extends it: a permission lasts 300 seconds, a channel 600 (RFC 8656, sections 9 and 12).
-    Active(Instant),
+    /// It is requested, and the server has not answered. It is kept once it is granted, or not.
+    Pending(bool),
+    /// The server granted it.
+    Active(Lease),
     /// A channel that expired, or whose refresh was refused: neither its number nor its peer is
     /// bound again until this time (RFC 8656, section 12).
     Reserved(Instant),
+}
+
+/// Until when a permission or a channel is granted, and whether it is kept.
+#[derive(Clone, Copy, Debug, PartialEq, Eq)]
+pub struct Lease {
+    /// When it expires. Each success of a later request for it extends it: a permission lasts 300
+    /// seconds, a channel 600 (RFC 8656, sections 9 and 12).
+    pub expiry: Instant,
+    /// Whether it is refreshed before it expires. It is, until the caller says otherwise.
+    pub is_kept: bool,
 }
 
 /// An allocation: a relayed address, at which the server receives packets for the client (RFC 8656,

@@ -68,11 +68,13 @@ pub use call::Call;
 pub use client::TurnClientApi;
 pub use config::TurnConfig;
 pub use error::{
-    BindChannelError, CreatePermissionError, DeleteError, SendError, TcpAllocateError,
+    BindChannelError, CreatePermissionError, DeleteError, KeepError, SendError, TcpAllocateError,
     TcpConnectError,
 };
 pub use event::TurnEvent;
-pub use grant::{DataConnection, DataOffer, Grant, Listing, Origin, Progress, Purpose, Relay};
+pub use grant::{
+    DataConnection, DataOffer, Grant, Lease, Listing, Origin, Progress, Purpose, Relay,
+};
 pub use poll::{Socket5Tuple, TurnPollRet};
 pub use receive::{DataRange, DataRangeOrOwned, TurnPeerData, TurnRecvRet};
 pub use send::{DelayedMessageOrChannelSend, DelayedTransmit};

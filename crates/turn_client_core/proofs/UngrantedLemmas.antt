@@ -88,7 +88,7 @@ Stays-KeepsAllEdits = record {
   empties = λ s. (λ h. λ u. ap (filter (λ g. not true)) (h u), keeps-same s);
   allocates = λ message lifetime now s e none.
       (λ h. λ u. absurd (granted-with (taken_addresses s.families (relayed_in message)) u), Keeps-KeepsAllEdits.allocates message lifetime now s e none);
-  permits = λ ip expiry s is. (λ h. λ u. absurd (none-some Pending (rw (h u) at is)), keeps-same s);
+  permits = λ ip is_kept expiry s is. (λ h. λ u. absurd (none-some (Pending is_kept) (rw (h u) at is)), keeps-same s);
   connects = λ id connection_id peer s t since stay granted listed. (λ h. λ u. absurd (stays-granted s t since.1.3 granted u), since.1);
   offers = λ id peer origin s room few. (λ h. λ u. absurd (rw (h u) at room.1), keeps-same s);
 }

@@ -16,6 +16,7 @@ use Rattle.turn_client_grants.specs.Lists.{first_among}
 use Rattle.turn_client_grants.specs.declared.key.Key.TheVariants as By
 use Rattle.turn_client_grants.proofs.KeyLemmas.{IsKeyed}
 use Rattle.turn_client_grants.proofs.ThereLemmas.{OfChannels}
+use Rattle.turn_client_api.specs.declared.grant.Lease.{Lease}
 
 any-self : (p : Grant → Bool) (rows : List Grant) → list_any p rows ≡ true → list_any (λ g. p g && p g) rows ≡ true
 any-self p [] there = there
@@ -47,7 +48,7 @@ is_open_channel number peer g = is_channel_of number g && is_open_to peer g
 pub open-channel : (number : ℕ) (peer : SocketAddr) (rows : List Grant) → list_any (is_open_channel number peer) rows ≡ true → list_any (is_channel_of number) rows ≡ true
 open-channel number peer rows there = any-first (is_channel_of number) (is_open_to peer) rows there
 
-pub keyed-active : (number : ℕ) (peer : SocketAddr) (expiry : ℕ) (rows : List Grant) → list_any (is_open_channel number peer) rows ≡ true
+pub keyed-active : (number : ℕ) (peer : SocketAddr) (expiry : Lease) (rows : List Grant) → list_any (is_open_channel number peer) rows ≡ true
     → IsKeyed (is_channel_of number) (Channel number peer (Active expiry)) rows
 keyed-active number peer expiry rows there (By.Number other) at = keyed-number number other rows (open-channel number peer rows there) at
 keyed-active number peer expiry rows there (By.Peer other) at =
@@ -61,9 +62,10 @@ any-at reader which x passes [] found = cc
 any-at reader which x passes (g ∷ rows) found = grind (arith, passes g, any-at reader which x passes rows)
 
 -- a pending channel that was found exists
-pub pending-there : (number : ℕ) (peer : SocketAddr) (rows : List Grant) → first_among (channel_at number) rows ≡ Some (peer, Pending) → list_any (is_open_channel number peer) rows ≡ true
-pending-there number peer rows found =
-    any-at (channel_at number) (is_open_channel number peer) (peer, Pending) (λ g e. grind (arith, same_address-self)) rows found
+pub pending-there : (number : ℕ) (peer : SocketAddr) (is_kept : Bool) (rows : List Grant) → first_among (channel_at number) rows ≡ Some (peer, Pending is_kept)
+    → list_any (is_open_channel number peer) rows ≡ true
+pending-there number peer is_kept rows found =
+    any-at (channel_at number) (is_open_channel number peer) (peer, Pending is_kept) (λ g e. grind (arith, same_address-self)) rows found
 
 -- such a channel stays when permissions are answered
 pub open-of_channels : (number : ℕ) (peer : SocketAddr) → OfChannels (is_open_channel number peer)

@@ -24,6 +24,7 @@ use Rattle.turn_client_grants.specs.Lapsed.{channel_ended}
 use Rattle.turn_client_grants.specs.Table.{is_allocation_of, is_numbered}
 use Rattle.turn_client_grants.specs.GrantFilter.{holds}
 use Rattle.turn_client_grants.specs.declared.grant_filter.GrantFilter.{GrantFilter}
+use Rattle.turn_client_api.specs.declared.grant.Lease.{Lease}
 
 -- ---- closes
 
@@ -66,9 +67,9 @@ goes-not given purposes now s a e = rw e refl
 
 -- ---- a channel that exists
 
-pub ended-is : (family : AddressFamily) (now : ℕ) (s : State) (number : ℕ) (peer : SocketAddr) (expiry : ℕ)
+pub ended-is : (family : AddressFamily) (now : ℕ) (s : State) (number : ℕ) (peer : SocketAddr) (expiry : Lease)
     → find (λ g. is_of family g && is_lapsed_channel now g) (reverse s.grants) ≡ Some (Channel number peer (Active expiry))
-    → channel_ended number peer expiry s ≡ last_channel_lapsed family now s
+    → channel_ended number peer expiry.expiry s ≡ last_channel_lapsed family now s
 ended-is family now s number peer expiry found = rw found refl
 
 has-fewer : {X : Type 0} (p : X → Bool) (g : X) (xs : List X) → Has g xs → p g ≡ true → length (filter (λ x. not (p x)) xs) < length xs
@@ -81,14 +82,14 @@ has-any p g [] has passes = absurd has
 has-any p g (x ∷ xs) (inl same) passes = rw (← same, passes) refl
 has-any p g (x ∷ xs) (inr later) passes = grind (arith, has-any p g xs later passes)
 
-pub ended-there : (number : ℕ) (peer : SocketAddr) (expiry : ℕ) (grants : List Grant) → Has (Channel number peer (Active expiry)) grants → list_any (is_channel_of number) grants ≡ true
+pub ended-there : (number : ℕ) (peer : SocketAddr) (expiry : Lease) (grants : List Grant) → Has (Channel number peer (Active expiry)) grants → list_any (is_channel_of number) grants ≡ true
 ended-there number peer expiry grants has = has-any (is_channel_of number) (Channel number peer (Active expiry)) grants has (eq-eqb number number refl)
 
-pub ended-fewer : (number : ℕ) (peer : SocketAddr) (expiry : ℕ) (grants : List Grant) → Has (Channel number peer (Active expiry)) grants
+pub ended-fewer : (number : ℕ) (peer : SocketAddr) (expiry : Lease) (grants : List Grant) → Has (Channel number peer (Active expiry)) grants
     → length (filter (λ g. not (is_channel_of number g)) grants) < length grants
 ended-fewer number peer expiry grants has = has-fewer (is_channel_of number) (Channel number peer (Active expiry)) grants has (eq-eqb number number refl)
 
-pub ended-aside : (number : ℕ) (peer : SocketAddr) (expiry : ℕ) (grants : List Grant) → Has (Channel number peer (Active expiry)) grants
+pub ended-aside : (number : ℕ) (peer : SocketAddr) (expiry : Lease) (grants : List Grant) → Has (Channel number peer (Active expiry)) grants
     → event_room_for (filter (λ g. not (is_channel_of number g)) grants) + 2 ≤ event_room_for grants
 ended-aside number peer expiry [] has = absurd has
 ended-aside number peer expiry (g ∷ others) (inl same) =

@@ -110,8 +110,8 @@ channels-stay p of ip is_granted now s = by (permission_state ip s) is_granted r
 
     by : (found : Option Progress) (b : Bool) → permission_state ip s ≡ found → list_any p (permission_answered ip b now s).grants ≡ list_any p s.grants
     by None b e = rw e refl
-    by (Some Pending) true e = rw (e, list_any-append p, left, of.other ip) (none-more (list_any p s.grants))
-    by (Some Pending) false e = rw e left
+    by (Some (Pending is_kept)) true e = rw (e, list_any-append p, left, of.other ip) (none-more (list_any p s.grants))
+    by (Some (Pending is_kept)) false e = rw e left
     by (Some (Active until)) true e = rw e (any-mapped p _ (renewed-channel p of _ (is_permission_of ip)) s.grants)
     by (Some (Active until)) false e = rw e left
     by (Some (Reserved until)) b e = rw e refl

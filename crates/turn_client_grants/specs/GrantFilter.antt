@@ -2,7 +2,7 @@
 use Rattle.std.specs.Prelude.{Bool, true, ◌&&◌, List, ◌++◌, option_to_list, is_some}
 use Rattle.turn_client_api.specs.Grants.{as_allocation, is_channel_of, is_connect, is_connect_to, is_connection_from, is_for_any, is_of, is_pending_channel}
 use Rattle.turn_client_api.specs.Grants.{is_pending_permission, is_permission_of}
-use Rattle.turn_client_api.specs.Calls.{is_granted_in}
+use Rattle.turn_client_api.specs.Calls.{is_granted_in, is_open_to}
 use Rattle.turn_client_api.specs.Effect.{is_asked_permission}
 use Rattle.turn_client_api.specs.Poll.{is_timed_out_offer, is_lapsed_permission, is_over, is_unbound}
 use Rattle.turn_client_api.specs.declared.grant.Grant.{Grant}
@@ -22,6 +22,7 @@ holds (W.AllocationOf family) = λ g. is_some (as_allocation g) && is_of family 
 holds W.Active = is_granted_in
 holds (W.PermissionOf ip) = is_permission_of ip
 holds (W.ChannelOf number) = is_channel_of number
+holds (W.OpenTo peer) = is_open_to peer
 holds (W.ConnectTo peer) = is_connect_to peer
 holds (W.ConnectionFrom local) = is_connection_from local
 holds (W.LapsedPermissions family now) = λ g. is_of family g && is_lapsed_permission now g

@@ -1,18 +1,10 @@
 -- The keys by which a grant is found, and a map that leads from keys to grants.
-use Rattle.std.specs.Prelude.{Bool, false, ◌&&◌, cond, not, Option, None, Some}
-use Rattle.std.specs.declared.net.socket_addr.SocketAddr.{SocketAddr}
-use Rattle.turn_agent.specs.Agent.{same_address}
-use Rattle.turn_client_api.specs.Calls.{is_in_progress}
+use Rattle.std.specs.Prelude.{Bool, ◌&&◌, cond, not, Option, None, Some}
+pub use Rattle.turn_client_api.specs.Calls.{is_open_to}
 use Rattle.turn_client_api.specs.Grants.{is_channel_of, is_permission_of}
 use Rattle.turn_client_api.specs.declared.grant.Grant.{Grant}
-use Rattle.turn_client_api.specs.declared.grant.Grant.TheVariants.{Channel}
 use Rattle.turn_client_grants.specs.declared.key.Key.{Key}
 use Rattle.turn_client_grants.specs.declared.key.Key.TheVariants as By
-
--- a channel to the peer that is pending or active
-abbrev pub is_open_to : SocketAddr → Grant → Bool
-is_open_to peer (Channel number other progress) = is_in_progress progress && same_address other peer
-is_open_to peer _ = false
 
 abbrev pub is_found_by : Key → Grant → Bool
 is_found_by (By.Number number) grant = is_channel_of number grant

@@ -14,7 +14,7 @@ abbrev pub is_pending : Grant → Bool
 is_pending g = is_pending_permission g || is_pending_channel g
 
 abbrev pub is_active : Progress → Bool
-is_active (Active expiry) = true
+is_active (Active lease) = true
 is_active _ = false
 
 -- a grant of this kind is refreshed, however long ahead, and the requests for it decide when

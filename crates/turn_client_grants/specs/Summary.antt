@@ -19,8 +19,8 @@ use Rattle.turn_client_grants.specs.declared.summary.Summary.{Summary}
 
 -- the expiry or the deadline of a grant other than an allocation
 abbrev pub end_in : Grant → Option ℕ
-end_in (Permission ip (Active expiry)) = Some expiry
-end_in (Channel number peer (Active expiry)) = Some expiry
+end_in (Permission ip (Active lease)) = Some lease.expiry
+end_in (Channel number peer (Active lease)) = Some lease.expiry
 end_in (Connection c) = c.deadline
 end_in _ = None
 
@@ -29,8 +29,8 @@ end_in _ = None
 abbrev pub lapse_in : List Listing → Grant → Option ℕ
 lapse_in listed (Allocation a) =
     if a.is_expired && list_any (λ l. is_for l.purpose (Allocation a)) listed then None else Some a.expiry
-lapse_in listed (Permission ip (Active expiry)) = Some expiry
-lapse_in listed (Channel number peer (Active expiry)) = Some expiry
+lapse_in listed (Permission ip (Active lease)) = Some lease.expiry
+lapse_in listed (Channel number peer (Active lease)) = Some lease.expiry
 lapse_in listed (Channel number peer (Reserved until)) = Some (until + 1)
 lapse_in listed (Connection c) = c.deadline
 lapse_in listed _ = None
@@ -43,8 +43,8 @@ never = 2 ^ 63
 
 -- the expiry of an active channel, or of an active permission
 abbrev pub expiry_by_kind : Bool → Grant → Option ℕ
-expiry_by_kind true (Channel number peer (Active expiry)) = Some expiry
-expiry_by_kind false (Permission ip (Active expiry)) = Some expiry
+expiry_by_kind true (Channel number peer (Active lease)) = Some lease.expiry
+expiry_by_kind false (Permission ip (Active lease)) = Some lease.expiry
 expiry_by_kind of_channels _ = None
 
 -- the same, if it is to be refreshed: its allocation is in use, and no request for it is pending

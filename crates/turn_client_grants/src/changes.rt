@@ -2,6 +2,11 @@
 
 ghost use Rattle.std.specs.Prelude.{◌≡◌, ◌≤◌, ◌<◌, ◌+◌, ◌++◌, ◌∷◌, [], true, filter, length, map, not, option_to_list, vec_capacity, vec_len};
 ghost use Rattle.std.specs.List.{list_any};
+ghost use Rattle.std.specs.Prelude.{ℕ};
+ghost use Rattle.std.specs.declared.net.ip_addr.IpAddr.{IpAddr};
+ghost use Rattle.std.specs.declared.net.socket_addr.SocketAddr.{SocketAddr};
+ghost use Rattle.turn_client_api.specs.Calls.{marked};
+ghost use Rattle.turn_client_api.specs.declared.grant.Grant.TheVariants.{Permission, Channel};
 ghost use Rattle.turn_client_api.specs.Connections.{deadline_set};
 ghost use Rattle.turn_client_api.specs.Effect.{lasting, new_allocation};
 ghost use Rattle.turn_client_api.specs.Grants.{changed_allocation, is_for, is_for_allocation, is_of_family};
@@ -17,7 +22,7 @@ use crate::listed::is_for_one;
 use crate::purposes::Purposes;
 use crate::time::{NANOS_PER_SECOND, later};
 use std::net::SocketAddr;
-use turn_client_api::{DataConnection, Grant, Listing, Progress, Purpose, Relay};
+use turn_client_api::{DataConnection, Grant, Lease, Listing, Progress, Purpose, Relay};
 use turn_stun::instant::Instant;
 use turn_stun::transaction::TransactionId;
 use turn_types::AddressFamily;
@@ -33,6 +38,8 @@ pub enum Change {
     Prolong(AddressFamily, Instant),
     /// The active ones of these grants expire at this time.
     Renew(GrantFilter, Instant),
+    /// The pending and active ones of these grants are kept from now on, or not.
+    Keep(GrantFilter, bool),
     /// The data connection from this local address is to be bound by this time, or is bound.
     Deadline(SocketAddr, Option<Instant>),
 }
@@ -50,6 +57,12 @@ impl Change {
             Change::Renew(which, expiry) => {
                 if which.holds(grant) {
                     return renewed(*expiry, grant);
+                }
+                *grant
+            }
+            Change::Keep(which, is_kept) => {
+                if which.holds(grant) {
+                    return marked(*is_kept, grant);
                 }
                 *grant
             }
@@ -103,12 +116,37 @@ fn renewed(expiry: Instant, grant: &Grant) -> Grant
     ensures { result ≡ lasting expiry grant.now }
 {
     match grant {
-        Grant::Permission(ip, Progress::Active(_)) => Grant::Permission(
+        Grant::Permission(ip, Progress::Active(lease)) => Grant::Permission(
             *ip,
-            Progress::Active(expiry),
+            Progress::Active(Lease { expiry, ..*lease }),
         ),
-        Grant::Channel(number, peer, Progress::Active(_)) => {
-            Grant::Channel(*number, *peer, Progress::Active(expiry))
+        Grant::Channel(number, peer, Progress::Active(lease)) => {
+            Grant::Channel(*number, *peer, Progress::Active(Lease { expiry, ..*lease }))
+        }
+        _ => *grant,
+    }
+}
+
+/// The progress of what is kept from now on, or not.
+fn with_mark(is_kept: bool, progress: Progress) -> Progress
+    ensures permission { (ip : IpAddr) → Permission ip result ≡ marked is_kept (Permission ip progress) }
+    ensures channel { (number : ℕ) (peer : SocketAddr) → Channel number peer result ≡ marked is_kept (Channel number peer progress) }
+{
+    match progress {
+        Progress::Pending(_) => Progress::Pending(is_kept),
+        Progress::Active(lease) => Progress::Active(Lease { is_kept, ..lease }),
+        Progress::Reserved(until) => Progress::Reserved(until),
+    }
+}
+
+/// The grant, which is kept from now on, or not, if it is pending or active.
+fn marked(is_kept: bool, grant: &Grant) -> Grant
+    ensures { result ≡ marked is_kept grant.now }
+{
+    match grant {
+        Grant::Permission(ip, progress) => Grant::Permission(*ip, with_mark(is_kept, *progress)),
+        Grant::Channel(number, peer, progress) => {
+            Grant::Channel(*number, *peer, with_mark(is_kept, *progress))
         }
         _ => *grant,
     }
@@ -199,7 +237,7 @@ pub(crate) fn add_allocations(
 }
 
 /// Whether one of these grants is there.
-fn has_any(grants: &[Grant], which: &GrantFilter) -> bool
+pub(crate) fn has_any(grants: &[Grant], which: &GrantFilter) -> bool
     ensures { result ≡ list_any (holds which.now) grants.now }
 {
     grants.iter().any(|grant| which.holds(grant))

@@ -3,7 +3,7 @@
 ghost use Rattle.std.specs.Duration.{as_nanos};
 ghost use Rattle.std.specs.Option.{option_map_or};
 ghost use Rattle.std.specs.Prelude.{◌≡◌, ◌-◌, false, fold, map, max, min, not, option_to_list};
-ghost use Rattle.turn_client_api.specs.Due.{is_refreshable, refresh_time, refresh_time_by_kind, refresh_time_of, time_ahead};
+ghost use Rattle.turn_client_api.specs.Due.{is_refreshable, refresh_time, refresh_time_by_kind, refresh_time_of, time_ahead, keeps};
 ghost use Rattle.turn_client_api.specs.State.{State};
 ghost use Rattle.turn_client_grants.specs.Lists.{find_allocation_in, with_ahead, with_lists};
 ghost use Rattle.turn_client_grants.specs.Pending.{is_active, is_refreshed};
@@ -61,14 +61,29 @@ fn is_family_in_use(grants: &[Grant], family: AddressFamily) -> bool
     }
 }
 
-/// Whether the grant is in an allocation that is not expired.
+/// Whether a permission or a channel of this progress is kept.
+fn keeps(progress: &Progress) -> bool
+    ensures { result ≡ keeps progress.now }
+{
+    match progress {
+        Progress::Pending(is_kept) => *is_kept,
+        Progress::Active(lease) => lease.is_kept,
+        Progress::Reserved(_) => true,
+    }
+}
+
+/// Whether the grant is in an allocation that is not expired, and is kept.
 pub(crate) fn is_in_use(grants: &[Grant], listed: &[Listing], grant: &Grant) -> bool
     ensures { (s : State) → result ≡ is_refreshable grant.now (with_lists grants.now listed.now s) }
 {
     match grant {
         Grant::Allocation(relay) => !relay.is_expired,
-        Grant::Permission(ip, _) => is_family_in_use(grants, family_of_ip(*ip)),
-        Grant::Channel(_, peer, _) => is_family_in_use(grants, family_of(*peer)),
+        Grant::Permission(ip, progress) => {
+            keeps(progress) && is_family_in_use(grants, family_of_ip(*ip))
+        }
+        Grant::Channel(_, peer, progress) => {
+            keeps(progress) && is_family_in_use(grants, family_of(*peer))
+        }
         Grant::Connect(peer) => is_family_in_use(grants, family_of(*peer)),
         Grant::Offer(offer) => is_family_in_use(grants, family_of(offer.peer)),
         Grant::Connection(connection) => is_family_in_use(grants, family_of(connection.peer)),
@@ -81,15 +96,15 @@ fn refresh_time_by_kind(ahead: Duration, grant: &Grant) -> Option<Instant>
 {
     match grant {
         Grant::Allocation(relay) => Some(refresh_time_of(ahead, relay)),
-        Grant::Permission(_, Progress::Active(expiry)) => {
-            Some(earlier(*expiry, time_ahead(ahead, PERMISSION_LIFETIME)))
+        Grant::Permission(_, Progress::Active(lease)) => {
+            Some(earlier(lease.expiry, time_ahead(ahead, PERMISSION_LIFETIME)))
         }
-        Grant::Permission(_, Progress::Pending) => None,
+        Grant::Permission(_, Progress::Pending(_)) => None,
         Grant::Permission(_, Progress::Reserved(_)) => None,
-        Grant::Channel(_, _, Progress::Active(expiry)) => {
-            Some(earlier(*expiry, time_ahead(ahead, CHANNEL_LIFETIME)))
+        Grant::Channel(_, _, Progress::Active(lease)) => {
+            Some(earlier(lease.expiry, time_ahead(ahead, CHANNEL_LIFETIME)))
         }
-        Grant::Channel(_, _, Progress::Pending) => None,
+        Grant::Channel(_, _, Progress::Pending(_)) => None,
         Grant::Channel(_, _, Progress::Reserved(_)) => None,
         Grant::Connect(_) => None,
         Grant::Offer(_) => None,

@@ -3,6 +3,7 @@
 ghost use Rattle.std.specs.Prelude.{◌≡◌};
 ghost use Rattle.turn_client_grants.specs.GrantFilter.{holds};
 
+use crate::key::is_open_to;
 use crate::kind::{
     is_active, is_allocation, is_channel_of, is_connect, is_connect_to, is_connection_from, is_of,
     is_pending_channel, is_pending_permission, is_permission_of,
@@ -30,6 +31,8 @@ pub enum GrantFilter {
     PermissionOf(IpAddr),
     /// The channel with this number.
     ChannelOf(u16),
+    /// The channel to this peer that is pending or active.
+    OpenTo(SocketAddr),
     /// The pending CONNECT to this peer (RFC 6062, section 4.3).
     ConnectTo(SocketAddr),
     /// The data connection from this local address.
@@ -68,6 +71,7 @@ impl GrantFilter {
             GrantFilter::Active => is_active(grant),
             GrantFilter::PermissionOf(ip) => is_permission_of(*ip, grant),
             GrantFilter::ChannelOf(number) => is_channel_of(*number, grant),
+            GrantFilter::OpenTo(peer) => is_open_to(*peer, grant),
             GrantFilter::ConnectTo(peer) => is_connect_to(*peer, grant),
             GrantFilter::ConnectionFrom(local) => is_connection_from(*local, grant),
             GrantFilter::LapsedPermissions(family, now) => {

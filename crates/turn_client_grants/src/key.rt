@@ -47,7 +47,7 @@ pub(crate) fn is_open_to(peer: SocketAddr, grant: &Grant) -> bool
     ensures { result ≡ is_open_to peer grant.now }
 {
     match grant {
-        Grant::Channel(_, other, Progress::Pending | Progress::Active(_)) => *other == peer,
+        Grant::Channel(_, other, Progress::Pending(_) | Progress::Active(_)) => *other == peer,
         _ => false,
     }
 }
@@ -81,7 +81,7 @@ pub(crate) fn add(found: &mut HashMap<Key, Grant>, grant: &Grant)
         Grant::Channel(number, _, Progress::Reserved(_)) => {
             put(found, Key::Number(*number), grant);
         }
-        Grant::Channel(number, peer, Progress::Pending | Progress::Active(_)) => {
+        Grant::Channel(number, peer, Progress::Pending(_) | Progress::Active(_)) => {
             put(found, Key::Number(*number), grant);
             put(found, Key::Peer(*peer), grant);
         }
@@ -137,7 +137,7 @@ fn remove_keys(found: &mut HashMap<Key, Grant>, old: &Grant, grant: &Grant)
         Grant::Channel(number, _, Progress::Reserved(_)) => {
             take_unless(found, Key::Number(*number), grant);
         }
-        Grant::Channel(number, peer, Progress::Pending | Progress::Active(_)) => {
+        Grant::Channel(number, peer, Progress::Pending(_) | Progress::Active(_)) => {
             take_unless(found, Key::Number(*number), grant);
             take_unless(found, Key::Peer(*peer), grant);
         }
@@ -159,7 +159,7 @@ fn set_keys(found: &mut HashMap<Key, Grant>, grant: &Grant)
         Grant::Channel(number, _, Progress::Reserved(_)) => {
             set(found, Key::Number(*number), grant);
         }
-        Grant::Channel(number, peer, Progress::Pending | Progress::Active(_)) => {
+        Grant::Channel(number, peer, Progress::Pending(_) | Progress::Active(_)) => {
             set(found, Key::Number(*number), grant);
             set(found, Key::Peer(*peer), grant);
         }

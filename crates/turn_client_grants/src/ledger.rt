@@ -30,6 +30,7 @@ mod answer;
 mod ask;
 mod connect;
 mod data;
+mod keep;
 mod lapse;
 mod poll;
 mod read;

@@ -12,7 +12,7 @@
 //!
 //! ```rust
 //! ledger.reserve(1, 2, 0)?;
-//! ledger.ask(id, &[Grant::Permission(ip, Progress::Pending)], &Purposes::one(Purpose::ForPermission(ip)));
+//! ledger.ask(id, &[Grant::Permission(ip, Progress::Pending(true))], &Purposes::one(Purpose::ForPermission(ip)));
 //! // when the server has answered
 //! ledger.permission_answered(ip, true, now);
 //! ```

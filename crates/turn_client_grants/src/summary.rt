@@ -153,11 +153,11 @@ fn end_in(grant: &Grant) -> Option<Instant>
     ensures { result ≡ end_in grant.now }
 {
     match grant {
-        Grant::Permission(_, Progress::Active(expiry)) => Some(*expiry),
-        Grant::Channel(_, _, Progress::Active(expiry)) => Some(*expiry),
+        Grant::Permission(_, Progress::Active(lease)) => Some(lease.expiry),
+        Grant::Channel(_, _, Progress::Active(lease)) => Some(lease.expiry),
         Grant::Connection(connection) => connection.deadline,
-        Grant::Permission(_, Progress::Pending | Progress::Reserved(_)) => None,
-        Grant::Channel(_, _, Progress::Pending | Progress::Reserved(_)) => None,
+        Grant::Permission(_, Progress::Pending(_) | Progress::Reserved(_)) => None,
+        Grant::Channel(_, _, Progress::Pending(_) | Progress::Reserved(_)) => None,
         Grant::Allocation(_) => None,
         Grant::Connect(_) => None,
         Grant::Offer(_) => None,
@@ -194,15 +194,15 @@ fn lapse_in(listed: &[Listing], grant: &Grant) -> Option<u64>
             }
             Some(relay.expiry.as_nanos())
         }
-        Grant::Permission(_, Progress::Active(expiry)) => Some(expiry.as_nanos()),
-        Grant::Channel(_, _, Progress::Active(expiry)) => Some(expiry.as_nanos()),
+        Grant::Permission(_, Progress::Active(lease)) => Some(lease.expiry.as_nanos()),
+        Grant::Channel(_, _, Progress::Active(lease)) => Some(lease.expiry.as_nanos()),
         Grant::Channel(_, _, Progress::Reserved(until)) => Some(until.as_nanos() + 1),
         Grant::Connection(connection) => match connection.deadline {
             Some(deadline) => Some(deadline.as_nanos()),
             None => None,
         },
-        Grant::Permission(_, Progress::Pending | Progress::Reserved(_)) => None,
-        Grant::Channel(_, _, Progress::Pending) => None,
+        Grant::Permission(_, Progress::Pending(_) | Progress::Reserved(_)) => None,
+        Grant::Channel(_, _, Progress::Pending(_)) => None,
         Grant::Connect(_) => None,
         Grant::Offer(_) => None,
     }
@@ -245,8 +245,12 @@ fn expiry_by_kind(of_channels: bool, grant: &Grant) -> Option<u64>
     ensures { result ≡ expiry_by_kind of_channels grant.now }
 {
     match grant {
-        Grant::Permission(_, Progress::Active(expiry)) if !of_channels => Some(expiry.as_nanos()),
-        Grant::Channel(_, _, Progress::Active(expiry)) if of_channels => Some(expiry.as_nanos()),
+        Grant::Permission(_, Progress::Active(lease)) if !of_channels => {
+            Some(lease.expiry.as_nanos())
+        }
+        Grant::Channel(_, _, Progress::Active(lease)) if of_channels => {
+            Some(lease.expiry.as_nanos())
+        }
         _ => None,
     }
 }

@@ -322,6 +322,13 @@ impl GrantTable {
         key::replace(&mut self.found, &old, grant);
     }
 
+    /// Whether one of these grants is there.
+    pub(crate) fn has_any(&self, which: &GrantFilter) -> bool
+        ensures { result ≡ list_any (holds which.now) self.now.grants }
+    {
+        changes::has_any(self.grants.as_slice(), which)
+    }
+
     /// Changes grants that keep their places.
     pub(crate) fn change(&mut self, change: &Change)
         ensures grants { self.new.grants ≡ map (changed change.now) self.old.grants }

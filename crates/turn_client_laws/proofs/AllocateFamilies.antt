@@ -269,7 +269,7 @@ StayInOrder-KeepsAllEdits = record {
   resets = λ heeded s h. h;
   empties = λ s. gone (λ g. true) s;
   allocates = λ message lifetime now s e none. allocates-in_order (taken_addresses s.families (relayed_in message)) s none;
-  permits = λ ip expiry s is. gone (is_permission_of ip) s;
+  permits = λ ip is_kept expiry s is. gone (is_permission_of ip) s;
   connects = λ id connection_id peer s t since stay granted listed h. gone (is_connect_to peer) t (since h);
   offers = λ id peer origin s room few h. h;
 }

@@ -56,7 +56,7 @@ module _ (x : List Stream) where
   permission-alike ip is_granted now s = by (permission_state ip s) refl is_granted
     where
       by : (o : Option Progress) → permission_state ip s ≡ o → (g : Bool) → permission_answered ip g now (with_streams x s) ≡ with_streams x (permission_answered ip g now s)
-      by (Some Pending) e true = rw e refl
+      by (Some (Pending is_kept)) e true = rw e refl
       by (Some (Active expiry)) e true = rw e refl
       by o e g = rw e refl
 
@@ -75,7 +75,7 @@ module _ (x : List Stream) where
     where
       by : (o : Option (SocketAddr × Progress)) → first_in (channel_at number) s ≡ o → (g : Bool)
           → channel_answered number id g now (with_streams x s) ≡ with_streams x (channel_answered number id g now s)
-      by (Some (peer, Pending)) e true = rw (e, permissions-alike id true now s) refl
+      by (Some (peer, Pending is_kept)) e true = rw (e, permissions-alike id true now s) refl
       by (Some (peer, Active expiry)) e true = rw e refl
       by o e g = rw e refl
 

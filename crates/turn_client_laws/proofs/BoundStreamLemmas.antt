@@ -119,8 +119,8 @@ leaves-connection call s t c leaves (there, none) = elim (leaves-grants call s t
   where
     stood : WasActive s (Connection c) → Contains s.grants (Connection c)
     stood (Connection d, before, (same, h)) = subst (λ (x : DataConnection). Contains s.grants (Connection x)) same before
-    stood (Permission ip Pending, before, k) = absurd k
-    stood (Channel number peer Pending, before, k) = absurd k
+    stood (Permission ip (Pending is_kept), before, k) = absurd k
+    stood (Channel number peer (Pending is_kept), before, k) = absurd k
     stood (was, before, k) = absurd k
 
     no_end : (call : Call) → IsEndedNow call s (Connection c) → ⊥

@@ -32,6 +32,7 @@ use Rattle.turn_client_laws.proofs.ListedGrants.{AllHaveGrant, StayFounded, Stay
 use Rattle.turn_client_laws.proofs.NumberLemmas.{AreApart, numbers}
 use Rattle.turn_client_laws.proofs.StandLemmas.{contains-has, has-contains}
 use Rattle.turn_client_laws.proofs.TurnKeepLemmas.{before-kept}
+use Rattle.turn_client_api.specs.declared.grant.Lease.{Lease}
 
 -- ---- channels of one number
 
@@ -86,7 +87,7 @@ asked-peer number peer to s founded apart l listed asks (progress, there) = by (
     by (inr some) = let (g, here, e) = any-has (is_asked_by (ForChannel number peer)) s.grants some in at g here e
 
 -- a success for the channel answers the request for its peer
-module _ (number : ℕ) (peer : SocketAddr) (expiry : ℕ) (message : List ℕ) (now : ℕ) (s : State) (founded : AllHaveGrant s) (apart : AreApart s.grants) where
+module _ (number : ℕ) (peer : SocketAddr) (expiry : Lease) (message : List ℕ) (now : ℕ) (s : State) (founded : AllHaveGrant s) (apart : AreApart s.grants) where
   is-asked : (p : Purpose) → Has p (purposes_of (id_of message) s) → IsGivenFor p message now s (Channel number peer (Active expiry)) → p ≡ ForChannel number peer
   is-asked (ForChannel other to) listed (named, ends, there) =
       let (l, here, asks) = purposes-listed (id_of message) s (ForChannel other to) listed in
@@ -97,26 +98,25 @@ module _ (number : ℕ) (peer : SocketAddr) (expiry : ℕ) (message : List ℕ) 
   by-grant : (was : Grant) (granted : IsGrantedBy message now s was) → IsSameGrant was (Channel number peer (Active expiry)) → granted.purpose ≡ ForChannel number peer
   by-grant (Channel other to (Active end)) granted (a, b, c) =
       is-asked granted.purpose (contains-has granted.purpose (purposes_of (id_of message) s) granted.listed)
-      (rw (sym a, sym b, sym c) granted.given)
-  by-grant (Permission ip Pending) granted kept = absurd kept
+      (given granted.purpose granted.given)
+    where
+      given : (p : Purpose) → IsGivenFor p message now s (Channel other to (Active end)) → IsGivenFor p message now s (Channel number peer (Active expiry))
+      given (ForChannel n at) (named, ends, there) = (sym a ∙ named, sym c ∙ ends, rw (sym a, sym b) there)
+      given p none = absurd none
+  by-grant (Permission ip (Pending is_kept)) granted kept = absurd kept
   by-grant was granted kept = absurd kept
 
 -- ---- over a call
 
 pub leaves-channels : (call : Call) (s t : State) → Leaves call s t → HasGrantsAsked s → HasDistinctNumbers s → GrantsToPeers call s t
 leaves-channels call s t leaves asked distinct number peer expiry there = elim (leaves-grants call s t channel leaves there tt) [
-  | inl (was, here, kept) ↦ inl (has-contains channel s.grants (stood was (contains-has was s.grants here) kept))
+  | inl was ↦ inl was
   | inr (inl ended) ↦ absurd (never call ended)
   | inr (inr (one, among, turn)) ↦ inr (one, among, turned one among turn)
 ]
   where
     channel : Grant
     channel = Channel number peer (Active expiry)
-
-    stood : (was : Grant) → Has was s.grants → IsSameGrant was channel → Has channel s.grants
-    stood (Channel other to (Active end)) here (a, b, c) = rw (sym a, sym b, sym c) here
-    stood (Permission ip Pending) here kept = absurd kept
-    stood was here kept = absurd kept
 
     turned : (one : Input) → Contains (handled call s) one → IsGrantInput channel one → IsChannelInput number peer expiry one
     turned one among turn =

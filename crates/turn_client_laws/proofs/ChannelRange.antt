@@ -22,6 +22,7 @@ use Rattle.turn_client_laws.proofs.TakenOfferLemmas.{was-first}
 use Rattle.turn_client_laws.proofs.Edits.{outline}
 use Rattle.turn_client_laws.proofs.GrantEdits.{KeepsGrants, grants-KeepsAllEdits}
 use Rattle.turn_client_laws.proofs.EditsOfCalls.{leaves-walk}
+use Rattle.std.proofs.Common.{true}
 
 has-range : (n place count : ℕ) → Has n (range_with_len place count) → (place ≤ n) × (n < place + count)
 has-range n place zero none = absurd none
@@ -85,7 +86,7 @@ AllFit-KeepsGrants = record {
   takes_offer = λ id peer gs fits g there. fits g (was-first (is_offer_of id peer) g gs there);
   reshapes = fit-alike;
   permission = λ ip progress gs none. fit-last (Permission ip progress) gs (λ n is. absurd (none-some n is));
-  channel = λ number peer gs none within. fit-last (Channel number peer Pending) gs (channel-fits number peer (Channel number peer Pending) refl (has-IsInRange number within));
+  channel = λ number peer gs none within. fit-last (Channel number peer (Pending true)) gs (channel-fits number peer (Channel number peer (Pending true)) refl (has-IsInRange number within));
   connect = λ peer gs none. fit-last (Connect peer) gs (λ n is. absurd (none-some n is));
   connection = λ c gs none. fit-last (Connection c) gs (λ n is. absurd (none-some n is));
   offers = λ offer gs few. fit-last (Offer offer) gs (λ n is. absurd (none-some n is));

@@ -188,12 +188,15 @@ KeepsDistinctGrants-KeepsEdits = record {
   removes_family = λ family s. (λ u. u, filtered (λ g. not (is_of family g)) s.phase s.grants);
   takes_offer = λ id peer s. (λ u. u, taken id peer s.phase s.grants);
   ages = λ grants s e. reshaped-tidy grants s (aged-outlines grants s.grants e);
-  permission = λ ip s phase room none.
-      (λ u. u, more (Permission ip Pending) s.phase s.grants (granted s.phase phase) (none-IsNew (is_permission_of ip) (Permission ip Pending) (permission-which ip Pending) s.grants none));
+  permission = λ ip s phase room none. (
+    λ u. u,
+    more (Permission ip (Pending true)) s.phase s.grants (granted s.phase phase)
+        (none-IsNew (is_permission_of ip) (Permission ip (Pending true)) (permission-which ip (Pending true)) s.grants none),
+  );
   channel = λ number peer s phase room none within. (
     λ u. u,
-    more (Channel number peer Pending) s.phase s.grants (granted s.phase phase)
-        (none-IsNew (is_channel_of number) (Channel number peer Pending) (channel-which number peer Pending) s.grants none),
+    more (Channel number peer (Pending true)) s.phase s.grants (granted s.phase phase)
+        (none-IsNew (is_channel_of number) (Channel number peer (Pending true)) (channel-which number peer (Pending true)) s.grants none),
   );
   connect = λ peer s phase room none.
       (λ u. u, more (Connect peer) s.phase s.grants (granted s.phase phase) (none-IsNew (is_connect_to peer) (Connect peer) (connect-which peer) s.grants none));
@@ -217,8 +220,8 @@ KeepsDistinctGrants-KeepsAllEdits = record {
   resets = λ heeded s. (λ u. u, λ h. h);
   empties = λ s. (λ u. u, filtered (λ g. not true) s.phase s.grants);
   allocates = λ message lifetime now s e none. allocates-tidy message lifetime now s e;
-  permits = λ ip expiry s is.
-      replaced (is_permission_of ip) (Permission ip (Active expiry)) (permission-which ip (Active expiry)) s (permission-granted ip Pending s is);
+  permits = λ ip is_kept expiry s is.
+      replaced (is_permission_of ip) (Permission ip (Active expiry)) (permission-which ip (Active expiry)) s (permission-granted ip (Pending is_kept) s is);
   connects = λ id connection_id peer s t since stay granted listed. (
     since.0,
     λ h. more _ t.phase (without_grants (is_connect_to peer) t).grants (λ u. granted (since.0 u)) (offer-IsNew _ (without_grants (is_connect_to peer) t).grants)

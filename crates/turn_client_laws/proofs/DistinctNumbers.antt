@@ -1,5 +1,5 @@
 -- No two channels have one number.
-use Rattle.std.proofs.Common.{◌≡◌, ℕ, eqb, not, List, [], ◌∷◌, map, filter, refl, sym, subst}
+use Rattle.std.proofs.Common.{◌≡◌, ℕ, eqb, not, List, [], ◌∷◌, map, filter, refl, sym, subst, true}
 use Rattle.std.specs.List.{IsDistinct}
 use Rattle.std.specs.declared.net.socket_addr.SocketAddr.{SocketAddr}
 use Rattle.turn_stun.specs.declared.transport.TransportType.{TransportType}
@@ -31,7 +31,7 @@ AreApart-KeepsGrants = record {
   takes_offer = λ id peer gs. subst (λ (ns : List ℕ). IsDistinct eqb ns) (sym (numbers-without_first id peer gs));
   reshapes = λ gs hs e. subst (λ (ns : List ℕ). IsDistinct eqb ns) (sym (numbers-alike gs hs e));
   permission = λ ip progress gs none. apart-others gs (Permission ip progress ∷ []) refl;
-  channel = λ number peer gs none within. apart-channel number gs (Channel number peer Pending ∷ []) none refl;
+  channel = λ number peer gs none within. apart-channel number gs (Channel number peer (Pending true) ∷ []) none refl;
   connect = λ peer gs none. apart-others gs (Connect peer ∷ []) refl;
   connection = λ c gs none. apart-others gs (Connection c ∷ []) refl;
   offers = λ offer gs few. apart-others gs (Offer offer ∷ []) refl;

@@ -80,11 +80,11 @@ late-lt : (a b : ℕ) → b < a + 1 → ltb a b ≡ false
 late-lt a b less = false_from_ne_true (ltb a b) (λ e. let lt = ltb-true a b e in omega (arith, lt, less))
 
 early-permission : (now : ℕ) (s : State) (g : Grant) → IsEarly now s g → is_lapsed_permission now g ≡ false
-early-permission now s (Permission ip (Active expiry)) early = late-le expiry now (early expiry refl)
+early-permission now s (Permission ip (Active lease)) early = late-le lease.expiry now (early lease.expiry refl)
 early-permission now s g early = refl
 
 early-channel : (now : ℕ) (s : State) (g : Grant) → IsEarly now s g → is_lapsed_channel now g ≡ false
-early-channel now s (Channel number peer (Active expiry)) early = late-le expiry now (early expiry refl)
+early-channel now s (Channel number peer (Active lease)) early = late-le lease.expiry now (early lease.expiry refl)
 early-channel now s g early = refl
 
 early-over : (now : ℕ) (s : State) (g : Grant) → IsEarly now s g → is_over now g ≡ false

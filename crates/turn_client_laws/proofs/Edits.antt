@@ -36,16 +36,17 @@ use Rattle.turn_client_laws.specs.LawsOrder.{IsBegun, IsUngranted}
 use Rattle.turn_client_laws.specs.LawsStates.{is_asked_by}
 use Rattle.turn_client_laws.proofs.HasLemmas.{Has}
 use Rattle.turn_client_laws.proofs.InAllocationLemmas.{Room}
+use Rattle.turn_client_api.specs.declared.grant.Lease.{Lease}
 
 -- ---- what identifies an edit
 
--- the progress of a grant, without times
+-- the progress of a grant, without times and whether it is kept
 abbrev pub stage : Progress → Progress
-stage Pending = Pending
-stage (Active expiry) = Active 0
+stage (Pending is_kept) = Pending true
+stage (Active lease) = Active (record { expiry = 0; is_kept = true })
 stage (Reserved until) = Reserved 0
 
--- what never changes of a grant, without times and whether it was reported
+-- what never changes of a grant, without times, whether it is kept and whether it was reported
 abbrev pub outline : Grant → Grant
 outline (Allocation a) = Allocation (record { relayed = a.relayed; first_lifetime = 0; expiry = 0; is_expired = false })
 outline (Permission ip progress) = Permission ip (stage progress)
@@ -54,9 +55,17 @@ outline (Connect peer) = Connect peer
 outline (Offer offer) = Offer (record offer { is_reported = false })
 outline (Connection c) = Connection (record c { deadline = None })
 
--- a grant without whether it was reported
+-- a permission or a channel, as if it were kept
+abbrev pub as_kept : Progress → Progress
+as_kept (Pending is_kept) = Pending true
+as_kept (Active lease) = Active (record lease { is_kept = true })
+as_kept (Reserved until) = Reserved until
+
+-- a grant without whether it was reported, and whether it is kept
 abbrev pub aged : Grant → Grant
 aged (Allocation a) = Allocation (record a { is_expired = false })
+aged (Permission ip progress) = Permission ip (as_kept progress)
+aged (Channel number peer progress) = Channel number peer (as_kept progress)
 aged (Offer offer) = Offer (record offer { is_reported = false })
 aged grant = grant
 
@@ -139,13 +148,13 @@ pub record KeepsEdits (R : State → State → Type 0) : Type 0 where
   pub removes : (which : Grant → Bool) (s : State) → SparesAllocations which → R s (without_grants which s)
   pub removes_family : (family : AddressFamily) (s : State) → R s (without_grants (is_of family) s)
   pub takes_offer : (id : ℕ) (peer : SocketAddr) (s : State) → R s (offer_taken id peer s)
-  -- offers are reported, and allocations expire
+  -- offers are reported, allocations expire, and the caller says what is kept
   pub ages : (grants : List Grant) (s : State) → map aged grants ≡ map aged s.grants → R s (record s { grants = grants })
   -- what a caller requests is added
   pub permission : (ip : IpAddr) (s : State) → s.phase ≡ Allocated → Room s.grants (family_of_ip ip) → list_any (is_permission_of ip) s.grants ≡ false
-      → R s (with_grant (Permission ip Pending) s)
+      → R s (with_grant (Permission ip (Pending true)) s)
   pub channel : (number : ℕ) (peer : SocketAddr) (s : State) → s.phase ≡ Allocated → Room s.grants (family_of peer) → list_any (is_channel_of number) s.grants ≡ false
-      → Has number channel_numbers → R s (with_grant (Channel number peer Pending) s)
+      → Has number channel_numbers → R s (with_grant (Channel number peer (Pending true)) s)
   pub connect : (peer : SocketAddr) (s : State) → s.phase ≡ Allocated → Room s.grants (family_of peer) → is_connecting peer s ≡ false
       → R s (with_grant (Connect peer) s)
   pub connection : (id : ℕ) (c : DataConnection) (origin : Origin) (s : State) → s.phase ≡ Allocated → offer_origin id c.peer s ≡ Some origin
@@ -175,7 +184,7 @@ pub record KeepsHeeded (Heeded : Type 0) (R : State → State → Type 0) : Type
       → let addresses = taken_addresses s.families (relayed_in message) in
       R s (record s { phase = phase_with addresses; grants = s.grants ++ map (new_allocation lifetime now) addresses })
   -- what was requested is granted
-  pub permits : (ip : IpAddr) (expiry : ℕ) (s : State) → permission_state ip s ≡ Some Pending
+  pub permits : (ip : IpAddr) (is_kept : Bool) (expiry : Lease) (s : State) → permission_state ip s ≡ Some (Pending is_kept)
       → R s (with_grant (Permission ip (Active expiry)) (without_grants (is_permission_of ip) s))
   -- this follows from a request that was listed when its reply was received, and no allocation was removed
   -- since
@@ -197,6 +206,12 @@ KeepsAllEdits R = KeepsHeeded ⊤ R
 
 outline-aged : (g : Grant) → outline (aged g) ≡ outline g
 outline-aged (Allocation a) = refl
+outline-aged (Permission ip (Pending is_kept)) = refl
+outline-aged (Permission ip (Active lease)) = refl
+outline-aged (Permission ip (Reserved until)) = refl
+outline-aged (Channel number peer (Pending is_kept)) = refl
+outline-aged (Channel number peer (Active lease)) = refl
+outline-aged (Channel number peer (Reserved until)) = refl
 outline-aged g = refl
 
 outlines-aged : (gs : List Grant) → map outline (map aged gs) ≡ map outline gs

@@ -42,7 +42,7 @@ use Rattle.turn_client_laws.specs.LawsOrder.{IsBegun}
 use Rattle.turn_client_api.specs.Steps.{Leaves, state_after}
 use Rattle.turn_client_api.specs.declared.call.Call.{Call}
 use Rattle.turn_client_api.specs.declared.call.Call.TheVariants.{Delete, CreatePermission, BindChannel, TcpConnect, AllocatedTcpSocket, TcpClosed, SendTo, Recv, PollRecv, Poll, PollTransmit}
-use Rattle.turn_client_api.specs.declared.call.Call.TheVariants.{PollEvent, RelayedAddresses, Permissions, HavePermission, ProtocolError}
+use Rattle.turn_client_api.specs.declared.call.Call.TheVariants.{PollEvent, RelayedAddresses, Permissions, HavePermission, ProtocolError, SetPermissionKept, SetChannelKept}
 use Rattle.turn_client_laws.specs.LawsStates.{is_asked_by}
 use Rattle.turn_client_laws.proofs.AddressLemmas.{same_address-self}
 use Rattle.turn_client_laws.proofs.HasLemmas.{Has, filter-has, has-found, has-left, has-right, map-has}
@@ -53,9 +53,11 @@ use Rattle.turn_client_laws.proofs.DoubleLemmas.{no-connection, no-permission}
 use Rattle.turn_client_laws.proofs.RunKeepLemmas.{poll_recv-kept, recv-kept}
 use Rattle.turn_client_laws.proofs.MemoryLemmas.{leaves-kept}
 use Rattle.turn_client_laws.proofs.Edits.{IsAskable, KeepsAllEdits, KeepsEdits, IgnoresAll, KeepsHeeded}
-use Rattle.turn_client_laws.proofs.EditsOfReplies.{allocations-change, closed-walk, either, fail-walk, found, gone-walk, one-of, requested-walk, asked-walk, spelled-else, expired-alike}
+use Rattle.turn_client_laws.proofs.EditsOfReplies.{allocations-change, marked-alike, closed-walk, either, fail-walk, found, gone-walk, one-of, requested-walk, asked-walk, spelled-else, expired-alike}
 use Rattle.turn_client_laws.proofs.EditsOfTime.{channel-asked, for-there, poll-walk, transmit-walk}
 use Rattle.turn_client_laws.proofs.EditsOfMessages.{edits-IsKept}
+use Rattle.turn_client_api.specs.Calls.{keep_step, is_open_to}
+use Rattle.turn_client_api.specs.Calls.{is_open_to, keep_step, with_marks}
 
 -- ---- requests are for grants that exist
 
@@ -131,7 +133,7 @@ module _ (R : State → State → Type 0) (k : KeepsEdits R) where
   permission-walk transport ip now s = allocation-walk (find_allocation_to transport ip s) ip now _ s (permission_step ip now s) by
     where
       t : State
-      t = with_grant (Permission ip Pending) s
+      t = with_grant (Permission ip (Pending true)) s
 
       by : is_some (find_allocation_to transport ip s) ≡ true → R s (permission_step ip now s).1
       by room =
@@ -139,7 +141,7 @@ module _ (R : State → State → Type 0) (k : KeepsEdits R) where
           (λ none. either R k (not (is_allocated s.phase)) s _ _ (λ e. k.same s)
           (λ there. then s t _ (k.permission ip s (is_allocated-true s.phase (not-false (is_allocated s.phase) there)) (allocation-room transport ip s room) (no-permission ip s.grants none))
           (requested-walk R k (fresh_id s) (ForPermission ip) now t (allocated-begun s.phase (not-false (is_allocated s.phase) there))
-          (for-last (ForPermission ip) (Permission ip Pending) s (same_ip-same ip))
+          (for-last (ForPermission ip) (Permission ip (Pending true)) s (same_ip-same ip))
           (spelled-else (fresh_id s) (request_for t (ForPermission ip) (fresh_id s)) (ForPermission ip) t (is_allocated-true s.phase (not-false (is_allocated s.phase) there)) (λ f. cc)))))
 
   -- the requested number is free
@@ -153,10 +155,10 @@ module _ (R : State → State → Type 0) (k : KeepsEdits R) where
       ip = socket_ip peer
 
       channel : Grant
-      channel = Channel number peer Pending
+      channel = Channel number peer (Pending true)
 
       permission : Grant
-      permission = Permission ip Pending
+      permission = Permission ip (Pending true)
 
       a : State
       a = with_grant channel s
@@ -182,7 +184,7 @@ module _ (R : State → State → Type 0) (k : KeepsEdits R) where
       text = request_for s (ForChannel number peer) (fresh_id s)
 
       of_channel : (t : State) → Has channel t.grants → IsAskable t (ForChannel number peer)
-      of_channel t here = for-there (ForChannel number peer) channel t here (channel-asked number peer Pending)
+      of_channel t here = for-there (ForChannel number peer) channel t here (channel-asked number peer (Pending true))
 
       of_both : (p : Purpose) → Has p (ForChannel number peer ∷ ForPermission ip ∷ []) → IsAskable b p
       of_both p (inl e) = subst (IsAskable b) (sym e) (of_channel b (has-right channel s.grants (channel ∷ permission ∷ []) (inl refl)))
@@ -310,6 +312,10 @@ module _ (R : State → State → Type 0) (k : KeepsEdits R) where
   tcp_closed-walk : (local remote : SocketAddr) (s : State) → R s (tcp_closed_step local remote s)
   tcp_closed-walk local remote s = one-of R k (same_transport s.transport Tcp && same_address remote s.remote) s _ s (gone-walk R k local s) (k.same s)
 
+  keep-walk : (transport : TransportType) (which : Grant → Bool) (is_kept : Bool) (s : State) → R s (keep_step transport which is_kept s).1
+  keep-walk transport which is_kept s = either R k (same_transport transport s.config.allocation_transport && list_any which s.grants) s _ _
+      (λ e. k.ages (with_marks which is_kept s).grants s (marked-alike which is_kept s)) (λ e. k.same s)
+
   error-walk : (s : State) → R s (protocol_error_step s)
   error-walk s = one-of R k (is_closed s.phase) s s _ (k.same s) (fail-walk R k s)
 
@@ -327,6 +333,8 @@ module _ (R : State → State → Type 0) (k : KeepsEdits R) where
   quiet-walk RelayedAddresses s quiet = k.same s
   quiet-walk (Permissions transport relayed) s quiet = k.same s
   quiet-walk (HavePermission transport to) s quiet = k.same s
+  quiet-walk (SetPermissionKept transport peer is_kept) s quiet = keep-walk transport (is_permission_of peer) is_kept s
+  quiet-walk (SetChannelKept transport peer is_kept) s quiet = keep-walk transport (is_open_to peer) is_kept s
   quiet-walk ProtocolError s quiet = error-walk s
   quiet-walk call s none = absurd none
 

@@ -14,7 +14,7 @@ use Rattle.turn_client_api.specs.declared.grant.Grant.{Grant}
 use Rattle.turn_client_api.specs.declared.grant.Grant.TheVariants.{Allocation, Permission, Channel, Offer, Connection}
 use Rattle.turn_client_api.specs.declared.grant.Relay.{Relay}
 use Rattle.turn_client_api.specs.declared.grant.Progress.{Progress}
-use Rattle.turn_client_api.specs.declared.grant.Progress.TheVariants.{Pending, Active}
+use Rattle.turn_client_api.specs.declared.grant.Progress.TheVariants.{Pending, Active, Reserved}
 use Rattle.turn_client_api.specs.declared.grant.Purpose.{Purpose}
 use Rattle.turn_client_api.specs.declared.grant.Purpose.TheVariants.{ForAllocation, ForRefresh, ForPermission, ForChannel, ForConnect}
 use Rattle.turn_client_api.specs.declared.grant.Listing.{Listing}
@@ -33,6 +33,9 @@ use Rattle.turn_client_api.specs.Poll.{as_reported, first_reported, unreported_i
 use Rattle.turn_client_laws.proofs.HasLemmas.{Has, filter-has, has-filter, has-filter_map, has-left, map-has, first-has}
 use Rattle.turn_client_laws.proofs.Edits.{IsAskable, IsSpelled, KeepsEdits, SparesAllocations, listing, outline, AllocationsStay, KeepsHeeded, aged}
 use Rattle.turn_client_laws.proofs.CaseLemmas.{by_test, by_found}
+use Rattle.turn_client_api.specs.Calls.{marked, with_marks}
+use Rattle.turn_client_api.specs.Effect.{granted_until}
+use Rattle.turn_client_api.specs.Calls.{marked, marked_if, with_marks}
 
 -- ---- grants that change and keep their outlines
 
@@ -46,8 +49,12 @@ changed-outline which change same g = refl
 
 lasting-outline : (expiry : ℕ) (g : Grant) → outline (lasting expiry g) ≡ outline g
 lasting-outline expiry (Allocation a) = refl
-lasting-outline expiry (Permission ip Pending) = refl
-lasting-outline expiry (Channel number peer Pending) = refl
+lasting-outline expiry (Permission ip (Pending is_kept)) = refl
+lasting-outline expiry (Permission ip (Active lease)) = refl
+lasting-outline expiry (Permission ip (Reserved until)) = refl
+lasting-outline expiry (Channel number peer (Pending is_kept)) = refl
+lasting-outline expiry (Channel number peer (Active lease)) = refl
+lasting-outline expiry (Channel number peer (Reserved until)) = refl
 lasting-outline expiry g = refl
 
 deadline-outline : (local : SocketAddr) (deadline : Option ℕ) (g : Grant) → outline (deadline_set local deadline g) ≡ outline g
@@ -70,6 +77,20 @@ expired-aged family g = refl
 -- an allocation that is used no more
 pub expired-alike : (family : AddressFamily) (s : State) → map aged (with_expired family s).grants ≡ map aged s.grants
 expired-alike family s = alike-map aged (changed_allocation (λ a. is_of_family family a.relayed) (λ a. record a { is_expired = true })) (expired-aged family) s.grants
+
+marked-aged : (is_kept : Bool) (g : Grant) → aged (marked is_kept g) ≡ aged g
+marked-aged is_kept (Permission ip (Pending was)) = refl
+marked-aged is_kept (Permission ip (Active lease)) = refl
+marked-aged is_kept (Permission ip (Reserved until)) = refl
+marked-aged is_kept (Channel number peer (Pending was)) = refl
+marked-aged is_kept (Channel number peer (Active lease)) = refl
+marked-aged is_kept (Channel number peer (Reserved until)) = refl
+marked-aged is_kept g = refl
+
+-- what is kept from now on, or not
+pub marked-alike : (which : Grant → Bool) (is_kept : Bool) (s : State) → map aged (with_marks which is_kept s).grants ≡ map aged s.grants
+marked-alike which is_kept s = alike-map aged (marked_if which is_kept)
+    (λ g. by_test (λ (h : Grant). aged h ≡ aged g) (which g) _ _ (λ e. marked-aged is_kept g) (λ e. refl)) s.grants
 
 -- ---- kinds of grants that are no allocations
 
@@ -109,8 +130,8 @@ module _ (number : ℕ) (peer : SocketAddr) (progress : Progress) where
   answered-stays ip is_granted now s = by (permission_state ip s) refl is_granted
     where
       by : (o : Option Progress) → permission_state ip s ≡ o → (g : Bool) → Stays s (permission_answered ip g now s)
-      by (Some Pending) e true = rw e (λ there. has-left (Channel number peer progress) (without_grants (is_permission_of ip) s).grants _ (without-stays ip s there))
-      by (Some Pending) e false = rw e (without-stays ip s)
+      by (Some (Pending is_kept)) e true = rw e (λ there. has-left (Channel number peer progress) (without_grants (is_permission_of ip) s).grants _ (without-stays ip s there))
+      by (Some (Pending is_kept)) e false = rw e (without-stays ip s)
       by (Some (Active expiry)) e true = rw e (λ there. map-has (lasting_if (is_permission_of ip) (later_by permission_lifetime now)) (Channel number peer progress) s.grants there)
       by (Some (Active expiry)) e false = rw e (without-stays ip s)
       by o e g = rw e (λ there. there)
@@ -230,8 +251,9 @@ module _ (Heeded : Type 0) (R : State → State → Type 0) (k : KeepsHeeded Hee
       gone t = removed R k.edits (is_permission_of ip) (λ a. refl) s t
 
       by : (o : Option Progress) → permission_state ip s ≡ o → (g : Bool) → R s (permission_answered ip g now s)
-      by (Some Pending) e true = rw e (k.edits.trans s _ _ (k.permits ip (later_by permission_lifetime now) s e) (k.edits.aside _ (pending_permission_answered ip true now s)))
-      by (Some Pending) e false = rw e (gone (pending_permission_answered ip false now s))
+      by (Some (Pending is_kept)) e true = rw e (k.edits.trans s _ _ (k.permits ip is_kept (record { expiry = later_by permission_lifetime now; is_kept = is_kept }) s e)
+          (k.edits.aside _ (pending_permission_answered ip is_kept true now s)))
+      by (Some (Pending is_kept)) e false = rw e (gone (pending_permission_answered ip is_kept false now s))
       by (Some (Active expiry)) e true = rw e (k.edits.trans s (unlisted (is_permission_of ip) s) _ (unlisted-walk R k.edits (is_permission_of ip) s)
           (renewed-walk (is_permission_of ip) _ (unlisted (is_permission_of ip) s)))
       by (Some (Active expiry)) e false = rw e (gone (active_permission_answered ip false now s))
@@ -241,16 +263,16 @@ module _ (Heeded : Type 0) (R : State → State → Type 0) (k : KeepsHeeded Hee
   permission_state-walk is_granted now t (ForPermission ip) = permission-walk ip is_granted now t
   permission_state-walk is_granted now t p = k.edits.same t
 
-  pending_channel-walk : (number : ℕ) (peer : SocketAddr) (id : ℕ) (is_granted : Bool) (now : ℕ) (s : State) → Has (Channel number peer Pending) s.grants
-      → R s (pending_channel_answered number peer id is_granted now s)
-  pending_channel-walk number peer id true now s there =
+  pending_channel-walk : (number : ℕ) (peer : SocketAddr) (is_kept : Bool) (id : ℕ) (is_granted : Bool) (now : ℕ) (s : State) → Has (Channel number peer (Pending is_kept)) s.grants
+      → R s (pending_channel_answered number peer is_kept id is_granted now s)
+  pending_channel-walk number peer is_kept id true now s there =
       let t = listed_permissions_answered id true now s in
-      let later = all-stay number peer Pending true now (purposes_of id s) s there in
-      let bound = k.rebinds number peer Pending (Active (later_by channel_lifetime now)) t later in
+      let later = all-stay number peer (Pending is_kept) true now (purposes_of id s) s there in
+      let bound = k.rebinds number peer (Pending is_kept) (granted_until (later_by channel_lifetime now) is_kept) t later in
       k.edits.trans s t _ (each R k.edits (permission_answered_for true now) (permission_state-walk true now) (purposes_of id s) s)
-      (k.edits.trans t _ _ bound (k.edits.aside _ (pending_channel_answered number peer id true now s)))
-  pending_channel-walk number peer id false now s there =
-      let end = pending_channel_answered number peer id false now s in
+      (k.edits.trans t _ _ bound (k.edits.aside _ (pending_channel_answered number peer is_kept id true now s)))
+  pending_channel-walk number peer is_kept id false now s there =
+      let end = pending_channel_answered number peer is_kept id false now s in
       let t = without_grants (is_channel_of number) s in
       k.edits.trans s t end (k.edits.removes (is_channel_of number) s (λ a. refl))
       (removed R k.edits (is_asked_permission (purposes_of id s)) (λ a. refl) t end)
@@ -259,13 +281,13 @@ module _ (Heeded : Type 0) (R : State → State → Type 0) (k : KeepsHeeded Hee
   channel-walk number id is_granted now s = by (first_in (channel_at number) s) refl is_granted
     where
       by : (o : Option (SocketAddr × Progress)) → first_in (channel_at number) s ≡ o → (g : Bool) → R s (channel_answered number id g now s)
-      by (Some (peer, Pending)) e g = rw e (pending_channel-walk number peer id g now s (channel-there number peer Pending s e))
+      by (Some (peer, Pending is_kept)) e g = rw e (pending_channel-walk number peer is_kept id g now s (channel-there number peer (Pending is_kept) s e))
       by (Some (peer, Active expiry)) e true = rw e (k.edits.trans s (unlisted (is_channel_of number) s) _ (unlisted-walk R k.edits (is_channel_of number) s)
           (renewed-walk (is_channel_of number) _ (unlisted (is_channel_of number) s)))
       by (Some (peer, Active expiry)) e false =
-          let t = reserved number peer expiry s in
-          rw e (k.edits.trans s t _ (reserved-walk R k.edits number peer (Active expiry) expiry s (channel-there number peer (Active expiry) s e))
-          (k.edits.aside t (active_channel_answered number peer expiry false now s)))
+          let t = reserved number peer expiry.expiry s in
+          rw e (k.edits.trans s t _ (reserved-walk R k.edits number peer (Active expiry) expiry.expiry s (channel-there number peer (Active expiry) s e))
+          (k.edits.aside t (active_channel_answered number peer expiry.expiry false now s)))
       by o e g = rw e (k.edits.same s)
 
   prolonged-walk : Heeded → (family : AddressFamily) (lifetime now : ℕ) (s : State) → R s (prolonged family lifetime now s)

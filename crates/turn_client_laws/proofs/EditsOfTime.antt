@@ -53,10 +53,10 @@ channel-asked number peer progress = and_from (eqb number number) (same_address 
 refresh-for : (now : ℕ) (p : Purpose) (g : Grant) → refresh_purpose now g ≡ Some p → is_asked_by p g ≡ true
 refresh-for now p (Allocation a) e = subst (λ (x : Purpose). is_asked_by x (Allocation a) ≡ true) (cond_some (leb now a.expiry) (ForRefresh (family_of a.relayed) asked_lifetime) p e).1
     (same_family-self (family_of a.relayed) (family_of a.relayed) refl)
-refresh-for now p (Permission ip (Active expiry)) e = subst (λ (x : Purpose). is_asked_by x (Permission ip (Active expiry)) ≡ true) (cond_some (ltb now expiry) (ForPermission ip) p e).1
+refresh-for now p (Permission ip (Active expiry)) e = subst (λ (x : Purpose). is_asked_by x (Permission ip (Active expiry)) ≡ true) (cond_some (ltb now expiry.expiry) (ForPermission ip) p e).1
     (same_ip-same ip)
 refresh-for now p (Channel number peer (Active expiry)) e = subst (λ (x : Purpose). is_asked_by x (Channel number peer (Active expiry)) ≡ true)
-    (cond_some (ltb now expiry) (ForChannel number peer) p e).1 (channel-asked number peer (Active expiry))
+    (cond_some (ltb now expiry.expiry) (ForChannel number peer) p e).1 (channel-asked number peer (Active expiry))
 refresh-for now p g e = absurd (none-some p e)
 
 has-if : {X : Type 0} (b : Bool) (x : X) (xs : List X) → Has x (cond b xs []) → Has x xs
@@ -119,9 +119,9 @@ module _ (R : State → State → Type 0) (k : KeepsEdits R) where
 
   channel_lapsed-walk : (o : Option Grant) (s : State) → ((g : Grant) → o ≡ Some g → Has g s.grants) → R s (channel_lapsed o s)
   channel_lapsed-walk (Some (Channel number peer (Active expiry))) s there =
-      let t = reserved number peer expiry s in
+      let t = reserved number peer expiry.expiry s in
       let end = channel_lapsed (Some (Channel number peer (Active expiry))) s in
-      then s t end (reserved-walk R k number peer (Active expiry) expiry s (there (Channel number peer (Active expiry)) refl)) (k.aside t end)
+      then s t end (reserved-walk R k number peer (Active expiry) expiry.expiry s (there (Channel number peer (Active expiry)) refl)) (k.aside t end)
   channel_lapsed-walk o s there = k.same s
 
   lapsed_in-walk : (family : AddressFamily) (given : Option ℕ) (purposes : List Purpose) (now : ℕ) (s : State) → R s (lapsed_in family given purposes now s)

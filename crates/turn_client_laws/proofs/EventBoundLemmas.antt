@@ -33,6 +33,7 @@ use Rattle.turn_client_laws.proofs.LapseLemmas.{IsReserved, has-unreversed}
 use Rattle.turn_client_laws.proofs.LapseSteps.{lapsed_in-does}
 use Rattle.turn_client_laws.proofs.CaseLemmas.{by_test, by_found, answer-by}
 use Rattle.turn_client_laws.proofs.EditsOfReplies.{and-false}
+use Rattle.turn_client_api.specs.declared.grant.Lease.{Lease}
 
 tells-self : (s : State) → TellsOfFailed s s
 tells-self s = omega arith
@@ -125,13 +126,13 @@ without-tells which s = let fewer = count-filter (λ g. not (which g)) s.grants 
 
 -- ---- one channel
 
-active-tells : (number : ℕ) (peer : SocketAddr) (expiry : ℕ) (s : State) → Has (Channel number peer (Active expiry)) s.grants
+active-tells : (number : ℕ) (peer : SocketAddr) (expiry : Lease) (s : State) → Has (Channel number peer (Active expiry)) s.grants
     → TellsOfFailed s (channel_lapsed (Some (Channel number peer (Active expiry))) s)
 unfolding count
 active-tells number peer expiry s there =
     let kept = filter (λ g. not (is_channel_of number g)) s.grants in
     let fewer = count-without (λ g. not (is_channel_of number g)) (Channel number peer (Active expiry)) s.grants there (rw (eq-eqb number number refl) refl) refl in
-    let more = count-append kept ((reserved number peer expiry (record s { grants = [] })).grants) in
+    let more = count-append kept ((reserved number peer expiry.expiry (record s { grants = [] })).grants) in
     omega (arith, fewer, more)
 
 channel-tells : (o : Option Grant) (s : State) → ((g : Grant) → o ≡ Some g → Has g s.grants) → TellsOfFailed s (channel_lapsed o s)

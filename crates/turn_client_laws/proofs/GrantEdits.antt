@@ -30,7 +30,7 @@ pub record KeepsGrants (P : List Grant → Type 0) : Type 0 where
   pub reshapes : (gs hs : List Grant) → map outline hs ≡ map outline gs → P gs → P hs
   -- one is added of a kind that does not exist
   pub permission : (ip : IpAddr) (progress : Progress) (gs : List Grant) → list_any (is_permission_of ip) gs ≡ false → P gs → P (gs ++ Permission ip progress ∷ [])
-  pub channel : (number : ℕ) (peer : SocketAddr) (gs : List Grant) → list_any (is_channel_of number) gs ≡ false → Has number channel_numbers → P gs → P (gs ++ Channel number peer Pending ∷ [])
+  pub channel : (number : ℕ) (peer : SocketAddr) (gs : List Grant) → list_any (is_channel_of number) gs ≡ false → Has number channel_numbers → P gs → P (gs ++ Channel number peer (Pending true) ∷ [])
   pub connect : (peer : SocketAddr) (gs : List Grant) → list_any (is_connect_to peer) gs ≡ false → P gs → P (gs ++ Connect peer ∷ [])
   pub connection : (c : DataConnection) (gs : List Grant) → list_any (is_connection_from c.local) gs ≡ false → P gs → P (gs ++ Connection c ∷ [])
   pub offers : (offer : DataOffer) (gs : List Grant) → (offer.origin ≡ ServerIndication → length (filter is_indicated gs) < max_indicated) → P gs → P (gs ++ Offer offer ∷ [])
@@ -64,7 +64,7 @@ module _ (P : List Grant → Type 0) (k : KeepsGrants P) where
     removes_family = λ family s h. k.filters (λ g. not (is_of family g)) s.grants h;
     takes_offer = λ id peer s h. k.takes_offer id peer s.grants h;
     ages = λ grants s e h. k.reshapes s.grants grants (aged-outlines grants s.grants e) h;
-    permission = λ ip s phase room none h. k.permission ip Pending s.grants none h;
+    permission = λ ip s phase room none h. k.permission ip (Pending true) s.grants none h;
     channel = λ number peer s phase room none within h. k.channel number peer s.grants none within h;
     connect = λ peer s phase room none h. k.connect peer s.grants none h;
     connection = λ id c origin s phase offer none waits h.
@@ -90,7 +90,7 @@ module _ (P : List Grant → Type 0) (k : KeepsGrants P) where
     resets = λ heeded s h. h;
     empties = λ s h. k.filters (λ g. not true) s.grants h;
     allocates = λ message lifetime now s phase none h. k.allocates lifetime now s.families (relayed_in message) s.grants h;
-    permits = λ ip expiry s is h.
+    permits = λ ip is_kept expiry s is h.
         k.permission ip (Active expiry) (without_grants (is_permission_of ip) s).grants (none-filter (is_permission_of ip) s.grants) (k.filters (λ g. not (is_permission_of ip g)) s.grants h);
     connects = λ id connection_id peer s t since stay granted listed h.
         k.offers (offer connection_id peer OwnConnect) (without_grants (is_connect_to peer) t).grants (λ e. absurd (own e)) (k.filters (λ g. not (is_connect_to peer g)) t.grants (since h));

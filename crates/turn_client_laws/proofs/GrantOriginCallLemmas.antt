@@ -1,5 +1,5 @@
 -- What is active after a call: without a message of the server nothing is granted.
-use Rattle.std.proofs.Common.{◌≡◌, ◌⊎◌, ℕ, Bool, List, [], ◌∷◌, map, Some, None, refl, sym, subst, inl, inr}
+use Rattle.std.proofs.Common.{◌≡◌, ◌⊎◌, ℕ, Bool, List, [], ◌∷◌, map, Some, None, refl, sym, subst, inl, inr, true}
 use Rattle.std.specs.Prelude.{find, IsSome}
 use Rattle.std.proofs.lemmas.Bool.{cases_Bool}
 use Rattle.std.proofs.lemmas.Option.{none-some}
@@ -12,7 +12,7 @@ use Rattle.turn_client_api.specs.declared.state.Mode.TheVariants.{Bound}
 use Rattle.turn_client_api.specs.declared.grant.Grant.{Grant}
 use Rattle.turn_client_api.specs.declared.grant.Grant.TheVariants.{Allocation, Permission, Channel, Connect, Offer, Connection}
 use Rattle.turn_client_api.specs.declared.grant.DataConnection.{DataConnection}
-use Rattle.turn_client_api.specs.declared.grant.Progress.TheVariants.{Pending, Reserved}
+use Rattle.turn_client_api.specs.declared.grant.Progress.TheVariants.{Pending, Reserved, Active}
 use Rattle.turn_client_api.specs.Grants.{is_channel_of, purposes_of, without_grants}
 use Rattle.turn_client_api.specs.Requests.{connection_bind_method}
 use Rattle.turn_client_api.specs.Judgement.{Judgement, Challenged, SignedSuccess, bind_judgement, is_bind_of, method_in}
@@ -82,20 +82,44 @@ first-left which (g ∷ others) = elim (cases_Bool (which g)) [
 -- whether a grant was reported does not count
 aged-stands : (g : Grant) → IsActiveGrant (aged g) → IsActiveGrant g
 aged-stands (Allocation a) = λ h. h
+aged-stands (Permission ip (Pending is_kept)) = λ h. h
+aged-stands (Permission ip (Active lease)) = λ h. h
+aged-stands (Permission ip (Reserved until)) = λ h. h
+aged-stands (Channel number peer (Pending is_kept)) = λ h. h
+aged-stands (Channel number peer (Active lease)) = λ h. h
+aged-stands (Channel number peer (Reserved until)) = λ h. h
 aged-stands g = λ h. h
 
 stands-aged : (g : Grant) → IsActiveGrant g → IsActiveGrant (aged g)
 stands-aged (Allocation a) = λ h. h
+stands-aged (Permission ip (Pending is_kept)) = λ h. h
+stands-aged (Permission ip (Active lease)) = λ h. h
+stands-aged (Permission ip (Reserved until)) = λ h. h
+stands-aged (Channel number peer (Pending is_kept)) = λ h. h
+stands-aged (Channel number peer (Active lease)) = λ h. h
+stands-aged (Channel number peer (Reserved until)) = λ h. h
 stands-aged g = λ h. h
 
 kept-aged : (g : Grant) → IsActiveGrant g → IsSameGrant g (aged g)
 kept-aged (Allocation a) = λ h. (refl, refl)
+kept-aged (Permission ip (Pending is_kept)) = λ h. absurd h
+kept-aged (Permission ip (Active lease)) = λ h. (refl, refl)
+kept-aged (Permission ip (Reserved until)) = λ h. absurd h
+kept-aged (Channel number peer (Pending is_kept)) = λ h. absurd h
+kept-aged (Channel number peer (Active lease)) = λ h. (refl, refl, refl)
+kept-aged (Channel number peer (Reserved until)) = λ h. absurd h
 kept-aged (Connect peer) = λ h. absurd h
 kept-aged (Offer offer) = λ h. absurd h
 kept-aged g = kept-same g
 
 aged-kept : (g : Grant) → IsActiveGrant g → IsSameGrant (aged g) g
 aged-kept (Allocation a) = λ h. (refl, refl)
+aged-kept (Permission ip (Pending is_kept)) = λ h. absurd h
+aged-kept (Permission ip (Active lease)) = λ h. (refl, refl)
+aged-kept (Permission ip (Reserved until)) = λ h. absurd h
+aged-kept (Channel number peer (Pending is_kept)) = λ h. absurd h
+aged-kept (Channel number peer (Active lease)) = λ h. (refl, refl, refl)
+aged-kept (Channel number peer (Reserved until)) = λ h. absurd h
 aged-kept (Connect peer) = λ h. absurd h
 aged-kept (Offer offer) = λ h. absurd h
 aged-kept g = kept-same g
@@ -133,8 +157,8 @@ Leaves-KeepsEdits = record {
   removes_family = λ family s. left-filter _ s.grants;
   takes_offer = λ id peer s. first-left (is_offer_of id peer) s.grants;
   ages = λ grants s e. alike-left s.grants grants e;
-  permission = λ ip s phase room none. left-one s.grants (Permission ip Pending) (λ stands. stands);
-  channel = λ number peer s phase room none within. left-one s.grants (Channel number peer Pending) (λ stands. stands);
+  permission = λ ip s phase room none. left-one s.grants (Permission ip (Pending true)) (λ stands. stands);
+  channel = λ number peer s phase room none within. left-one s.grants (Channel number peer (Pending true)) (λ stands. stands);
   connect = λ peer s phase room none. left-one s.grants (Connect peer) (λ stands. stands);
   connection = λ id c origin s phase offer none waits. left-trans s.grants (offer_taken id c.peer s).grants _ (first-left (is_offer_of id c.peer) s.grants)
       (left-one (offer_taken id c.peer s).grants (Connection c) (unbound c waits));

@@ -29,6 +29,7 @@ use Rattle.turn_client_laws.proofs.GrantOriginLemmas.{ChannelsWithin, IsChannelI
 use Rattle.turn_client_laws.proofs.GrantOriginLemmas.{gives-trans, takes-fold, takes-same, takes-trans, within-filter}
 use Rattle.turn_client_laws.proofs.CaseLemmas.{by_test, by_found}
 use Rattle.turn_client_laws.proofs.EditsOfReplies.{channel-there}
+use Rattle.turn_client_api.specs.Effect.{granted_until}
 
 pub same_ip-same : (ip : IpAddr) → same_ip ip ip ≡ true
 same_ip-same (V4 a) = nat_list_eq_equiv.refl (ipv4_octets a)
@@ -104,7 +105,7 @@ module _ (purposes : List Purpose) (message : List ℕ) (now : ℕ) (before : St
   -- a permission of this IP address is granted anew
   permission_lasts : (ip : IpAddr) → Has (ForPermission ip) purposes → (g : Grant) → Is g (lasting_if (is_permission_of ip) (later_by permission_lifetime now) g)
   permission_lasts ip one (Permission other (Active was)) =
-      by_test (Is (Permission other (Active was))) (same_ip other ip) (Permission other (Active (later_by permission_lifetime now))) (Permission other (Active was))
+      by_test (Is (Permission other (Active was))) (same_ip other ip) (Permission other (Active (record was { expiry = later_by permission_lifetime now }))) (Permission other (Active was))
       (λ e stands. inr (record { purpose = ForPermission ip; one = one; given = (e, refl) })) (λ e stands. inl (kept-same (Permission other (Active was)) stands))
   permission_lasts ip one (Connect peer) = λ stands. absurd stands
   permission_lasts ip one (Offer offer) = λ stands. absurd stands
@@ -115,7 +116,7 @@ module _ (purposes : List Purpose) (message : List ℕ) (now : ℕ) (before : St
   channel_lasts : (number : ℕ) (peer : SocketAddr) → Has (ForChannel number peer) purposes → (s : State) → AreKnown s → (g : Grant) → Has g s.grants
       → Is g (lasting_if (is_channel_of number) (later_by channel_lifetime now) g)
   channel_lasts number peer one s known (Channel other to (Active was)) there =
-      by_test (Is (Channel other to (Active was))) (eqb other number) (Channel other to (Active (later_by channel_lifetime now))) (Channel other to (Active was))
+      by_test (Is (Channel other to (Active was))) (eqb other number) (Channel other to (Active (record was { expiry = later_by channel_lifetime now }))) (Channel other to (Active was))
       (λ e stands. inr (record { purpose = ForChannel number peer; one = one; given = (eqb-true other number e, refl, held) })) (λ e stands. inl (kept-same (Channel other to (Active was)) stands))
     where
       held : HasChannelTo other to before
@@ -135,9 +136,9 @@ module _ (purposes : List Purpose) (message : List ℕ) (now : ℕ) (before : St
       by false h f = (progress, sym f)
       by true (Channel other to (Active was)) f = (Active was, same f)
         where
-          same : Channel number peer progress ≡ Channel other to (Active expiry) → Channel other to (Active was) ≡ Channel number peer (Active was)
+          same : Channel number peer progress ≡ Channel other to (Active (record was { expiry = expiry })) → Channel other to (Active was) ≡ Channel number peer (Active was)
           same i = let a : number ≡ other = cc in let c : peer ≡ to = cc in rw (a, c) refl
-      by true (Channel other to Pending) f = (progress, sym f)
+      by true (Channel other to (Pending is_kept)) f = (progress, sym f)
       by true (Channel other to (Reserved until)) f = (progress, sym f)
       by true (Permission ip (Active was)) f = cc
       by true h f = cc
@@ -146,10 +147,10 @@ module _ (purposes : List Purpose) (message : List ℕ) (now : ℕ) (before : St
   permission-takes ip is_granted s = by (permission_state ip s) refl is_granted
     where
       by : (o : Option Progress) → permission_state ip s ≡ o → (g : Bool) → Names g (ForPermission ip) → Taken s (permission_answered ip g now s)
-      by (Some Pending) e true one =
-          rw e (replaced-takes (is_permission_of ip) (Permission ip (Active (later_by permission_lifetime now))) s
+      by (Some (Pending is_kept)) e true one =
+          rw e (replaced-takes (is_permission_of ip) (Permission ip (granted_until (later_by permission_lifetime now) is_kept)) s
           (λ stands. record { purpose = ForPermission ip; one = one refl; given = (same_ip-same ip, refl) }) (λ number peer progress f. cc))
-      by (Some Pending) e false one = rw e (without-takes (is_permission_of ip) s)
+      by (Some (Pending is_kept)) e false one = rw e (without-takes (is_permission_of ip) s)
       by (Some (Active expiry)) e true one =
           rw e (lasting-takes (is_permission_of ip) (lasting_if (is_permission_of ip) (later_by permission_lifetime now)) s (lasting-channels (is_permission_of ip) (later_by permission_lifetime now))
           (λ g there. permission_lasts ip (one refl) g))
@@ -174,15 +175,15 @@ module _ (purposes : List Purpose) (message : List ℕ) (now : ℕ) (before : St
       held peer progress there = let (was, here) = known number peer (progress, there) in (was, has-contains (Channel number peer was) before.grants here)
 
       by : (o : Option (SocketAddr × Progress)) → first_in (channel_at number) s ≡ o → (g : Bool) → Names g (ForChannel number asked) → NamesAll g id s → Taken s (channel_answered number id g now s)
-      by (Some (peer, Pending)) e true one all =
+      by (Some (peer, Pending is_kept)) e true one all =
           let t = listed_permissions_answered id true now s in
-          let new = Channel number peer (Active (later_by channel_lifetime now)) in
+          let new = Channel number peer (granted_until (later_by channel_lifetime now) is_kept) in
           let less = without_grants (is_channel_of number) t in
           let taken = trans s t less (permissions-takes id true s all) (without-takes (is_channel_of number) t) in
-          let here = channel-there number peer Pending s e in
-          rw e (more-takes new s less taken (λ stands. record { purpose = ForChannel number asked; one = one refl; given = (refl, refl, held peer Pending here) })
-          (λ n to progress f. same-channel n number to peer progress (Active (later_by channel_lifetime now)) s.grants f (Pending, here)))
-      by (Some (peer, Pending)) e false one all =
+          let here = channel-there number peer (Pending is_kept) s e in
+          rw e (more-takes new s less taken (λ stands. record { purpose = ForChannel number asked; one = one refl; given = (refl, refl, held peer (Pending is_kept) here) })
+          (λ n to progress f. same-channel n number to peer progress (granted_until (later_by channel_lifetime now) is_kept) s.grants f (Pending is_kept, here)))
+      by (Some (peer, Pending is_kept)) e false one all =
           let t = without_grants (is_channel_of number) s in
           rw e (trans s t (permission_refused_too (purposes_of id s) t) (without-takes (is_channel_of number) s) (without-takes _ t))
       by (Some (peer, Active expiry)) e true one all =
@@ -190,8 +191,8 @@ module _ (purposes : List Purpose) (message : List ℕ) (now : ℕ) (before : St
           (channel_lasts number asked (one refl) s known))
       by (Some (peer, Active expiry)) e false one all =
           let here = channel-there number peer (Active expiry) s e in
-          rw e (replaced-takes (is_channel_of number) (Channel number peer (Reserved (later_by reserved_time expiry))) s (λ stands. absurd stands)
-          (λ n to progress f. same-channel n number to peer progress (Reserved (later_by reserved_time expiry)) s.grants f (Active expiry, here)))
+          rw e (replaced-takes (is_channel_of number) (Channel number peer (Reserved (later_by reserved_time expiry.expiry))) s (λ stands. absurd stands)
+          (λ n to progress f. same-channel n number to peer progress (Reserved (later_by reserved_time expiry.expiry)) s.grants f (Active expiry, here)))
       by o e g one all = rw e (same s)
 
   connect-takes : (peer : SocketAddr) (o : Option ℕ) (s : State) → Taken s (connect_answered peer o s)

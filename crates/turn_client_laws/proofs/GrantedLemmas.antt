@@ -79,8 +79,8 @@ control-grants g one over whole covers = by g (message-brings g one.bytes one.ti
         unlike : (p : Purpose) → IsGivenFor p one.bytes one.time one.before (Connection d) → ⊥
         unlike ForAllocation given = given
         unlike p given = given
-    connection c (Permission ip Pending) is kept = kept
-    connection c (Channel number peer Pending) is kept = kept
+    connection c (Permission ip (Pending is_kept)) is kept = kept
+    connection c (Channel number peer (Pending is_kept)) is kept = kept
     connection c was is kept = kept
 
     by : (g : Grant) → Covers one.before.grants g ⊎ Grants g → Covers one.before.grants g ⊎ IsGrantedIn g one

@@ -171,8 +171,8 @@ Houses-KeepsEdits = record {
   removes_family = λ family s. without-houses (is_of family) (family-spares family) s;
   takes_offer = taken-houses;
   ages = λ grants s e. reshaped-houses grants s (aged-outlines grants s.grants e);
-  permission = λ ip s phase room none. with_grant-houses (Permission ip Pending) s room;
-  channel = λ number peer s phase room none within. with_grant-houses (Channel number peer Pending) s room;
+  permission = λ ip s phase room none. with_grant-houses (Permission ip (Pending true)) s room;
+  channel = λ number peer s phase room none within. with_grant-houses (Channel number peer (Pending true)) s room;
   connect = λ peer s phase room none. with_grant-houses (Connect peer) s room;
   connection = λ id c origin s phase offer none waits h.
       with_grant-houses (Connection c) (offer_taken id c.peer s) (taken-room id c.peer s (family_of c.peer) (offer-room id c.peer origin s offer h)) (taken-houses id c.peer s h);
@@ -189,7 +189,7 @@ Houses-KeepsAllEdits = record {
   resets = λ heeded s h. h;
   empties = λ s. without-houses (λ g. true) (λ a g goes same. refl) s;
   allocates = λ message lifetime now s e none. allocates-houses lifetime now (taken_addresses s.families (relayed_in message)) s;
-  permits = λ ip expiry s is. replaced-houses (is_permission_of ip) (λ a. refl) (Permission ip (Active expiry)) s (permission-room ip Pending s is);
+  permits = λ ip is_kept expiry s is. replaced-houses (is_permission_of ip) (λ a. refl) (Permission ip (Active expiry)) s (permission-room ip (Pending is_kept) s is);
   connects = λ id connection_id peer s t since stay granted listed h.
       replaced-houses (is_connect_to peer) (λ a. refl) (Offer (record { connection_id = connection_id; peer = peer; is_reported = false; origin = OwnConnect })) t
       (λ k. room-more s.grants t.grants stay (family_of peer) (connect-room id peer s listed h)) (since h);

@@ -197,8 +197,8 @@ housed-without which spares gs ls h = record { stands = stands; backed = backed 
 -- the relevant parts of a grant here: its kind, its addresses and its number
 abbrev pub shape : Grant → Grant
 shape (Allocation a) = Allocation (record { relayed = a.relayed; first_lifetime = 0; expiry = 0; is_expired = false })
-shape (Permission ip progress) = Permission ip Pending
-shape (Channel number peer progress) = Channel number peer Pending
+shape (Permission ip progress) = Permission ip (Pending true)
+shape (Channel number peer progress) = Channel number peer (Pending true)
 shape (Connect peer) = Connect peer
 shape (Offer offer) = Offer (record { connection_id = 0; peer = offer.peer; is_reported = false; origin = OwnConnect })
 shape (Connection c) = Connection (record c { deadline = None })

@@ -106,9 +106,9 @@ reserved-shrinks number peer expiry s =
 
 channel-shrinks : (o : Option Grant) (s : State) → Shrinks s (channel_lapsed o s)
 channel-shrinks (Some (Channel number peer (Active expiry))) s =
-    let t = reserved number peer expiry s in
+    let t = reserved number peer expiry.expiry s in
     let failure = ChannelCreateFailed s.config.allocation_transport peer ∷ [] in
-    shrinks-then s t (jump failure t) (reserved-shrinks number peer expiry s) (jump-shrinks failure t)
+    shrinks-then s t (jump failure t) (reserved-shrinks number peer expiry.expiry s) (jump-shrinks failure t)
 channel-shrinks o s = shrinks-self s
 
 -- ---- one allocation
@@ -208,14 +208,14 @@ alive_in family given purposes now s none g h here = by g h here
     by : (g : Grant) → Has g t.grants → is_of family g ≡ true → Outlives now g
     by (Permission ip (Active expiry)) h here =
         let inside = back s4 t from4 (Permission ip (Active expiry)) (λ is. is) h in
-        leb-false expiry now (what-false _ _ here (not-passed (λ x. is_of family x && is_lapsed_permission now x) (Permission ip (Active expiry)) s3.grants inside))
+        leb-false expiry.expiry now (what-false _ _ here (not-passed (λ x. is_of family x && is_lapsed_permission now x) (Permission ip (Active expiry)) s3.grants inside))
     by (Channel number peer (Active expiry)) h here =
         let g = Channel number peer (Active expiry) in
         let no_event = from3.events none in
         let not_found = no_channel_lapsed family now s2 no_event in
         let inside3 = back s3 t from3 g (λ is. is) h in
         let inside2 : Has g s2.grants = subst (λ o. Has g (channel_lapsed o s2).grants) not_found inside3 in
-        leb-false expiry now (what-false _ _ here (find-none-false (λ x. is_of family x && is_lapsed_channel now x) g (reverse s2.grants) not_found (has-reverse g s2.grants inside2)))
+        leb-false expiry.expiry now (what-false _ _ here (find-none-false (λ x. is_of family x && is_lapsed_channel now x) g (reverse s2.grants) not_found (has-reverse g s2.grants inside2)))
     by (Connection c) h here =
         let inside = back s6 t from6 (Connection c) (λ is. is) h in
         let bound = what-false _ _ here (not-passed (λ x. is_of family x && is_unbound purposes now x) (Connection c) s5.grants inside) in

@@ -36,6 +36,7 @@ pub mod HeldChallenge
 pub mod InAllocation
 pub mod InAllocationLemmas
 pub mod IndicatedOffers
+pub mod KeptLemmas
 pub mod LapseLemmas
 pub mod LapseSteps
 pub mod LateReplyLemmas

@@ -149,7 +149,7 @@ StayFounded-KeepsAllEdits = record {
   resets = λ heeded s h. h;
   empties = λ s. without-founded (λ g. true) s;
   allocates = λ message lifetime now s e none h l there. founded-append s.grants _ l.purpose (h l there);
-  permits = λ ip expiry s is h. with_grant-founded _ (without_grants (is_permission_of ip) s) (without-founded (is_permission_of ip) s h);
+  permits = λ ip is_kept expiry s is h. with_grant-founded _ (without_grants (is_permission_of ip) s) (without-founded (is_permission_of ip) s h);
   connects = λ id connection_id peer s t since stay granted listed h. with_grant-founded _ (without_grants (is_connect_to peer) t) (without-founded (is_connect_to peer) t (since h));
   offers = λ id peer origin s room few. with_grant-founded _ s;
 }

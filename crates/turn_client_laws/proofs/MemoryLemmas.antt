@@ -16,7 +16,7 @@ use Rattle.turn_client_api.specs.Answers.{EndsAfterSteps, RecvEnds, before_other
 use Rattle.turn_client_api.specs.Steps.{EndsWithoutMemory, Leaves, state_after}
 use Rattle.turn_client_api.specs.declared.call.Call.{Call}
 use Rattle.turn_client_api.specs.declared.call.Call.TheVariants.{SendTo, Recv, PollRecv, Poll, PollTransmit, PollEvent, RelayedAddresses, Permissions}
-use Rattle.turn_client_api.specs.declared.call.Call.TheVariants.{HavePermission, ProtocolError}
+use Rattle.turn_client_api.specs.declared.call.Call.TheVariants.{HavePermission, ProtocolError, SetPermissionKept, SetChannelKept}
 use Rattle.turn_client_laws.specs.LawsHandled.{TakesInput}
 use Rattle.turn_client_laws.proofs.RunKeepLemmas.{IsKept, first_frame_step-kept, turns-kept}
 
@@ -69,6 +69,8 @@ memory-ends PollEvent s t none = absurd none
 memory-ends RelayedAddresses s t none = absurd none
 memory-ends (Permissions transport relayed) s t none = absurd none
 memory-ends (HavePermission transport to) s t none = absurd none
+memory-ends (SetPermissionKept transport peer is_kept) s t none = absurd none
+memory-ends (SetChannelKept transport peer is_kept) s t none = absurd none
 memory-ends ProtocolError s t e = inr (inl e)
 memory-ends call s t e = inl e
 

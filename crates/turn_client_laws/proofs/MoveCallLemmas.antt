@@ -1,5 +1,5 @@
 -- What each call requests, and what it removes.
-use Rattle.std.proofs.Common.{◌≡◌, ◌⊎◌, ℕ, Bool, true, false, not, cond, ◌||◌, List, [], ◌∷◌, map, Option, Some, None, Result, Err, refl, inl, inr, arith}
+use Rattle.std.proofs.Common.{◌≡◌, ◌⊎◌, ℕ, Bool, true, false, not, cond, ◌||◌, List, [], ◌∷◌, map, Option, Some, None, Result, Err, refl, inl, inr, arith, ◌&&◌}
 use Rattle.std.specs.Prelude.{filter_map, is_some, is_none}
 use Rattle.std.specs.List.{list_any}
 use Rattle.std.specs.Net.Socket.{socket_ip}
@@ -33,6 +33,8 @@ use Rattle.turn_client_laws.proofs.MoveLemmas.{Moves, Never, Settles, adds-more,
 use Rattle.turn_client_laws.proofs.MoveLemmas.{loses-more, loses-same, settles-moves, settles-same}
 use Rattle.turn_client_laws.proofs.MoveMessageLemmas.{each-listing, made-of, request_made, requested-made}
 use Rattle.turn_client_laws.proofs.GrantOriginLemmas.{has-mapped}
+use Rattle.turn_client_api.specs.Calls.{keep_step, marked_if, with_marks}
+use Rattle.turn_client_api.specs.Grants.{same_transport}
 
 -- what the call makes, if it leaves this state
 abbrev pub MadeAt : Call → State → State → Transaction → Type 0
@@ -77,6 +79,16 @@ does-in call (Some a) ip now refusal s otherwise k =
     (does-settled call s (with_expired (family_of_ip ip) s) (adds-same Never s.transactions, adds-same Never s.listed, loses-map _ _ s.grants (expired-grant_identity (family_of_ip ip))))
     k
 
+-- what is kept from now on, or not, stays
+marked-grant_identity : (which : Grant → Bool) (is_kept : Bool) (g : Grant) → grant_identity g ≡ grant_identity (marked_if which is_kept g)
+marked-grant_identity which is_kept g = grind arith
+
+pub keep-does : (call : Call) (transport : TransportType) (which : Grant → Bool) (is_kept : Bool) (s : State) → Does call s (keep_step transport which is_kept s).1
+keep-does call transport which is_kept s =
+    by_test (Does call s) (same_transport transport s.config.allocation_transport && list_any which s.grants) _ _
+    (does-settled call s (with_marks which is_kept s) (adds-same Never s.transactions, adds-same Never s.listed, loses-map _ _ s.grants (marked-grant_identity which is_kept)))
+    (does-same call s)
+
 with_grant-settles : (Taken : Grant → Type 0) (g : Grant) (s : State) → Settles Taken s (with_grant g s)
 with_grant-settles Taken g s = (adds-same Never s.transactions, adds-same Never s.listed, loses-more Taken s.grants s.grants (g ∷ []) (loses-same Taken s.grants))
 
@@ -85,7 +97,7 @@ permission-does transport ip now s =
     does-in call (find_allocation_to transport ip s) ip now _ s (permission_step ip now s)
     (by_test (Does call s) (is_some (permission_state ip s)) _ _ (does-same call s)
     (by_test (Does call s) (not (is_allocated s.phase)) _ _ (does-same call s)
-    (does-requested call (ForPermission ip) now s (with_grant (Permission ip Pending) s) (refl, refl) (with_grant-settles _ (Permission ip Pending) s))))
+    (does-requested call (ForPermission ip) now s (with_grant (Permission ip (Pending true)) s) (refl, refl) (with_grant-settles _ (Permission ip (Pending true)) s))))
   where
     call : Call
     call = CreatePermission transport ip now

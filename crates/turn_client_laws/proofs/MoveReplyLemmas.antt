@@ -105,8 +105,8 @@ module _ (all : List Purpose) where
       takes g e = of-one (ForPermission ip) h g e
 
       by : (o : Option Progress) → permission_state ip s ≡ o → (g : Bool) → Fits s (permission_answered ip g now s)
-      by (Some Pending) e true = rw e (fits-instead (is_permission_of ip) _ s takes)
-      by (Some Pending) e false = rw e (fits-without (is_permission_of ip) s takes)
+      by (Some (Pending is_kept)) e true = rw e (fits-instead (is_permission_of ip) _ s takes)
+      by (Some (Pending is_kept)) e false = rw e (fits-without (is_permission_of ip) s takes)
       by (Some (Active expiry)) e true = rw e (fits-unlisted (is_permission_of ip) (is_permission_of ip) _ s)
       by (Some (Active expiry)) e false = rw e (fits-without (is_permission_of ip) s takes)
       by o e g = rw e (fits-same s)
@@ -136,15 +136,15 @@ module _ (all : List Purpose) where
   any-IsFor (p ∷ some) g each e =
       elim (cases_Bool (is_for p g)) [ inl f ↦ (p, each p (inl refl), inl f) | inr f ↦ any-IsFor some g (λ q h. each q (inr h)) (rw f at e) ]
 
-  pending_channel-fits : (number : ℕ) (peer to : SocketAddr) (id : ℕ) (is_granted : Bool) (now : ℕ) (s : State) → Has (ForChannel number peer) all → AreOf id s
-      → Fits s (pending_channel_answered number to id is_granted now s)
-  pending_channel-fits number peer to id true now s h are =
+  pending_channel-fits : (number : ℕ) (peer to : SocketAddr) (is_kept : Bool) (id : ℕ) (is_granted : Bool) (now : ℕ) (s : State) → Has (ForChannel number peer) all → AreOf id s
+      → Fits s (pending_channel_answered number to is_kept id is_granted now s)
+  pending_channel-fits number peer to is_kept id true now s h are =
       let t = listed_permissions_answered id true now s in
-      fits-then s t (pending_channel_answered number to id true now s) (permissions-fit id true now s are)
+      fits-then s t (pending_channel_answered number to is_kept id true now s) (permissions-fit id true now s are)
       (fits-instead (is_channel_of number) _ t (of-one (ForChannel number peer) h))
-  pending_channel-fits number peer to id false now s h are =
+  pending_channel-fits number peer to is_kept id false now s h are =
       let t = without_grants (is_channel_of number) s in
-      fits-then s t (pending_channel_answered number to id false now s)
+      fits-then s t (pending_channel_answered number to is_kept id false now s)
       (fits-without (is_channel_of number) s (of-one (ForChannel number peer) h))
       (fits-without (is_asked_permission (purposes_of id s)) t (λ g e. any-IsFor (purposes_of id s) g are (and_parts _ _ e).1))
 
@@ -156,7 +156,7 @@ module _ (all : List Purpose) where
       takes g e = of-one (ForChannel number peer) h g e
 
       by : (o : Option (SocketAddr × Progress)) → first_in (channel_at number) s ≡ o → (g : Bool) → Fits s (channel_answered number id g now s)
-      by (Some (to, Pending)) e g = rw e (pending_channel-fits number peer to id g now s h are)
+      by (Some (to, Pending is_kept)) e g = rw e (pending_channel-fits number peer to is_kept id g now s h are)
       by (Some (to, Active expiry)) e true = rw e (fits-unlisted (is_channel_of number) (is_channel_of number) _ s)
       by (Some (to, Active expiry)) e false = rw e (fits-instead (is_channel_of number) _ s takes)
       by o e g = rw e (fits-same s)

@@ -8,14 +8,14 @@ use Rattle.turn_client_api.specs.declared.grant.Grant.{Grant}
 use Rattle.turn_client_api.specs.declared.grant.Listing.{Listing}
 use Rattle.turn_client_api.specs.declared.grant.Purpose.TheVariants.{ForBind}
 use Rattle.turn_client_api.specs.declared.state.Stream.{Stream}
-use Rattle.turn_client_api.specs.Grants.{is_connection_from}
+use Rattle.turn_client_api.specs.Grants.{is_connection_from, is_permission_of}
 use Rattle.turn_client_api.specs.Streams.{max_steps}
 use Rattle.turn_client_laws.specs.Handled.{Input, handled, processed}
 use Rattle.turn_client_api.specs.Effect.{closed}
 use Rattle.turn_client_api.specs.Steps.{EndsWithoutMemory, Leaves, state_after}
 use Rattle.turn_client_api.specs.declared.call.Call.{Call}
 use Rattle.turn_client_api.specs.declared.call.Call.TheVariants.{Delete, CreatePermission, BindChannel, TcpConnect, AllocatedTcpSocket, TcpClosed, SendTo, Recv, PollRecv, Poll}
-use Rattle.turn_client_api.specs.declared.call.Call.TheVariants.{PollTransmit, PollEvent, ProtocolError}
+use Rattle.turn_client_api.specs.declared.call.Call.TheVariants.{PollTransmit, PollEvent, ProtocolError, SetPermissionKept, SetChannelKept}
 use Rattle.turn_client_laws.specs.LawsHandled.{DiffersInStreams, ProcessesInputs, EndsAmidInputs, IsDoneBy, IsStreamEnd, TakesInput, InputsLead}
 use Rattle.turn_client_laws.specs.LawsRequests.{IsListedByInput, IsListingOf, IsMadeByInput, IsRequestOf}
 use Rattle.turn_client_laws.specs.LawsGone.{IsOverItself, IsStillThere, IsTakenBy, IsRemovedByInput}
@@ -32,6 +32,8 @@ use Rattle.turn_client_laws.proofs.MemoryLemmas.{memory-ends}
 use Rattle.turn_client_laws.proofs.TurnBringLemmas.{Among, among-done, front-done, later-among, leads-back}
 use Rattle.turn_client_laws.proofs.TurnChainLemmas.{calls-do, turns-lead}
 use Rattle.turn_client_laws.proofs.TurnEndLemmas.{calls-end}
+use Rattle.turn_client_api.specs.Calls.{is_open_to}
+use Rattle.turn_client_laws.proofs.MoveCallLemmas.{keep-does}
 
 -- ---- inputs in sequence
 
@@ -149,6 +151,8 @@ all-obey (Poll now) s = poll-does now s
 all-obey (PollTransmit now) s = transmit-does now s
 all-obey PollEvent s = does-settled PollEvent s (state_after PollEvent s) (settles-same (IsTakenBy PollEvent s) s)
 all-obey ProtocolError s = error-does s
+all-obey (SetPermissionKept transport peer is_kept) s = keep-does (SetPermissionKept transport peer is_kept) transport (is_permission_of peer) is_kept s
+all-obey (SetChannelKept transport peer is_kept) s = keep-does (SetChannelKept transport peer is_kept) transport (is_open_to peer) is_kept s
 all-obey call s = does-same call s
 
 -- ---- allocation failure

@@ -52,8 +52,8 @@ channel-asks : (number id : ℕ) (is_granted : Bool) (now : ℕ) (s : State) →
 channel-asks number id is_granted now s = by (first_in (channel_at number) s) refl is_granted
   where
     by : (o : Option (SocketAddr × Progress)) → first_in (channel_at number) s ≡ o → (g : Bool) → AsksNothing s (channel_answered number id g now s)
-    by (Some (peer, Pending)) e true = rw e (permissions-asks id true now s)
-    by (Some (peer, Pending)) e false = rw e refl
+    by (Some (peer, Pending is_kept)) e true = rw e (permissions-asks id true now s)
+    by (Some (peer, Pending is_kept)) e false = rw e refl
     by (Some (peer, Active expiry)) e true = rw e refl
     by o e g = rw e refl
 

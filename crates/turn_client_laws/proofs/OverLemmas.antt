@@ -38,6 +38,7 @@ use Rattle.turn_client_laws.proofs.MoveLemmas.{Never, Remains, by_test, remains-
 use Rattle.turn_client_laws.proofs.MovePollLemmas.{told-loses}
 use Rattle.turn_client_laws.proofs.NumberLemmas.{AreApart, all-of, numbers}
 use Rattle.turn_client_laws.proofs.StandLemmas.{contains-has, has-contains}
+use Rattle.turn_client_api.specs.declared.grant.Lease.{Lease}
 
 -- ---- channels of one number are one
 
@@ -62,7 +63,7 @@ one-channel n p q a b (g ∷ gs) apart (inr first) (inr second) =
 abbrev Ages : Grant → Grant → Type 0
 Ages g is =
     (is ≡ g)
-    ⊎ ((n : ℕ) × (peer : SocketAddr) × (expiry : ℕ) × (g ≡ Channel n peer (Active expiry)) × (is ≡ Channel n peer (Reserved (later_by reserved_time expiry))))
+    ⊎ ((n : ℕ) × (peer : SocketAddr) × (expiry : Lease) × (g ≡ Channel n peer (Active expiry)) × (is ≡ Channel n peer (Reserved (later_by reserved_time expiry.expiry))))
 
 ages-grant_identity : (g is : Grant) → Ages g is → grant_identity g ≡ grant_identity is
 ages-grant_identity g is ages = grind arith
@@ -113,8 +114,8 @@ module _ (now : ℕ) (s : State) (apart : HasDistinctNumbers s) where
       by g (inr gone) = inr gone
 
   -- the channel expires, and is reserved
-  reserved-traces : (n : ℕ) (peer : SocketAddr) (expiry : ℕ) (gs : List Grant) → Has (Channel n peer (Active expiry)) gs → Traces gs
-      → Traces (filter (λ g. not (is_channel_of n g)) gs ++ Channel n peer (Reserved (later_by reserved_time expiry)) ∷ [])
+  reserved-traces : (n : ℕ) (peer : SocketAddr) (expiry : Lease) (gs : List Grant) → Has (Channel n peer (Active expiry)) gs → Traces gs
+      → Traces (filter (λ g. not (is_channel_of n g)) gs ++ Channel n peer (Reserved (later_by reserved_time expiry.expiry)) ∷ [])
   reserved-traces n peer expiry gs here t = record { left = λ g there. by g there (t.left g there); came = λ is there. from is (has-append is kept (held ∷ []) there) }
     where
       kept : List Grant
@@ -124,7 +125,7 @@ module _ (now : ℕ) (s : State) (apart : HasDistinctNumbers s) where
       was = Channel n peer (Active expiry)
 
       held : Grant
-      held = Channel n peer (Reserved (later_by reserved_time expiry))
+      held = Channel n peer (Reserved (later_by reserved_time expiry.expiry))
 
       -- it existed from the start
       first : Has was s.grants
@@ -164,7 +165,7 @@ module _ (now : ℕ) (s : State) (apart : HasDistinctNumbers s) where
   permission-over family g is ages e = by is ages (and_parts (is_of family is) (is_lapsed_permission now is) e).1
     where
       by : (is : Grant) → Ages g is → is_lapsed_permission now is ≡ true → Over g
-      by (Permission ip (Active expiry)) (inl e) lapsed = inl (rw (sym e) (leb-true expiry now lapsed))
+      by (Permission ip (Active expiry)) (inl e) lapsed = inl (rw (sym e) (leb-true expiry.expiry now lapsed))
       by (Permission ip (Active expiry)) (inr (n, peer, end, e, f)) lapsed = cc
       by is _ lapsed = cc
 
@@ -175,8 +176,8 @@ module _ (now : ℕ) (s : State) (apart : HasDistinctNumbers s) where
       by : (is : Grant) → Ages g is → is_over now is ≡ true → Over g
       by (Channel n peer (Reserved until)) (inl e) over = inl (rw (sym e) (ltb-true until now over))
       by (Channel n peer (Reserved until)) (inr (m, to, expiry, e, f)) over =
-          let same : until ≡ later_by reserved_time expiry = cc in
-          inl (rw e (ltb-true (later_by reserved_time expiry) now (rw same at over)))
+          let same : until ≡ later_by reserved_time expiry.expiry = cc in
+          inl (rw e (ltb-true (later_by reserved_time expiry.expiry) now (rw same at over)))
       by is a over = cc
 
   -- all grants in an allocation whose expiry has passed
@@ -210,7 +211,7 @@ module _ (now : ℕ) (s : State) (apart : HasDistinctNumbers s) where
       where
         by : Ages g is → (IsGivenUp now s is → HasExpiredOrFailed now s is) × ((n : ℕ) (peer : SocketAddr) (until : ℕ) → is ≡ Channel n peer (Reserved until) → ⊥) → IsGivenUp now s is → Over g
         by (inl same) (spent, free) up = inl (subst (HasExpiredOrFailed now s) same (spent up))
-        by (inr (n, peer, expiry, e, f)) (spent, free) up = absurd (free n peer (later_by reserved_time expiry) f)
+        by (inr (n, peer, expiry, e, f)) (spent, free) up = absurd (free n peer (later_by reserved_time expiry.expiry) f)
 
     channel-vain : IsVain is_pending_channel
     channel-vain g e = grind arith

@@ -43,6 +43,7 @@ use Rattle.turn_client_api.specs.Payloads.{Outcome, data_indicated, data_of, cha
 use Rattle.turn_client_api.specs.Streams.{frame_step, control_frame_step, waiting_frame_step}
 use Rattle.turn_client_laws.specs.LawsPeers.{IsIndicated, IsMessageFromPermitted, IsFromPermitted, HasNoPeer}
 use Rattle.turn_client_laws.proofs.AddressLemmas.{same_ip-true}
+use Rattle.turn_client_api.specs.declared.grant.Lease.{Lease}
 
 pub Contains-here : {X : Type 0} (x : X) (xs : List X) → Contains (x ∷ xs) x
 Contains-here x xs = (0, omega (arith), refl)
@@ -51,35 +52,35 @@ pub Contains-later : {X : Type 0} (x y : X) (xs : List X) → Contains xs x → 
 Contains-later x y xs (k, within, is) = (suc k, omega (arith, within), is)
 
 -- the IP address has an active permission, also with one grant more
-later : (ip : IpAddr) (g : Grant) (gs : List Grant) → (expiry : ℕ) × Contains gs (Permission ip (Active expiry)) → (expiry : ℕ) × Contains (g ∷ gs) (Permission ip (Active expiry))
+later : (ip : IpAddr) (g : Grant) (gs : List Grant) → (expiry : Lease) × Contains gs (Permission ip (Active expiry)) → (expiry : Lease) × Contains (g ∷ gs) (Permission ip (Active expiry))
 later ip g gs (expiry, at) = (expiry, Contains-later (Permission ip (Active expiry)) g gs at)
 
-active-here : (ip other : IpAddr) (p : Progress) (gs : List Grant) → other ≡ ip → is_active (Some p) ≡ true → (expiry : ℕ) × Contains (Permission other p ∷ gs) (Permission ip (Active expiry))
+active-here : (ip other : IpAddr) (p : Progress) (gs : List Grant) → other ≡ ip → is_active (Some p) ≡ true → (expiry : Lease) × Contains (Permission other p ∷ gs) (Permission ip (Active expiry))
 active-here ip other (Active expiry) gs e h = rw e (expiry, Contains-here (Permission ip (Active expiry)) gs)
 active-here ip other p gs e h = cc
 
 -- the first of the permissions of an IP address, if it is active, is one of the grants
-permitted-in : (ip : IpAddr) (grants : List Grant) → is_active (slice_get (filter_map (permission_progress ip) grants) 0) ≡ true → (expiry : ℕ) × Contains grants (Permission ip (Active expiry))
+permitted-in : (ip : IpAddr) (grants : List Grant) → is_active (slice_get (filter_map (permission_progress ip) grants) 0) ≡ true → (expiry : Lease) × Contains grants (Permission ip (Active expiry))
 permitted-in ip [] h = cc
 permitted-in ip (Permission other p ∷ gs) h = by (permitted-in ip gs) (same_ip other ip) refl
   where
-    by : (is_active (slice_get (filter_map (permission_progress ip) gs) 0) ≡ true → (expiry : ℕ) × Contains gs (Permission ip (Active expiry))) → (b : Bool) → same_ip other ip ≡ b → (expiry : ℕ)
-        × Contains (Permission other p ∷ gs) (Permission ip (Active expiry))
+    by : (is_active (slice_get (filter_map (permission_progress ip) gs) 0) ≡ true → (expiry : Lease) × Contains gs (Permission ip (Active expiry))) → (b : Bool) → same_ip other ip ≡ b
+        → (expiry : Lease) × Contains (Permission other p ∷ gs) (Permission ip (Active expiry))
     by more true e = active-here ip other p gs (same_ip-true other ip e) (rw e at h)
     by more false e = later ip (Permission other p) gs (more (rw e at h))
 permitted-in ip (x ∷ gs) h = later ip x gs (permitted-in ip gs h)
 
-later-channel : (number : ℕ) (peer : SocketAddr) (g : Grant) (gs : List Grant) → (expiry : ℕ) × Contains gs (Channel number peer (Active expiry)) → (expiry : ℕ)
+later-channel : (number : ℕ) (peer : SocketAddr) (g : Grant) (gs : List Grant) → (expiry : Lease) × Contains gs (Channel number peer (Active expiry)) → (expiry : Lease)
     × Contains (g ∷ gs) (Channel number peer (Active expiry))
 later-channel number peer g gs (expiry, at) = (expiry, Contains-later (Channel number peer (Active expiry)) g gs at)
 
 -- the peer of the first active channel of a number
-channel-in : (number : ℕ) (peer : SocketAddr) (grants : List Grant) → slice_get (filter_map (channel_peer number) grants) 0 ≡ Some peer → (expiry : ℕ)
+channel-in : (number : ℕ) (peer : SocketAddr) (grants : List Grant) → slice_get (filter_map (channel_peer number) grants) 0 ≡ Some peer → (expiry : Lease)
     × Contains grants (Channel number peer (Active expiry))
 channel-in number peer [] h = cc
 channel-in number peer (Channel other to (Active expiry) ∷ gs) h = by (channel-in number peer gs) (eqb other number) refl
   where
-    by : (slice_get (filter_map (channel_peer number) gs) 0 ≡ Some peer → (later : ℕ) × Contains gs (Channel number peer (Active later))) → (b : Bool) → eqb other number ≡ b → (later : ℕ)
+    by : (slice_get (filter_map (channel_peer number) gs) 0 ≡ Some peer → (later : Lease) × Contains gs (Channel number peer (Active later))) → (b : Bool) → eqb other number ≡ b → (later : Lease)
         × Contains (Channel other to (Active expiry) ∷ gs) (Channel number peer (Active later))
     by more true e =
         let same : other ≡ number = eqb-true other number e in

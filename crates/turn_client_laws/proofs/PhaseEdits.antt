@@ -66,8 +66,8 @@ phase-edits R k = record {
   removes_family = λ family s. k.rest s (without_grants (is_of family) s);
   takes_offer = λ id peer s. k.rest s (offer_taken id peer s);
   ages = λ grants s e. k.rest s (record s { grants = grants });
-  permission = λ ip s phase room none. k.rest s (with_grant (Permission ip Pending) s);
-  channel = λ number peer s phase room none within. k.rest s (with_grant (Channel number peer Pending) s);
+  permission = λ ip s phase room none. k.rest s (with_grant (Permission ip (Pending true)) s);
+  channel = λ number peer s phase room none within. k.rest s (with_grant (Channel number peer (Pending true)) s);
   connect = λ peer s phase room none. k.rest s (with_grant (Connect peer) s);
   connection = λ id c origin s phase offer none waits. k.rest s (with_grant (Connection c) (offer_taken id c.peer s));
   reserves = λ number peer was until s there. k.rest s (with_grant (Channel number peer (Reserved until)) (without_grants (is_channel_of number) s));
@@ -86,7 +86,7 @@ all-phase-edits Heeded R k = record {
       let t = record s { phase = phase_with (taken_addresses s.families (relayed_in message)) } in
       let more = map (new_allocation lifetime now) (taken_addresses s.families (relayed_in message)) in
       k.edits.trans s t _ (k.allocates (taken_addresses s.families (relayed_in message)) s e) (k.edits.rest t (record t { grants = s.grants ++ more }));
-  permits = λ ip expiry s is. k.edits.rest s (with_grant (Permission ip (Active expiry)) (without_grants (is_permission_of ip) s));
+  permits = λ ip is_kept expiry s is. k.edits.rest s (with_grant (Permission ip (Active expiry)) (without_grants (is_permission_of ip) s));
   connects = λ id connection_id peer s t since stay granted listed.
       k.edits.trans s t _ since (k.edits.rest t (with_offer connection_id peer OwnConnect (without_grants (is_connect_to peer) t)));
   offers = λ id peer origin s room few. k.edits.rest s (with_offer id peer origin s);

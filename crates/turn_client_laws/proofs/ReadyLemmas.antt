@@ -39,12 +39,13 @@ use Rattle.turn_client_laws.proofs.HasLemmas.{Has, has-append, has-left, has-rig
 use Rattle.turn_client_laws.proofs.HasLemmas.{least-le, all-has}
 use Rattle.turn_client_laws.proofs.MoveLemmas.{cases_Option, none-found}
 use Rattle.turn_client_laws.proofs.GrantOriginLemmas.{has-mapped}
+use Rattle.std.proofs.lemmas.Bool.{and_parts}
 
 -- the grant has not expired by now, if its expiry is one to wait for
 abbrev pub Alive : ℕ → Grant → Type 0
 Alive now (Allocation a) = a.is_expired ≡ false → now < a.expiry
-Alive now (Permission ip (Active expiry)) = now < expiry
-Alive now (Channel number peer (Active expiry)) = now < expiry
+Alive now (Permission ip (Active lease)) = now < lease.expiry
+Alive now (Channel number peer (Active lease)) = now < lease.expiry
 Alive now (Connection c) = IfSome c.deadline (λ deadline. now < deadline)
 Alive now _ = ⊤
 
@@ -192,8 +193,8 @@ lasts now m t ready until g h = by g h (ready.alive g h)
 
     by : (g : Grant) → Has g t.grants → Alive now g → Lasts m g
     by (Allocation a) h alive = λ used. due_end (Allocation a) h a.expiry (rw (lt-ltb now a.expiry (alive used)) (inl refl))
-    by (Permission ip (Active expiry)) h alive = due_end (Permission ip (Active expiry)) h expiry (inl refl)
-    by (Channel number peer (Active expiry)) h alive = due_end (Channel number peer (Active expiry)) h expiry (inl refl)
+    by (Permission ip (Active expiry)) h alive = due_end (Permission ip (Active expiry)) h expiry.expiry (inl refl)
+    by (Channel number peer (Active expiry)) h alive = due_end (Channel number peer (Active expiry)) h expiry.expiry (inl refl)
     by (Connection c) h alive =
         elim (cases_Option c.deadline) [ inl e ↦ rw e tt | inr (deadline, e) ↦ rw e (due_end (Connection c) h deadline (rw e (inl refl))) ]
     by g h alive = tt
@@ -317,11 +318,11 @@ refresh-busy now t ready g h due = by g h due
         refreshed-once now t (Allocation a) a 0 (ForRefresh (family_of a.relayed) asked_lifetime) h (filter_map-has as_allocation (Allocation a) a t.grants h refl) (omega (arith, alive))
         (same_family-self (family_of a.relayed)) (inl refl) refl due (rw (le-leb now a.expiry (omega (arith, alive))) refl)
     by (Permission ip (Active expiry)) h due =
-        within (Permission ip (Active expiry)) h due 2 (inr (inr (inl refl))) refl (ForPermission ip) (rw (lt-ltb now expiry (ready.alive (Permission ip (Active expiry)) h)) refl)
-        (find_allocation (family_of_ip ip) t) refl (used-due now t (Permission ip (Active expiry)) due)
+        within (Permission ip (Active expiry)) h due 2 (inr (inr (inl refl))) refl (ForPermission ip) (rw (lt-ltb now expiry.expiry (ready.alive (Permission ip (Active expiry)) h)) refl)
+        (find_allocation (family_of_ip ip) t) refl (and_parts expiry.is_kept _ (used-due now t (Permission ip (Active expiry)) due)).1
     by (Channel number peer (Active expiry)) h due =
-        within (Channel number peer (Active expiry)) h due 1 (inr (inl refl)) refl (ForChannel number peer) (rw (lt-ltb now expiry (ready.alive (Channel number peer (Active expiry)) h)) refl)
-        (find_allocation (family_of peer) t) refl (used-due now t (Channel number peer (Active expiry)) due)
+        within (Channel number peer (Active expiry)) h due 1 (inr (inl refl)) refl (ForChannel number peer) (rw (lt-ltb now expiry.expiry (ready.alive (Channel number peer (Active expiry)) h)) refl)
+        (find_allocation (family_of peer) t) refl (and_parts expiry.is_kept _ (used-due now t (Channel number peer (Active expiry)) due)).1
     by g h due = absurd (untimed now t g refl due)
 
 -- the expiry of a grant that is active

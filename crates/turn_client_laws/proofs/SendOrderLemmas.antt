@@ -112,7 +112,7 @@ Steadies-KeepsAllEdits = record {
         λ h. well (phase_with addresses) (record s { grants = s.grants ++ map (new_allocation lifetime now) addresses }) (rank-with addresses) (h.1 (rw e tt)),
         Keeps-KeepsAllEdits.allocates message lifetime now s e none,
       );
-  permits = λ ip expiry s is. (λ h. (h.0, h.1, h.2, λ u. absurd (none-some Pending (rw (h.3 u) at is))), keeps-same s);
+  permits = λ ip is_kept expiry s is. (λ h. (h.0, h.1, h.2, λ u. absurd (none-some (Pending is_kept) (rw (h.3 u) at is))), keeps-same s);
   connects = λ id connection_id peer s t since stay granted listed.
       (λ h. ((since.0 h).0, (since.0 h).1, (since.0 h).2, λ u. absurd (stays-granted s t since.1.3 granted u)), since.1);
   offers = λ id peer origin s room few. (λ h. (h.0, h.1, h.2, λ u. absurd (rw (h.3 u) at room.1)), keeps-same s);

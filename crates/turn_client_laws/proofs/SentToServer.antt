@@ -77,7 +77,7 @@ StayTo-KeepsAllEdits = record {
   resets = λ heeded s h. h;
   empties = λ s h. h;
   allocates = λ message lifetime now s e none h. h;
-  permits = λ ip expiry s is h. h;
+  permits = λ ip is_kept expiry s is h. h;
   connects = λ id connection_id peer s t since stay granted listed. since;
   offers = λ id peer origin s room few h. h;
 }

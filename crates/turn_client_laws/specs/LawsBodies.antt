@@ -19,8 +19,8 @@ use Rattle.turn_client_api.specs.Due.{end_of, has_queued_request, keepalive_time
 -- expired allocation stays while a request for it is pending
 abbrev pub lapse_of : State → Grant → Option ℕ
 lapse_of s (Allocation a) = if a.is_expired && has_request (Allocation a) s then None else Some a.expiry
-lapse_of s (Permission ip (Active expiry)) = Some expiry
-lapse_of s (Channel number peer (Active expiry)) = Some expiry
+lapse_of s (Permission ip (Active lease)) = Some lease.expiry
+lapse_of s (Channel number peer (Active lease)) = Some lease.expiry
 lapse_of s (Channel number peer (Reserved until)) = Some (until + 1)
 lapse_of s (Connection c) = c.deadline
 lapse_of s _ = None

@@ -30,8 +30,8 @@ use Rattle.turn_client_laws.specs.LawsRequests.{IsAnswer}
 -- the grant without what may change of it: its progress, its times, and whether it was reported
 abbrev pub grant_identity : Grant → Grant
 grant_identity (Allocation a) = Allocation (record { relayed = a.relayed; first_lifetime = 0; expiry = 0; is_expired = false })
-grant_identity (Permission ip progress) = Permission ip Pending
-grant_identity (Channel number peer progress) = Channel number peer Pending
+grant_identity (Permission ip progress) = Permission ip (Pending true)
+grant_identity (Channel number peer progress) = Channel number peer (Pending true)
 grant_identity (Connect peer) = Connect peer
 grant_identity (Offer offer) = Offer (record offer { is_reported = false })
 grant_identity (Connection c) = Connection (record c { deadline = None })
@@ -81,11 +81,11 @@ IsGivenUp now s g =
 -- It has expired, or the request for it timed out. A channel that expires is reserved for a while and
 -- exists so long, and an offer is removed with the server's request for it.
 abbrev pub HasExpiredOrFailed : ℕ → State → Grant → Type 0
-HasExpiredOrFailed now s (Permission ip (Active expiry)) = expiry ≤ now
-HasExpiredOrFailed now s (Permission ip Pending) = IsGivenUp now s (Permission ip Pending)
-HasExpiredOrFailed now s (Channel number peer (Active expiry)) = later_by reserved_time expiry < now
+HasExpiredOrFailed now s (Permission ip (Active lease)) = lease.expiry ≤ now
+HasExpiredOrFailed now s (Permission ip (Pending is_kept)) = IsGivenUp now s (Permission ip (Pending is_kept))
+HasExpiredOrFailed now s (Channel number peer (Active lease)) = later_by reserved_time lease.expiry < now
 HasExpiredOrFailed now s (Channel number peer (Reserved until)) = until < now
-HasExpiredOrFailed now s (Channel number peer Pending) = IsGivenUp now s (Channel number peer Pending)
+HasExpiredOrFailed now s (Channel number peer (Pending is_kept)) = IsGivenUp now s (Channel number peer (Pending is_kept))
 HasExpiredOrFailed now s (Connect peer) = IsGivenUp now s (Connect peer)
 HasExpiredOrFailed now s (Offer offer) =
     (x : Transaction) × (timed_out_transaction (agent_of s) now ≡ Some x) × (is_of_request x.id (Offer offer) ≡ true)

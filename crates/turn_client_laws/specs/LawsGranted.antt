@@ -27,20 +27,21 @@ use Rattle.turn_client_api.specs.Effect.{channel_lifetime, min_lifetime, permiss
 use Rattle.turn_client_laws.specs.LawsInputs.{Deed}
 use Rattle.turn_client_api.specs.declared.call.Call.{Call}
 use Rattle.turn_client_api.specs.declared.call.Call.TheVariants.{Delete}
+use Rattle.turn_client_api.specs.declared.grant.Lease.{Lease}
 
 -- what the server granted: an allocation, an active permission or channel, and a connection that is bound
 abbrev pub IsActiveGrant : Grant → Type 0
 IsActiveGrant (Allocation a) = ⊤
-IsActiveGrant (Permission ip (Active expiry)) = ⊤
-IsActiveGrant (Channel number peer (Active expiry)) = ⊤
+IsActiveGrant (Permission ip (Active lease)) = ⊤
+IsActiveGrant (Channel number peer (Active lease)) = ⊤
 IsActiveGrant (Connection c) = c.deadline ≡ None
 IsActiveGrant _ = ⊥
 
--- the second is the first, granted, with the same expiry
+-- the second is the first, granted, with the same expiry, kept or not
 abbrev pub IsSameGrant : Grant → Grant → Type 0
 IsSameGrant (Allocation was) (Allocation is) = (was.relayed ≡ is.relayed) × (was.expiry ≡ is.expiry)
-IsSameGrant (Permission ip (Active was)) (Permission other (Active is)) = (ip ≡ other) × (was ≡ is)
-IsSameGrant (Channel number peer (Active was)) (Channel other to (Active is)) = (number ≡ other) × (peer ≡ to) × (was ≡ is)
+IsSameGrant (Permission ip (Active was)) (Permission other (Active is)) = (ip ≡ other) × (was.expiry ≡ is.expiry)
+IsSameGrant (Channel number peer (Active was)) (Channel other to (Active is)) = (number ≡ other) × (peer ≡ to) × (was.expiry ≡ is.expiry)
 IsSameGrant (Connection was) (Connection is) = (was ≡ is) × (was.deadline ≡ None)
 IsSameGrant _ _ = ⊥
 
@@ -62,10 +63,10 @@ IsGivenFor ForAllocation message now s (Allocation a) =
 IsGivenFor (ForRefresh family lifetime) message now s (Allocation a) =
     (1 ≤ lifetime) × (is_of_family family a.relayed ≡ true)
     × ((n : ℕ) × (lifetime_in message ≡ Some n) × (min_lifetime ≤ n) × (a.expiry ≡ later_by (seconds n) now))
-IsGivenFor (ForPermission ip) message now s (Permission other (Active expiry)) =
-    (same_ip other ip ≡ true) × (expiry ≡ later_by permission_lifetime now)
-IsGivenFor (ForChannel number peer) message now s (Channel other to (Active expiry)) =
-    (other ≡ number) × (expiry ≡ later_by channel_lifetime now) × HasChannelTo other to s
+IsGivenFor (ForPermission ip) message now s (Permission other (Active lease)) =
+    (same_ip other ip ≡ true) × (lease.expiry ≡ later_by permission_lifetime now)
+IsGivenFor (ForChannel number peer) message now s (Channel other to (Active lease)) =
+    (other ≡ number) × (lease.expiry ≡ later_by channel_lifetime now) × HasChannelTo other to s
 IsGivenFor _ message now s _ = ⊥
 
 -- The message is a success that is signed with the client's credentials under the realm that it holds, it
@@ -106,16 +107,16 @@ HasCause call s g = WasActive s g ⊎ IsEndedNow call s g ⊎ IsDoneBy (IsGrante
 -- ---- a channel's peer
 
 -- the input granted the channel, in answer to the request for its number and its peer
-abbrev pub IsChannelInput : ℕ → SocketAddr → ℕ → Input → Type 0
-IsChannelInput number peer expiry one =
-    (input : IsGrantInput (Channel number peer (Active expiry)) one) × (input.grant.1.purpose ≡ ForChannel number peer)
+abbrev pub IsChannelInput : ℕ → SocketAddr → Lease → Input → Type 0
+IsChannelInput number peer lease one =
+    (input : IsGrantInput (Channel number peer (Active lease)) one) × (input.grant.1.purpose ≡ ForChannel number peer)
 
 -- why the channel is active after the call: it was before, with this expiry, or an input granted it
-abbrev pub HasChannelCause : ℕ → SocketAddr → ℕ → Call → State → Type 0
-HasChannelCause number peer expiry call s =
-    Contains s.grants (Channel number peer (Active expiry)) ⊎ IsDoneBy (IsChannelInput number peer expiry) call s
+abbrev pub HasChannelCause : ℕ → SocketAddr → Lease → Call → State → Type 0
+HasChannelCause number peer lease call s =
+    WasActive s (Channel number peer (Active lease)) ⊎ IsDoneBy (IsChannelInput number peer lease) call s
 
 -- each channel that the call leaves active has the peer of its request
 abbrev pub GrantsToPeers : Call → State → State → Type 0
 GrantsToPeers call s t =
-    (number : ℕ) (peer : SocketAddr) (expiry : ℕ) → Contains t.grants (Channel number peer (Active expiry)) → HasChannelCause number peer expiry call s
+    (number : ℕ) (peer : SocketAddr) (lease : Lease) → Contains t.grants (Channel number peer (Active lease)) → HasChannelCause number peer lease call s

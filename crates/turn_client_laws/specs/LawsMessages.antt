@@ -1,5 +1,5 @@
 -- Worked messages of the server, so that the check computes their effect on the machine.
-use Rattle.std.specs.Prelude.{◌≡◌, ℕ, ◌*◌, false, List, [], ◌∷◌, ◌++◌, length, map, Some, None}
+use Rattle.std.specs.Prelude.{◌≡◌, ℕ, ◌*◌, false, List, [], ◌∷◌, ◌++◌, length, map, Some, None, true}
 use Rattle.std.specs.declared.net.socket_addr.SocketAddr.{SocketAddr}
 use Rattle.turn_types.specs.declared.family.AddressFamily.TheVariants.{IPV4, IPV6}
 use Rattle.turn_auth.specs.LongTerm.{Challenge}
@@ -16,7 +16,7 @@ use Rattle.turn_client_api.specs.declared.grant.Progress.TheVariants.{Active, Pe
 use Rattle.turn_client_api.specs.State.{seconds}
 use Rattle.turn_client_api.specs.declared.grant.Purpose.{Purpose}
 use Rattle.turn_client_api.specs.declared.grant.Purpose.TheVariants.{ForAllocation, ForRefresh, ForPermission, ForChannel, ForConnect}
-use Rattle.turn_client_api.specs.Effect.{new_allocation}
+use Rattle.turn_client_api.specs.Effect.{new_allocation, granted_until}
 use Rattle.turn_client_api.specs.Payloads.{Outcome, Ignored, message_step}
 use Rattle.turn_client_laws.specs.LawsRows.{awaiting, granted_at, peer, ip_of_peer, relayed_v4, relayed_v6, requesting}
 
@@ -179,25 +179,25 @@ abbrev pub granted_v6 : Grant
 granted_v6 = new_allocation 1000 (ms 100) relayed_v6
 
 abbrev pub granted_permission : Grant
-granted_permission = Permission ip_of_peer (Active (ms 300_100))
+granted_permission = Permission ip_of_peer (granted_until (ms 300_100) true)
 
 abbrev pub granted_channel : Grant
-granted_channel = Channel 0x4000 peer (Active (ms 600_100))
+granted_channel = Channel 0x4000 peer (granted_until (ms 600_100) true)
 
 -- it was made for these, and there are these grants beside the allocation
 abbrev pub asking : List Purpose → List Grant → SocketAddr → List ℕ → State → State
 asking purposes grants to text s = awaiting purposes to text (granted_at 0 (allocation_of_v4 ∷ grants) s)
 
 abbrev pub asking_permission : SocketAddr → List ℕ → State → State
-asking_permission to text s = asking (ForPermission ip_of_peer ∷ []) (Permission ip_of_peer Pending ∷ []) to text s
+asking_permission to text s = asking (ForPermission ip_of_peer ∷ []) (Permission ip_of_peer (Pending true) ∷ []) to text s
 
 abbrev pub asking_channel : SocketAddr → List ℕ → State → State
 asking_channel to text s =
-    asking (ForChannel 0x4000 peer ∷ ForPermission ip_of_peer ∷ []) (Channel 0x4000 peer Pending ∷ Permission ip_of_peer Pending ∷ []) to text s
+    asking (ForChannel 0x4000 peer ∷ ForPermission ip_of_peer ∷ []) (Channel 0x4000 peer (Pending true) ∷ Permission ip_of_peer (Pending true) ∷ []) to text s
 
 -- a permission that is active
 abbrev pub permission_for_300_s : Grant
-permission_for_300_s = Permission ip_of_peer (Active (seconds 300))
+permission_for_300_s = Permission ip_of_peer (granted_until (seconds 300) true)
 
 abbrev pub asking_connection : SocketAddr → List ℕ → State → State
 asking_connection to text s = asking (ForConnect peer ∷ []) (permission_for_300_s ∷ Connect peer ∷ []) to text s

@@ -23,14 +23,15 @@ use Rattle.turn_client_api.specs.Streams.{all_of, sent_by}
 use Rattle.turn_client_laws.specs.Handled.{Input, processed, input_payload}
 use Rattle.turn_client_api.specs.declared.call.Call.{Call}
 use Rattle.turn_client_laws.specs.LawsHandled.{IsDoneBy}
+use Rattle.turn_client_api.specs.declared.grant.Lease.{Lease}
 
 -- the IP address has an active permission
 abbrev pub HasPermission : IpAddr → State → Type 0
-HasPermission ip s = (expiry : ℕ) × Contains s.grants (Permission ip (Active expiry))
+HasPermission ip s = (lease : Lease) × Contains s.grants (Permission ip (Active lease))
 
 -- the channel of this number is active, and bound to this peer
 abbrev pub HasChannel : ℕ → SocketAddr → State → Type 0
-HasChannel number peer s = (expiry : ℕ) × Contains s.grants (Channel number peer (Active expiry))
+HasChannel number peer s = (lease : Lease) × Contains s.grants (Channel number peer (Active lease))
 
 -- The client is in `Allocated`, and the bytes are a DATA indication that names this peer, which has a
 -- permission. It has no unknown comprehension-required attribute (RFC 8489, section 6.3.2).

@@ -1,5 +1,5 @@
 -- Worked pieces of streams, so that the check computes their effect on the machine.
-use Rattle.std.specs.Prelude.{◌≡◌, ℕ, ◌+◌, List, [], ◌∷◌, ◌++◌, length, map, Option, Some, None}
+use Rattle.std.specs.Prelude.{◌≡◌, ℕ, ◌+◌, List, [], ◌∷◌, ◌++◌, length, map, Option, Some, None, true}
 use Rattle.std.specs.declared.ops.Range.{Range}
 use Rattle.std.specs.declared.net.socket_addr.SocketAddr.{SocketAddr}
 use Rattle.std.specs.declared.net.socket_addr.SocketAddr.TheVariants.{V4}
@@ -17,7 +17,7 @@ use Rattle.turn_client_api.specs.declared.state.Mode.TheVariants.{Control, Waiti
 use Rattle.turn_client_api.specs.declared.state.Stream.{Stream}
 use Rattle.turn_client_api.specs.declared.grant.Purpose.TheVariants.{ForBind}
 use Rattle.turn_client_api.specs.Requests.{listings}
-use Rattle.turn_client_api.specs.Effect.{new_allocation}
+use Rattle.turn_client_api.specs.Effect.{new_allocation, granted_until}
 use Rattle.turn_client_api.specs.Payloads.{Outcome, Payload, PeerIcmp, datagram_step}
 use Rattle.turn_client_api.specs.Streams.{poll_recv_step}
 use Rattle.turn_client_api.specs.Receive.{recv_step}
@@ -52,7 +52,7 @@ over_tcp grants streams s = record (granted_at 0 (new_allocation 1800 0 relayed_
 
 -- channel 4000 leads to the peer, which has a permission
 abbrev pub with_channel : State → State
-with_channel s = over_tcp (Permission ip_of_peer (Active (seconds 300)) ∷ Channel 0x4000 peer (Active (seconds 600)) ∷ []) [] s
+with_channel s = over_tcp (Permission ip_of_peer (granted_until (seconds 300) true) ∷ Channel 0x4000 peer (granted_until (seconds 600) true) ∷ []) [] s
 
 -- the data connection to the peer is bound, or waits for the reply to request 1
 abbrev pub with_connection : Option ℕ → Mode → State → State

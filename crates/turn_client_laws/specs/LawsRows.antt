@@ -1,5 +1,5 @@
 -- Worked states, so that the check computes the machine's answers in them.
-use Rattle.std.specs.Prelude.{◌≡◌, ℕ, zero, suc, ◌*◌, List, [], ◌∷◌, ◌++◌, length, map, Option, Some, None}
+use Rattle.std.specs.Prelude.{◌≡◌, ℕ, zero, suc, ◌*◌, List, [], ◌∷◌, ◌++◌, length, map, Option, Some, None, true}
 use Rattle.std.specs.declared.net.ip_addr.IpAddr.{IpAddr}
 use Rattle.std.specs.declared.net.ip_addr.IpAddr.TheVariants as Ip
 use Rattle.std.specs.declared.net.socket_addr.SocketAddr.{SocketAddr}
@@ -23,7 +23,7 @@ use Rattle.turn_client_api.specs.declared.grant.Progress.TheVariants.{Active, Pe
 use Rattle.turn_client_api.specs.declared.grant.Purpose.{Purpose}
 use Rattle.turn_client_api.specs.declared.grant.Purpose.TheVariants.{ForChannel, ForPermission}
 use Rattle.turn_client_api.specs.Requests.{first_allocate, listings}
-use Rattle.turn_client_api.specs.Effect.{new_allocation}
+use Rattle.turn_client_api.specs.Effect.{new_allocation, granted_until}
 use Rattle.turn_client_api.specs.Retry.{state_after_retry}
 use Rattle.turn_client_api.specs.Calls.{all_expired, create_permission_step, delete_step}
 use Rattle.turn_client_api.specs.Poll.{poll_step}
@@ -92,7 +92,7 @@ with_both_families s = granted_at 0 (new_allocation 1000 50_000_000 relayed_v4 �
 -- at this time
 abbrev pub with_permission : ℕ → State → State
 with_permission time s =
-    granted_at time (new_allocation 1800 50_000_000 relayed_v4 ∷ Permission ip_of_peer (Active 300_100_000_000) ∷ []) s
+    granted_at time (new_allocation 1800 50_000_000 relayed_v4 ∷ Permission ip_of_peer (granted_until 300_100_000_000 true) ∷ []) s
 
 -- it requests a permission at 60 ms, 10 ms after its last request
 abbrev pub asking_at_60_ms : State → State
@@ -112,8 +112,8 @@ abbrev pub with_all : ℕ → State → State
 with_all lifetime s =
     granted_at 50_000_000
     (new_allocation lifetime 50_000_000 relayed_v4
-    ∷ Channel 0x4000 peer (Active 600_100_000_000)
-    ∷ Permission ip_of_peer (Active 300_100_000_000)
+    ∷ Channel 0x4000 peer (granted_until 600_100_000_000 true)
+    ∷ Permission ip_of_peer (granted_until 300_100_000_000 true)
     ∷ []) s
 
 -- keeping its path to the server alive, so long after the last packet
@@ -205,7 +205,7 @@ deleted_in_silence to text s =
 abbrev pub binding_in_silence : SocketAddr → List ℕ → State → State
 binding_in_silence to text s =
     awaiting (ForChannel 0x4000 peer ∷ ForPermission ip_of_peer ∷ []) to text
-    (granted_at 32_500_000_000 (new_allocation 1800 50_000_000 relayed_v4 ∷ Channel 0x4000 peer Pending ∷ Permission ip_of_peer Pending ∷ []) s)
+    (granted_at 32_500_000_000 (new_allocation 1800 50_000_000 relayed_v4 ∷ Channel 0x4000 peer (Pending true) ∷ Permission ip_of_peer (Pending true) ∷ []) s)
 
 -- this holds of the result of a client that is polled when that request times out
 abbrev pub WhenGivenUp : (TurnPollRet × State → Type 0) → Type 0

@@ -1,5 +1,5 @@
 -- Worked data connections, so that the check computes the machine's effect on them.
-use Rattle.std.specs.Prelude.{ℕ, List, [], ◌∷◌, ◌++◌, Option, None, Result}
+use Rattle.std.specs.Prelude.{ℕ, List, [], ◌∷◌, ◌++◌, Option, None, Result, true}
 use Rattle.std.specs.declared.net.socket_addr.SocketAddr.{SocketAddr}
 use Rattle.turn_stun.specs.declared.transport.TransportType.TheVariants.{Tcp}
 use Rattle.turn_client_api.specs.Config.{default_refresh_ahead, default_request_cadence}
@@ -14,6 +14,7 @@ use Rattle.turn_client_laws.specs.LawsMessages.{message_with, ms, offer_of, with
 use Rattle.turn_client_laws.specs.LawsPieces.{client, over_tcp, server}
 use Rattle.turn_client_api.specs.declared.error.TcpAllocateError.{TcpAllocateError}
 use Rattle.turn_client_api.specs.declared.poll.Socket5Tuple.{Socket5Tuple}
+use Rattle.turn_client_api.specs.Effect.{granted_until}
 
 -- a client with an allocation over TCP and these grants, whose control stream holds nothing
 abbrev pub relaying_tcp : List Grant → State → State
@@ -29,7 +30,7 @@ relaying_tcp grants s = record (over_tcp grants [] s) {
 
 -- the peer has a permission
 abbrev pub permission : Grant
-permission = Permission ip_of_peer (Active (seconds 300))
+permission = Permission ip_of_peer (granted_until (seconds 300) true)
 
 -- the server reported a connection of the peer
 abbrev pub offered : State → State

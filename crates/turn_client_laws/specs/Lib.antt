@@ -8,6 +8,7 @@ pub mod LawsGrantAllocations
 pub mod LawsGranted
 pub mod LawsHandled
 pub mod LawsInputs
+pub mod LawsKept
 pub mod LawsLapses
 pub mod LawsMessages
 pub mod LawsNumbers

@@ -12,6 +12,7 @@ mod grant_allocations;
 mod granted;
 mod ids;
 mod inputs;
+mod kept;
 mod lapses;
 mod messages;
 mod numbers;

@@ -14,7 +14,8 @@ ghost use Rattle.turn_client_api.specs.declared.grant.Relay.{Relay};
 ghost use Rattle.std.specs.declared.net.ip_addr.IpAddr.{IpAddr};
 ghost use Rattle.turn_client_api.specs.declared.grant.Grant.TheVariants.{Channel, Permission};
 ghost use Rattle.turn_client_api.specs.declared.grant.Purpose.TheVariants.{ForPermission, ForRefresh};
-ghost use Rattle.turn_client_api.specs.declared.grant.Progress.TheVariants.{Active, Pending};
+ghost use Rattle.turn_client_api.specs.declared.grant.Progress.TheVariants.{Pending};
+ghost use Rattle.turn_client_api.specs.Effect.{granted_until};
 ghost use Rattle.turn_client_api.specs.Calls.{free_number, relayed_addresses_of};
 ghost use Rattle.turn_client_api.specs.Poll.{poll_step};
 ghost use Rattle.turn_client_api.specs.Requests.{fresh_id, to_server};
@@ -38,7 +39,7 @@ pub fn first_allocate_is_spelled()
 /// only pending.
 pub fn channel_numbers_count_up()
     ensures first { (s : State) → free_number (granted_at 0 [] s) ≡ Some 0x4000 }
-    ensures second { (s : State) → free_number (granted_at 0 (Channel 0x4000 peer Pending ∷ []) s) ≡ Some 0x4001 }
+    ensures second { (s : State) → free_number (granted_at 0 (Channel 0x4000 peer (Pending true) ∷ []) s) ≡ Some 0x4001 }
 {}
 
 /// The time at which a caller is to call `poll` again.
@@ -88,9 +89,9 @@ pub fn refreshes_are_ahead()
     // By default by a minute, or half of the first lifetime of an allocation of at most two minutes.
     ensures default { (a : Relay) → refresh_time_of default_refresh_ahead a
         ≡ (if nat_le a.first_lifetime (seconds 120) then a.expiry - a.first_lifetime / 2 else a.expiry - seconds 60) }
-    ensures default_permission { (ip : IpAddr) (expiry : ℕ) → refresh_time_by_kind default_refresh_ahead (Permission ip (Active expiry))
+    ensures default_permission { (ip : IpAddr) (expiry : ℕ) → refresh_time_by_kind default_refresh_ahead (Permission ip (granted_until expiry true))
         ≡ Some (expiry - seconds 60) }
-    ensures default_channel { (number expiry : ℕ) → refresh_time_by_kind default_refresh_ahead (Channel number peer (Active expiry)) ≡ Some (expiry - seconds 60) }
+    ensures default_channel { (number expiry : ℕ) → refresh_time_by_kind default_refresh_ahead (Channel number peer (granted_until expiry true)) ≡ Some (expiry - seconds 60) }
     // Two minutes ahead: `poll` tells the time of the permission, the first to expire, and it is refreshed then.
     ensures told { (s : State) → (poll_step 100_000_000 (refreshing_ahead (seconds 120) (with_all 1800 s))).0 ≡ Do.WaitUntil 180_100_000_000 }
     ensures early { (s : State) → next_transmit 180_099_999_999 (refreshing_ahead (seconds 120) (with_all 1800 s)) ≡ None }
@@ -99,8 +100,8 @@ pub fn refreshes_are_ahead()
     // An allocation of 200 s goes before it, at half of its lifetime.
     ensures short { (s : State) → (poll_step 100_000_000 (refreshing_ahead (seconds 120) (with_all 200 s))).0 ≡ Do.WaitUntil 100_050_000_000 }
     // 400 s ahead is too much for each: half of the lifetime.
-    ensures permission { (ip : IpAddr) → refresh_time_by_kind (seconds 400) (Permission ip (Active (seconds 1000))) ≡ Some (seconds 850) }
-    ensures channel { (number : ℕ) → refresh_time_by_kind (seconds 400) (Channel number peer (Active (seconds 1000))) ≡ Some (seconds 700) }
+    ensures permission { (ip : IpAddr) → refresh_time_by_kind (seconds 400) (Permission ip (granted_until (seconds 1000) true)) ≡ Some (seconds 850) }
+    ensures channel { (number : ℕ) → refresh_time_by_kind (seconds 400) (Channel number peer (granted_until (seconds 1000) true)) ≡ Some (seconds 700) }
     ensures allocation { (s : State) → (poll_step 50_000_000 (refreshing_ahead (seconds 400) (with_both_families s))).0 ≡ Do.WaitUntil 700_050_000_000 }
     // However long ahead, a refresh that is granted for the default of 600 s or more is not due again for 300 s.
     ensures granted { (ahead now lifetime : ℕ) (a : Relay) → now ≤ 2 ^ 62 → min_lifetime ≤ lifetime

@@ -1,6 +1,6 @@
 -- By its clauses each call of a client leaves a state that the call may leave: what holds after every call
 -- holds after it.
-use Rattle.std.proofs.Common.{◌≡◌, ℕ, List, Option, Result, Ok, Err, OnErr, OnOk, inl, inr}
+use Rattle.std.proofs.Common.{◌≡◌, ℕ, Bool, List, Option, Result, Ok, Err, OnErr, OnOk, ap, inl, inr}
 use Rattle.std.specs.declared.net.ip_addr.IpAddr.{IpAddr}
 use Rattle.std.specs.declared.net.socket_addr.SocketAddr.{SocketAddr}
 use Rattle.turn_stun.specs.declared.transport.TransportType.{TransportType}
@@ -25,6 +25,8 @@ use Rattle.turn_client_api.specs.declared.error.TcpConnectError.{TcpConnectError
 use Rattle.turn_client_api.specs.declared.error.TcpConnectError.TheVariants as Join
 use Rattle.turn_client_api.specs.declared.poll.Socket5Tuple.{Socket5Tuple}
 use Rattle.turn_client_api.specs.Streams.{poll_recv_step}
+use Rattle.turn_client_api.specs.declared.error.KeepError.{KeepError}
+use Rattle.turn_client_api.specs.Calls.{channel_kept_step, permission_kept_step}
 
 module _ {Kept : State → Type 0} (keeps : (call : Call) (s t : State) → Leaves call s t → Kept s → Kept t) (s t : State) where
   closed-keeps : t ≡ closed s → Kept s → Kept t
@@ -63,6 +65,16 @@ module _ {Kept : State → Type 0} (keeps : (call : Call) (s t : State) → Leav
   delete-keeps (Ok x) now h = keeps (Call.Delete now) s t (inl h.1)
   delete-keeps (Err Delete.NoAllocation) now h = keeps (Call.Delete now) s t (inl h.1)
   delete-keeps (Err Delete.OutOfMemory) now h = keeps (Call.Delete now) s t (inr h.1)
+
+  pub permission_kept-keeps : (result : Result Unit KeepError) (transport : TransportType) (peer : IpAddr) (is_kept : Bool)
+      → (result, t) ≡ permission_kept_step transport peer is_kept s → Kept s → Kept t
+  permission_kept-keeps result transport peer is_kept e =
+      keeps (Call.SetPermissionKept transport peer is_kept) s t (inl (ap (λ (p : Result Unit KeepError × State). p.1) e))
+
+  pub channel_kept-keeps : (result : Result Unit KeepError) (transport : TransportType) (peer : SocketAddr) (is_kept : Bool)
+      → (result, t) ≡ channel_kept_step transport peer is_kept s → Kept s → Kept t
+  channel_kept-keeps result transport peer is_kept e =
+      keeps (Call.SetChannelKept transport peer is_kept) s t (inl (ap (λ (p : Result Unit KeepError × State). p.1) e))
 
   pub closed_end-keeps : (local remote : SocketAddr) → t ≡ tcp_closed_step local remote s → Kept s → Kept t
   closed_end-keeps local remote e = keeps (Call.TcpClosed local remote 0) s t (inl e)

@@ -28,6 +28,7 @@ use Rattle.turn_client_proto.specs.Run.{peer_data, poll_recv_reply, recv_reply, 
 use Rattle.turn_client_proto.specs.declared.runs.reply.PeerData.{PeerData}
 use Rattle.turn_client_proto.specs.declared.runs.reply.Reply.{Reply}
 use Rattle.turn_client_proto.specs.declared.runs.reply.Reply.TheVariants as Replies
+use Rattle.turn_client_api.specs.declared.call.Call.TheVariants.{SetPermissionKept, SetChannelKept}
 
 -- one of these payloads has the data
 abbrev IsOf : PeerData → List Payload → Type 0
@@ -60,6 +61,8 @@ call-gives given ProtocolError s e = absurd cc
 call-gives given RelayedAddresses s e = absurd cc
 call-gives given (Permissions transport relayed) s e = absurd cc
 call-gives given (HavePermission transport to) s e = absurd cc
+call-gives given (SetPermissionKept transport peer is_kept) s e = absurd cc
+call-gives given (SetChannelKept transport peer is_kept) s e = absurd cc
 
 run-gives : (given : PeerData) (s : State) (calls : List Call) → Has (Replies.PeerData given) (replies_of s calls) → IsOf given (answered_in s calls)
 run-gives given s [] none = absurd none
@@ -133,6 +136,8 @@ module _ (transport : TransportType) (peer : SocketAddr) (icmp : Icmp) where
   call-tells RelayedAddresses s e = absurd cc
   call-tells (Permissions other relayed) s e = absurd cc
   call-tells (HavePermission other to) s e = absurd cc
+  call-tells (SetPermissionKept other ip is_kept) s e = absurd cc
+  call-tells (SetChannelKept other to is_kept) s e = absurd cc
 
   run-tells : (s : State) (calls : List Call) → Has Tells (replies_of s calls) → IsAmong Did (handled_in s calls)
   run-tells s [] none = absurd none

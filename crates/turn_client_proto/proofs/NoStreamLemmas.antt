@@ -19,6 +19,7 @@ use Rattle.turn_client_api.specs.declared.state.Stream.{Stream}
 use Rattle.turn_client_core.specs.Lent.{IsReadIfAny, Returns}
 use Rattle.turn_client_laws.proofs.EditsOfCalls.{delete-walk, quiet-walk}
 use Rattle.turn_client_laws.proofs.StreamMessageLemmas.{Same, Same-KeepsEdits, message-same}
+use Rattle.turn_client_api.specs.declared.call.Call.TheVariants.{SetPermissionKept, SetChannelKept}
 
 -- ---- nothing is read
 
@@ -107,6 +108,8 @@ ends-same PollEvent s t carrier none ends = absurd ends
 ends-same RelayedAddresses s t carrier none ends = absurd ends
 ends-same (Permissions transport relayed) s t carrier none ends = absurd ends
 ends-same (HavePermission transport to) s t carrier none ends = absurd ends
+ends-same (SetPermissionKept transport peer is_kept) s t carrier none ends = absurd ends
+ends-same (SetChannelKept transport peer is_kept) s t carrier none ends = absurd ends
 ends-same call s t carrier none ends = ap (λ (x : State). x.streams) ends
 
 -- even if memory allocation fails

@@ -9,7 +9,7 @@ use Rattle.turn_client_api.specs.Payloads.{Outcome, Payload}
 use Rattle.turn_client_api.specs.Payloads as O
 use Rattle.turn_client_api.specs.Streams.{poll_recv_step}
 use Rattle.turn_client_api.specs.Calls.{allocated_tcp_socket_step, bind_channel_step, create_permission_step, delete_step, can_send_to, permissions_of}
-use Rattle.turn_client_api.specs.Calls.{relayed_addresses_of, send_to_step, tcp_connect_step, FitsDatagram}
+use Rattle.turn_client_api.specs.Calls.{channel_kept_step, permission_kept_step, relayed_addresses_of, send_to_step, tcp_connect_step, FitsDatagram}
 use Rattle.turn_client_api.specs.Poll.{poll_step}
 use Rattle.turn_client_api.specs.Transmit.{transmit_step}
 use Rattle.turn_client_api.specs.Answers.{event_step}
@@ -17,7 +17,7 @@ use Rattle.turn_client_api.specs.Steps.{packet_step, state_after, state_after_al
 use Rattle.turn_client_api.specs.declared.call.Call.{Call}
 use Rattle.turn_client_api.specs.declared.call.Call.TheVariants.{Delete, CreatePermission, BindChannel, TcpConnect, AllocatedTcpSocket, TcpClosed, SendTo, Recv}
 use Rattle.turn_client_api.specs.declared.call.Call.TheVariants.{PollRecv, Poll, PollTransmit, PollEvent, ProtocolError, RelayedAddresses, Permissions}
-use Rattle.turn_client_api.specs.declared.call.Call.TheVariants.{HavePermission}
+use Rattle.turn_client_api.specs.declared.call.Call.TheVariants.{HavePermission, SetPermissionKept, SetChannelKept}
 use Rattle.turn_client_proto.specs.declared.runs.reply.PeerData.{PeerData}
 use Rattle.turn_client_proto.specs.declared.runs.reply.Reply.{Reply}
 use Rattle.turn_client_proto.specs.declared.runs.reply.Reply.TheVariants as Replies
@@ -59,6 +59,8 @@ reply_of ProtocolError s = Replies.Done
 reply_of RelayedAddresses s = Replies.RelayedAddresses (relayed_addresses_of s)
 reply_of (Permissions transport relayed) s = Replies.Permissions (permissions_of transport relayed s)
 reply_of (HavePermission transport to) s = Replies.HavePermission (can_send_to transport to s)
+reply_of (SetPermissionKept transport peer is_kept) s = Replies.SetPermissionKept (permission_kept_step transport peer is_kept s).0
+reply_of (SetChannelKept transport peer is_kept) s = Replies.SetChannelKept (channel_kept_step transport peer is_kept s).0
 
 -- the reply, and the client after it
 abbrev pub step : State → Call → Reply × State
@@ -84,6 +86,8 @@ IsCallable relays ProtocolError = ⊤
 IsCallable relays RelayedAddresses = ⊤
 IsCallable relays (Permissions transport relayed) = ⊤
 IsCallable relays (HavePermission transport to) = ⊤
+IsCallable relays (SetPermissionKept transport peer is_kept) = ⊤
+IsCallable relays (SetChannelKept transport peer is_kept) = ⊤
 
 -- ---- many calls
 

@@ -14,7 +14,7 @@ use std::convert::AsSlice;
 use std::fmt::Debug;
 use std::net::{IpAddr, SocketAddr};
 pub use turn_client_api::{
-    BindChannelError, CreatePermissionError, DeleteError, SendError, TcpAllocateError,
+    BindChannelError, CreatePermissionError, DeleteError, KeepError, SendError, TcpAllocateError,
     TcpConnectError, TurnEvent, TurnPollRet, TurnRecvRet,
 };
 use turn_client_api::{
@@ -198,6 +198,30 @@ impl TurnClientApi for TurnClient {
         match self {
             TurnClient::Udp(client) => client.bind_channel(transport, peer_addr, now),
             TurnClient::Tcp(client) => client.bind_channel(transport, peer_addr, now),
+        }
+    }
+
+    fn set_permission_kept(
+        &mut self,
+        transport: TransportType,
+        peer_addr: IpAddr,
+        is_kept: bool,
+    ) -> Result<(), KeepError> {
+        match self {
+            TurnClient::Udp(client) => client.set_permission_kept(transport, peer_addr, is_kept),
+            TurnClient::Tcp(client) => client.set_permission_kept(transport, peer_addr, is_kept),
+        }
+    }
+
+    fn set_channel_kept(
+        &mut self,
+        transport: TransportType,
+        peer_addr: SocketAddr,
+        is_kept: bool,
+    ) -> Result<(), KeepError> {
+        match self {
+            TurnClient::Udp(client) => client.set_channel_kept(transport, peer_addr, is_kept),
+            TurnClient::Tcp(client) => client.set_channel_kept(transport, peer_addr, is_kept),
         }
     }
 

@@ -4,6 +4,7 @@ mod addresses;
 mod asks;
 mod call;
 mod carries;
+mod keeps;
 mod polls;
 mod reads;
 mod reply;

@@ -15,7 +15,7 @@ use std::fmt::Debug;
 use std::marker::Model;
 use std::net::{IpAddr, SocketAddr};
 pub use turn_client_api::{
-    BindChannelError, CreatePermissionError, DeleteError, SendError, TcpAllocateError,
+    BindChannelError, CreatePermissionError, DeleteError, KeepError, SendError, TcpAllocateError,
     TcpConnectError, TurnEvent, TurnPollRet, TurnRecvRet,
 };
 use turn_client_api::{
@@ -157,6 +157,24 @@ impl TurnClientApi for TurnClientTcp {
         now: Instant,
     ) -> Result<(), BindChannelError> {
         self.core.bind_channel(transport, peer_addr, now)
+    }
+
+    fn set_permission_kept(
+        &mut self,
+        transport: TransportType,
+        peer_addr: IpAddr,
+        is_kept: bool,
+    ) -> Result<(), KeepError> {
+        self.core.set_permission_kept(transport, peer_addr, is_kept)
+    }
+
+    fn set_channel_kept(
+        &mut self,
+        transport: TransportType,
+        peer_addr: SocketAddr,
+        is_kept: bool,
+    ) -> Result<(), KeepError> {
+        self.core.set_channel_kept(transport, peer_addr, is_kept)
     }
 
     fn tcp_connect(&mut self, peer_addr: SocketAddr, now: Instant) -> Result<(), TcpConnectError> {

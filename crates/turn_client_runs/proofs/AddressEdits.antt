@@ -135,7 +135,7 @@ KeepsAddresses-KeepsAllEdits = record {
   resets = λ heeded s. (λ h. h, inr (λ relayed h. h));
   empties = λ s. (λ h. h, inr (filter-within (λ g. not true) s.grants));
   allocates = λ message lifetime now s phase unlisted. (λ h. absurd (unallocated _ h), inl (rw phase tt));
-  permits = λ ip expiry s is. (λ h. h, inr (one-within s.grants _ _ (λ a is. cc) (filter-within (λ g. not (is_permission_of ip g)) s.grants)));
+  permits = λ ip is_kept expiry s is. (λ h. h, inr (one-within s.grants _ _ (λ a is. cc) (filter-within (λ g. not (is_permission_of ip g)) s.grants)));
   connects = λ id connection_id peer s t since stay granted listed.
       let end = with_offer connection_id peer OwnConnect (without_grants (is_connect_to peer) t) in
       keeps-trans s t end since (λ h. h, inr (one-within t.grants _ _ (λ a is. cc) (filter-within (λ g. not (is_connect_to peer g)) t.grants)));

@@ -38,7 +38,8 @@ module _ (relayed : SocketAddr) where
   covered : (a : Relay) (s : State) → a.relayed ≡ relayed → Covers s.grants (Allocation a) → Has-it s
   covered a s e (was, there, kept) = elim (kept-alike was (Allocation a) kept) [
     | inl (b, c, named, to, same, ends) ↦ (b, subst (λ (g : Grant). Has g s.grants) named there, same ∙ (ap (λ (x : Relay). x.relayed) (same-allocation c a (sym to)) ∙ e))
-    | inr is ↦ (a, subst (λ (g : Grant). Has g s.grants) is there, e)
+    | inr (inl is) ↦ (a, subst (λ (g : Grant). Has g s.grants) is there, e)
+    | inr (inr leased) ↦ absurd leased.1
   ]
 
   message-allocates : (one : Input) → IsOverControl one → is_message one.bytes ≡ true → Has-it (message_step one.bytes one.time one.before).1 → Has-it one.before ⊎ Allocating relayed one

@@ -231,7 +231,8 @@ module _ (c : DataConnection) where
       let (was, before, kept) = covers-stood s (Connection c) stands in
       elim (kept-alike was (Connection c) kept) [
         | inl (a, b, is, to, e, f) ↦ cc
-        | inr e ↦ let same : IsSameGrant (Connection c) (Connection c) = rw e at kept in (subst (Contains s.grants) e before, same.1)
+        | inr (inl e) ↦ let same : IsSameGrant (Connection c) (Connection c) = rw e at kept in (subst (Contains s.grants) e before, same.1)
+        | inr (inr leased) ↦ absurd leased.1
       ]
 
   bound-open : (s : State) → IsBoundConnection c s → IsOpen s

@@ -19,7 +19,7 @@ use Rattle.turn_client_laws.proofs.TurnBringLemmas.{leaves-bring}
 use Rattle.turn_client_runs.specs.Granted.{IsRelayed}
 use Rattle.turn_client_runs.specs.Inputs.{IsAmong}
 use Rattle.turn_client_runs.proofs.TurnsOfRuns.{among-none, takes-or}
-use Rattle.turn_client_runs.proofs.GrantTurns.{Granting, granting-brought, kept-alike}
+use Rattle.turn_client_runs.proofs.GrantTurns.{Granting, IsLeased, granting-brought, kept-alike}
 
 -- ---- a `delete`
 
@@ -43,7 +43,8 @@ ended-kept call s is g kept (a, now, what, how, ends, was) = elim (kept-alike is
       let relayed : a.relayed ≡ c.relayed = ap (λ (x : Relay). x.relayed) same ∙ e in
       let expiry : a.expiry ≡ c.expiry = ap (λ (x : Relay). x.expiry) same ∙ f in
       (c, now, to, how, sym expiry ∙ ends, (was.0, was.1, was.2 ∙ relayed))
-  | inr e ↦ (a, now, sym e ∙ what, how, ends, was)
+  | inr (inl e) ↦ (a, now, sym e ∙ what, how, ends, was)
+  | inr (inr leased) ↦ absurd (subst IsLeased what leased.0)
 ]
 
 -- ---- calls that process no input

@@ -11,7 +11,7 @@ use Rattle.turn_agent.specs.Agent.{due, same_address}
 use Rattle.turn_client_api.specs.State.{State, agent_of}
 use Rattle.turn_client_api.specs.declared.call.Call.{Call}
 use Rattle.turn_client_api.specs.declared.call.Call.TheVariants.{Delete, CreatePermission, BindChannel, TcpConnect, AllocatedTcpSocket, TcpClosed, SendTo, Recv, PollRecv, Poll, PollTransmit}
-use Rattle.turn_client_api.specs.declared.call.Call.TheVariants.{PollEvent, RelayedAddresses, Permissions, HavePermission, ProtocolError}
+use Rattle.turn_client_api.specs.declared.call.Call.TheVariants.{PollEvent, RelayedAddresses, Permissions, HavePermission, ProtocolError, SetPermissionKept, SetChannelKept}
 use Rattle.turn_client_api.specs.declared.event.TurnEvent.{TurnEvent}
 use Rattle.turn_client_api.specs.declared.event.TurnEvent.TheVariants.{AllocationCreateFailed}
 use Rattle.turn_client_api.specs.declared.grant.DataConnection.{DataConnection}
@@ -20,7 +20,7 @@ use Rattle.turn_client_api.specs.declared.grant.Origin.TheVariants.{ServerReques
 use Rattle.turn_client_api.specs.declared.grant.Relay.{Relay}
 use Rattle.turn_client_api.specs.declared.state.Phase.{Phase}
 use Rattle.turn_client_api.specs.declared.state.Phase.TheVariants.{New, Allocated, Closed}
-use Rattle.turn_client_api.specs.Calls.{active_channel, bound_by, bound_to, can_send_to, channel_step, channels_to, connect_step}
+use Rattle.turn_client_api.specs.Calls.{active_channel, bound_by, bound_to, can_send_to, channel_step, channels_to, connect_step, is_open_to}
 use Rattle.turn_client_api.specs.Calls.{free_number, in_allocation, is_allocated, is_closed, is_control, is_in_progress, is_local_taken, offer_origin, on_channel, on_connection}
 use Rattle.turn_client_api.specs.Calls.{permission_step, reserved_from, send_over, socket_opened, socket_refused, socket_step}
 use Rattle.turn_client_api.specs.Connections.{connection_at, is_connected, is_connecting}
@@ -37,6 +37,7 @@ use Rattle.turn_client_laws.proofs.HasLemmas.{Has, has-append}
 use Rattle.turn_client_laws.proofs.StandLemmas.{has-contains}
 use Rattle.turn_client_runs.specs.Events.{FailsItself}
 use Rattle.turn_client_runs.proofs.EventTime.{poll-adds}
+use Rattle.turn_client_api.specs.Grants.{is_permission_of}
 
 module _ (s : State) where
   abbrev Same : State → Type 0
@@ -152,3 +153,9 @@ module _ (s : State) where
     call-adds RelayedAddresses other = λ there. inl there
     call-adds (Permissions transport relayed) other = λ there. inl there
     call-adds (HavePermission transport to) other = λ there. inl there
+    call-adds (SetPermissionKept transport ip is_kept) other =
+        none (SetPermissionKept transport ip is_kept)
+        (by_test Leaves (same_transport transport s.config.allocation_transport && list_any (is_permission_of ip) s.grants) _ _ (λ f. refl) (λ f. refl))
+    call-adds (SetChannelKept transport peer is_kept) other =
+        none (SetChannelKept transport peer is_kept)
+        (by_test Leaves (same_transport transport s.config.allocation_transport && list_any (is_open_to peer) s.grants) _ _ (λ f. refl) (λ f. refl))

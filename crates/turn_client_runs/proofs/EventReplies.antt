@@ -25,7 +25,7 @@ use Rattle.turn_client_api.specs.Grants.{as_allocation, is_of, purposes_of, same
 use Rattle.std.specs.Prelude.{is_some}
 use Rattle.turn_client_api.specs.Judgement.{connection_id_in, lifetime_in, method_in}
 use Rattle.turn_client_api.specs.Requests.{fresh_id, requested}
-use Rattle.turn_client_api.specs.Effect.{active_channel_answered, active_permission_answered, in_phase, pending_permission_answered}
+use Rattle.turn_client_api.specs.Effect.{active_channel_answered, active_permission_answered, in_phase, pending_permission_answered, granted_until}
 use Rattle.turn_client_api.specs.Effect.{allocate_denied, allocate_granted, allocated, all_gone, challenges_reset, channel_answered, channel_lifetime, closed, connect_answered, delete_answered}
 use Rattle.turn_client_api.specs.Effect.{effect, fail_all, family_not_supported, has_code, allocation_mismatch, is_asked_permission, listed_permissions_answered, min_lifetime, missing_families}
 use Rattle.turn_client_api.specs.Effect.{new_allocation, pending_channel_answered, permission_answered, permission_answered_for, permission_lifetime, permission_refused_too, prolonged, refreshed}
@@ -123,14 +123,16 @@ module _ (is_granted : Bool) (message : List ℕ) (now : ℕ) (before : State) w
   permission-says ip g f asked s = by (permission_state ip s) refl g f
     where
       made : (g : Bool) → is_granted ≡ g → (s : State) → IsConfigured s → g ≡ true → Replied (PermissionCreated s.config.allocation_transport ip)
-      made g f s c e = (ForPermission ip, asked, inl (f ∙ e, tt, (Permission ip (Active (later_by permission_lifetime now)), (relays s c, refl), (same_ip-same ip, refl))))
+      made g f s c e = (ForPermission ip, asked, inl (f ∙ e, tt, (Permission ip (granted_until (later_by permission_lifetime now) true), (relays s c, refl), (same_ip-same ip, refl))))
 
       lost : (g : Bool) → is_granted ≡ g → (s : State) → IsConfigured s → g ≡ false → Replied (PermissionCreateFailed s.config.allocation_transport ip)
       lost g f s c e = (ForPermission ip, asked, inr (f ∙ e, relays s c, same_ip-same ip))
 
       by : (o : Option Progress) → permission_state ip s ≡ o → (g : Bool) → is_granted ≡ g → Say s (permission_answered ip g now s)
-      by (Some Pending) e true f = rw e (later (PermissionCreated s.config.allocation_transport ip) s (pending_permission_answered ip true now s) refl refl (λ c. made true f s c refl))
-      by (Some Pending) e false f = rw e (later (PermissionCreateFailed s.config.allocation_transport ip) s (pending_permission_answered ip false now s) refl refl (λ c. lost false f s c refl))
+      by (Some (Pending is_kept)) e true f =
+          rw e (later (PermissionCreated s.config.allocation_transport ip) s (pending_permission_answered ip is_kept true now s) refl refl (λ c. made true f s c refl))
+      by (Some (Pending is_kept)) e false f =
+          rw e (later (PermissionCreateFailed s.config.allocation_transport ip) s (pending_permission_answered ip is_kept false now s) refl refl (λ c. lost false f s c refl))
       by (Some (Active expiry)) e true f = rw e (quiet s (active_permission_answered ip true now s) refl refl)
       by (Some (Active expiry)) e false f = rw e (sooner (PermissionCreateFailed s.config.allocation_transport ip) s (active_permission_answered ip false now s) refl refl (λ c. lost false f s c refl))
       by o e g f = rw e (tells-same IsConfigured Replied s)
@@ -149,11 +151,12 @@ module _ (is_granted : Bool) (message : List ℕ) (now : ℕ) (before : State) w
   abbrev AllAsked : State → Type 0
   AllAsked s = (p : Purpose) → Has p (purposes_of (id_of message) s) → Has p (asked_for message before)
 
-  for-permission : (purposes : List Purpose) (ip : IpAddr) → is_for_any purposes (Permission ip Pending) ≡ true → (other : IpAddr) × Has (ForPermission other) purposes × (same_ip ip other ≡ true)
-  for-permission purposes ip e =
-      let (p, there, is) = any-has (λ p. is_for p (Permission ip Pending)) purposes e in by p there is
+  for-permission : (purposes : List Purpose) (ip : IpAddr) (is_kept : Bool) → is_for_any purposes (Permission ip (Pending is_kept)) ≡ true
+      → (other : IpAddr) × Has (ForPermission other) purposes × (same_ip ip other ≡ true)
+  for-permission purposes ip is_kept e =
+      let (p, there, is) = any-has (λ p. is_for p (Permission ip (Pending is_kept))) purposes e in by p there is
     where
-      by : (p : Purpose) → Has p purposes → is_for p (Permission ip Pending) ≡ true → (other : IpAddr) × Has (ForPermission other) purposes × (same_ip ip other ≡ true)
+      by : (p : Purpose) → Has p purposes → is_for p (Permission ip (Pending is_kept)) ≡ true → (other : IpAddr) × Has (ForPermission other) purposes × (same_ip ip other ≡ true)
       by (ForPermission other) there is = (other, there, is)
       by p there is = cc
 
@@ -161,8 +164,8 @@ module _ (is_granted : Bool) (message : List ℕ) (now : ℕ) (before : State) w
   refused-too f purposes asked s c = (c, adds-after IsConfigured Replied s (permission_refused_too purposes s) (failures_among (is_asked_permission purposes) s) refl each)
     where
       of : (g : Grant) (e : TurnEvent) → is_asked_permission purposes g ≡ true → failure_of s.config.allocation_transport g ≡ Some e → Replied e
-      of (Permission ip Pending) e is told =
-          let (other, there, same) = for-permission purposes ip is in
+      of (Permission ip (Pending is_kept)) e is told =
+          let (other, there, same) = for-permission purposes ip is_kept is in
           let named : PermissionCreateFailed s.config.allocation_transport ip ≡ e = cc in
           subst Replied named (ForPermission other, asked (ForPermission other) there, inr (f, relays s c, same))
       of g e is told = cc
@@ -186,24 +189,24 @@ module _ (is_granted : Bool) (message : List ℕ) (now : ℕ) (before : State) w
       lost f peer has c = (ForChannel number asked, there, inr (f, relays s c, has))
 
       by : (o : Option (SocketAddr × Progress)) → first_in (channel_at number) s ≡ o → (g : Bool) → is_granted ≡ g → Say s (channel_answered number (id_of message) g now s)
-      by (Some (peer, Pending)) e true f =
+      by (Some (peer, Pending is_kept)) e true f =
           let t = listed_permissions_answered (id_of message) true now s in
-          let end = pending_channel_answered number peer (id_of message) true now s in
-          let has = known peer Pending (channel-there number peer Pending s e) in
+          let end = pending_channel_answered number peer is_kept (id_of message) true now s in
+          let has = known peer (Pending is_kept) (channel-there number peer (Pending is_kept) s e) in
           rw e
           (λ first. tells-trans IsConfigured Replied s t end (permissions-say true f (purposes_of (id_of message) s) all s)
           (λ c. later (ChannelCreated s.config.allocation_transport peer) t end refl refl
-          (λ d. (ForChannel number asked, there, inl (f, tt, (Channel number peer (Active (later_by channel_lifetime now)), (relays s first, refl), (refl, refl, has))))) c) first)
-      by (Some (peer, Pending)) e false f =
+          (λ d. (ForChannel number asked, there, inl (f, tt, (Channel number peer (granted_until (later_by channel_lifetime now) is_kept), (relays s first, refl), (refl, refl, has))))) c) first)
+      by (Some (peer, Pending is_kept)) e false f =
           let t = without_grants (is_channel_of number) s in
           let u = record t { events = s.events ++ ChannelCreateFailed s.config.allocation_transport peer ∷ [] } in
-          let has = known peer Pending (channel-there number peer Pending s e) in
+          let has = known peer (Pending is_kept) (channel-there number peer (Pending is_kept) s e) in
           rw e
           (tells-trans IsConfigured Replied s u (permission_refused_too (purposes_of (id_of message) s) u)
           (later (ChannelCreateFailed s.config.allocation_transport peer) s u refl refl (lost f peer has)) (refused-too f (purposes_of (id_of message) s) all u))
-      by (Some (peer, Active expiry)) e true f = rw e (quiet s (active_channel_answered number peer expiry true now s) refl refl)
+      by (Some (peer, Active expiry)) e true f = rw e (quiet s (active_channel_answered number peer expiry.expiry true now s) refl refl)
       by (Some (peer, Active expiry)) e false f =
-          let end = active_channel_answered number peer expiry false now s in
+          let end = active_channel_answered number peer expiry.expiry false now s in
           let has = known peer (Active expiry) (channel-there number peer (Active expiry) s e) in
           rw e (later (ChannelCreateFailed s.config.allocation_transport peer) s end refl refl (lost f peer has))
       by o e g f = rw e (tells-same IsConfigured Replied s)

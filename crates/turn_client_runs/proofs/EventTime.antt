@@ -37,10 +37,10 @@ use Rattle.turn_client_runs.proofs.EventLemmas.{Tells, adds-before, adds-none, t
 
 module _ (given : Option ℕ) (purposes : List Purpose) (now : ℕ) (before : State) where
   abbrev pub IsLost : Grant → Type 0
-  IsLost (Permission ip (Active expiry)) = expiry ≤ now
-  IsLost (Permission ip Pending) = is_for_any purposes (Permission ip Pending) ≡ true
-  IsLost (Channel number peer (Active expiry)) = expiry ≤ now
-  IsLost (Channel number peer Pending) = is_for_any purposes (Channel number peer Pending) ≡ true
+  IsLost (Permission ip (Active lease)) = lease.expiry ≤ now
+  IsLost (Permission ip (Pending is_kept)) = is_for_any purposes (Permission ip (Pending is_kept)) ≡ true
+  IsLost (Channel number peer (Active lease)) = lease.expiry ≤ now
+  IsLost (Channel number peer (Pending is_kept)) = is_for_any purposes (Channel number peer (Pending is_kept)) ≡ true
   IsLost (Connect peer) = is_for_any purposes (Connect peer) ≡ true
   IsLost (Offer offer) = (id : ℕ) × (given ≡ Some id) × (is_of_request id (Offer offer) ≡ true)
   IsLost (Connection c) = (deadline : ℕ) × (c.deadline ≡ Some deadline) × ((deadline ≤ now) ⊎ (is_for_any purposes (Connection c) ≡ true))
@@ -84,7 +84,7 @@ module _ (given : Option ℕ) (purposes : List Purpose) (now : ℕ) (before : St
       let g = Channel number peer (Active expiry) in
       let end = channel_lapsed (Some g) s in
       let (there, is) = found g refl in
-      let lost : IsLost g = leb-true expiry now is in
+      let lost : IsLost g = leb-true expiry.expiry now is in
       λ keeps. (
         (keeps.0, grants keeps),
         adds-before Keeps Lost s end (ChannelCreateFailed s.config.allocation_transport peer ∷ []) refl
@@ -92,7 +92,7 @@ module _ (given : Option ℕ) (purposes : List Purpose) (now : ℕ) (before : St
             (g, was-there s keeps g there lost, ap (λ c. failure_of c.allocation_transport g) (sym keeps.0), lost)),
       )
     where
-      grants : Keeps s → (g : Grant) → Has g (reserved number peer expiry s).grants → Has g before.grants ⊎ IsReserved g
+      grants : Keeps s → (g : Grant) → Has g (reserved number peer expiry.expiry s).grants → Has g before.grants ⊎ IsReserved g
       grants keeps g there = elim (has-append g (without_grants (is_channel_of number) s).grants _ there) [
         | inl old ↦ (without-keeps (is_channel_of number) s keeps).1 g old
         | inr (inl is) ↦ inr (subst IsReserved (sym is) tt)
@@ -109,11 +109,11 @@ module _ (given : Option ℕ) (purposes : List Purpose) (now : ℕ) (before : St
       loses g (and_parts (is_of family g) (which g) first).1 for
 
   lost-channel : (g : Grant) → is_pending_channel g ≡ true → is_for_any purposes g ≡ true → IsLost g
-  lost-channel (Channel number peer Pending) is for = for
+  lost-channel (Channel number peer (Pending is_kept)) is for = for
   lost-channel g is for = cc
 
   lost-permission : (g : Grant) → is_pending_permission g ≡ true → is_for_any purposes g ≡ true → IsLost g
-  lost-permission (Permission ip Pending) is for = for
+  lost-permission (Permission ip (Pending is_kept)) is for = for
   lost-permission g is for = cc
 
   lost-connect : (g : Grant) → is_connect g ≡ true → is_for_any purposes g ≡ true → IsLost g
@@ -121,7 +121,7 @@ module _ (given : Option ℕ) (purposes : List Purpose) (now : ℕ) (before : St
   lost-connect g is for = cc
 
   lapsed-permission : (g : Grant) → is_lapsed_permission now g ≡ true → IsLost g
-  lapsed-permission (Permission ip (Active expiry)) is = leb-true expiry now is
+  lapsed-permission (Permission ip (Active expiry)) is = leb-true expiry.expiry now is
   lapsed-permission g is = cc
 
   unbound-connection : (g : Grant) → is_unbound purposes now g ≡ true → IsLost g
@@ -195,8 +195,8 @@ module _ (now : ℕ) (s : State) where
       by (Connection c) (deadline, is, inl past) = (deadline, is, inl past)
       by (Connection c) (deadline, is, inr for) = cc
       by (Offer offer) (id, is, of) = cc
-      by (Permission ip Pending) lost = cc
-      by (Channel number peer Pending) lost = cc
+      by (Permission ip (Pending is_kept)) lost = cc
+      by (Channel number peer (Pending is_kept)) lost = cc
       by (Connect peer) lost = cc
       by g lost = absurd lost
   lost-fails (Some id) purposes (x, timed, same, all) g lost =
@@ -207,9 +207,9 @@ module _ (now : ℕ) (s : State) where
 
       by : (g : Grant) → IsLost (Some x.id) (purposes_of x.id s) now s g → HasFailed now s g
       by (Permission ip (Active expiry)) lost = lost
-      by (Permission ip Pending) lost = (x, timed, lost)
+      by (Permission ip (Pending is_kept)) lost = (x, timed, lost)
       by (Channel number peer (Active expiry)) lost = lost
-      by (Channel number peer Pending) lost = (x, timed, lost)
+      by (Channel number peer (Pending is_kept)) lost = (x, timed, lost)
       by (Connect peer) lost = (x, timed, lost)
       by (Offer offer) (n, is, of) = (x, timed, subst (λ (m : ℕ). is_of_request m (Offer offer) ≡ true) (sym (same_id x.id n is)) of)
       by (Connection c) (deadline, is, inl past) = (deadline, is, inl past)

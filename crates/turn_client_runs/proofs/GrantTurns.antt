@@ -13,12 +13,12 @@ use Rattle.turn_client_api.specs.declared.grant.Relay.{Relay}
 use Rattle.turn_client_api.specs.declared.grant.DataConnection.{DataConnection}
 use Rattle.turn_client_api.specs.declared.grant.Progress.TheVariants.{Active}
 use Rattle.turn_client_api.specs.declared.grant.Purpose.{Purpose}
-use Rattle.turn_client_api.specs.declared.grant.Purpose.TheVariants.{ForAllocation, ForRefresh, ForBind}
+use Rattle.turn_client_api.specs.declared.grant.Purpose.TheVariants.{ForAllocation, ForRefresh, ForBind, ForPermission, ForChannel}
 use Rattle.turn_client_api.specs.declared.state.Phase.{Phase}
 use Rattle.turn_client_api.specs.declared.state.Phase.TheVariants.{Requesting, Allocated}
 use Rattle.turn_client_api.specs.declared.state.Mode.TheVariants.{Waiting}
 use Rattle.turn_client_api.specs.declared.state.Stream.{Stream}
-use Rattle.turn_client_api.specs.Grants.{purposes_of}
+use Rattle.turn_client_api.specs.Grants.{purposes_of, same_ip}
 use Rattle.std.proofs.lemmas.Bool.{cases_Bool}
 use Rattle.std.specs.declared.net.socket_addr.SocketAddr.{SocketAddr}
 use Rattle.turn_agent.specs.Agent.{same_address}
@@ -42,26 +42,53 @@ use Rattle.turn_client_laws.proofs.StandLemmas.{Covers, covers-left}
 use Rattle.turn_client_laws.proofs.TurnBringLemmas.{IsBrought}
 use Rattle.turn_client_runs.specs.Granted.{IsOverIts}
 use Rattle.turn_client_runs.proofs.MadeLemmas.{control-made, success-ends, waiting-made}
+use Rattle.std.specs.Prelude.{⊤}
+use Rattle.std.specs.declared.net.ip_addr.IpAddr.{IpAddr}
+use Rattle.turn_client_api.specs.declared.grant.Lease.{Lease}
 
 -- ---- what is kept is the same, except that an allocation keeps only its address and its expiry
 
 abbrev pub AreAllocations : Grant → Grant → Type 0
 AreAllocations was g = (a b : Relay) × (was ≡ Allocation a) × (g ≡ Allocation b) × (a.relayed ≡ b.relayed) × (a.expiry ≡ b.expiry)
 
-pub kept-alike : (was g : Grant) → IsSameGrant was g → AreAllocations was g ⊎ (was ≡ g)
+-- a permission or a channel that is active, kept or not
+abbrev pub IsLeased : Grant → Type 0
+IsLeased (Permission ip (Active lease)) = ⊤
+IsLeased (Channel number peer (Active lease)) = ⊤
+IsLeased _ = ⊥
+
+pub kept-alike : (was g : Grant) → IsSameGrant was g → AreAllocations was g ⊎ ((was ≡ g) ⊎ (IsLeased was × IsLeased g))
 kept-alike (Allocation a) (Allocation b) k = inl (a, b, refl, refl, k.0, k.1)
-kept-alike (Permission ip (Active m)) (Permission other (Active n)) (e, d) = inr (rw (e, d) refl)
-kept-alike (Channel number peer (Active m)) (Channel other to (Active n)) (e, f, d) = inr (rw (e, f, d) refl)
-kept-alike (Connection c) (Connection d) (e, h) = inr (rw e refl)
+kept-alike (Permission ip (Active m)) (Permission other (Active n)) k = inr (inr (tt, tt))
+kept-alike (Channel number peer (Active m)) (Channel other to (Active n)) k = inr (inr (tt, tt))
+kept-alike (Connection c) (Connection d) (e, h) = inr (inl (rw e refl))
 kept-alike was g k = absurd k
 
 -- what is granted for a purpose is granted as what it is kept as
 given-kept : (p : Purpose) (was g : Grant) (message : List ℕ) (now : ℕ) (s : State) → IsSameGrant was g → IsGivenFor p message now s was → IsGivenFor p message now s g
 given-kept p was g message now s kept given = elim (kept-alike was g kept) [
   | inl (a, b, is, to, e, f) ↦ subst (IsGivenFor p message now s) (sym to) (same p a b e f (subst (IsGivenFor p message now s) is given))
-  | inr e ↦ subst (IsGivenFor p message now s) e given
+  | inr (inl e) ↦ subst (IsGivenFor p message now s) e given
+  | inr (inr leased) ↦ leases was g leased.1 kept given
 ]
   where
+    permits : (q : Purpose) (ip other : IpAddr) (m n : Lease) → ip ≡ other → m.expiry ≡ n.expiry → IsGivenFor q message now s (Permission ip (Active m))
+        → IsGivenFor q message now s (Permission other (Active n))
+    permits (ForPermission a) ip other m n e d (same, ends) = (subst (λ (x : IpAddr). same_ip x a ≡ true) e same, sym d ∙ ends)
+    permits q ip other m n e d none = absurd none
+
+    binds : (q : Purpose) (number other : ℕ) (peer to : SocketAddr) (m n : Lease) → number ≡ other → peer ≡ to → m.expiry ≡ n.expiry → IsGivenFor q message now s (Channel number peer (Active m))
+        → IsGivenFor q message now s (Channel other to (Active n))
+    binds (ForChannel a at) number other peer to m n e f d (named, ends, there) = (sym e ∙ named, sym d ∙ ends, rw (sym e, sym f) there)
+    binds q number other peer to m n e f d none = absurd none
+
+    leases : (h i : Grant) → IsLeased i → IsSameGrant h i → IsGivenFor p message now s h → IsGivenFor p message now s i
+    leases (Permission ip (Active m)) (Permission other (Active n)) leased (e, d) h = permits p ip other m n e d h
+    leases (Channel number peer (Active m)) (Channel other to (Active n)) leased (e, f, d) h = binds p number other peer to m n e f d h
+    leases (Allocation a) (Allocation b) leased k h = absurd leased
+    leases (Connection c) (Connection d) leased k h = absurd leased
+    leases x y leased k h = absurd k
+
     same : (q : Purpose) (a b : Relay) → a.relayed ≡ b.relayed → a.expiry ≡ b.expiry → IsGivenFor q message now s (Allocation a) → IsGivenFor q message now s (Allocation b)
     same ForAllocation a b e f h = rw (sym e, sym f) h
     same (ForRefresh family lifetime) a b e f h = rw (sym e, sym f) h

@@ -283,27 +283,27 @@ one-new s single p unique new for waits none house = record {
 -- a channel and the permission that it brings
 both-new : (s : State) (single : AreSingle s.grants) (number : ℕ) (peer : SocketAddr) → ((g : Grant) → Has g s.grants → is_channel_of number g ≡ false)
     → ((g : Grant) → Has g s.grants → is_permission_of (socket_ip peer) g ≡ false) → Room s.grants (family_of peer)
-    → AreNew s (ForChannel number peer ∷ ForPermission (socket_ip peer) ∷ []) (Channel number peer Pending ∷ Permission (socket_ip peer) Pending ∷ [])
+    → AreNew s (ForChannel number peer ∷ ForPermission (socket_ip peer) ∷ []) (Channel number peer (Pending true) ∷ Permission (socket_ip peer) (Pending true) ∷ [])
 both-new s single number peer no_channel no_permission house = record {
   unique = λ q h. unique q h;
   some = omega arith;
   waits = λ g h. elim h [ inl e ↦ rw e refl | inr (inl e) ↦ rw e refl | inr (inr no_more) ↦ absurd no_more ];
   for = λ q h. elim h [
-    | inl e ↦ (Channel number peer Pending, inl refl, rw e (eq-eqb number number refl))
-    | inr (inl e) ↦ (Permission (socket_ip peer) Pending, inr (inl refl), rw e (same_ip-self (socket_ip peer)))
+    | inl e ↦ (Channel number peer (Pending true), inl refl, rw e (eq-eqb number number refl))
+    | inr (inl e) ↦ (Permission (socket_ip peer) (Pending true), inr (inl refl), rw e (same_ip-self (socket_ip peer)))
     | inr (inr no_more) ↦ absurd no_more
   ];
   none = λ q h g there. elim h [ inl e ↦ rw e (no_channel g there) | inr (inl e) ↦ rw e (no_permission g there) | inr (inr no_more) ↦ absurd no_more ];
   house = λ g h. elim h [ inl e ↦ rw e house | inr (inl e) ↦ rw e house | inr (inr no_more) ↦ absurd no_more ];
-  single = subst AreSingle (append_assoc s.grants (Channel number peer Pending ∷ []) (Permission (socket_ip peer) Pending ∷ []))
-      (single-more (s.grants ++ Channel number peer Pending ∷ []) (ForPermission (socket_ip peer)) tt (Permission (socket_ip peer) Pending) (same_ip-self (socket_ip peer)) others
-      (single-more s.grants (ForChannel number peer) tt (Channel number peer Pending) (eq-eqb number number refl) no_channel single));
+  single = subst AreSingle (append_assoc s.grants (Channel number peer (Pending true) ∷ []) (Permission (socket_ip peer) (Pending true) ∷ []))
+      (single-more (s.grants ++ Channel number peer (Pending true) ∷ []) (ForPermission (socket_ip peer)) tt (Permission (socket_ip peer) (Pending true)) (same_ip-self (socket_ip peer)) others
+      (single-more s.grants (ForChannel number peer) tt (Channel number peer (Pending true)) (eq-eqb number number refl) no_channel single));
   asked = λ g h. elim h [
     | inl e ↦ (ForChannel number peer, inl refl, rw e (eq-eqb number number refl))
     | inr (inl e) ↦ (ForPermission (socket_ip peer), inr (inl refl), rw e (same_ip-self (socket_ip peer)))
     | inr (inr no_more) ↦ absurd no_more
   ];
-  linked = λ id. (Channel number peer Pending, has-right (Channel number peer Pending) s.grants _ (inl refl), refl, eq-eqb number number refl);
+  linked = λ id. (Channel number peer (Pending true), has-right (Channel number peer (Pending true)) s.grants _ (inl refl), refl, eq-eqb number number refl);
 }
   where
     unique : (q : Purpose) → Has q (ForChannel number peer ∷ ForPermission (socket_ip peer) ∷ []) → IsUnique q
@@ -311,8 +311,8 @@ both-new s single number peer no_channel no_permission house = record {
     unique q (inr (inl e)) = subst IsUnique (sym e) tt
     unique q (inr (inr no_more)) = absurd no_more
 
-    others : (g : Grant) → Has g (s.grants ++ Channel number peer Pending ∷ []) → is_permission_of (socket_ip peer) g ≡ false
-    others g h = elim (has-append g s.grants (Channel number peer Pending ∷ []) h) [ inl old ↦ no_permission g old | inr (inl e) ↦ rw e refl | inr (inr no_more) ↦ absurd no_more ]
+    others : (g : Grant) → Has g (s.grants ++ Channel number peer (Pending true) ∷ []) → is_permission_of (socket_ip peer) g ≡ false
+    others g h = elim (has-append g s.grants (Channel number peer (Pending true) ∷ []) h) [ inl old ↦ no_permission g old | inr (inl e) ↦ rw e refl | inr (inr no_more) ↦ absurd no_more ]
 
 module _ (P : State → Type 0) (count slots delay now : ℕ) (s : State) (k : IsKept count slots delay now s.transactions s) (same : P s) (asked : Asks P now s) where
   pub creates : (transport : TransportType) (ip : IpAddr) → P (create_permission_step transport ip now s).1
@@ -322,7 +322,7 @@ module _ (P : State → Type 0) (count slots delay now : ℕ) (s : State) (k : I
       Is z = P z.1
 
       made : State
-      made = requested (fresh_id s) (ForPermission ip) now (with_grant (Permission ip Pending) s)
+      made = requested (fresh_id s) (ForPermission ip) now (with_grant (Permission ip (Pending true)) s)
 
       allocated : (f : Phase) → f ≡ Allocated → P made → Is (cond (not (is_allocated f)) (Err Create.NoAllocation, s) (Ok tt, made))
       allocated f e p = rw e p
@@ -330,8 +330,8 @@ module _ (P : State → Type 0) (count slots delay now : ℕ) (s : State) (k : I
       step : (o : Option Progress) → permission_state ip s ≡ o → Room s.grants (family_of_ip ip)
           → Is (cond (is_some o) (Err Create.AlreadyExists, s) (cond (not (is_allocated s.phase)) (Err Create.NoAllocation, s) (Ok tt, made)))
       step None e room =
-          allocated s.phase k.phase (asked (ForPermission ip ∷ []) (Permission ip Pending ∷ []) (request_for (with_grant (Permission ip Pending) s) (ForPermission ip) (fresh_id s))
-          (one-new s k.single (ForPermission ip) tt (Permission ip Pending) (same_ip-self ip) refl (permission-none ip s e) room))
+          allocated s.phase k.phase (asked (ForPermission ip ∷ []) (Permission ip (Pending true) ∷ []) (request_for (with_grant (Permission ip (Pending true)) s) (ForPermission ip) (fresh_id s))
+          (one-new s k.single (ForPermission ip) tt (Permission ip (Pending true)) (same_ip-self ip) refl (permission-none ip s e) room))
       step (Some progress) e room = same
 
       by : (o : Option Relay) → find_allocation_to transport ip s ≡ o → Is (in_allocation o ip now Create.NoAllocation s (permission_step ip now s))
@@ -370,12 +370,13 @@ module _ (P : State → Type 0) (count slots delay now : ℕ) (s : State) (k : I
           made : (o : Option Progress) → permission_state (socket_ip peer) s ≡ o → P (bind_channel number peer now s)
           made None e =
               let ips : missing_permission peer s ≡ socket_ip peer ∷ [] = rw e refl in
-              rw ips (asked (ForChannel number peer ∷ ForPermission (socket_ip peer) ∷ []) (Channel number peer Pending ∷ Permission (socket_ip peer) Pending ∷ []) (request_for s (ForChannel number peer) (fresh_id s))
+              rw ips (asked (ForChannel number peer ∷ ForPermission (socket_ip peer) ∷ []) (Channel number peer (Pending true) ∷ Permission (socket_ip peer) (Pending true) ∷ [])
+              (request_for s (ForChannel number peer) (fresh_id s))
               (both-new s k.single number peer none (permission-none (socket_ip peer) s e) room))
           made (Some progress) e =
               let ips : missing_permission peer s ≡ [] = rw e refl in
-              rw ips (asked (ForChannel number peer ∷ []) (Channel number peer Pending ∷ []) (request_for s (ForChannel number peer) (fresh_id s))
-              (one-new s k.single (ForChannel number peer) tt (Channel number peer Pending) (eq-eqb number number refl) refl none room))
+              rw ips (asked (ForChannel number peer ∷ []) (Channel number peer (Pending true) ∷ []) (request_for s (ForChannel number peer) (fresh_id s))
+              (one-new s k.single (ForChannel number peer) tt (Channel number peer (Pending true)) (eq-eqb number number refl) refl none room))
 
       step_by : (xs : List ℕ) (f : Phase) (o : Option ℕ) → f ≡ Allocated → free_number s ≡ o → Room s.grants (family_of peer) → Is (bound_by peer now s xs (is_allocated f) o)
       step_by (until ∷ xs) f o e free room = same

@@ -26,6 +26,8 @@ use Rattle.turn_client_runs.proofs.LastingCounts.{passes, passes-two}
 use Rattle.turn_client_runs.specs.Lasting.{as_granted, Grants, ahead_of, expiry_of, with_expiry}
 use Rattle.turn_client_runs.proofs.LastingStands.{IsGranted, IsRefreshing, IsUnique, is_waiting}
 use Rattle.turn_client_laws.proofs.AddressLemmas.{same_ip-true}
+use Rattle.turn_client_api.specs.declared.grant.Lease.{Lease}
+use Rattle.turn_client_api.specs.Effect.{granted_until}
 
 -- what the request is for lasts until then
 abbrev pub renews : Purpose → ℕ → Grant → Grant
@@ -138,8 +140,8 @@ refresh-renews family lifetime message now u range asked lasts = rw not_zero (by
     not_zero = false_from_ne_true (eqb lifetime 0) (λ e. let z = eqb-true lifetime 0 e in omega (arith, z, asked))
 
     none-waits : IsForGranted (ForRefresh family lifetime) u
-    none-waits (Permission ip Pending) there waits for = cc
-    none-waits (Channel number peer Pending) there waits for = cc
+    none-waits (Permission ip (Pending is_kept)) there waits for = cc
+    none-waits (Channel number peer (Pending is_kept)) there waits for = cc
     none-waits g there waits for = cc
 
     by : (o : Option ℕ) → IsSomeAnd o (λ n. min_lifetime ≤ n) → Renews (ForRefresh family lifetime) now u (option_map_or (λ granted. prolonged family granted now u) o u)
@@ -158,15 +160,17 @@ refresh-renews family lifetime message now u range asked lasts = rw not_zero (by
 -- the progress of a permission, which is active or waits
 abbrev IsKnownPermission : IpAddr → Grant → Progress → Type 0
 IsKnownPermission ip g z =
-    ((w : ℕ) × (z ≡ Active w) × (is_waiting g ≡ false) × (is_permission_of ip g ≡ true))
-    ⊎ ((z ≡ Pending) × (is_waiting g ≡ true) × (is_permission_of ip g ≡ true))
+    ((w : Lease) × (z ≡ Active w) × (is_waiting g ≡ false) × (is_permission_of ip g ≡ true))
+    ⊎ ((z ≡ Pending true) × (is_waiting g ≡ true) × (is_permission_of ip g ≡ true))
 
 progress-known : (ip : IpAddr) (g : Grant) (z : Progress) → (is_waiting g ≡ true) ⊎ IsGranted g → permission_progress ip g ≡ Some z → IsKnownPermission ip g z
 progress-known ip (Permission other progress) z h e = by (same_ip other ip) refl e
   where
     kind : (x : Progress) → (is_waiting (Permission other x) ≡ true) ⊎ IsGranted (Permission other x) → progress ≡ x → progress ≡ z → same_ip other ip ≡ true → IsKnownPermission ip (Permission other progress) z
     kind (Active w) h f same b = inl (w, sym same ∙ f, rw f refl, b)
-    kind Pending h f same b = inr (sym same ∙ f, rw f refl, b)
+    kind (Pending true) h f same b = inr (sym same ∙ f, rw f refl, b)
+    kind (Pending false) (inl waits) f same b = absurd (let never : false ≡ true = waits in cc)
+    kind (Pending false) (inr granted) f same b = absurd granted
     kind (Reserved until) (inl waits) f same b = absurd (let never : false ≡ true = waits in cc)
     kind (Reserved until) (inr granted) f same b = absurd granted
 
@@ -182,8 +186,8 @@ permission-there ip g e = cc
 -- the first permission for the IP address is active, or waits
 abbrev IsKnownState : IpAddr → State → Type 0
 IsKnownState ip u =
-    ((w : ℕ) × (permission_state ip u ≡ Some (Active w)) × ((x : Grant) × Has x u.grants × (is_permission_of ip x ≡ true) × (is_waiting x ≡ false)))
-    ⊎ ((permission_state ip u ≡ Some Pending) × ((x : Grant) × Has x u.grants × (is_waiting x ≡ true) × (is_permission_of ip x ≡ true)))
+    ((w : Lease) × (permission_state ip u ≡ Some (Active w)) × ((x : Grant) × Has x u.grants × (is_permission_of ip x ≡ true) × (is_waiting x ≡ false)))
+    ⊎ ((permission_state ip u ≡ Some (Pending true)) × ((x : Grant) × Has x u.grants × (is_waiting x ≡ true) × (is_permission_of ip x ≡ true)))
 
 permission-known : (ip : IpAddr) (u : State) → AllKnown u → (g : Grant) → Has g u.grants → is_permission_of ip g ≡ true → IsKnownState ip u
 permission-known ip u all g there is =
@@ -208,8 +212,8 @@ permission-family : (ip : IpAddr) (g : Grant) → is_permission_of ip g ≡ true
 permission-family ip (Permission other progress) e = ap family_of_ip (same_ip-true other ip e)
 permission-family ip g e = cc
 
-permission-becomes : (ip : IpAddr) (g : Grant) → is_permission_of ip g ≡ true → is_waiting g ≡ true → Permission ip (Active 0) ≡ as_granted g
-permission-becomes ip (Permission other Pending) e waits = let is : other ≡ ip = same_ip-true other ip e in rw is refl
+permission-becomes : (ip : IpAddr) (g : Grant) → is_permission_of ip g ≡ true → is_waiting g ≡ true → Permission ip (granted_until 0 true) ≡ as_granted g
+permission-becomes ip (Permission other (Pending is_kept)) e waits = let is : other ≡ ip = same_ip-true other ip e in let kept : is_kept ≡ true = waits in rw (is, kept) refl
 permission-becomes ip (Permission other (Active w)) e waits = cc
 permission-becomes ip (Permission other (Reserved until)) e waits = cc
 permission-becomes ip g e waits = cc
@@ -235,9 +239,9 @@ permission-does ip now u range all g there is = elim (permission-known ip u all 
     there = here;
     same = of;
     waiting = waits;
-    new = Permission ip (Active (later_by permission_lifetime now));
+    new = Permission ip (granted_until (later_by permission_lifetime now) true);
     for = permission-self ip x of;
-    granted = tt;
+    granted = refl;
     minute = omega arith;
     family = permission-family ip x of;
     becomes = permission-becomes ip x of waits;
@@ -254,17 +258,19 @@ to_peer peer progress = Some (peer, progress)
 
 -- the progress of a channel, which is active or waits
 abbrev IsKnownChannel : ℕ → Grant → SocketAddr × Progress → Type 0
-IsKnownChannel number g z = ((w : ℕ) × (z.1 ≡ Active w) × (is_channel_of number g ≡ true) × (is_waiting g ≡ false)) ⊎ ((z.1 ≡ Pending) × (g ≡ Channel number z.0 Pending))
+IsKnownChannel number g z = ((w : Lease) × (z.1 ≡ Active w) × (is_channel_of number g ≡ true) × (is_waiting g ≡ false)) ⊎ ((z.1 ≡ Pending true) × (g ≡ Channel number z.0 (Pending true)))
 
 channel-known : (number : ℕ) (g : Grant) (z : SocketAddr × Progress) → (is_waiting g ≡ true) ⊎ IsGranted g → channel_at number g ≡ Some z → IsKnownChannel number g z
 channel-known number (Channel other peer progress) z h e = by (eqb other number) refl e
   where
     kind : (x : Progress) → (is_waiting (Channel other peer x) ≡ true) ⊎ IsGranted (Channel other peer x) → progress ≡ x → (peer, progress) ≡ z → other ≡ number → IsKnownChannel number (Channel other peer progress) z
     kind (Active w) h f same b = inl (w, ap (λ (y : SocketAddr × Progress). y.1) (sym same) ∙ f, eq-eqb other number b, rw f refl)
-    kind Pending h f same b =
-        let one : z.1 ≡ Pending = ap (λ (y : SocketAddr × Progress). y.1) (sym same) ∙ f in
+    kind (Pending true) h f same b =
+        let one : z.1 ≡ Pending true = ap (λ (y : SocketAddr × Progress). y.1) (sym same) ∙ f in
         let to : peer ≡ z.0 = ap (λ (y : SocketAddr × Progress). y.0) same in
         inr (one, rw (f, b, to) refl)
+    kind (Pending false) (inl waits) f same b = absurd (let never : false ≡ true = waits in cc)
+    kind (Pending false) (inr granted) f same b = absurd granted
     kind (Reserved until) (inl waits) f same b = absurd (let never : false ≡ true = waits in cc)
     kind (Reserved until) (inr granted) f same b = absurd granted
 
@@ -280,8 +286,8 @@ channel-there number g e = cc
 -- the first channel of the number is active, or waits
 abbrev IsChannelState : ℕ → State → Type 0
 IsChannelState number u =
-    ((peer : SocketAddr) × (w : ℕ) × (first_in (channel_at number) u ≡ Some (peer, Active w)) × ((x : Grant) × Has x u.grants × (is_channel_of number x ≡ true) × (is_waiting x ≡ false)))
-    ⊎ ((peer : SocketAddr) × (first_in (channel_at number) u ≡ Some (peer, Pending)) × Has (Channel number peer Pending) u.grants)
+    ((peer : SocketAddr) × (w : Lease) × (first_in (channel_at number) u ≡ Some (peer, Active w)) × ((x : Grant) × Has x u.grants × (is_channel_of number x ≡ true) × (is_waiting x ≡ false)))
+    ⊎ ((peer : SocketAddr) × (first_in (channel_at number) u ≡ Some (peer, Pending true)) × Has (Channel number peer (Pending true)) u.grants)
 
 channel-state : (number : ℕ) (u : State) → AllKnown u → (g : Grant) → Has g u.grants → is_channel_of number g ≡ true → IsChannelState number u
 channel-state number u all g there is =
@@ -319,17 +325,17 @@ does-reset p now u v (inr a) = inr (record {
 })
 
 -- a channel that waits is granted, once its permission was answered
-channel-anew : (number : ℕ) (peer to : SocketAddr) (now : ℕ) (v t : State) → now ≤ 2 ^ 62 → Has (Channel number to Pending) v.grants → (events : List TurnEvent)
-    → t ≡ granted_by (ForChannel number peer) (Channel number to (Active (later_by channel_lifetime now))) events v.challenges v → Does (ForChannel number peer) now v t
+channel-anew : (number : ℕ) (peer to : SocketAddr) (now : ℕ) (v t : State) → now ≤ 2 ^ 62 → Has (Channel number to (Pending true)) v.grants → (events : List TurnEvent)
+    → t ≡ granted_by (ForChannel number peer) (Channel number to (granted_until (later_by channel_lifetime now) true)) events v.challenges v → Does (ForChannel number peer) now v t
 channel-anew number peer to now v t range here events is = inr (record {
   unique = tt;
-  waits = Channel number to Pending;
+  waits = Channel number to (Pending true);
   there = here;
   same = eq-eqb number number refl;
   waiting = refl;
-  new = Channel number to (Active (later_by channel_lifetime now));
+  new = Channel number to (granted_until (later_by channel_lifetime now) true);
   for = eq-eqb number number refl;
-  granted = tt;
+  granted = refl;
   minute = omega arith;
   family = refl;
   becomes = refl;
@@ -370,14 +376,15 @@ pub record DoesBoth (p q : Purpose) (now : ℕ) (u t : State) : Type 0 where
 
 -- a channel that waits is answered with the permission that it brings
 channel-brings : (number : ℕ) (peer : SocketAddr) (ip : IpAddr) (id now : ℕ) (u : State) → now ≤ 2 ^ 62 → AllKnown u → purposes_of id u ≡ ForChannel number peer ∷ ForPermission ip ∷ []
-    → (g : Grant) → Has g u.grants → is_permission_of ip g ≡ true → (to : SocketAddr) → first_in (channel_at number) u ≡ Some (to, Pending) → Has (Channel number to Pending) u.grants
+    → (g : Grant) → Has g u.grants → is_permission_of ip g ≡ true → (to : SocketAddr) → first_in (channel_at number) u ≡ Some (to, Pending true) → Has (Channel number to (Pending true)) u.grants
     → DoesBoth (ForChannel number peer) (ForPermission ip) now u (channel_answered number id true now u)
 channel-brings number peer ip id now u range all two g there is to e here =
     let first = permission-does ip now u range all g there is in
     record {
       middle = permission_answered ip true now u;
       first = first;
-      last = rw (e, two) (channel-anew number peer to now (permission_answered ip true now u) _ range (channel-stays ip now u (permission_answered ip true now u) first (Channel number to Pending) here refl) _ refl);
+      last = rw (e, two) (channel-anew number peer to now (permission_answered ip true now u) _ range
+          (channel-stays ip now u (permission_answered ip true now u) first (Channel number to (Pending true)) here refl) _ refl);
       stays = channel-stays ip now u (permission_answered ip true now u) first;
     }
 

@@ -59,8 +59,8 @@ granted-lapse s (Channel number peer (Active expiry)) h = refl
 granted-lapse s g h = absurd h
 
 waiting-lapse : (s : State) (g : Grant) → is_waiting g ≡ true → lapse_of s g ≡ None
-waiting-lapse s (Permission ip Pending) h = refl
-waiting-lapse s (Channel number peer Pending) h = refl
+waiting-lapse s (Permission ip (Pending is_kept)) h = refl
+waiting-lapse s (Channel number peer (Pending is_kept)) h = refl
 waiting-lapse s g h = cc
 
 none-lapses : (now : ℕ) (s : State) → AllEarly now s → lapsed None now s ≡ s

@@ -93,8 +93,8 @@ with-twice later expiry (Allocation a) = refl
 with-twice later expiry g = grind arith
 
 with-waiting : (expiry : ℕ) (g : Grant) → is_waiting g ≡ true → with_expiry expiry g ≡ g
-with-waiting expiry (Permission ip Pending) h = refl
-with-waiting expiry (Channel number peer Pending) h = refl
+with-waiting expiry (Permission ip (Pending is_kept)) h = refl
+with-waiting expiry (Channel number peer (Pending is_kept)) h = refl
 with-waiting expiry g h = cc
 
 -- ---- what is answered is listed no more

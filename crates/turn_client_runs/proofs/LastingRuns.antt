@@ -312,14 +312,14 @@ joined s (call ∷ earlier) later = joined (state_after call s) earlier later
 
 force-granted : (now : ℕ) (g : Grant) → IsInForce now g → IsGranted g
 force-granted now (Allocation a) h = h.0
-force-granted now (Permission ip (Active expiry)) h = tt
-force-granted now (Channel number peer (Active expiry)) h = tt
+force-granted now (Permission ip (Active lease)) h = h.0
+force-granted now (Channel number peer (Active lease)) h = h.0
 force-granted now g h = absurd h
 
 granted-force : (now : ℕ) (g : Grant) → IsGranted g → now < expiry_of g → IsInForce now g
 granted-force now (Allocation a) h early = (h, early)
-granted-force now (Permission ip (Active expiry)) h early = early
-granted-force now (Channel number peer (Active expiry)) h early = early
+granted-force now (Permission ip (Active lease)) h early = (h, early)
+granted-force now (Channel number peer (Active lease)) h early = (h, early)
 granted-force now g h early = absurd h
 
 -- grants that differ are not for the same purpose
@@ -397,13 +397,13 @@ early-of count slots delay now t k h here granted = elim (all-early count slots 
 
 force-key : (now : ℕ) (g : Grant) → IsInForce now g → with_expiry 0 g ≡ as_granted g
 force-key now (Allocation a) h = refl
-force-key now (Permission ip (Active expiry)) h = refl
-force-key now (Channel number peer (Active expiry)) h = refl
+force-key now (Permission ip (Active lease)) h = refl
+force-key now (Channel number peer (Active lease)) h = refl
 force-key now g h = absurd h
 
 requested-waits : (g : Grant) → IsRequested g → is_waiting g ≡ true
-requested-waits (Permission ip Pending) h = refl
-requested-waits (Channel number peer Pending) h = refl
+requested-waits (Permission ip (Pending is_kept)) h = h
+requested-waits (Channel number peer (Pending is_kept)) h = h
 requested-waits g h = absurd h
 
 -- both parts of a run

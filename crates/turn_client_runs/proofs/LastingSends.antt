@@ -105,8 +105,8 @@ may-refresh s g all granted room = by g granted room
 
     by : (g : Grant) → IsGranted g → Room s.grants (family_of_grant g) → is_refreshable g s ≡ true
     by (Allocation a) granted room = rw granted refl
-    by (Permission ip (Active expiry)) granted room = within (family_of_grant (Permission ip (Active expiry))) room
-    by (Channel number peer (Active expiry)) granted room = within (family_of_grant (Channel number peer (Active expiry))) room
+    by (Permission ip (Active expiry)) granted room = rw granted (within (family_of_grant (Permission ip (Active expiry))) room)
+    by (Channel number peer (Active expiry)) granted room = rw granted (within (family_of_grant (Channel number peer (Active expiry))) room)
     by g granted room = absurd granted
 
 pub is-due : (time : ℕ) (s : State) (g : Grant) → IsGranted g → is_refreshable g s ≡ true → has_request g s ≡ false → due_of s g ≤ time → is_refresh_due time s g ≡ true
@@ -122,7 +122,7 @@ due-sends time s g h granted due early a inside of goes_on = by g h granted due 
     by (Allocation b) h granted due early of =
         refreshed-once time s (Allocation b) a 0 (ForRefresh (family_of b.relayed) asked_lifetime) h inside goes_on of (inl refl) refl due (rw (le-leb time b.expiry (omega (arith, early))) refl)
     by (Permission ip (Active expiry)) h granted due early of =
-        refreshed-once time s (Permission ip (Active expiry)) a 2 (ForPermission ip) h inside goes_on of (inr (inr (inl refl))) refl due (rw (lt-ltb time expiry early) refl)
+        refreshed-once time s (Permission ip (Active expiry)) a 2 (ForPermission ip) h inside goes_on of (inr (inr (inl refl))) refl due (rw (lt-ltb time expiry.expiry early) refl)
     by (Channel number peer (Active expiry)) h granted due early of =
-        refreshed-once time s (Channel number peer (Active expiry)) a 1 (ForChannel number peer) h inside goes_on of (inr (inl refl)) refl due (rw (lt-ltb time expiry early) refl)
+        refreshed-once time s (Channel number peer (Active expiry)) a 1 (ForChannel number peer) h inside goes_on of (inr (inl refl)) refl due (rw (lt-ltb time expiry.expiry early) refl)
     by g h granted due early of = absurd granted

@@ -26,8 +26,8 @@ use Rattle.turn_client_runs.proofs.LastingCounts.{passes, passes-less}
 -- the server granted it, whenever it expires
 abbrev pub IsGranted : Grant → Type 0
 IsGranted (Allocation a) = a.is_expired ≡ false
-IsGranted (Permission ip (Active expiry)) = ⊤
-IsGranted (Channel number peer (Active expiry)) = ⊤
+IsGranted (Permission ip (Active lease)) = lease.is_kept ≡ true
+IsGranted (Channel number peer (Active lease)) = lease.is_kept ≡ true
 IsGranted _ = ⊥
 
 -- when its refresh falls due
@@ -36,8 +36,8 @@ due_of s g = expiry_of g - ahead_of s.config.refresh_ahead g
 
 -- it is requested and not yet granted
 abbrev pub is_waiting : Grant → Bool
-is_waiting (Permission ip Pending) = true
-is_waiting (Channel number peer Pending) = true
+is_waiting (Permission ip (Pending is_kept)) = is_kept
+is_waiting (Channel number peer (Pending is_kept)) = is_kept
 is_waiting _ = false
 
 -- it is being requested, or was refreshed since that time

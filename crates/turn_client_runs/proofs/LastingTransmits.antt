@@ -356,8 +356,8 @@ empty-kept s none = ap (λ (q : List Queued). record s { queue = q }) (no-reply_
 -- what is due is granted, and not waiting
 due-granted : (now : ℕ) (s : State) (g : Grant) → is_waiting g ≡ true → is_refresh_due now s g ≡ true → ⊥
 unfolding is_refresh_due refresh_time
-due-granted now s (Permission ip Pending) w e = cc
-due-granted now s (Channel number peer Pending) w e = cc
+due-granted now s (Permission ip (Pending is_kept)) w e = cc
+due-granted now s (Channel number peer (Pending is_kept)) w e = cc
 due-granted now s g w e = cc
 
 pub transmit-kept : (count slots delay now : ℕ) (s : State) → IsKept count slots delay now s.transactions s → due (agent_of s) now ≡ None → KeepsOn count slots delay now s (transmit_step now s).1

@@ -65,9 +65,9 @@ module _ (one : Input) where
   given-in (Channel other to (Active expiry)) (ForChannel number peer) stands peers joins h = (h.0, peers number peer to refl (subst (λ (n : ℕ). HasChannelTo n to one.before) h.0 h.2), h.1)
   given-in (Connection c) (ForBind local peer id) stands peers joins h = (h.0, joins local peer c.peer id refl h.1, h.2)
   given-in (Connection c) p stands peers joins h = absurd h
-  given-in (Permission other Pending) p stands peers joins h = absurd stands
+  given-in (Permission other (Pending is_kept)) p stands peers joins h = absurd stands
   given-in (Permission other (Reserved until)) p stands peers joins h = absurd stands
-  given-in (Channel other to Pending) p stands peers joins h = absurd stands
+  given-in (Channel other to (Pending is_kept)) p stands peers joins h = absurd stands
   given-in (Channel other to (Reserved until)) p stands peers joins h = absurd stands
   given-in (Connect to) p stands peers joins h = absurd stands
   given-in (Offer offer) p stands peers joins h = absurd stands

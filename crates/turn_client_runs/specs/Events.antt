@@ -48,8 +48,8 @@ relayed_over one = one.before.config.allocation_transport
 -- the event reports that this was created
 abbrev pub Reports : TurnEvent → TransportType → Grant → Type 0
 Reports (AllocationCreated transport relayed) over (Allocation a) = (transport ≡ over) × (relayed ≡ a.relayed)
-Reports (PermissionCreated transport ip) over (Permission other (Active expiry)) = (transport ≡ over) × (ip ≡ other)
-Reports (ChannelCreated transport peer) over (Channel number other (Active expiry)) = (transport ≡ over) × (peer ≡ other)
+Reports (PermissionCreated transport ip) over (Permission other (Active lease)) = (transport ≡ over) × (ip ≡ other)
+Reports (ChannelCreated transport peer) over (Channel number other (Active lease)) = (transport ≡ over) × (peer ≡ other)
 Reports (TcpConnected peer) over (Connection c) = peer ≡ c.peer
 Reports _ over _ = ⊥
 
@@ -132,7 +132,7 @@ FailsIn _ one = ⊥
 
 -- the grant has expired at this time, or the request for it times out now
 abbrev pub HasFailed : ℕ → State → Grant → Type 0
-HasFailed now s (Channel number peer (Active expiry)) = expiry ≤ now
+HasFailed now s (Channel number peer (Active lease)) = lease.expiry ≤ now
 HasFailed now s (Channel number peer (Reserved until)) = ⊥
 HasFailed now s g = HasExpiredOrFailed now s g
 

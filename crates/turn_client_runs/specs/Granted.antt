@@ -56,10 +56,10 @@ IsGivenIn one ForAllocation (Allocation a) =
 IsGivenIn one (ForRefresh family lifetime) (Allocation a) =
     (1 ≤ lifetime) × (is_of_family family a.relayed ≡ true)
     × ((n : ℕ) × (lifetime_in one.bytes ≡ Some n) × (min_lifetime ≤ n) × (a.expiry ≡ later_by (seconds n) one.time))
-IsGivenIn one (ForPermission ip) (Permission other (Active expiry)) =
-    (same_ip other ip ≡ true) × (expiry ≡ later_by permission_lifetime one.time)
-IsGivenIn one (ForChannel number peer) (Channel other to (Active expiry)) =
-    (other ≡ number) × (to ≡ peer) × (expiry ≡ later_by channel_lifetime one.time)
+IsGivenIn one (ForPermission ip) (Permission other (Active lease)) =
+    (same_ip other ip ≡ true) × (lease.expiry ≡ later_by permission_lifetime one.time)
+IsGivenIn one (ForChannel number peer) (Channel other to (Active lease)) =
+    (other ≡ number) × (to ≡ peer) × (lease.expiry ≡ later_by channel_lifetime one.time)
 IsGivenIn one (ForBind local peer id) (Connection c) = (c.local ≡ local) × (c.peer ≡ peer) × (c.deadline ≡ None)
 IsGivenIn one _ _ = ⊥
 

@@ -31,18 +31,18 @@ use Rattle.turn_client_runs.specs.OnTime.{IsFromServer, IsInTime, time_of, time_
 
 -- ---- grants in force
 
--- the server granted it, and it has not expired
+-- the server granted it, it has not expired, and it is kept: the caller did not let it go
 abbrev pub IsInForce : ℕ → Grant → Type 0
 IsInForce now (Allocation a) = (a.is_expired ≡ false) × (now < a.expiry)
-IsInForce now (Permission ip (Active expiry)) = now < expiry
-IsInForce now (Channel number peer (Active expiry)) = now < expiry
+IsInForce now (Permission ip (Active lease)) = (lease.is_kept ≡ true) × (now < lease.expiry)
+IsInForce now (Channel number peer (Active lease)) = (lease.is_kept ≡ true) × (now < lease.expiry)
 IsInForce now _ = ⊥
 
 -- when it expires
 abbrev pub expiry_of : Grant → ℕ
 expiry_of (Allocation a) = a.expiry
-expiry_of (Permission ip (Active expiry)) = expiry
-expiry_of (Channel number peer (Active expiry)) = expiry
+expiry_of (Permission ip (Active lease)) = lease.expiry
+expiry_of (Channel number peer (Active lease)) = lease.expiry
 expiry_of _ = 0
 
 -- So long before its expiry it is to be refreshed, if this long ahead was configured. Other numbers of ours are
@@ -55,20 +55,20 @@ ahead_of ahead _ = min ahead (seconds 150)
 -- the grant with another expiry
 abbrev pub with_expiry : ℕ → Grant → Grant
 with_expiry expiry (Allocation a) = Allocation (record a { expiry = expiry })
-with_expiry expiry (Permission ip (Active was)) = Permission ip (Active expiry)
-with_expiry expiry (Channel number peer (Active was)) = Channel number peer (Active expiry)
+with_expiry expiry (Permission ip (Active was)) = Permission ip (Active (record was { expiry = expiry }))
+with_expiry expiry (Channel number peer (Active was)) = Channel number peer (Active (record was { expiry = expiry }))
 with_expiry expiry grant = grant
 
 -- what a permission or channel that is requested becomes
 abbrev pub as_granted : Grant → Grant
-as_granted (Permission ip Pending) = Permission ip (Active 0)
-as_granted (Channel number peer Pending) = Channel number peer (Active 0)
+as_granted (Permission ip (Pending is_kept)) = Permission ip (Active (record { expiry = 0; is_kept = is_kept }))
+as_granted (Channel number peer (Pending is_kept)) = Channel number peer (Active (record { expiry = 0; is_kept = is_kept }))
 as_granted grant = with_expiry 0 grant
 
--- a permission or a channel was requested, and is not granted yet
+-- a permission or a channel was requested, is not granted yet, and is kept
 abbrev pub IsRequested : Grant → Type 0
-IsRequested (Permission ip Pending) = ⊤
-IsRequested (Channel number peer Pending) = ⊤
+IsRequested (Permission ip (Pending is_kept)) = is_kept ≡ true
+IsRequested (Channel number peer (Pending is_kept)) = is_kept ≡ true
 IsRequested _ = ⊥
 
 -- the client has the grant, or what was requested, maybe with another expiry, and it is in force at this time

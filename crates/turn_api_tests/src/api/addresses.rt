@@ -8,7 +8,9 @@ use crate::fixture::{peer, same};
 use std::alloc::{AllocError, Global};
 use std::net::{IpAddr, SocketAddr};
 use std::process::Abort;
-use turn_client_api::{Grant, PermissionAddressesIter, Progress, Relay, RelayedAddressesIter};
+use turn_client_api::{
+    Grant, Lease, PermissionAddressesIter, Progress, Relay, RelayedAddressesIter,
+};
 use turn_stun::instant::Instant;
 use turn_types::{AddressFamily, TransportType};
 
@@ -48,7 +50,10 @@ fn allocation(relayed: SocketAddr, is_expired: bool) -> Grant {
 fn permission(addr: SocketAddr) -> Grant {
     Grant::Permission(
         addr.ip(),
-        Progress::Active(Instant::from_nanos(300_000_000_000)),
+        Progress::Active(Lease {
+            expiry: Instant::from_nanos(300_000_000_000),
+            is_kept: true,
+        }),
     )
 }
 
@@ -66,7 +71,7 @@ fn expired() -> Grant {
 
 /// A pending permission.
 fn asked() -> Grant {
-    Grant::Permission(peer().ip(), Progress::Pending)
+    Grant::Permission(peer().ip(), Progress::Pending(true))
 }
 
 /// The relayed addresses of these grants are those of both allocations, and no others.
@@ -128,7 +133,7 @@ fn permissions_are_listed_in_order(rt: HostRuntime) {
         permission(peer()),
         permission(relayed_ipv6()),
         allocation(peer(), false),
-        Grant::Channel(0x4000, peer(), Progress::Pending),
+        Grant::Channel(0x4000, peer(), Progress::Pending(true)),
         permission(relayed()),
     ];
     let ipv4 = [peer().ip(), relayed().ip()];

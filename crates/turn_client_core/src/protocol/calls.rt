@@ -10,6 +10,7 @@ mod data_socket;
 mod delete;
 mod events;
 mod getters;
+mod keep;
 mod request;
 mod send_to;
 mod tcp_connect;

@@ -2,7 +2,7 @@
 //! 6062, section 4.3).
 
 ghost use Rattle.std.specs.List.{list_any};
-ghost use Rattle.std.specs.Prelude.{ℕ, ◌≡◌, ◌≤◌, ◌&&◌, false, fold, option_to_list, true};
+ghost use Rattle.std.specs.Prelude.{ℕ, ◌≡◌, ◌≤◌, ◌&&◌, false, fold, option_to_list, true, Bool};
 ghost use Rattle.turn_client_api.specs.Effect.{active_channel_answered, active_permission_answered, channel_answered, connect_answered};
 ghost use Rattle.turn_client_api.specs.Effect.{pending_channel_answered, pending_permission_answered, permission_answered, permission_answered_for};
 ghost use Rattle.turn_client_api.specs.Effect.{listed_permissions_answered};
@@ -18,7 +18,7 @@ use crate::key::Key;
 use crate::ledger::GrantLedger;
 use crate::time::later;
 use std::net::{IpAddr, SocketAddr};
-use turn_client_api::{Grant, Progress, Purpose, TurnEvent};
+use turn_client_api::{Grant, Lease, Progress, Purpose, TurnEvent};
 use turn_stun::instant::Instant;
 use turn_stun::transaction::TransactionId;
 
@@ -44,38 +44,46 @@ impl GrantLedger {
             return;
         };
         match progress {
-            Progress::Pending => self.pending_permission_answered(ip, is_granted, now),
+            Progress::Pending(is_kept) => {
+                self.pending_permission_answered(ip, is_kept, is_granted, now)
+            }
             Progress::Active(_) => self.active_permission_answered(ip, is_granted, now),
             Progress::Reserved(_) => {}
         }
     }
 
     /// The server answered for a pending permission.
-    fn pending_permission_answered(&mut self, ip: IpAddr, is_granted: bool, now: Instant)
+    fn pending_permission_answered(
+        &mut self,
+        ip: IpAddr,
+        is_kept: bool,
+        is_granted: bool,
+        now: Instant,
+    )
         requires there { list_any (is_permission_of ip) self.old.grants ≡ true }
         requires event_room { 3 ≤ self.old.event_room }
-        ensures state { (s : State) → with_ledger self.new s ≡ pending_permission_answered ip is_granted now (with_ledger self.old s) }
+        ensures state { (s : State) → with_ledger self.new s ≡ pending_permission_answered ip is_kept is_granted now (with_ledger self.old s) }
         ensures room { SameRoomBut 0 3 self.old self.new }
     {
         let transport = self.transport();
         if is_granted {
-            return self.permission_granted(ip, later(now, PERMISSION_SECONDS));
+            return self.permission_granted(ip, later(now, PERMISSION_SECONDS), is_kept);
         }
         self.remove(&GrantFilter::PermissionOf(ip));
         self.push_event(TurnEvent::PermissionCreateFailed(transport, ip));
     }
 
     /// A pending permission is active from now on, after all other grants.
-    fn permission_granted(&mut self, ip: IpAddr, expiry: Instant)
+    fn permission_granted(&mut self, ip: IpAddr, expiry: Instant, is_kept: bool)
         requires there { list_any (is_permission_of ip) self.old.grants ≡ true }
         requires event_room { 3 ≤ self.old.event_room }
-        ensures state { (s : State) → with_ledger self.new s ≡ permission_granted ip expiry (with_ledger self.old s) }
+        ensures state { (s : State) → with_ledger self.new s ≡ permission_granted ip expiry is_kept (with_ledger self.old s) }
         ensures room { SameRoomBut 0 3 self.old self.new }
     {
         let transport = self.transport();
         self.replace(
             &Key::Ip(ip),
-            &Grant::Permission(ip, Progress::Active(expiry)),
+            &Grant::Permission(ip, Progress::Active(Lease { expiry, is_kept })),
         );
         self.push_event(TurnEvent::PermissionCreated(transport, ip));
     }
@@ -163,9 +171,11 @@ impl GrantLedger {
             return;
         };
         match progress {
-            Progress::Pending => self.pending_channel_answered(number, peer, id, is_granted, now),
-            Progress::Active(expiry) => {
-                self.active_channel_answered(number, peer, expiry, is_granted, now)
+            Progress::Pending(is_kept) => {
+                self.pending_channel_answered(number, peer, is_kept, id, is_granted, now)
+            }
+            Progress::Active(lease) => {
+                self.active_channel_answered(number, peer, lease.expiry, is_granted, now)
             }
             Progress::Reserved(_) => {}
         }
@@ -176,35 +186,50 @@ impl GrantLedger {
         &mut self,
         number: u16,
         peer: SocketAddr,
+        is_kept: bool,
         id: TransactionId,
         is_granted: bool,
         now: Instant,
     )
         requires there { list_any (λ g. is_channel_of number g && is_open_to peer g) self.old.grants ≡ true }
-        requires numbered { is_numbered (Grant.Channel number peer Progress.Pending) ≡ true }
+        requires numbered { is_numbered (Grant.Channel number peer (Progress.Pending true)) ≡ true }
         requires event_room { 9 ≤ self.old.event_room }
-        ensures state { (s : State) → with_ledger self.new s ≡ pending_channel_answered number peer id is_granted now (with_ledger self.old s) }
+        ensures state { (s : State) → with_ledger self.new s ≡ pending_channel_answered number peer is_kept id is_granted now (with_ledger self.old s) }
         ensures room { SameRoomBut 0 9 self.old self.new }
     {
         if is_granted {
-            return self.channel_granted(number, peer, id, now);
+            return self.channel_granted(number, peer, is_kept, id, now);
         }
         self.channel_refused(number, peer, id);
     }
 
     /// A pending channel is active from now on, after all other grants, and its permission too.
-    fn channel_granted(&mut self, number: u16, peer: SocketAddr, id: TransactionId, now: Instant)
+    fn channel_granted(
+        &mut self,
+        number: u16,
+        peer: SocketAddr,
+        is_kept: bool,
+        id: TransactionId,
+        now: Instant,
+    )
         requires there { list_any (λ g. is_channel_of number g && is_open_to peer g) self.old.grants ≡ true }
-        requires numbered { is_numbered (Grant.Channel number peer Progress.Pending) ≡ true }
+        requires numbered { is_numbered (Grant.Channel number peer (Progress.Pending true)) ≡ true }
         requires event_room { 9 ≤ self.old.event_room }
-        ensures state { (s : State) → with_ledger self.new s ≡ pending_channel_answered number peer id true now (with_ledger self.old s) }
+        ensures state { (s : State) → with_ledger self.new s ≡ pending_channel_answered number peer is_kept id true now (with_ledger self.old s) }
         ensures room { SameRoomBut 0 9 self.old self.new }
     {
         let transport = self.transport();
         self.permissions_answered(id, true, now);
         self.replace(
             &Key::Number(number),
-            &Grant::Channel(number, peer, Progress::Active(later(now, CHANNEL_SECONDS))),
+            &Grant::Channel(
+                number,
+                peer,
+                Progress::Active(Lease {
+                    expiry: later(now, CHANNEL_SECONDS),
+                    is_kept,
+                }),
+            ),
         );
         self.push_event(TurnEvent::ChannelCreated(transport, peer));
     }
@@ -212,7 +237,7 @@ impl GrantLedger {
     /// A pending channel is refused, and so is the permission that was requested with it.
     fn channel_refused(&mut self, number: u16, peer: SocketAddr, id: TransactionId)
         requires { 9 ≤ self.old.event_room }
-        ensures state { (s : State) (now : ℕ) → with_ledger self.new s ≡ pending_channel_answered number peer id false now (with_ledger self.old s) }
+        ensures state { (s : State) (is_kept : Bool) (now : ℕ) → with_ledger self.new s ≡ pending_channel_answered number peer is_kept id false now (with_ledger self.old s) }
         ensures room { SameRoomBut 0 9 self.old self.new }
     {
         let transport = self.transport();
@@ -233,7 +258,7 @@ impl GrantLedger {
         now: Instant,
     )
         requires there { list_any (is_channel_of number) self.old.grants ≡ true }
-        requires numbered { is_numbered (Grant.Channel number peer Progress.Pending) ≡ true }
+        requires numbered { is_numbered (Grant.Channel number peer (Progress.Pending true)) ≡ true }
         requires event_room { 9 ≤ self.old.event_room }
         ensures state { (s : State) → with_ledger self.new s ≡ active_channel_answered number peer expiry is_granted now (with_ledger self.old s) }
         ensures room { SameRoomBut 0 9 self.old self.new }

@@ -152,8 +152,8 @@ impl GrantLedger {
         };
         match &found {
             Grant::Channel(number, peer, progress) => match progress {
-                Progress::Active(expiry) => self.end_channel(*number, *peer, *expiry),
-                Progress::Pending => {}
+                Progress::Active(lease) => self.end_channel(*number, *peer, lease.expiry),
+                Progress::Pending(_) => {}
                 Progress::Reserved(_) => {}
             },
             Grant::Allocation(_) => {}
@@ -166,7 +166,7 @@ impl GrantLedger {
 
     /// Ends an existing active channel, and uses only its own room.
     fn end_channel(&mut self, number: u16, peer: SocketAddr, expiry: Instant)
-        requires numbered { is_numbered (Grant.Channel number peer Progress.Pending) ≡ true }
+        requires numbered { is_numbered (Grant.Channel number peer (Progress.Pending true)) ≡ true }
         requires there { list_any (is_channel_of number) self.old.grants ≡ true }
         requires fewer { length (filter (λ g. not (is_channel_of number g)) self.old.grants) < length self.old.grants }
         requires aside { event_room_for (filter (λ g. not (is_channel_of number g)) self.old.grants) + 2 ≤ event_room_for self.old.grants }

@@ -133,7 +133,7 @@ impl GrantTable {
     {
         match self.permission_state(ip) {
             Some(Progress::Active(_)) => true,
-            Some(Progress::Pending | Progress::Reserved(_)) | None => false,
+            Some(Progress::Pending(_) | Progress::Reserved(_)) | None => false,
         }
     }
 
@@ -141,7 +141,7 @@ impl GrantTable {
     /// may bind (RFC 8656, section 12).
     pub fn channel_owner(&self, number: u16) -> Option<SocketAddr>
         ensures found { result ≡ option_map (λ found. found.0) (first_among (channel_at number) self.now.grants) }
-        ensures numbered { IfSome result (λ peer. is_numbered (Channel number peer Pending) ≡ true) }
+        ensures numbered { IfSome result (λ peer. is_numbered (Channel number peer (Pending true)) ≡ true) }
     {
         let key = Key::Number(number);
         match self.found.get(&key) {
@@ -402,8 +402,8 @@ fn active_in(peer: SocketAddr, grant: &Grant) -> Option<(u16, Instant)>
     ensures { result ≡ active_channel peer grant.now }
 {
     match grant {
-        Grant::Channel(number, other, Progress::Active(expiry)) if *other == peer => {
-            Some((*number, *expiry))
+        Grant::Channel(number, other, Progress::Active(lease)) if *other == peer => {
+            Some((*number, lease.expiry))
         }
         _ => None,
     }

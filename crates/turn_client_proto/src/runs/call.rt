@@ -8,6 +8,7 @@ use crate::runs::asks::{
     allocated_tcp_socket, bind_channel, create_permission, delete, tcp_closed, tcp_connect,
 };
 use crate::runs::carries::{poll_recv, recv, send_to};
+use crate::runs::keeps::{set_channel_kept, set_permission_kept};
 use crate::runs::polls::{poll, poll_transmit, protocol_error};
 use crate::runs::reads::{have_permission, permissions, relayed_addresses};
 use crate::runs::{Call, Reply};
@@ -72,5 +73,15 @@ pub fn reply_to<C: TurnClientApi>(
             alloc, client, *transport, *relayed,
         ),
         Call::HavePermission { transport, to } => Ok(have_permission(client, *transport, *to)),
+        Call::SetPermissionKept {
+            transport,
+            peer_addr,
+            is_kept,
+        } => Ok(set_permission_kept(client, *transport, *peer_addr, *is_kept)),
+        Call::SetChannelKept {
+            transport,
+            peer_addr,
+            is_kept,
+        } => Ok(set_channel_kept(client, *transport, *peer_addr, *is_kept)),
     }
 }

@@ -3,7 +3,7 @@
 use crate::runs::{PermittedAddresses, RelayedAddresses};
 use std::net::SocketAddr;
 use turn_client_api::{
-    BindChannelError, CreatePermissionError, DeleteError, SendError, TcpAllocateError,
+    BindChannelError, CreatePermissionError, DeleteError, KeepError, SendError, TcpAllocateError,
     TcpConnectError, TurnEvent, TurnPollRet,
 };
 use turn_stun::data::Data;
@@ -68,6 +68,10 @@ pub enum Reply {
     Permissions(PermittedAddresses),
     /// `have_permission` found that the peer has a permission, or has none.
     HavePermission(bool),
+    /// `set_permission_kept` found the permission, or returned an error.
+    SetPermissionKept(Result<(), KeepError>),
+    /// `set_channel_kept` found the channel, or returned an error.
+    SetChannelKept(Result<(), KeepError>),
     /// `tcp_closed` or `protocol_error` succeeded.
     Done,
 }

@@ -12,7 +12,7 @@ use std::net::{IpAddr, Ipv4Addr, Ipv6Addr, SocketAddr};
 use std::process::Abort;
 use std::test::Fail;
 use std::time::Duration;
-use turn_client_api::{DataConnection, Grant, Progress, Purpose, Relay};
+use turn_client_api::{DataConnection, Grant, Lease, Progress, Purpose, Relay};
 use turn_client_grants::{GrantLedger, Purposes};
 use turn_stun::instant::Instant;
 use turn_stun::transaction::TransactionId;
@@ -45,9 +45,9 @@ fn relay(expiry: u64) -> Relay {
 }
 
 fn pending_channel() -> Grant
-    ensures { (to : SocketAddr) × (result ≡ Channel 0x4000 to Pending) }
+    ensures { (to : SocketAddr) × (result ≡ Channel 0x4000 to (Pending true)) }
 {
-    Grant::Channel(0x4000, peer(), Progress::Pending)
+    Grant::Channel(0x4000, peer(), Progress::Pending(true))
 }
 
 fn reserved_channel() -> Grant
@@ -124,6 +124,14 @@ fn times_reserved(rt: &impl Abort, alloc: Global) -> Result<(), AllocError> {
     Ok(())
 }
 
+/// Active until this time, and kept.
+fn active_until(expiry: Instant) -> Progress {
+    Progress::Active(Lease {
+        expiry,
+        is_kept: true,
+    })
+}
+
 /// The purpose of the first refresh of an allocation, a permission and a channel, which all expire
 /// at 300 s.
 fn first_refresh(
@@ -133,8 +141,8 @@ fn first_refresh(
 ) -> Result<Option<Purpose>, AllocError> {
     let end = seconds(300);
     let grants = [
-        Grant::Permission(peer().ip(), Progress::Active(end)),
-        Grant::Channel(0x4000, peer(), Progress::Active(end)),
+        Grant::Permission(peer().ip(), active_until(end)),
+        Grant::Channel(0x4000, peer(), active_until(end)),
         Grant::Allocation(relay(300)),
     ];
     let ledger = holding(alloc, &grants, asked)?;
@@ -155,7 +163,7 @@ fn refreshes(rt: &impl Abort, alloc: Global) -> Result<(), AllocError> {
 
 /// When an allocation that expires at 1800 s or a permission that expires at 300 s is due.
 fn soonest(alloc: Global, now: u64, pause: u64) -> Result<Instant, AllocError> {
-    let permission = Grant::Permission(peer().ip(), Progress::Active(seconds(300)));
+    let permission = Grant::Permission(peer().ip(), active_until(seconds(300)));
     let grants = [Grant::Allocation(relay(1_800)), permission];
     let ledger = holding(alloc, &grants, &Purposes::none())?;
     let far = seconds(9_999);

@@ -79,11 +79,11 @@ impl TurnClientProtocol {
         ensures err { OnErr result (self.new ≡ self.old) }
     {
         let channel = Purpose::ForChannel(number, peer);
-        let grant = Grant::Channel(number, peer, Progress::Pending);
+        let grant = Grant::Channel(number, peer, Progress::Pending(true));
         if self.permission_state(peer.ip()).is_some() {
             return self.ask(&channel, &Purposes::one(channel), &[grant], now);
         }
-        let permission = Grant::Permission(peer.ip(), Progress::Pending);
+        let permission = Grant::Permission(peer.ip(), Progress::Pending(true));
         let purposes = Purposes::two(channel, Purpose::ForPermission(peer.ip()));
         self.ask(&channel, &purposes, &[grant, permission], now)
     }

@@ -49,7 +49,7 @@ impl TurnClientProtocol {
             return Err(CreatePermissionError::NoAllocation);
         }
         let purpose = Purpose::ForPermission(ip);
-        let grants = [Grant::Permission(ip, Progress::Pending)];
+        let grants = [Grant::Permission(ip, Progress::Pending(true))];
         match self.ask(&purpose, &Purposes::one(purpose), &grants, now) {
             Ok(()) => Ok(()),
             Err(_) => Err(CreatePermissionError::OutOfMemory),

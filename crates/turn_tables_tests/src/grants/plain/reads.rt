@@ -5,15 +5,18 @@ use crate::grants::plain::{
     Kind, Plain, Reason, Row, Stage, address, at, byte_of, id, is_ipv6, number_of,
 };
 use std::net::SocketAddr;
-use turn_client_api::{DataConnection, DataOffer, Grant, Origin, Progress, Purpose, Relay};
+use turn_client_api::{DataConnection, DataOffer, Grant, Lease, Origin, Progress, Purpose, Relay};
 use turn_stun::instant::Instant;
 
 impl Row {
     /// The progress of the row.
     fn progress(&self) -> Progress {
         match self.stage {
-            Stage::Pending => Progress::Pending,
-            Stage::Active => Progress::Active(at(self.until)),
+            Stage::Pending => Progress::Pending(true),
+            Stage::Active => Progress::Active(Lease {
+                expiry: at(self.until),
+                is_kept: true,
+            }),
             Stage::Reserved => Progress::Reserved(at(self.until)),
         }
     }

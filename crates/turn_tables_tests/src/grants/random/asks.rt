@@ -24,7 +24,7 @@ pub(crate) fn permission(
     let purpose = Purpose::ForPermission(ip);
     ledger.ask(
         request,
-        &[Grant::Permission(ip, Progress::Pending)],
+        &[Grant::Permission(ip, Progress::Pending(true))],
         &Purposes::one(purpose),
     );
     plain.asks(Kind::Permission, u32::from(draw.n % 8), draw, purpose)
@@ -51,7 +51,7 @@ pub(crate) fn channel(
     let purpose = Purpose::ForChannel(number, peer);
     ledger.ask(
         request,
-        &[Grant::Channel(number, peer, Progress::Pending)],
+        &[Grant::Channel(number, peer, Progress::Pending(true))],
         &Purposes::one(purpose),
     );
     plain.asks(Kind::Channel, u32::from(number), draw, purpose)
@@ -84,8 +84,8 @@ pub(crate) fn channel_with_permission(
     ledger.ask(
         request,
         &[
-            Grant::Channel(number, peer, Progress::Pending),
-            Grant::Permission(ip, Progress::Pending),
+            Grant::Channel(number, peer, Progress::Pending(true)),
+            Grant::Permission(ip, Progress::Pending(true)),
         ],
         &Purposes::two(purpose, other),
     );

@@ -15,3 +15,9 @@ returns-in-BindChannel-clause-no_memory g c = rw c.in-BindChannel.is c.bind_chan
 
 pub returns-in-Permissions-clause-ok : goal.returns-in-Permissions-clause-ok
 returns-in-Permissions-clause-ok g c = rw c.in-Permissions.is c.permissions.ensures
+
+pub returns-in-SetPermissionKept-clause-ok : goal.returns-in-SetPermissionKept-clause-ok
+returns-in-SetPermissionKept-clause-ok g c = rw c.in-SetPermissionKept.is c.set_permission_kept.ensures
+
+pub returns-in-SetChannelKept-clause-ok : goal.returns-in-SetChannelKept-clause-ok
+returns-in-SetChannelKept-clause-ok g c = rw c.in-SetChannelKept.is c.set_channel_kept.ensures
