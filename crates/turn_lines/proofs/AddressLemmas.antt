@@ -229,6 +229,15 @@ address_of-address_text (V6 a) h =
     (v6_parts digits port (hex_free 58 (ipv6_octets ip) refl (ipv6_bytes ip range.0)) range.1) (ip_of-ip_text (Ip.V6 ip) range.0) range.1
     ∙ ap Some same
 
+colon_free : (ip : IpAddr) → IsIp ip → Free 58 (ip_text ip)
+colon_free (Ip.V4 ip) h = ipv4_text_free 58 ip refl refl h
+colon_free (Ip.V6 ip) h = (refl, Free-append 58 (encode_lower (ipv6_octets ip)) _ (hex_free 58 (ipv6_octets ip) refl (ipv6_bytes ip h)) (refl, tt))
+
+-- a printed IP address is no address with a port
+pub address_of-ip_text : (ip : IpAddr) → IsIp ip → address_of (ip_text ip) ≡ None
+unfolding address_of
+address_of-ip_text ip h = rw (parts_of-join 58 (ip_text ip) [] (colon_free ip h, tt), ip_of-ip_text ip h) refl
+
 -- no byte of a printed address is a space
 pub address_free : (address : SocketAddr) → IsSpelled address → Free 32 (address_text address)
 address_free (V4 a) h =

@@ -3,7 +3,7 @@ use Rattle.std.proofs.Common.{◌≡◌, ℕ, ◌-◌, ◌^◌, ◌<◌, ◌≤�
 use Rattle.std.specs.Prelude.{◌==◌, nat_le, decimal, codes}
 use Rattle.std.specs.List.{list_all}
 use Rattle.std.proofs.lemmas.Bool.{le-leb, ne_eqb}
-use Rattle.std.specs.Option.{option_map}
+use Rattle.std.specs.Option.{option_map, option_or}
 use Rattle.std.specs.Result.{result_ok}
 use Rattle.std.specs.Str.{bytes_eq}
 use Rattle.hex.specs.Hex.{encode_with, encode_lower, decode_of, IsBytes}
@@ -17,17 +17,19 @@ use Rattle.turn_client_api.specs.declared.call.Call.{Call}
 use Rattle.turn_client_api.specs.declared.call.Call.TheVariants as Calls
 use Rattle.turn_client_api.specs.declared.poll.Socket5Tuple.{Socket5Tuple}
 use Rattle.turn_lines.specs.Address.{address_of}
-use Rattle.turn_lines.specs.Arguments.{address_if_any, data_ends_of, one_address_of, packet_of, sending_of, transport_and_address_of, transport_and_ip_of, tuple_of, two_addresses_of, way_of}
-use Rattle.turn_lines.specs.Call.{call_of, call_with, if_short, is_short, instant_of, name_of}
+use Rattle.turn_lines.specs.Arguments.{address_if_any, data_ends_of, one_address_of, packet_of, sending_of, transport_and_address_of, transport_and_grantee_of, transport_and_ip_of, tuple_of, two_addresses_of, way_of, grantee_of}
+use Rattle.turn_lines.specs.Call.{call_of, call_with, if_short, is_short, instant_of, kept_call, kept_of, name_of}
 use Rattle.turn_lines.specs.Fault.{needed}
 use Rattle.turn_lines.specs.Field.{bytes_of, is_lower_hex, transport_of}
-use Rattle.turn_lines.specs.Line.{call_line, HasLine, IsIp, IsSpelled, IsSpelledIfAny, IsTuple, text_if_any, tuple_fields}
+use Rattle.turn_lines.specs.Line.{call_line, HasLine, IsIp, IsSpelled, IsSpelledIfAny, IsTuple, keep_name, text_if_any, tuple_fields}
 use Rattle.turn_lines.specs.Parts.{parts_of, next, ◌>>=◌}
 use Rattle.turn_lines.specs.Text.{address_text, bytes_text, fields_text, ip_text, transport_text}
+use Rattle.turn_lines.specs.declared.call.arguments.Grantee.{Grantee}
+use Rattle.turn_lines.specs.declared.call.arguments.Grantee.TheVariants as Grantees
 use Rattle.turn_lines.specs.declared.fault.BadKind.{BadKind}
 use Rattle.turn_lines.specs.declared.fault.BadKind.TheVariants as Bad
 use Rattle.turn_lines.proofs.LawLemmas.{Free, AllFree, false_and, Free-from_test, parts_of-join, decimal_free, decimal_up_to-decimal}
-use Rattle.turn_lines.proofs.AddressLemmas.{address_of-address_text, address_free, address_long, ip_of-ip_text, ip_free, is_lower_hex-encode_lower, hex_free}
+use Rattle.turn_lines.proofs.AddressLemmas.{address_of-address_text, address_free, address_long, address_of-ip_text, ip_of-ip_text, ip_free, is_lower_hex-encode_lower, hex_free}
 use Rattle.turn_client_api.specs.Calls.{FitsDatagram}
 
 -- ---- fields
@@ -129,6 +131,16 @@ transport_and_address_of-fields : (t : TransportType) (address : SocketAddr) →
 unfolding transport_and_address_of
 transport_and_address_of-fields t address h = rw (transport_of-text t, address_of-address_text address h) refl
 
+grantee_of-ip : (ip : IpAddr) → IsIp ip → grantee_of (ip_text ip) ≡ Some (Grantees.Ip ip)
+grantee_of-ip ip h = rw (address_of-ip_text ip h, ip_of-ip_text ip h) refl
+
+grantee_of-address : (peer : SocketAddr) → IsSpelled peer → grantee_of (address_text peer) ≡ Some (Grantees.Peer peer)
+grantee_of-address peer h = rw (address_of-address_text peer h) refl
+
+transport_and_grantee_of-fields : (t : TransportType) (text : List ℕ) (g : Grantee) → grantee_of text ≡ Some g → transport_and_grantee_of (transport_text t ∷ text ∷ []) ≡ Some (t, g)
+unfolding transport_and_grantee_of
+transport_and_grantee_of-fields t text g h = rw (transport_of-text t, h) refl
+
 one_address_of-fields : (address : SocketAddr) → IsSpelled address → one_address_of (address_text address ∷ []) ≡ Some address
 unfolding one_address_of
 one_address_of-fields address h = rw (address_of-address_text address h) refl
@@ -154,6 +166,16 @@ as_read relays o = needed o Bad.Argument (if_short relays)
 short_is : (relays : TransportType) (payload : List ℕ) → FitsDatagram relays payload → is_short relays payload ≡ true
 short_is Udp payload h = le-leb (length payload) 65504 (h refl)
 short_is Tcp payload h = refl
+
+-- the line that says whether this grant is kept
+kept_is_read_again : (relays : TransportType) (idle : ℕ) (is_kept : Bool) (t : TransportType) (text : List ℕ) (g : Grantee) → idle ≤ 2 ^ 62 → Free 32 text → grantee_of text ≡ Some g
+    → call_of relays (fields_text (decimal idle ∷ keep_name is_kept ∷ transport_text t ∷ text ∷ [])) ≡ as_read relays (Some (kept_call is_kept t g))
+kept_is_read_again relays idle true t text g low free h =
+    call_of-fields relays idle (codes "keep" ∷ transport_text t ∷ text ∷ []) low (word_free (codes "keep") refl, (transport_free t, (free, tt)))
+    ∙ ap (λ o. as_read relays (option_map (λ g. kept_call true g.0 g.1) o)) (transport_and_grantee_of-fields t text g h)
+kept_is_read_again relays idle false t text g low free h =
+    call_of-fields relays idle (codes "release" ∷ transport_text t ∷ text ∷ []) low (word_free (codes "release") refl, (transport_free t, (free, tt)))
+    ∙ ap (λ o. as_read relays (option_map (λ g. kept_call false g.0 g.1) o)) (transport_and_grantee_of-fields t text g h)
 
 -- parsing the line of a call gives that call
 pub call_is_read_again : (relays : TransportType) (idle : ℕ) (call : Call) → idle ≤ 2 ^ 62 → HasLine relays call → call_of relays (call_line idle call) ≡ Ok call
@@ -206,3 +228,7 @@ call_is_read_again relays idle (Calls.Permissions t relayed) low h =
 call_is_read_again relays idle (Calls.HavePermission t to) low h =
     call_of-fields relays idle (codes "have" ∷ transport_text t ∷ ip_text to ∷ []) low (word_free (codes "have") refl, (transport_free t, (ip_free to h, tt)))
     ∙ ap (λ o. as_read relays (option_map (λ p. Calls.HavePermission p.0 p.1) o)) (transport_and_ip_of-fields t to h)
+call_is_read_again relays idle (Calls.SetPermissionKept t peer is_kept) low h =
+    kept_is_read_again relays idle is_kept t (ip_text peer) (Grantees.Ip peer) low (ip_free peer h) (grantee_of-ip peer h)
+call_is_read_again relays idle (Calls.SetChannelKept t peer is_kept) low h =
+    kept_is_read_again relays idle is_kept t (address_text peer) (Grantees.Peer peer) low (address_free peer h) (grantee_of-address peer h)

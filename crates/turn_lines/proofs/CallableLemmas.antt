@@ -1,6 +1,6 @@
 -- Each parsed call is allowed on a client whose allocation is over the transport for which it was parsed. One that is
 -- parsed for UDP is allowed on any client, since its payload is short.
-use Rattle.std.proofs.Common.{◌≡◌, ℕ, ◌^◌, ◌≤◌, true, List, [], ◌∷◌, length, Option, Some, Ok, refl, subst}
+use Rattle.std.proofs.Common.{◌≡◌, ℕ, ◌^◌, ◌≤◌, Bool, true, false, List, [], ◌∷◌, length, Option, Some, Ok, refl, subst}
 use Rattle.std.specs.Prelude.{◌&&◌, All, nat_le}
 use Rattle.std.specs.Option.{option_map, option_and_then}
 use Rattle.std.specs.Str.Parse.{digits_value}
@@ -10,11 +10,13 @@ use Rattle.turn_stun.specs.declared.transport.TransportType.TheVariants.{Udp, Tc
 use Rattle.turn_client_api.specs.declared.call.Call.{Call}
 use Rattle.turn_client_api.specs.declared.call.Call.TheVariants as Calls
 use Rattle.turn_client_proto.specs.Run.{IsCallable}
-use Rattle.turn_lines.specs.Arguments.{data_ends_of, one_address_of, packet_of, sending_of, transport_and_address_of, transport_and_ip_of, tuple_of, two_addresses_of}
-use Rattle.turn_lines.specs.Call.{call_of, call_with, has_short_payload, if_short, is_short, instant_of, name_of}
+use Rattle.turn_lines.specs.Arguments.{data_ends_of, one_address_of, packet_of, sending_of, transport_and_address_of, transport_and_grantee_of, transport_and_ip_of, tuple_of, two_addresses_of}
+use Rattle.turn_lines.specs.Call.{call_of, call_with, has_short_payload, if_short, is_short, instant_of, kept_call, name_of}
 use Rattle.turn_lines.specs.Fault.{needed}
 use Rattle.turn_lines.specs.Number.{decimal_up_to, is_decimal}
 use Rattle.turn_lines.specs.Parts.{ends, next, parts_of}
+use Rattle.turn_lines.specs.declared.call.arguments.Grantee.{Grantee}
+use Rattle.turn_lines.specs.declared.call.arguments.Grantee.TheVariants as Grantees
 use Rattle.turn_lines.specs.declared.call.name.CallName.{CallName}
 use Rattle.turn_lines.specs.declared.call.name.CallName.TheVariants as Name
 use Rattle.turn_lines.specs.declared.fault.BadKind.TheVariants as Bad
@@ -47,6 +49,10 @@ short_of Tcp payload h = λ over. cc
 mapped : {A : Type 0} → (relays : TransportType) (f : A → Call) (o : Option A) (call : Call) → ((a : A) → IsCallableIfShort relays (f a)) → option_map f o ≡ Some call → IsCallableIfShort relays call
 mapped relays f o call good h = let m = of_map f o call h in subst (IsCallableIfShort relays) m.2 (good m.0)
 
+kept_callable : (relays : TransportType) (is_kept : Bool) (t : TransportType) (g : Grantee) → IsCallableIfShort relays (kept_call is_kept t g)
+kept_callable relays is_kept t (Grantees.Ip ip) short = tt
+kept_callable relays is_kept t (Grantees.Peer peer) short = tt
+
 callable_with : (relays : TransportType) (now : ℕ) (name : CallName) (fields : List (List ℕ)) (call : Call) → now ≤ 2 ^ 62 → call_with now name fields ≡ Some call → IsCallableIfShort relays call
 callable_with relays now Name.Poll fields call low h = mapped relays (λ _. Calls.Poll now) (ends fields) call (λ _ short. low) h
 callable_with relays now Name.Transmit fields call low h = mapped relays (λ _. Calls.PollTransmit now) (ends fields) call (λ _ short. low) h
@@ -71,6 +77,10 @@ callable_with relays now Name.Relayed fields call low h = mapped relays (λ _. C
 callable_with relays now Name.Permissions fields call low h =
     mapped relays (λ a. Calls.Permissions a.0 a.1) (transport_and_address_of fields) call (λ _ short. tt) h
 callable_with relays now Name.Have fields call low h = mapped relays (λ p. Calls.HavePermission p.0 p.1) (transport_and_ip_of fields) call (λ _ short. tt) h
+callable_with relays now Name.Release fields call low h =
+    mapped relays (λ g. kept_call false g.0 g.1) (transport_and_grantee_of fields) call (λ g. kept_callable relays false g.0 g.1) h
+callable_with relays now Name.Keep fields call low h =
+    mapped relays (λ g. kept_call true g.0 g.1) (transport_and_grantee_of fields) call (λ g. kept_callable relays true g.0 g.1) h
 
 -- ---- a line
 
@@ -104,6 +114,8 @@ callable_anywhere relays Calls.ProtocolError h = h
 callable_anywhere relays Calls.RelayedAddresses h = h
 callable_anywhere relays (Calls.Permissions transport relayed) h = h
 callable_anywhere relays (Calls.HavePermission transport to) h = h
+callable_anywhere relays (Calls.SetPermissionKept transport peer is_kept) h = h
+callable_anywhere relays (Calls.SetChannelKept transport peer is_kept) h = h
 
 pub all_callable_anywhere : (relays : TransportType) (calls : List Call) → All (IsCallable Udp) calls → All (IsCallable relays) calls
 all_callable_anywhere relays calls all = λ k d low. callable_anywhere relays _ (all k d low)

@@ -1,6 +1,6 @@
 -- The fields after the name of a call.
 use Rattle.std.specs.Prelude.{ℕ, ◌-◌, ◌^◌, if◌then◌else◌, List, codes, Option, Some, None}
-use Rattle.std.specs.Option.{option_map}
+use Rattle.std.specs.Option.{option_map, option_or}
 use Rattle.std.specs.Str.{bytes_eq}
 use Rattle.std.specs.declared.net.ip_addr.IpAddr.{IpAddr}
 use Rattle.std.specs.declared.net.socket_addr.SocketAddr.{SocketAddr}
@@ -8,6 +8,8 @@ use Rattle.turn_stun.specs.declared.transport.TransportType.{TransportType}
 use Rattle.turn_stun.specs.declared.transport.Transmit.{Transmit}
 use Rattle.turn_client_api.specs.declared.poll.Socket5Tuple.{Socket5Tuple}
 use Rattle.turn_lines.specs.Address.{address_of, ip_of}
+use Rattle.turn_lines.specs.declared.call.arguments.Grantee.{Grantee}
+use Rattle.turn_lines.specs.declared.call.arguments.Grantee.TheVariants.{Ip, Peer}
 use Rattle.turn_lines.specs.Field.{transport_of, bytes_of}
 use Rattle.turn_lines.specs.Number.{decimal_up_to}
 use Rattle.turn_lines.specs.Parts.{next, ends, ◌>>=◌}
@@ -52,6 +54,18 @@ transport_and_address_of fields = do
   address ← next address_of transport.1
   _ ← ends address.1
   Some (transport.0, address.0)
+
+-- with a port the peer of a channel, without one the IP address of a permission
+abbrev pub grantee_of : List ℕ → Option Grantee
+grantee_of text = option_or (option_map Peer (address_of text)) (option_map Ip (ip_of text))
+
+-- T ADDR or T IP
+unfoldable pub transport_and_grantee_of : List (List ℕ) → Option (TransportType × Grantee)
+transport_and_grantee_of fields = do
+  transport ← next transport_of fields
+  grantee ← next grantee_of transport.1
+  _ ← ends grantee.1
+  Some (transport.0, grantee.0)
 
 -- ADDR
 unfoldable pub one_address_of : List (List ℕ) → Option SocketAddr

@@ -1,5 +1,5 @@
 -- A line of a trace that is a call.
-use Rattle.std.specs.Prelude.{ℕ, ◌^◌, nat_le, Bool, true, if◌then◌else◌, List, [], ◌∷◌, length, codes, Option, Some, Result, Ok, Err}
+use Rattle.std.specs.Prelude.{ℕ, ◌^◌, nat_le, Bool, true, false, if◌then◌else◌, List, [], ◌∷◌, length, codes, Option, Some, Result, Ok, Err}
 use Rattle.std.specs.List.{find}
 use Rattle.std.specs.Option.{option_map, option_or}
 use Rattle.std.specs.Str.{bytes_eq}
@@ -8,10 +8,12 @@ use Rattle.turn_stun.specs.declared.transport.TransportType.TheVariants.{Udp, Tc
 use Rattle.turn_client_api.specs.declared.call.Call.{Call}
 use Rattle.turn_client_api.specs.declared.call.Call.TheVariants as Calls
 use Rattle.turn_lines.specs.Arguments.{packet_of, sending_of, transport_and_ip_of, transport_and_address_of, one_address_of, two_addresses_of, tuple_of}
-use Rattle.turn_lines.specs.Arguments.{data_ends_of}
+use Rattle.turn_lines.specs.Arguments.{data_ends_of, transport_and_grantee_of}
 use Rattle.turn_lines.specs.Fault.{needed}
 use Rattle.turn_lines.specs.Number.{decimal_up_to}
 use Rattle.turn_lines.specs.Parts.{parts_of, next, ends, ◌>>=◌}
+use Rattle.turn_lines.specs.declared.call.arguments.Grantee.{Grantee}
+use Rattle.turn_lines.specs.declared.call.arguments.Grantee.TheVariants.{Ip, Peer}
 use Rattle.turn_lines.specs.declared.call.name.CallName.{CallName}
 use Rattle.turn_lines.specs.declared.call.name.CallName.TheVariants as Name
 use Rattle.turn_lines.specs.declared.fault.BadKind.{BadKind}
@@ -31,7 +33,8 @@ driving_calls =
 abbrev pub asking_calls : List (List ℕ × CallName)
 asking_calls =
     (codes "send", Name.Send) ∷ (codes "permit", Name.Permit) ∷ (codes "bind", Name.Bind) ∷ (codes "connect", Name.Connect)
-    ∷ (codes "delete", Name.Delete) ∷ (codes "relayed", Name.Relayed) ∷ (codes "permissions", Name.Permissions) ∷ (codes "have", Name.Have) ∷ []
+    ∷ (codes "delete", Name.Delete) ∷ (codes "relayed", Name.Relayed) ∷ (codes "permissions", Name.Permissions) ∷ (codes "have", Name.Have)
+    ∷ (codes "release", Name.Release) ∷ (codes "keep", Name.Keep) ∷ []
 
 abbrev pub named : List (List ℕ × CallName) → List ℕ → Option CallName
 named calls text = option_map (λ call. call.1) (find (λ call. bytes_eq text call.0) calls)
@@ -58,6 +61,15 @@ permissions_call fields = option_map (λ a. Calls.Permissions a.0 a.1) (transpor
 abbrev pub have_of : List (List ℕ) → Option Call
 have_of fields = option_map (λ p. Calls.HavePermission p.0 p.1) (transport_and_ip_of fields)
 
+-- the call that says whether this grant is kept
+abbrev pub kept_call : Bool → TransportType → Grantee → Call
+kept_call is_kept transport (Ip ip) = Calls.SetPermissionKept transport ip is_kept
+kept_call is_kept transport (Peer peer) = Calls.SetChannelKept transport peer is_kept
+
+-- T IP, of a permission, or T ADDR, of a channel
+abbrev pub kept_of : Bool → List (List ℕ) → Option Call
+kept_of is_kept fields = option_map (λ g. kept_call is_kept g.0 g.1) (transport_and_grantee_of fields)
+
 -- a call from its time, its name and its arguments
 abbrev pub call_with : ℕ → CallName → List (List ℕ) → Option Call
 call_with now Name.Poll fields = without_arguments (Calls.Poll now) fields
@@ -76,6 +88,8 @@ call_with now Name.Error fields = without_arguments Calls.ProtocolError fields
 call_with now Name.Relayed fields = without_arguments Calls.RelayedAddresses fields
 call_with now Name.Permissions fields = permissions_call fields
 call_with now Name.Have fields = have_of fields
+call_with now Name.Release fields = kept_of false fields
+call_with now Name.Keep fields = kept_of true fields
 
 -- the most that one message to the server carries for an allocation over UDP; over TCP there is no limit
 abbrev pub is_short : TransportType → List ℕ → Bool

@@ -1,5 +1,5 @@
 -- A call as a line of a trace, for the law that parsing this line gives the call.
-use Rattle.std.specs.Prelude.{◌≡◌, ℕ, ◌^◌, ◌<◌, ◌≤◌, List, [], ◌∷◌, length, codes, decimal, Option, Some, None, ⊤}
+use Rattle.std.specs.Prelude.{◌≡◌, ℕ, ◌^◌, ◌<◌, ◌≤◌, Bool, true, false, List, [], ◌∷◌, length, codes, decimal, Option, Some, None, ⊤}
 use Rattle.std.specs.Net.Addr.{IsIpv4Addr, IsIpv6Addr}
 use Rattle.std.specs.Net.Socket.{IsSocketAddr, socket_flowinfo, socket_scope_id}
 use Rattle.std.specs.declared.net.ip_addr.IpAddr.{IpAddr}
@@ -20,6 +20,11 @@ text_if_any (Some address) = address_text address
 
 abbrev pub tuple_fields : Socket5Tuple → List (List ℕ) → List (List ℕ)
 tuple_fields tuple others = transport_text tuple.transport ∷ address_text tuple.from ∷ address_text tuple.to ∷ others
+
+-- the name of the call that says whether a grant is kept
+abbrev pub keep_name : Bool → List ℕ
+keep_name true = codes "keep"
+keep_name false = codes "release"
 
 -- the fields of a call; a call without a time is written with this one
 abbrev pub call_fields : ℕ → Call → List (List ℕ)
@@ -48,6 +53,10 @@ call_fields idle (Calls.Permissions transport relayed) =
     decimal idle ∷ codes "permissions" ∷ transport_text transport ∷ address_text relayed ∷ []
 call_fields idle (Calls.HavePermission transport to) =
     decimal idle ∷ codes "have" ∷ transport_text transport ∷ ip_text to ∷ []
+call_fields idle (Calls.SetPermissionKept transport peer is_kept) =
+    decimal idle ∷ keep_name is_kept ∷ transport_text transport ∷ ip_text peer ∷ []
+call_fields idle (Calls.SetChannelKept transport peer is_kept) =
+    decimal idle ∷ keep_name is_kept ∷ transport_text transport ∷ address_text peer ∷ []
 
 abbrev pub call_line : ℕ → Call → List ℕ
 call_line idle call = fields_text (call_fields idle call)
@@ -95,3 +104,5 @@ HasLine relays Calls.ProtocolError = ⊤
 HasLine relays Calls.RelayedAddresses = ⊤
 HasLine relays (Calls.Permissions transport relayed) = IsSpelled relayed
 HasLine relays (Calls.HavePermission transport to) = IsIp to
+HasLine relays (Calls.SetPermissionKept transport peer is_kept) = IsIp peer
+HasLine relays (Calls.SetChannelKept transport peer is_kept) = IsSpelled peer

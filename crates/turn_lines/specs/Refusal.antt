@@ -5,6 +5,8 @@ use Rattle.turn_client_api.specs.declared.error.CreatePermissionError.{CreatePer
 use Rattle.turn_client_api.specs.declared.error.CreatePermissionError.TheVariants as Permit
 use Rattle.turn_client_api.specs.declared.error.DeleteError.{DeleteError}
 use Rattle.turn_client_api.specs.declared.error.DeleteError.TheVariants as Delete
+use Rattle.turn_client_api.specs.declared.error.KeepError.{KeepError}
+use Rattle.turn_client_api.specs.declared.error.KeepError.TheVariants as Keep
 use Rattle.turn_client_api.specs.declared.error.SendError.{SendError}
 use Rattle.turn_client_api.specs.declared.error.SendError.TheVariants as Send
 use Rattle.turn_client_api.specs.declared.error.TcpAllocateError.{TcpAllocateError}
@@ -12,7 +14,7 @@ use Rattle.turn_client_api.specs.declared.error.TcpAllocateError.TheVariants as 
 use Rattle.turn_client_api.specs.declared.error.TcpConnectError.{TcpConnectError}
 use Rattle.turn_client_api.specs.declared.error.TcpConnectError.TheVariants as Connect
 use Rattle.turn_lines.specs.declared.refusal.Refusal.{Refusal}
-use Rattle.turn_lines.specs.declared.refusal.Refusal.TheVariants.{AlreadyExists, NoAllocation, NoPermission, NoSocket, Expired, OutOfMemory}
+use Rattle.turn_lines.specs.declared.refusal.Refusal.TheVariants.{AlreadyExists, NoAllocation, NoPermission, NoSocket, Expired, NotGranted, OutOfMemory}
 
 abbrev pub send_refusal : SendError → Refusal
 send_refusal Send.NoAllocation = NoAllocation
@@ -45,3 +47,6 @@ tcp_allocate_refusal Socket.OutOfMemory = OutOfMemory
 abbrev pub delete_refusal : DeleteError → Refusal
 delete_refusal Delete.NoAllocation = NoAllocation
 delete_refusal Delete.OutOfMemory = OutOfMemory
+
+abbrev pub keep_refusal : KeepError → Refusal
+keep_refusal Keep.NotGranted = NotGranted

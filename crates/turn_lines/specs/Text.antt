@@ -24,6 +24,7 @@ use Rattle.turn_client_proto.specs.declared.runs.reply.PeerData.{PeerData}
 use Rattle.turn_client_proto.specs.declared.runs.reply.Reply.{Reply}
 use Rattle.turn_client_proto.specs.declared.runs.reply.Reply.TheVariants as Replies
 use Rattle.turn_lines.specs.Refusal.{send_refusal, create_permission_refusal, bind_channel_refusal, tcp_connect_refusal, tcp_allocate_refusal, delete_refusal}
+use Rattle.turn_lines.specs.Refusal.{keep_refusal}
 use Rattle.turn_lines.specs.declared.fault.BadKind.{BadKind}
 use Rattle.turn_lines.specs.declared.fault.BadKind.TheVariants as Bad
 use Rattle.turn_lines.specs.declared.fault.BadLine.{BadLine}
@@ -104,6 +105,7 @@ refusal_fields Refused.NoAllocation = codes "refused" ∷ codes "no-allocation" 
 refusal_fields Refused.NoPermission = codes "refused" ∷ codes "no-permission" ∷ []
 refusal_fields Refused.NoSocket = codes "refused" ∷ codes "no-socket" ∷ []
 refusal_fields (Refused.Expired until) = codes "refused" ∷ codes "expired" ∷ decimal until ∷ []
+refusal_fields Refused.NotGranted = codes "refused" ∷ codes "not-granted" ∷ []
 refusal_fields Refused.OutOfMemory = codes "refused" ∷ codes "no-memory" ∷ []
 
 -- the number of elements, and then the fields of each
@@ -145,6 +147,10 @@ reply_fields (Replies.Delete (Err error)) = refusal_fields (delete_refusal error
 reply_fields (Replies.RelayedAddresses relayed) = list_fields relayed_fields relayed
 reply_fields (Replies.Permissions ips) = list_fields (λ ip. ip_text ip ∷ []) ips
 reply_fields (Replies.HavePermission found) = yes_or_no found ∷ []
+reply_fields (Replies.SetPermissionKept (Ok done)) = codes "ok" ∷ []
+reply_fields (Replies.SetPermissionKept (Err error)) = refusal_fields (keep_refusal error)
+reply_fields (Replies.SetChannelKept (Ok done)) = codes "ok" ∷ []
+reply_fields (Replies.SetChannelKept (Err error)) = refusal_fields (keep_refusal error)
 reply_fields Replies.Done = codes "ok" ∷ []
 
 -- a line ends with LF

@@ -3,14 +3,16 @@
 ghost use Rattle.std.specs.Prelude.{◌≡◌, Some, None, MatchOption};
 ghost use Rattle.turn_client_api.specs.declared.call.Call.{Call};
 ghost use Rattle.turn_lines.specs.Call.{call_of, call_with, has_short_payload, instant_of, name_of};
-ghost use Rattle.turn_lines.specs.Call.{have_of, is_short, permissions_call, without_arguments};
+ghost use Rattle.turn_lines.specs.Call.{have_of, is_short, kept_call, permissions_call, without_arguments};
+ghost use Rattle.turn_lines.specs.Call.{kept_of};
 ghost use Rattle.turn_lines.specs.Fault.{Reads};
 ghost use Rattle.turn_lines.specs.Field.{Gives};
 ghost use Rattle.turn_lines.specs.Parts.{next};
 
 use crate::call::arguments::{
-    take_data_ends, take_one_address, take_packet, take_sending, take_transport_and_address,
-    take_transport_and_ip, take_tuple, take_two_addresses,
+    Grantee, take_data_ends, take_one_address, take_packet, take_sending,
+    take_transport_and_address, take_transport_and_grantee, take_transport_and_ip, take_tuple,
+    take_two_addresses,
 };
 use crate::call::name::{CallName, parse_name};
 use crate::fault::{BadKind, ReadError};
@@ -123,6 +125,8 @@ fn take_arguments(
         CallName::Relayed => alone(fields, Call::RelayedAddresses),
         CallName::Permissions => take_permissions(fields),
         CallName::Have => take_have(fields),
+        CallName::Release => take_kept(false, fields),
+        CallName::Keep => take_kept(true, fields),
     }
 }
 
@@ -219,4 +223,30 @@ fn take_have(fields: &mut Parts<'_>) -> Result<Call, FieldError>
 {
     let (transport, to) = take_transport_and_ip(fields).ok_or(FieldError::Malformed)?;
     Ok(Call::HavePermission { transport, to })
+}
+
+/// A permission or a channel, and whether it is kept from now on.
+fn take_kept(is_kept: bool, fields: &mut Parts<'_>) -> Result<Call, FieldError>
+    ensures { Gives (λ call. call) result (kept_of is_kept fields.old) }
+{
+    let (transport, grantee) = take_transport_and_grantee(fields).ok_or(FieldError::Malformed)?;
+    Ok(kept_call(is_kept, transport, grantee))
+}
+
+/// The call that says whether this grant is kept.
+fn kept_call(is_kept: bool, transport: TransportType, grantee: Grantee) -> Call
+    ensures { result ≡ kept_call is_kept transport grantee }
+{
+    match grantee {
+        Grantee::Ip(peer_addr) => Call::SetPermissionKept {
+            transport,
+            peer_addr,
+            is_kept,
+        },
+        Grantee::Peer(peer_addr) => Call::SetChannelKept {
+            transport,
+            peer_addr,
+            is_kept,
+        },
+    }
 }

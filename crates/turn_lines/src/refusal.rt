@@ -1,7 +1,7 @@
 //! The error of a call, for all calls.
 
 use turn_client_api::{
-    BindChannelError, CreatePermissionError, DeleteError, SendError, TcpAllocateError,
+    BindChannelError, CreatePermissionError, DeleteError, KeepError, SendError, TcpAllocateError,
     TcpConnectError,
 };
 use turn_stun::instant::Instant;
@@ -20,6 +20,8 @@ pub enum Refusal {
     NoSocket,
     /// The peer had a channel, and no other may be bound to it until this time has passed.
     Expired(Instant),
+    /// There is no such permission, or no channel to the peer.
+    NotGranted,
     /// Memory allocation failed. A run ends then, so that no answer of a run holds this.
     OutOfMemory,
 }
@@ -112,6 +114,19 @@ impl From<DeleteError> for Refusal {
         match error {
             DeleteError::NoAllocation => Refusal::NoAllocation,
             DeleteError::OutOfMemory => Refusal::OutOfMemory,
+        }
+    }
+}
+
+impl From<KeepError> for Refusal {
+    ghost use Rattle.std.specs.Prelude.{◌≡◌};
+    ghost use Rattle.turn_lines.specs.Refusal.{keep_refusal};
+
+    ghost from_gives = { λ error refusal. refusal ≡ keep_refusal error };
+
+    fn from(error: KeepError) -> Refusal {
+        match error {
+            KeepError::NotGranted => Refusal::NotGranted,
         }
     }
 }

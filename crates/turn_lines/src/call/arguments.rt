@@ -1,8 +1,9 @@
 //! The fields after the name of a call.
 
 ghost use Rattle.std.specs.Prelude.{◌≡◌, Some, None, MatchOption};
-ghost use Rattle.turn_lines.specs.Arguments.{address_if_any, data_ends_of, one_address_of, packet_of, sending_of};
-ghost use Rattle.turn_lines.specs.Arguments.{transport_and_address_of, transport_and_ip_of, tuple_of, two_addresses_of, way_of};
+ghost use Rattle.turn_lines.specs.Arguments.{address_if_any, data_ends_of, grantee_of, one_address_of, packet_of, sending_of};
+ghost use Rattle.turn_lines.specs.Arguments.{transport_and_address_of, transport_and_grantee_of, transport_and_ip_of, tuple_of, two_addresses_of};
+ghost use Rattle.turn_lines.specs.Arguments.{way_of};
 ghost use Rattle.turn_lines.specs.Field.{Gives};
 
 use crate::address::{parse_address, parse_ip};
@@ -14,6 +15,15 @@ use std::net::{IpAddr, SocketAddr};
 use turn_client_api::Socket5Tuple;
 use turn_stun::data::Data;
 use turn_stun::transport::{Transmit, TransportType};
+
+/// Whose grant a line names.
+#[derive(Clone, Copy, Debug, PartialEq, Eq)]
+pub enum Grantee {
+    /// All ports of this IP address: the grant is a permission (RFC 8656, section 9).
+    Ip(IpAddr),
+    /// This address and port: the grant is a channel (RFC 8656, section 12).
+    Peer(SocketAddr),
+}
 
 /// A packet: its transport, source, destination and bytes.
 #[tactic(auto, unfolding(crate::specs::Arguments::packet_of))]
@@ -63,6 +73,27 @@ pub fn take_transport_and_address(fields: &mut Parts<'_>) -> Option<(TransportTy
     let address = parse_address(fields.next()?)?;
     fields.end()?;
     Some((transport, address))
+}
+
+/// A transport, and an address with or without a port, and nothing else.
+#[tactic(auto, unfolding(crate::specs::Arguments::transport_and_grantee_of))]
+pub fn take_transport_and_grantee(fields: &mut Parts<'_>) -> Option<(TransportType, Grantee)>
+    ensures { result ≡ transport_and_grantee_of fields.old }
+{
+    let transport = parse_transport(fields.next()?)?;
+    let grantee = parse_grantee(fields.next()?)?;
+    fields.end()?;
+    Some((transport, grantee))
+}
+
+/// With a port a peer, without one an IP address.
+fn parse_grantee(text: &[u8]) -> Option<Grantee>
+    ensures { result ≡ grantee_of text.now }
+{
+    match parse_address(text) {
+        Some(peer) => Some(Grantee::Peer(peer)),
+        None => Some(Grantee::Ip(parse_ip(text)?)),
+    }
 }
 
 /// An address, and nothing else.

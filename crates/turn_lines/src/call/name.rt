@@ -38,6 +38,10 @@ pub enum CallName {
     Permissions,
     /// `have`, which is `have_permission`, with the peer's IP address.
     Have,
+    /// `release`: a permission, or with a port a channel, is not kept any more.
+    Release,
+    /// `keep`: a permission, or with a port a channel, is kept again.
+    Keep,
 }
 
 /// The call of this name.
@@ -108,6 +112,12 @@ fn parse_asking_name(text: &[u8]) -> Option<CallName>
     }
     if text == b"have".as_slice() {
         return Some(CallName::Have);
+    }
+    if text == b"release".as_slice() {
+        return Some(CallName::Release);
+    }
+    if text == b"keep".as_slice() {
+        return Some(CallName::Keep);
     }
     None
 }

@@ -43,11 +43,15 @@ pub fn reply_text(alloc: Global, reply: &Reply) -> Result<String, AllocError>
         Reply::TcpConnect(Err(error)) => refusal_text(alloc, Refusal::from(*error)),
         Reply::AllocatedTcpSocket(Err(error)) => refusal_text(alloc, Refusal::from(*error)),
         Reply::Delete(Err(error)) => refusal_text(alloc, Refusal::from(*error)),
+        Reply::SetPermissionKept(Err(error)) => refusal_text(alloc, Refusal::from(*error)),
+        Reply::SetChannelKept(Err(error)) => refusal_text(alloc, Refusal::from(*error)),
         Reply::CreatePermission(Ok(()))
         | Reply::BindChannel(Ok(()))
         | Reply::TcpConnect(Ok(()))
         | Reply::AllocatedTcpSocket(Ok(()))
         | Reply::Delete(Ok(()))
+        | Reply::SetPermissionKept(Ok(()))
+        | Reply::SetChannelKept(Ok(()))
         | Reply::Done => String::from_str(alloc, "ok"),
         Reply::RelayedAddresses(relayed) => relayed_text(alloc, relayed.as_slice()),
         Reply::Permissions(ips) => ips_text(alloc, ips.as_slice()),
@@ -101,6 +105,7 @@ fn refusal_text(alloc: Global, refusal: Refusal) -> Result<String, AllocError>
             let nanos = until.as_nanos();
             format!(in alloc; "refused expired {nanos}")
         }
+        Refusal::NotGranted => String::from_str(alloc, "refused not-granted"),
         Refusal::OutOfMemory => String::from_str(alloc, "refused no-memory"),
     }
 }
