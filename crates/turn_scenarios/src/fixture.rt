@@ -80,6 +80,35 @@ pub(crate) fn client_over_slow_link(
     Ok(TurnClientUdp::allocate(alloc, local(), server(), config, [0; 32])?)
 }
 
+/// The times that a caller sets, in milliseconds.
+#[derive(Clone, Copy)]
+pub(crate) struct Times {
+    /// The pause between two requests.
+    pub(crate) cadence: u32,
+    /// After how long without a packet the path to the server is kept alive, if ever.
+    pub(crate) keepalive: Option<u32>,
+    /// How long before its expiry a grant is refreshed.
+    pub(crate) ahead: u32,
+}
+
+/// A new client over UDP with these times, which waits for 3 s before it sends a request again.
+pub(crate) fn client_with_times(
+    alloc: Global,
+    times: Times,
+) -> Result<TurnClientUdp, CredentialsError> {
+    let mut config = config(alloc)?;
+    let wait = Duration::from_secs(3);
+    config.set_request_retransmits(wait, wait, 7, wait);
+    config.set_request_cadence(millis(times.cadence));
+    config.set_keepalive(times.keepalive.map(millis));
+    config.set_refresh_ahead(millis(times.ahead));
+    Ok(TurnClientUdp::allocate(alloc, local(), server(), config, [0; 32])?)
+}
+
+fn millis(count: u32) -> Duration {
+    Duration::from_millis(u64::from(count))
+}
+
 /// A new client over TCP of the seed of zeros.
 pub(crate) fn client_over_tcp(alloc: Global) -> Result<TurnClientTcp, CredentialsError> {
     let config = config(alloc)?;

@@ -33,3 +33,5 @@ mod messages;
 mod server;
 #[cfg(test)]
 mod slow_link;
+#[cfg(test)]
+mod times;

@@ -19,6 +19,9 @@ const UNAUTHENTICATED: &[u8] = &[
 /// LIFETIME of 1000 seconds.
 const LIFETIME: &[u8] = &[0x00, 0x0d, 0x00, 0x04, 0x00, 0x00, 0x03, 0xe8];
 
+/// LIFETIME of 300 seconds.
+const SHORT_LIFETIME: &[u8] = &[0x00, 0x0d, 0x00, 0x04, 0x00, 0x00, 0x01, 0x2c];
+
 /// XOR-RELAYED-ADDRESS of 10.0.0.4:40000.
 const RELAYED4: &[u8] = &[
     0x00, 0x16, 0x00, 0x08, 0x00, 0x01, 0xbd, 0x52, 0x2b, 0x12, 0xa4, 0x46,
@@ -46,6 +49,19 @@ const BINDS: Rule<'static> = (CHANNEL_BIND, Often::Always, Answer::Success(&[]))
 
 /// A server that grants every request.
 pub(crate) const GENEROUS: &[Rule<'static>] = &[CHALLENGES, ALLOCATES, REFRESHES, PERMITS, BINDS];
+
+/// A server that grants every request, and the allocation for 300 seconds at first.
+pub(crate) const SHORT: &[Rule<'static>] = &[
+    CHALLENGES,
+    (
+        ALLOCATE,
+        Often::Always,
+        Answer::Success(&[SHORT_LIFETIME, RELAYED4]),
+    ),
+    REFRESHES,
+    PERMITS,
+    BINDS,
+];
 
 /// `hello` of 10.0.0.3:9000.
 pub(crate) const DATA: &[u8] = &[

@@ -20,6 +20,9 @@ const INTEGRITY: [u8; 4] = [0x00, 0x08, 0x00, 0x14];
 
 const INTEGRITY_LEN: usize = 24;
 
+/// The type of a Binding indication (RFC 8489, sections 5 and 18.2).
+pub(crate) const BINDING_INDICATION: u16 = 0x11;
+
 // The methods (RFC 8656, section 17, and RFC 6062, section 6.1).
 pub(crate) const ALLOCATE: u16 = 3;
 
