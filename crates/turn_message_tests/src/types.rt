@@ -1,5 +1,6 @@
 //! What no clause says: external values, and that each call succeeds while memory allocation does.
 
+mod again;
 mod attributes;
 mod frames;
 mod memory;
