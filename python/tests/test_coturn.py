@@ -176,8 +176,8 @@ class Coturn(unittest.IsolatedAsyncioTestCase):
         uri = self.server.uri("turn:127.0.0.1:{port}?transport=tcp")
         self.addCleanup(peers.close)
         async with TurnClient(uri, "user", "pass", relay="tcp") as relay:
-            opens = relay._connect
-            with unittest.mock.patch.object(relay, "_connect", lambda *them: open_one(opens, *them)):
+            opens = relay._server.connect
+            with unittest.mock.patch.object(relay._server, "connect", lambda *them: open_one(opens, *them)):
                 with self.assertRaises(ConnectFailed) as failed:
                     await asyncio.wait_for(relay.connect(peers.sockets[0].getsockname()), 10)
             self.assertFalse(relay.closed)
@@ -206,19 +206,19 @@ class Coturn(unittest.IsolatedAsyncioTestCase):
         peer, opened = peers.sockets[0].getsockname(), []
         async with TurnClient(self.server.uri("turn:127.0.0.1:{port}?transport=tcp"), "user", "pass", relay="tcp") as relay:
             await relay.permit(peer[0])
-            opens = relay._connect
+            opens = relay._server.connect
 
             async def open_late(*them: object) -> Link:
                 await asyncio.sleep(0.5)
                 opened.append(await opens(*them))
                 return opened[-1]
 
-            with unittest.mock.patch.object(relay, "_connect", open_late):
+            with unittest.mock.patch.object(relay._server, "connect", open_late):
                 with self.assertRaises(asyncio.TimeoutError):
                     await asyncio.wait_for(relay.connect(peer), 0.3)
                 await asyncio.sleep(1)
-            self.assertEqual([link.ended for link in opened], [True])
-            self.assertEqual(relay._streams._accepted.qsize(), 0)
+            self.assertEqual([link.is_over for link in opened], [True])
+            self.assertEqual(relay._session().streams._accepted.qsize(), 0)
             reader, writer = await asyncio.wait_for(relay.connect(peer), 10)
             writer.write(b"hello")
             self.assertEqual(await asyncio.wait_for(reader.readexactly(5), 5), b"hello")
@@ -232,13 +232,13 @@ class Coturn(unittest.IsolatedAsyncioTestCase):
             with self.assertRaises(asyncio.TimeoutError):
                 await asyncio.wait_for(relay.connect(peer), 0.02)  # the CONNECT leaves 50 ms after the last request
             await asyncio.sleep(0.5)
-            connected = relay._streams.connected
+            connected = relay._session().streams.connected
 
             def cancel(bound: "tuple[str, int]") -> None:
                 connected(bound)
                 connecting.cancel()
 
-            with unittest.mock.patch.object(relay._streams, "connected", cancel):
+            with unittest.mock.patch.object(relay._session().streams, "connected", cancel):
                 connecting = asyncio.ensure_future(relay.connect(peer))
                 with self.assertRaises(asyncio.CancelledError):
                     await asyncio.wait_for(connecting, 10)

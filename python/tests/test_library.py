@@ -12,8 +12,8 @@ import threading
 import unittest
 from typing import List
 
+from yarrowdoor import address, layout, library
 from yarrowdoor import client as sans_io
-from yarrowdoor import library
 from yarrowdoor.errors import Busy, LibraryError, Refused
 
 from .replay import replay
@@ -113,7 +113,7 @@ class Refusals(unittest.TestCase):
         client = sans_io.Client(("fe80::1", 1000, 0, 3), ("fe80::2", 2000, 0, 3), "user", "pass", families=(6,))
         packet = client.poll_transmit(0)
         self.assertEqual((packet.local, packet.remote), (("fe80::1", 1000, 0, 3), ("fe80::2", 2000, 0, 3)))
-        self.assertEqual(sans_io.unpacked(sans_io.packed(("::1", 5, 0, 0))), ("::1", 5))
+        self.assertEqual(address.socket_address(address.packed(("::1", 5, 0, 0))), ("::1", 5))
 
     def test_buffers_of_the_caller(self) -> None:
         answers = []
@@ -239,7 +239,7 @@ class Loading(unittest.TestCase):
         with tempfile.TemporaryDirectory() as room:
             source = pathlib.Path(room, "other.c")
             source.write_text(OTHER)
-            for name, reason in (("libyarrowdoor.so.1", "is libyarrowdoor.so.1"), (library.NAME, "other structs")):
+            for name, reason in (("libyarrowdoor.so.1", "is libyarrowdoor.so.1"), (layout.NAME, "other structs")):
                 made = pathlib.Path(room, name)
                 subprocess.run(["cc", "-shared", "-fPIC", f"-Wl,-soname,{name}", str(source), "-o", str(made)], check=True)
                 with self.assertRaisesRegex(LibraryError, reason):

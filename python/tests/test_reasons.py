@@ -20,8 +20,8 @@ SUCCESS = message(0x0103, attribute(0x0020, xored(("192.0.2.7", 4000))) + attrib
 
 class Reading(unittest.TestCase):
     def test_responses(self) -> None:
-        self.assertEqual(reasons.read(REFUSAL), (reasons.ALLOCATE, TRANSACTION, (401, "no"), None))
-        self.assertEqual(reasons.read(SUCCESS), (reasons.ALLOCATE, TRANSACTION, None, ("192.0.2.7", 4000)))
+        self.assertEqual(reasons.read(REFUSAL), (reasons.ALLOCATE, False, True, TRANSACTION, (401, "no"), None))
+        self.assertEqual(reasons.read(SUCCESS), (reasons.ALLOCATE, False, True, TRANSACTION, None, ("192.0.2.7", 4000)))
         mapped = b"\0\2" + struct.pack("!H", 4000 ^ 0x2112) + bytes(a ^ b for a, b in zip(bytes(15) + b"\1", COOKIE + TRANSACTION))
         self.assertEqual(reasons.read(message(0x0103, attribute(0x0020, mapped))).mapped, ("::1", 4000))
 
@@ -39,9 +39,17 @@ class Reading(unittest.TestCase):
         self.assertEqual(reasons.read(late).mapped, None)
 
     def test_what_is_no_response(self) -> None:
-        for data in (b"", REFUSAL[:19], REFUSAL[:-1], b"\x40\0\0\0" + REFUSAL, message(0x0003, b""), message(0x0017, b""),
-                     REFUSAL[:4] + b"\0\0\0\0" + REFUSAL[8:]):
+        request, indication = reasons.read(message(0x0003, b"")), reasons.read(message(0x0017, b""))
+        self.assertEqual((request.is_request, request.is_response), (True, False))
+        self.assertEqual((indication.is_request, indication.is_response), (False, False))
+
+    def test_what_is_no_message(self) -> None:
+        for data in (b"", REFUSAL[:19], REFUSAL[:-1], b"\x40\0\0\0" + REFUSAL, REFUSAL[:4] + b"\0\0\0\0" + REFUSAL[8:]):
             self.assertIsNone(reasons.read(data))
+
+    def test_attributes(self) -> None:
+        found = message(0x0104, attribute(0x000D, b"\0\0\2\x58") + attribute(0x0008, bytes(20)) + attribute(0x8022, b"late"))
+        self.assertEqual([reasons.attribute(found, it) for it in (0x000D, 0x0008, 0x8022)], [b"\0\0\2\x58", None, None])
 
     def test_what_is_malformed(self) -> None:
         for body in (attribute(0x0009, b"\0\0\4"), b"\0\x09\0", b"\0\x09\xff\xff\0\0"):
@@ -69,6 +77,8 @@ class Streams(unittest.TestCase):
     def test_what_is_no_stream_of_turn(self) -> None:
         frames = reasons.Frames()
         self.assertEqual([*frames.messages(REFUSAL + b"\x80\0\0\0"), *frames.messages(SUCCESS)], [REFUSAL])
+        frames = reasons.Frames()
+        self.assertEqual([*frames.messages(bytes(65_536)), *frames.messages(SUCCESS)], [])
 
 
 if __name__ == "__main__":

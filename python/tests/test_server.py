@@ -12,23 +12,24 @@ from yarrowdoor import (
 from yarrowdoor.client import (
     AllocationCreated, AllocationCreateFailed, ChannelCreated, ChannelCreateFailed, PermissionCreated, PermissionCreateFailed,
 )
+from yarrowdoor.servers import Server
 from yarrowdoor.uri import TurnUri
 
 from .network import SECOND, Endpoint, Network, StreamEndpoint
-from .server import Server
+from .server import Server as TestServer
 
 
 class InItsOwnTime(unittest.TestCase):
     """`client.Client` and a server, with a network in between."""
 
-    def allocated(self, server: Server, **settings: object) -> Network:
+    def allocated(self, server: TestServer, **settings: object) -> Network:
         network = Network(server, **settings)
         network.run(30)
         self.assertEqual(network.events, [AllocationCreated(("10.9.9.9", 40000), "udp")])
         return network
 
     def test_thirty_peers_and_a_stale_nonce(self) -> None:
-        server = Server(nonce_life=5)
+        server = TestServer(nonce_life=5)
         network = self.allocated(server)
         peers = [(f"10.1.0.{number}", 9000) for number in range(30)]
         for number, peer in enumerate(peers):
@@ -49,7 +50,7 @@ class InItsOwnTime(unittest.TestCase):
 
     def thirty_peers_over_a_slow_link(self, limit: int) -> Network:
         """A client after 20 minutes with a round trip of 700 ms, whose requests leave long before the first one is answered."""
-        network = self.allocated(Server(nonce_life=5), delay=0.35, max_stale_nonces=limit)
+        network = self.allocated(TestServer(nonce_life=5), delay=0.35, max_stale_nonces=limit)
         for number in range(30):
             network.client.create_permission(f"10.1.0.{number}", network.now)
         network.run(1200)
@@ -66,7 +67,7 @@ class InItsOwnTime(unittest.TestCase):
         self.assertEqual(network.of(PermissionCreated), [])
 
     def test_loss_and_late_and_doubled_packets(self) -> None:
-        network = self.allocated(Server(), loss=0.1, doubled=0.1, jitter=0.2, seed=7)
+        network = self.allocated(TestServer(), loss=0.1, doubled=0.1, jitter=0.2, seed=7)
         peer = ("10.1.0.1", 9000)
         network.client.create_permission(peer[0], network.now)
         network.run(60)
@@ -86,21 +87,21 @@ class InItsOwnTime(unittest.TestCase):
         self.assertGreater(len(network.data), len(came))  # some of them twice
 
     def test_a_wrong_password_is_silence(self) -> None:
-        network = Network(Server(password="other"))
+        network = Network(TestServer(password="other"))
         network.run(60)
         self.assertTrue(network.is_closed)
         self.assertEqual(network.events, [])
         self.assertAlmostEqual(network.now / SECOND, 39.5, delta=0.5)
 
     def test_a_refused_allocation(self) -> None:
-        network = Network(Server(allocate_error=486))
+        network = Network(TestServer(allocate_error=486))
         network.run(60)
         self.assertEqual(network.events, [AllocationCreateFailed(4)])
         self.assertTrue(network.is_closed)
         self.assertLess(network.now, SECOND)
 
     def test_a_server_that_dies(self) -> None:
-        server = Server()
+        server = TestServer()
         network = self.allocated(server)
         network.client.create_permission("10.1.0.1", network.now)
         network.run(31)
@@ -112,7 +113,7 @@ class InItsOwnTime(unittest.TestCase):
         self.assertLessEqual(network.now, 601 * SECOND)
 
     def test_own_times(self) -> None:
-        server = Server()
+        server = TestServer()
         server.is_dead = True
         times = Times(initial=SECOND, longest=2 * SECOND, last=3 * SECOND, count=4)
         network = Network(server, times=times)
@@ -122,7 +123,7 @@ class InItsOwnTime(unittest.TestCase):
         self.assertEqual(network.now, 8 * SECOND)  # 1 + 2 + 2, and 3 after the last one
 
     def test_the_times_of_the_readme(self) -> None:
-        server = Server()
+        server = TestServer()
         server.is_dead = True
         times = Times(initial=200_000_000, longest=800_000_000, last=1_600_000_000, count=4)
         network = Network(server, times=times)
@@ -155,7 +156,7 @@ class ThroughASocket(unittest.IsolatedAsyncioTestCase):
     """`TurnClient` and a server on a socket of this host."""
 
     async def serve(self, **settings: object) -> Endpoint:
-        endpoint = await Endpoint.start(Server(**settings))
+        endpoint = await Endpoint.start(TestServer(**settings))
         self.addCleanup(endpoint.close)
         return endpoint
 
@@ -263,7 +264,7 @@ class ThroughASocket(unittest.IsolatedAsyncioTestCase):
             for _ in range(3):
                 with self.assertRaises(asyncio.TimeoutError):
                     await asyncio.wait_for(relay.receive(), 0.01)
-            self.assertEqual(len(relay._takers), 0)
+            self.assertEqual(len(relay._inbox._takers), 0)
 
     async def test_a_wrong_password_is_told_soon(self) -> None:
         endpoint = await self.serve()
@@ -295,10 +296,10 @@ class ThroughASocket(unittest.IsolatedAsyncioTestCase):
     async def test_another_address_of_the_server(self) -> None:
         endpoint = await self.serve()
 
-        async def hosts(relay: TurnClient) -> "list[str]":
+        async def hosts(server: Server) -> "list[str]":
             return ["127.0.0.2", "127.0.0.1"]  # nothing listens at the first one
 
-        with unittest.mock.patch.object(TurnClient, "_hosts", hosts):
+        with unittest.mock.patch.object(Server, "addresses", hosts):
             async with TurnClient(endpoint.uri, "user", "pass") as relay:
                 await relay.send(b"hello", ("10.1.0.1", 9000))
                 self.assertEqual(await asyncio.wait_for(relay.receive(), 5), (b"hello", ("10.1.0.1", 9000)))
@@ -308,20 +309,20 @@ class ThroughASocket(unittest.IsolatedAsyncioTestCase):
         take = endpoint.datagram_received
         endpoint.datagram_received = lambda *it: asyncio.get_running_loop().call_later(0.3, take, *it)
 
-        async def hosts(relay: TurnClient) -> "list[str]":
+        async def hosts(server: Server) -> "list[str]":
             return ["127.0.0.2", "127.0.0.1"]
 
-        with unittest.mock.patch.object(TurnClient, "_hosts", hosts):
+        with unittest.mock.patch.object(Server, "addresses", hosts):
             async with TurnClient(endpoint.uri, "user", "pass") as relay:
                 self.assertEqual(relay.address, ("10.9.9.9", 40000))
 
     async def test_no_address_of_the_server_answers(self) -> None:
         endpoint = await self.serve()
 
-        async def hosts(relay: TurnClient) -> "list[str]":
+        async def hosts(server: Server) -> "list[str]":
             return ["127.0.0.2", "255.255.255.255"]  # to the second one no socket connects
 
-        with unittest.mock.patch.object(TurnClient, "_hosts", hosts):
+        with unittest.mock.patch.object(Server, "addresses", hosts):
             relay = TurnClient(endpoint.uri, "user", "pass")
             with self.assertRaises(AllocationFailed):
                 await relay.open()
@@ -330,14 +331,14 @@ class ThroughASocket(unittest.IsolatedAsyncioTestCase):
             await asyncio.wait_for(relay.wait_closed(), 1)
 
     async def test_a_connection_that_is_reset_at_once(self) -> None:
-        endpoint = await StreamEndpoint.start(Server())
+        endpoint = await StreamEndpoint.start(TestServer())
         self.addCleanup(endpoint.close)
         with unittest.mock.patch.object(socket.socket, "getpeername", side_effect=OSError(107, "not connected")):
             with self.assertRaises(AllocationFailed):
                 await asyncio.wait_for(TurnClient(endpoint.uri, "user", "pass").open(), 5)
 
     async def test_sending_to_a_server_that_stopped_reading(self) -> None:
-        endpoint = await StreamEndpoint.start(Server())
+        endpoint = await StreamEndpoint.start(TestServer())
         self.addCleanup(endpoint.close)
         relay = TurnClient(endpoint.uri, "user", "pass")
         await relay.open()
@@ -378,7 +379,7 @@ class ThroughASocket(unittest.IsolatedAsyncioTestCase):
 
     async def test_a_server_that_is_silent_over_tcp(self) -> None:
         """A request is sent once, and fails as late as over UDP."""
-        server = Server()
+        server = TestServer()
         server.is_dead = True
         endpoint = await StreamEndpoint.start(server)
         self.addCleanup(endpoint.close)
@@ -433,7 +434,7 @@ class ThroughASocket(unittest.IsolatedAsyncioTestCase):
         endpoint = await self.serve(lifetime=70)  # renewed after 10 s
         async with TurnClient(endpoint.uri, "user", "pass", clock=Clock(rate=30)) as relay:
             endpoint.close()
-            why = "^the connection to the server has ended: no answer from .* to a refresh: .*refused"
+            why = "^the connection to the server has ended: .*refused"
             with self.assertRaisesRegex(Ended, why) as ended:
                 await relay.wait_closed()
             self.assertIsInstance(ended.exception.__cause__, ConnectionRefusedError)
@@ -450,12 +451,13 @@ class ThroughASocket(unittest.IsolatedAsyncioTestCase):
         endpoint = await self.serve(lifetime=70)  # renewed after 10 s
         async with TurnClient(endpoint.uri, "user", "pass", clock=Clock(rate=30)) as relay:
             endpoint.server.allocations.clear()
-            with self.assertRaisesRegex(Ended, r"^the server does not renew the relayed address \(437 no\)$"):
+            why = r"^the server does not renew the relayed address \(437 no\): it no longer knows it, as after a restart$"
+            with self.assertRaisesRegex(Ended, why):
                 await relay.wait_closed()
 
     async def test_a_connection_that_ends(self) -> None:
         for resets in (False, True):
-            endpoint = await StreamEndpoint.start(Server())
+            endpoint = await StreamEndpoint.start(TestServer())
             self.addCleanup(endpoint.close)
             async with TurnClient(endpoint.uri, "user", "pass") as relay:
                 endpoint.end(resets)
@@ -507,7 +509,7 @@ class ThroughASocket(unittest.IsolatedAsyncioTestCase):
                     with self.assertRaisesRegex(ValueError, "and at most 65507 fit$"):
                         await (call(bytes(most + 1), peer) or asyncio.sleep(0))
             self.assertEqual(relay.unsent, 0)
-            with unittest.mock.patch("yarrowdoor.relay.MAX_MESSAGE", 1 << 20):
+            with unittest.mock.patch("yarrowdoor.turn.MAX_MESSAGE", 1 << 20):
                 relay.sendto(bytes(65_501), peer)
             self.assertEqual(relay.unsent, 1)  # the socket says EMSGSIZE
             relay.sendto(b"hello", peer)

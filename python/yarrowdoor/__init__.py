@@ -9,18 +9,21 @@
 The library is proved, where `PROOF` in the package says so; this package is tested, and not proved. The README says how to
 begin. In a wheel it is the description: `importlib.metadata.metadata("yarrowdoor").get_payload()`.
 """
-from .client import Address, Client, Times
+from .address import Address
+from .client import Client, Times
 from .errors import (
     AllocationFailed, Busy, ChannelFailed, ConnectFailed, Ended, LibraryError, PermissionFailed, Refused, WrongCredentials,
     YarrowdoorError,
 )
 from .clock import Clock
-from .relay import Lost, TurnClient
+from .notices import Lost
+from .path import Check
+from .turn import TurnClient
 from .uri import TurnUri
 
 __version__ = "0.1.0"
 
 __all__ = [
-    "Address", "AllocationFailed", "Busy", "ChannelFailed", "Client", "Clock", "ConnectFailed", "Ended", "LibraryError", "Lost",
-    "PermissionFailed", "Refused", "Times", "TurnClient", "TurnUri", "WrongCredentials", "YarrowdoorError",
+    "Address", "AllocationFailed", "Busy", "ChannelFailed", "Check", "Client", "Clock", "ConnectFailed", "Ended", "LibraryError",
+    "Lost", "PermissionFailed", "Refused", "Times", "TurnClient", "TurnUri", "WrongCredentials", "YarrowdoorError",
 ]

@@ -13,9 +13,9 @@ import importlib
 import ssl as tls
 from typing import Any, Callable, Dict, List, Optional, Set, Tuple, TypeVar, Union
 
-from .client import Address
+from .address import Address
 from .errors import Refused, YarrowdoorError
-from .relay import TurnClient
+from .turn import TurnClient
 from .uri import TurnUri
 
 __all__ = ["RelayTransport", "create_turn_endpoint", "install"]
@@ -73,7 +73,7 @@ class RelayTransport(asyncio.DatagramTransport):
         """Sends data to a peer, when it has a channel. Where the server gives it none, the data is dropped."""
         if addr is None:
             raise ValueError("a relayed address has no peer of its own")
-        peer: Address = (addr[0], addr[1])
+        peer = Address(addr[0], addr[1])
         if self._is_closing or self.relay.closed or (":" in peer[0]) != (":" in self.relay.address[0]):
             return
         if peer in self._bound:

@@ -1,7 +1,7 @@
 """The errors of the package, by name. All of them are a `YarrowdoorError`."""
 from __future__ import annotations
 
-from typing import Optional, Tuple
+from typing import Optional, Tuple, TypeVar
 
 __all__ = [
     "AllocationFailed", "Busy", "ChannelFailed", "ConnectFailed", "Ended", "LibraryError", "PermissionFailed", "Refused",
@@ -93,3 +93,12 @@ class Ended(YarrowdoorError):
 
     The relayed address is gone. Make a new client, from another local port.
     """
+
+
+_Error = TypeVar("_Error", bound=Exception)
+
+
+def because(error: _Error, cause: Optional[BaseException]) -> _Error:
+    """An error with its cause, as `raise .. from` makes it."""
+    error.__cause__ = cause
+    return error

@@ -3,17 +3,19 @@ from __future__ import annotations
 
 import asyncio
 import collections
-from typing import Any, Counter, Dict, List, Optional, Set, TYPE_CHECKING, Tuple
+from typing import TYPE_CHECKING, Any, Counter, Dict, List, Optional, Set, Tuple
 
-from . import client as sans_io
-from .client import Address
-from .errors import ConnectFailed, Ended, Refused
+from . import reasons
+from .address import Address, ScopedAddress, SocketAddress
+from .answers import AllocateTcpSocket, Ignored, PeerData
+from .errors import ConnectFailed, Ended, Refused, because
+from .link import Link, LinkUser
+from .requests import Key, Made
 
 if TYPE_CHECKING:
-    from .link import Link
-    from .relay import TurnClient
+    from .session import Session
 
-__all__ = ["PeerTransport", "Streams"]
+__all__ = ["Pair", "PeerTransport", "Streams"]
 
 Pair = Tuple[asyncio.StreamReader, asyncio.StreamWriter]
 
@@ -31,7 +33,7 @@ class PeerTransport(asyncio.Transport):
     """The transport of a stream to a peer, over a data connection. `get_extra_info` knows `peername` and `sockname`."""
 
     def __init__(self, streams: Streams, link: Link, peer: Address, is_own: bool) -> None:
-        super().__init__({"peername": peer, "sockname": streams.relay.address})
+        super().__init__({"peername": peer, "sockname": streams.address})
         self._streams, self.link, self.peer = streams, link, peer
         # Whether `connect` asked for it, whether the server has bound it, and whether `connect` has returned it.
         self.is_own, self.is_bound, self.is_taken = is_own, False, False
@@ -53,11 +55,10 @@ class PeerTransport(asyncio.Transport):
 
     def write(self, data: Any) -> None:
         view = memoryview(data).cast("B")
-        if self.link.ended:
+        if self.link.is_over:
             return  # as asyncio's own transports do
         for place in range(0, len(view), PIECE):
-            packet = self._streams.client.send_to(self.peer, view[place : place + PIECE], self._streams.now())
-            self.link.send(packet.data)
+            self.link.send(self._streams.packet_to(self.peer, view[place:place + PIECE]))
 
     def can_write_eof(self) -> bool:
         """False: a server ends both directions at once."""
@@ -67,11 +68,10 @@ class PeerTransport(asyncio.Transport):
         self.link.close()
 
     def abort(self) -> None:
-        self.link.ended = True
-        self.link.transport.abort()
+        self.link.abort()
 
     def is_closing(self) -> bool:
-        return self.link.ended
+        return self.link.is_over
 
     def pause_reading(self) -> None:
         self.link.transport.pause_reading()
@@ -102,11 +102,11 @@ class PeerTransport(asyncio.Transport):
         return self._protocol
 
 
-class Streams:
+class Streams(LinkUser):
     """All data connections of a relayed address."""
 
-    def __init__(self, relay: TurnClient) -> None:
-        self.relay, self.loop = relay, asyncio.get_running_loop()
+    def __init__(self, session: Session) -> None:
+        self._session, self.loop = session, asyncio.get_running_loop()
         self._by_peer: Dict[Address, PeerTransport] = {}
         self._links: List[Link] = []
         # The peers of the CONNECTs that were made and that the client has not asked to open yet, and how many callers of `connect`
@@ -118,22 +118,24 @@ class Streams:
         self._offered: Set[Address] = set()
 
     @property
-    def client(self) -> sans_io.Client:
-        return self.relay._open()
+    def address(self) -> Optional[Address]:
+        """The relayed address."""
+        return self._session.address
 
-    def now(self) -> int:
-        return self.relay._clock.now()
+    def packet_to(self, peer: Address, data: memoryview) -> bytes:
+        """What carries data to a peer."""
+        return self._session.open_client().send_to(peer, data, self._session.clock.now()).data
 
     async def connect(self, peer: Address) -> Pair:
         """Has the server connect to a peer. A connection that the server closed before it was bound is tried once more:
         its nonce may have been stale (docs/REAL-SERVERS.md in the repository)."""
-        await self.relay.permit(peer[0])
+        await self._session.grants.permit(peer.host)
         self._callers[peer] += 1
         try:
             try:
-                await self.relay._request("connect", peer, lambda now: self._ask(peer, now))
+                await self._session.requests.ask(_connection(peer), lambda: self._ask(peer))
             except EndedUnbound:
-                await self.relay._request("connect", peer, lambda now: self._ask(peer, now))
+                await self._session.requests.ask(_connection(peer), lambda: self._ask(peer))
             stream = self._by_peer.get(peer)
             if stream is None:
                 raise ConnectFailed(f"the connection to {peer} has ended")
@@ -144,9 +146,11 @@ class Streams:
             self._callers += collections.Counter()  # drops those that are 0
             self._close_unwanted(peer)
 
-    def _ask(self, peer: Address, now: int) -> None:
-        self.client.tcp_connect(peer, now)
+    def _ask(self, peer: Address) -> Made:
+        self._session.open_client().tcp_connect(peer, self._session.clock.now())
         self._asked.add(peer)
+        self._session.drive()
+        return Made.UNSENT
 
     def _close_unwanted(self, peer: Address) -> None:
         """Closes a bound stream if all who asked for it were cancelled. The server keeps one that is not bound for 30 s, and would
@@ -160,10 +164,10 @@ class Streams:
         found = await self._accepted.get()
         if found is None:
             self._accepted.put_nowait(None)
-            raise self.relay._ending()
+            raise self._session.ending()
         return found.pair
 
-    async def open(self, wanted: sans_io.AllocateTcpSocket) -> None:
+    async def open(self, wanted: AllocateTcpSocket) -> None:
         """Opens the data connection that the client wants: asked for by `connect`, or offered by a peer."""
         link = failure = None
         is_own = wanted.peer in self._asked
@@ -172,41 +176,42 @@ class Streams:
             if not is_own:
                 self._offered.add(wanted.peer)
             try:
-                link = await self.relay._connect(self._received, self._lost, _host(wanted.remote))
-                self._links.append(link)
+                link = await self._session.server.connect(_host(wanted.remote))
                 self._add(link, wanted.peer, is_own)
             except OSError as error:
                 self._offered.discard(wanted.peer)
-                failure = ConnectFailed(f"no data connection to the server for {wanted.peer}: {error}")
-                failure.__cause__ = error
+                failure = because(ConnectFailed(f"no data connection to the server for {wanted.peer}: {error}"), error)
         try:
-            self.client.allocated_tcp_socket(wanted, link.local if link else None, self.now())
+            self._session.open_client().allocated_tcp_socket(wanted, link.local if link else None, self._session.clock.now())
         except (Ended, Refused):
             self._forget(link)
         if failure is not None and is_own:
             # The client has no event for it.
-            self.relay._settle("connect", wanted.peer, failure)
-        self.relay._drive()
+            self._session.requests.settle(_connection(wanted.peer), failure)
+        self._session.drive()
 
     def _add(self, link: Link, peer: Address, is_own: bool) -> None:
-        stream = self._by_peer[peer] = PeerTransport(self, link, peer, is_own)
-        link.on_pause, link.on_resume = stream.pause_writing, stream.resume_writing
+        self._links.append(link)
+        self._by_peer[peer] = PeerTransport(self, link, peer, is_own)
+        link.user = self
 
     def connected(self, peer: Address) -> None:
         """The data connection to a peer is bound."""
         stream = self._by_peer.get(peer)
-        if stream is None:
-            return
-        stream.is_bound = True
-        if not stream.is_own:
-            self._offered.discard(peer)
-            self._accepted.put_nowait(stream)
-        else:
-            self._close_unwanted(peer)
+        if stream is not None:
+            stream.is_bound = True
+            if not stream.is_own:
+                self._offered.discard(peer)
+                self._accepted.put_nowait(stream)
+            else:
+                self._close_unwanted(peer)
+        self._session.requests.settle(_connection(peer), None)
 
     def failed(self, peer: Address) -> None:
         """There is no data connection to a peer."""
         self._asked.discard(peer)
+        requests, key = self._session.requests, _connection(peer)
+        requests.settle(key, ConnectFailed(f"no connection to {peer}", requests.error_of(key)))
 
     def feed(self, data: bytes, peer: Address) -> None:
         """Takes data of a peer."""
@@ -214,11 +219,11 @@ class Streams:
         if stream is not None:
             stream.feed(data)
 
-    def link_at(self, local: Address) -> Optional[Link]:
+    def link_at(self, local: SocketAddress) -> Optional[Link]:
         """The data connection with this local address."""
         return next((link for link in self._links if link.local == local), None)
 
-    def drop(self, local: Address) -> None:
+    def drop(self, local: SocketAddress) -> None:
         """Closes a data connection that the client has no use for."""
         self._forget(self.link_at(local))
 
@@ -228,30 +233,38 @@ class Streams:
             link.close()
 
     def end(self) -> None:
-        """Closes all streams, since the client has ended."""
+        """Closes all streams at once, since the client has ended: the server no longer takes what waits in them."""
         for link in [*self._links]:
             self._forget(link)
+            link.abort()
         self._accepted.put_nowait(None)
 
-    def _received(self, data: bytes, link: Link) -> None:
-        if self.relay.closed:
-            return
-        answer = self.client.recv(data, self.now(), remote=link.remote, local=link.local)
-        if isinstance(answer, sans_io.PeerData):
-            self.feed(bytes(answer.data), answer.peer)
-        self.relay._note(data, link, ignored=isinstance(answer, sans_io.Ignored))
-        self.relay._take_rest(self.now())
-        self.relay._drive()
+    # The links
 
-    def _lost(self, link: Link, error: Optional[Exception]) -> None:
-        """The data connection has ended, or was closed here."""
+    def received(self, data: bytes, link: Link) -> None:
+        if self._session.over.done():
+            return
+        answer = self._session.client.recv(data, self._session.clock.now(), remote=link.remote, local=link.local)
+        if isinstance(answer, PeerData):
+            self.feed(answer.data, answer.peer)
+        self._session.hear(data, link, isinstance(answer, Ignored))
+        self._session.take_rest()
+        self._session.drive()
+
+    def paused(self, link: Link, is_full: bool) -> None:
+        for stream in self._by_peer.values():
+            if stream.link is link:
+                return stream.pause_writing() if is_full else stream.resume_writing()
+
+    def ended(self, link: Link, error: Optional[Exception]) -> None:
         is_known = link in self._links
         self._forget(link, error)
-        if is_known and not self.relay.closed:
-            self.client.recv(b"", self.now(), remote=link.remote, local=link.local)
-            self.relay._take_rest(self.now())
-            self.client.tcp_closed(link.local, link.remote, self.now())
-            self.relay._drive()
+        if is_known and not self._session.over.done():
+            client, now = self._session.client, self._session.clock.now()
+            client.recv(b"", now, remote=link.remote, local=link.local)
+            self._session.take_rest()
+            client.tcp_closed(link.local, link.remote, now)
+            self._session.drive()
 
     def _forget(self, link: Optional[Link], error: Optional[Exception] = None) -> None:
         if link is None:
@@ -265,9 +278,14 @@ class Streams:
                 self._offered.discard(peer)
                 stream.lose(error)
                 if stream.is_own and not stream.is_bound:
-                    self.relay._settle("connect", peer, EndedUnbound(f"the server closed the connection for {peer}"))
+                    unbound = EndedUnbound(f"the server closed the connection for {peer}")
+                    self._session.requests.settle(_connection(peer), unbound)
 
 
-def _host(server: Address) -> str:
+def _connection(peer: Address) -> Key:
+    return Key(reasons.CONNECT, peer)
+
+
+def _host(server: SocketAddress) -> str:
     """The server's address as a name for a new connection to it, with its scope, if it has one."""
-    return f"{server[0]}%{server[3]}" if len(server) == 4 and server[3] else server[0]
+    return f"{server.host}%{server.scope}" if isinstance(server, ScopedAddress) and server.scope else server.host

@@ -8,8 +8,8 @@ from dataclasses import dataclass
 
 __all__ = ["TurnUri", "parse"]
 
-_FORM = re.compile(r"(?P<scheme>turns?):(?P<host>\[[^][/?#@]*\]|[^][/?#@:]+)(:(?P<port>[0-9]+))?(\?transport=(?P<transport>[^&#]*))?",
-                   re.IGNORECASE)
+_FORM = re.compile(r"(?P<scheme>turns?):(?P<host>\[[^][/?#@]*\]|[^][/?#@:]+)(:(?P<port>[0-9]+))?"
+                   r"(\?transport=(?P<transport>[^&#]*))?", re.IGNORECASE)
 _PORTS = {False: 3478, True: 5349}
 _NAME = re.compile(r"(?:[A-Za-z0-9._~!$&'()*+,;=-]|%[0-9A-Fa-f]{2})+")
 

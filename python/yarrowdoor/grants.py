@@ -1,0 +1,119 @@
+"""Permissions and channels: asked for, granted, and lost."""
+from __future__ import annotations
+
+from dataclasses import dataclass
+from typing import Callable, Dict, Set, Union
+
+from . import reasons
+from .address import Address
+from .client import Client
+from .clock import Clock
+from .errors import ChannelFailed, Hint, PermissionFailed, Refused
+from .notices import Lost, Notices
+from .requests import Key, Made, Requests
+
+__all__ = ["Grants", "channel", "permission"]
+
+# How long `send` asks for no permission after the server has refused one, in seconds: twice as long each time, up to the last.
+FIRST_REST, LAST_REST = 5.0, 80.0
+# So many refused peers are remembered.
+MAX_RESTS = 4_096
+
+
+def permission(ip: str) -> Key:
+    """What a permission is asked for by."""
+    return Key(reasons.CREATE_PERMISSION, ip)
+
+
+def channel(peer: Address) -> Key:
+    """What a channel is asked for by."""
+    return Key(reasons.CHANNEL_BIND, peer)
+
+
+@dataclass
+class _Rest:
+    seconds: float
+    until: int
+    hint: Hint
+
+
+class Grants:
+    """The permissions and channels of a client. `open_client` gives the client, or raises what says that it has ended."""
+
+    def __init__(self, open_client: Callable[[], Client], drive: Callable[[], None], clock: Clock, requests: Requests,
+                 notices: Notices) -> None:
+        self._open_client, self._drive, self._clock = open_client, drive, clock
+        self._requests, self._notices = requests, notices
+        self._granted: Set[Key] = set()
+        self._rests: Dict[str, _Rest] = {}
+
+    async def permit(self, ip: str) -> None:
+        """Asks for a permission, unless there is one, and waits for the answer."""
+        def make() -> Made:
+            client = self._open_client()
+            try:
+                client.create_permission(ip, self._clock.now())
+            except Refused as refusal:
+                if refusal.reason != "already-exists":
+                    raise
+                return Made.GRANTED if client.have_permission(ip) else Made.ASKED_BEFORE
+            self._drive()
+            return Made.UNSENT
+
+        if not self._open_client().have_permission(ip):
+            await self._requests.ask(permission(ip), make)
+
+    async def permit_to_send(self, ip: str) -> None:
+        """The same, for data that is to be sent: a peer that was refused is left alone for a while."""
+        rest = self._rests.get(ip)
+        if rest is not None and self._clock.now() < rest.until:
+            why = f"no permission for {ip}: it failed less than {rest.seconds:.0f} s ago, and is not asked for again so soon"
+            raise PermissionFailed(why, rest.hint)
+        await self.permit(ip)
+
+    async def bind(self, peer: Address) -> None:
+        """Asks for a channel, and with it for a permission, and waits for the answer."""
+        def make() -> Made:
+            try:
+                self._open_client().bind_channel(peer, self._clock.now())
+            except Refused as refusal:
+                if refusal.reason != "already-exists" or channel(peer) not in self._granted:
+                    raise  # It is also the reason where no channel number is left.
+                return Made.GRANTED
+            self._drive()
+            return Made.UNSENT
+
+        await self._requests.ask(channel(peer), make)
+        if not self._open_client().have_permission(peer.host):
+            await self.permit(peer.host)  # The channel is an older one, whose permission is gone: a refresh does not bring it back.
+
+    def created(self, key: Key) -> None:
+        """The client tells that something is granted."""
+        self._granted.add(key)
+        self._rests.pop(_host(key), None)
+        self._requests.settle(key, None)
+
+    def failed(self, key: Key) -> bool:
+        """The client tells that something is refused, or lost. Says whether it is lost since the server did not answer."""
+        hint, was_granted = self._requests.error_of(key), key in self._granted
+        self._granted.discard(key)
+        error: Union[PermissionFailed, ChannelFailed]
+        if isinstance(key.about, str):
+            error = PermissionFailed(f"no permission for {key.about}", hint)
+            self._let_rest(key.about, hint)
+        else:
+            error = ChannelFailed(f"no channel to {key.about}", hint)
+        if not self._requests.settle(key, error) and was_granted and key.about is not None:
+            self._notices.tell_lost(Lost("permission" if isinstance(key.about, str) else "channel", key.about))
+        return was_granted and hint is None
+
+    def _let_rest(self, ip: str, hint: Hint) -> None:
+        before = self._rests.pop(ip, None)
+        seconds = FIRST_REST if before is None else min(2 * before.seconds, LAST_REST)
+        self._rests[ip] = _Rest(seconds, self._clock.now() + int(seconds * 1e9), hint)
+        if len(self._rests) > MAX_RESTS:
+            del self._rests[next(iter(self._rests))]
+
+
+def _host(key: Key) -> str:
+    return key.about if isinstance(key.about, str) else key.about.host if key.about is not None else ""

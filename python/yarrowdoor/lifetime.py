@@ -1,0 +1,191 @@
+"""From a client that was not opened to one that has ended: what `async with` does, and which call comes too early or too late."""
+from __future__ import annotations
+
+import asyncio
+import warnings
+from dataclasses import dataclass
+from types import TracebackType
+from typing import Dict, Optional, Type, TypeVar, Union
+
+from .errors import AllocationFailed, Ended, because
+from .inbox import Inbox
+from .link import Link
+from .servers import NoneSucceeded, Server, first_of
+from .session import Over, Session
+
+__all__ = ["Lifetime"]
+
+_Self = TypeVar("_Self", bound="Lifetime")
+
+
+@dataclass(frozen=True)
+class NotOpened:
+    """`open` was not called."""
+
+
+@dataclass(frozen=True)
+class Connecting:
+    """`open` looks for a server that grants a relayed address."""
+
+    task: asyncio.Future[None]
+
+
+@dataclass(frozen=True)
+class Failed:
+    """There is no relayed address, and never will be."""
+
+    why: Ended
+    rest: Optional[asyncio.Future[None]]
+    """what still gives back an allocation that the server may have granted"""
+
+
+class Lifetime:
+    """A client that is opened once, and closed. A `Session` does its work, from the time when there is a relayed address."""
+
+    def __init__(self, server: Server, inbox: Inbox) -> None:
+        self._server, self._inbox = server, inbox
+        self._phase: Union[NotOpened, Connecting, Failed, Session] = NotOpened()
+
+    def _session_over(self, link: Link) -> Session:
+        """A new session over this link."""
+        raise NotImplementedError
+
+    async def __aenter__(self: _Self) -> _Self:
+        await self.open()
+        return self
+
+    async def __aexit__(self, kind: Optional[Type[BaseException]], error: Optional[BaseException],
+                        trace: Optional[TracebackType]) -> None:
+        await self.close()
+
+    def __del__(self) -> None:
+        session = getattr(self, "_phase", None)
+        if isinstance(session, Session) and not isinstance(session.state, Over):
+            warnings.warn(f"unclosed {type(self).__name__} at {session.address}: use `async with`, or `close`", ResourceWarning,
+                          stacklevel=2, source=self)
+            session.abandon()
+
+    async def open(self) -> None:
+        """Connects to the server, and waits for a relayed address: what entering does. It is called once.
+
+        Where it is cancelled it gives back what the server may have granted, which takes up to two seconds.
+        """
+        if not isinstance(self._phase, NotOpened):
+            raise RuntimeError("this client was opened before: make a new one")
+        task = asyncio.ensure_future(self._connect())
+        self._phase = Connecting(task)
+        try:
+            await task
+        except asyncio.CancelledError:
+            if not isinstance(self._phase, Connecting):
+                raise AllocationFailed("the client was closed") from None  # by `close`, and not who waits for this
+            self._phase = Failed(Ended("the client was closed"), None)
+            raise
+
+    async def _connect(self) -> None:
+        session = None
+        try:
+            session = await self._first_session()
+            await session.ready()
+        except asyncio.CancelledError:
+            if session is not None:
+                await session.leave()
+            raise
+        except Exception as error:
+            rest = asyncio.ensure_future(session.leave()) if session is not None else None
+            why = because(Ended(f"the client was not opened: {error}"), error.__cause__)
+            self._phase = Failed(why, rest)
+            self._inbox.end()
+            raise
+        self._phase = session
+        inbox = self._inbox
+        session.over.add_done_callback(lambda _: inbox.end())
+
+    async def _first_session(self) -> Session:
+        """A session with the first of the server's addresses that answers."""
+        async def attempt(host: str) -> Session:
+            link = await self._server.connect(host)
+            session = self._session_over(link)
+            try:
+                if not link.is_stream:  # A stream has answered when it was connected.
+                    await session.heard()
+            except BaseException:
+                session.end(None)
+                raise
+            return session
+
+        hosts = await self._server.addresses()
+        try:
+            return await first_of(hosts, attempt, _discard)
+        except NoneSucceeded as none:
+            raise self._unreachable(none.failures) from None
+
+    def _unreachable(self, failures: Dict[str, Exception]) -> Exception:
+        """What says of each address why it could not be used."""
+        last = [*failures.values()][-1]
+        uri = self._server.uri
+        if [*failures] == [uri.host]:
+            if not isinstance(last, OSError):
+                return last
+            return because(AllocationFailed(f"no connection to {uri}: {last}"), last)
+        tried = "; ".join(f"{host}: {error}" for host, error in failures.items())
+        return because(AllocationFailed(f"no connection to {uri}: {tried}"), last.__cause__ or last)
+
+    async def close(self) -> None:
+        """Deletes the relayed address, closes all sockets, and returns when the server has answered, or after two seconds. Where
+        `open` is not done yet, it ends with an `AllocationFailed`."""
+        phase = self._phase
+        if isinstance(phase, Connecting):
+            self._phase = Failed(Ended("the client was closed"), None)
+            self._inbox.end()
+            phase.task.cancel()
+            await asyncio.wait([phase.task])
+        elif isinstance(phase, Failed) and phase.rest is not None:
+            await asyncio.wait([phase.rest])
+        elif isinstance(phase, Session):
+            await phase.leave()
+
+    async def wait_closed(self) -> None:
+        """Waits until the client has ended. Raises `Ended` where it ended by itself, or was not opened; its text says why."""
+        if isinstance(self._phase, Connecting):
+            await asyncio.wait([self._phase.task])
+        if not isinstance(self._phase, Session):
+            raise self._ending()
+        await asyncio.wait([self._phase.over])
+        if self._has_failed():
+            raise self._ending()
+
+    @property
+    def closed(self) -> bool:
+        """Whether the client has ended, by `close` or by itself, or could not be opened."""
+        phase = self._phase
+        return isinstance(phase, Failed) or isinstance(phase, Session) and isinstance(phase.state, Over)
+
+    def _is_not_opened(self) -> bool:
+        """Whether `open` was not called."""
+        return isinstance(self._phase, NotOpened)
+
+    def _has_failed(self) -> bool:
+        """Whether the client has ended by itself."""
+        state = self._phase.state if isinstance(self._phase, Session) else None
+        return not isinstance(state, Over) or state.why is not None
+
+    def _session(self) -> Session:
+        """The session. `Ended` where the client has ended, or was not opened."""
+        phase = self._phase
+        if not isinstance(phase, Session) or isinstance(phase.state, Over):
+            raise self._ending()
+        return phase
+
+    def _ending(self) -> Ended:
+        """Why a call is not made, as a new error for each."""
+        phase = self._phase
+        if isinstance(phase, Session):
+            return phase.ending()
+        if isinstance(phase, Failed):
+            return because(Ended(*phase.why.args), phase.why.__cause__)
+        return Ended("the client was not opened" if isinstance(phase, NotOpened) else "there is no relayed address yet")
+
+
+def _discard(session: Session) -> None:
+    session.end(None)

@@ -1,0 +1,105 @@
+"""Whether the path to the server still carries: it is asked by Binding requests, and errors of the socket are counted."""
+from __future__ import annotations
+
+import asyncio
+import os
+from typing import TYPE_CHECKING, Dict, NamedTuple, Optional
+
+from . import reasons
+from .address import Address
+
+if TYPE_CHECKING:
+    from .session import Session
+
+__all__ = ["Check", "Path"]
+
+# How long an answer to a Binding request is waited for, after each time that it was sent, in seconds (RFC 8489, section 6.2.1).
+WAITS = (0.5, 1.0, 2.0)
+# So many checks in a row without an answer end the relay, and so many errors in a row, each a second after the last one.
+RUN = 3
+PAUSE = 1.0
+
+
+class Check(NamedTuple):
+    """What came of a check of the path to the server."""
+
+    is_answered: bool
+    """whether the server has answered. One that answers no Binding request, as coturn with `--no-stun`, never does"""
+    mapped: Optional[Address]
+    """this client's own address as the server sees it now, if it says that. Where it is another one than `mapped_address`, a NAT
+    has forgotten the client: the relayed address is lost (RFC 8656, section 3.2)"""
+
+
+class Path:
+    """The path to the server of a session."""
+
+    def __init__(self, session: Session) -> None:
+        self._session = session
+        self._checks: Dict[bytes, asyncio.Future[Optional[Address]]] = {}
+        self._errors = 0
+        self._suspicion: Optional[asyncio.Future[None]] = None
+        self._probing: Optional[asyncio.Future[None]] = None
+
+    async def check(self) -> Check:
+        """Asks the server for a sign of life. `Ended` where the client has ended."""
+        session, transaction = self._session, os.urandom(12)
+        answer = self._checks[transaction] = asyncio.get_running_loop().create_future()
+        try:
+            for wait in WAITS if not session.link.is_stream else (sum(WAITS),):
+                session.open_client()
+                session.link.send(reasons.binding_request(transaction))
+                seconds = session.clock.real(wait)
+                await asyncio.wait([answer, session.over], timeout=seconds, return_when=asyncio.FIRST_COMPLETED)
+                if answer.done():
+                    return Check(True, answer.result())
+            session.open_client()
+            return Check(False, None)
+        finally:
+            del self._checks[transaction]
+
+    def hears(self, message: reasons.Message) -> bool:
+        """Whether a message of the server is the answer to a check, which then has it."""
+        answer = self._checks.get(message.transaction) if message.is_response else None
+        if answer is None or message.method != reasons.BINDING:
+            return False
+        if not answer.done():
+            answer.set_result(message.mapped)
+        return True
+
+    def probe(self, every: float) -> None:
+        """Checks the path by itself, every so many seconds. The relay ends when `RUN` checks in a row have no answer."""
+        self._probing = asyncio.ensure_future(self._probe(every))
+
+    async def _probe(self, every: float) -> None:
+        session, loop, unanswered = self._session, asyncio.get_running_loop(), 0
+        due = loop.time()
+        while unanswered < RUN:
+            due = max(due + session.clock.real(every), loop.time())
+            await asyncio.sleep(due - loop.time())
+            seen = session.count
+            is_answered = (await self.check()).is_answered or session.count != seen
+            unanswered = 0 if is_answered else unanswered + 1
+        why = f"no answer from {session.server.uri} to {RUN} checks in a row"
+        session.breaks(f"the connection to the server has ended: {why}", None)
+
+    def refused(self, error: Exception) -> None:
+        """The socket has told an error. One may pass; several in a row, with nothing from the server between, end the relay."""
+        self._errors += 1
+        if self._suspicion is None or self._suspicion.done():
+            self._suspicion = asyncio.ensure_future(self._suspect(error))
+
+    async def _suspect(self, error: Exception) -> None:
+        session = self._session
+        for _ in range(RUN):
+            seen, errors = session.count, self._errors
+            session.link.send(reasons.binding_request(os.urandom(12)))
+            await asyncio.sleep(session.clock.real(PAUSE))
+            if session.count != seen or self._errors == errors:
+                return
+        session.breaks(f"the connection to the server has ended: {error}", error)
+
+    def end(self) -> None:
+        """Nothing is checked any more."""
+        for task in (self._probing, self._suspicion):
+            if task is not None:
+                task.cancel()

@@ -1,0 +1,117 @@
+"""A TURN server by its URI: the addresses of its name, and connections to one of them."""
+from __future__ import annotations
+
+import asyncio
+import ipaddress
+import socket
+import ssl as tls
+from typing import Awaitable, Callable, Dict, Iterable, List, Optional, Tuple, TypeVar
+
+from .errors import AllocationFailed, because
+from .link import DatagramLink, Link, StreamLink
+from .uri import TurnUri
+
+__all__ = ["NoneSucceeded", "Server", "first_of", "interleaved"]
+
+# How long an attempt is alone before one with the next address begins beside it, in seconds (RFC 8305, section 5).
+STAGGER = 0.25
+
+_Found = TypeVar("_Found")
+
+
+class Server:
+    """A server: what its URI says, and the context of TLS where that is used."""
+
+    def __init__(self, uri: TurnUri, ssl: Optional[tls.SSLContext]) -> None:
+        if uri.secure and uri.transport != "tcp":
+            raise ValueError(f"TURN over DTLS is not supported: {uri}")
+        if ssl is not None and not uri.secure:
+            raise ValueError(f"ssl is for turns:, and the URI is {uri}")
+        _check_name(uri.host)
+        self.uri = uri
+        self._ssl = (ssl or tls.create_default_context()) if uri.secure else None
+
+    async def addresses(self) -> List[str]:
+        """The server's IP addresses, in the order in which they are tried. `AllocationFailed` where its name has none."""
+        kind = socket.SOCK_DGRAM if self.uri.transport == "udp" else socket.SOCK_STREAM
+        try:
+            found = await asyncio.get_running_loop().getaddrinfo(self.uri.host, self.uri.port, type=kind)
+        except (OSError, UnicodeError) as error:
+            raise because(AllocationFailed(f"no connection to {self.uri}: {error}"), error)
+        return interleaved(_scoped(it[4]) for it in found)
+
+    async def connect(self, host: str) -> Link:
+        """A new socket to the server at this address of it. `OSError` where there is none."""
+        loop, uri = asyncio.get_running_loop(), self.uri
+        link: Link
+        if uri.transport == "udp":
+            link = (await loop.create_datagram_endpoint(DatagramLink, remote_addr=(host, uri.port)))[1]
+        else:
+            name = uri.host if self._ssl else None
+            link = (await loop.create_connection(StreamLink, host, uri.port, ssl=self._ssl, server_hostname=name))[1]
+        if link.is_over:
+            raise ConnectionResetError("the server closed the connection at once")
+        return link
+
+
+def _check_name(host: str) -> None:
+    """`ValueError` for a name that no host can have (RFC 1123, section 2.1; RFC 3490)."""
+    try:
+        is_name = 0 < len(host.encode("idna").rstrip(b".")) <= 253
+    except UnicodeError:
+        is_name = False
+    if not is_name:
+        raise ValueError(f"{host!r} is no name of a host: a label has 1 to 63 characters, and a name up to 253")
+
+
+def _scoped(where: Tuple[object, ...]) -> str:
+    """The IP address of a socket's address, with its scope, if it has one."""
+    return f"{where[0]}%{where[3]}" if len(where) == 4 and where[3] and "%" not in str(where[0]) else str(where[0])
+
+
+def interleaved(hosts: Iterable[str]) -> List[str]:
+    """Each address once, and IPv6 and IPv4 by turns, the family of the first one first (RFC 8305, section 4)."""
+    unique = list(dict.fromkeys(hosts))
+    families: Dict[int, List[str]] = {}
+    for host in unique:
+        families.setdefault(ipaddress.ip_address(host.partition("%")[0]).version, []).append(host)
+    columns = [*families.values()]
+    return [column[row] for row in range(len(unique)) for column in columns if row < len(column)]
+
+
+class NoneSucceeded(Exception):
+    """Each address has failed, for a reason of its own."""
+
+    def __init__(self, failures: Dict[str, Exception]) -> None:
+        super().__init__(failures)
+        self.failures = failures
+
+
+async def first_of(hosts: List[str], attempt: Callable[[str], Awaitable[_Found]], discard: Callable[[_Found], None]) -> _Found:
+    """Attempts one address after the other, each `STAGGER` after the last one began, or at once where that one has failed. Gives
+    what the first one found that succeeds; the other attempts are cancelled, and what one of them finds meanwhile is discarded.
+    `NoneSucceeded` where all fail."""
+    failures: Dict[str, Exception] = {}
+    running: Dict[asyncio.Future[_Found], str] = {}
+    waiting = list(reversed(hosts))
+    try:
+        while waiting or running:
+            if waiting:
+                host = waiting.pop()
+                running[asyncio.ensure_future(attempt(host))] = host
+            done, _ = await asyncio.wait(running, timeout=STAGGER if waiting else None, return_when=asyncio.FIRST_COMPLETED)
+            for task in done:
+                host = running.pop(task)
+                error = task.exception()
+                if error is None:
+                    return task.result()
+                if not isinstance(error, Exception):
+                    raise error
+                failures[host] = error
+        raise NoneSucceeded(failures)
+    finally:
+        for task in running:
+            task.cancel()
+        for found in await asyncio.gather(*running, return_exceptions=True):
+            if not isinstance(found, BaseException):
+                discard(found)

@@ -1,0 +1,332 @@
+"""One client over one link: it transmits, takes what comes, tells the events, and sets the timer. Its state is one value."""
+from __future__ import annotations
+
+import asyncio
+from dataclasses import dataclass
+from typing import Optional, Union
+
+from . import reasons
+from .address import Address
+from .answers import (
+    AllocateTcpSocket, AllocationCreated, AllocationCreateFailed, ChannelCreated, ChannelCreateFailed, Event, Ignored, PeerData,
+    PermissionCreated, PermissionCreateFailed, TcpClose, TcpConnected, WaitUntil,
+)
+from .client import Client
+from .clock import Alarm, Clock
+from .diagnosis import ALLOCATE, Diagnosis, refusal
+from .errors import AllocationFailed, Ended, Refused, because
+from .grants import Grants, channel, permission
+from .inbox import Inbox
+from .link import Link, LinkUser
+from .notices import Notices
+from .path import Path
+from .requests import Key, Requests, settle
+from .servers import Server
+from .streams import Streams
+
+__all__ = ["Leaving", "Open", "Opening", "Over", "Session"]
+
+# How long a signed answer may still come after one that said, unsigned, why it fails, in seconds.
+GRACE = 1.0
+# How long the server's answer to a delete is waited for, in seconds.
+DELETE_WAIT = 2.0
+
+
+@dataclass(frozen=True)
+class Opening:
+    """The server was asked for a relayed address."""
+
+    heard: asyncio.Future[None]
+    """set when the server has answered anything, or cannot be reached"""
+    ready: asyncio.Future[None]
+    """set when there is a relayed address, or none"""
+
+
+@dataclass(frozen=True)
+class Open:
+    """There is a relayed address."""
+
+    address: Address
+
+
+@dataclass(frozen=True)
+class Leaving:
+    """The relayed address is given back to the server, as soon as it is there."""
+
+
+@dataclass(frozen=True)
+class Over:
+    """The client has ended."""
+
+    why: Optional[Ended]
+    """why, or None where the user has closed it"""
+
+
+State = Union[Opening, Open, Leaving, Over]
+
+
+class Session(LinkUser):
+    """A client over a link to the server, which asks for a relayed address at once."""
+
+    def __init__(self, client: Client, link: Link, server: Server, relay: str, max_stale_nonces: int, clock: Clock, inbox: Inbox,
+                 notices: Notices) -> None:
+        self._loop = asyncio.get_running_loop()
+        self.client, self.link, self.server, self.clock, self.notices = client, link, server, clock, notices
+        self.state: State = Opening(self._loop.create_future(), self._loop.create_future())
+        self.over: asyncio.Future[None] = self._loop.create_future()
+        """set when the client has ended"""
+        self.address: Optional[Address] = None
+        """the relayed address, or the last one"""
+        self.mapped: Optional[Address] = None
+        self.count = 0
+        """how many packets, or pieces of the stream, have come"""
+        self._has_streams, self._put = relay == "tcp", inbox.put
+        self._alarm = Alarm(clock, self._wake)
+        self._is_driving = False
+        self.requests = Requests()
+        self.diagnosis = Diagnosis(str(server.uri), max_stale_nonces, clock, self.requests)
+        self.grants = Grants(self.open_client, self.drive, clock, self.requests, notices)
+        self.streams = Streams(self)
+        self.path = Path(self)
+        link.user = self
+        self.drive()
+
+    # The link
+
+    def received(self, data: bytes, link: Link) -> None:
+        if isinstance(self.state, Over):
+            return
+        self.count += 1
+        now = self.clock.now()
+        answer = self.client.recv(data, now)
+        if isinstance(answer, PeerData):
+            self._put(answer.data, answer.peer)
+            # A datagram, or a piece that is one ChannelData message, has nothing else in it. Data makes nothing due.
+            if not link.is_stream or link.frames is not None and answer.start == 4 and link.frames.is_one(data, len(answer.data)):
+                return
+        self.hear(data, link, isinstance(answer, Ignored))
+        if link.is_stream:
+            self.take_rest()
+        self.drive()
+
+    def take_rest(self) -> None:
+        """Takes all data that the streams still have."""
+        while True:
+            more = self.open_client().poll_recv(self.clock.now())
+            if more is None:
+                return
+            if self._has_streams:
+                self.streams.feed(more.data, more.peer)
+            else:
+                self._put(more.data, more.peer)
+
+    def hear(self, data: bytes, link: Link, is_ignored: bool) -> None:
+        """Reads what the server's messages say, after the client has taken them, or ignored the first one."""
+        self.diagnosis.begins()
+        messages = [data] if not link.is_stream else link.frames.messages(data) if link.frames is not None else []
+        for packet in messages:
+            message = reasons.read(packet)
+            if message is None or self.path.hears(message):
+                continue
+            self._hear(message, packet, is_ignored)
+            if message.method == reasons.CONNECTION_BIND and message.error is None and not is_ignored:
+                link.frames = None  # What comes from now on is the peer's.
+                return
+
+    def _hear(self, message: reasons.Message, packet: bytes, is_ignored: bool) -> None:
+        key = self.requests.answered(message)
+        if key is None:
+            return
+        self.diagnosis.hears(message, packet, is_ignored)
+        if isinstance(self.state, Opening):
+            settle(self.state.heard, None)
+        if key != ALLOCATE:
+            return
+        if message.error is not None and is_ignored:
+            self._fail_soon(refusal(message.error))
+        elif message.mapped is not None and not is_ignored:
+            self.mapped = message.mapped
+
+    def refused(self, link: Link, error: Exception) -> None:
+        if isinstance(self.state, Over):
+            return
+        self.diagnosis.socket_error = error
+        self.notices.tell_error(error)
+        if isinstance(self.state, Opening):
+            self._fail_soon(because(AllocationFailed(f"no answer from {self.server.uri}: {error}"), error))
+        else:
+            self.path.refused(error)
+
+    def ended(self, link: Link, error: Optional[Exception]) -> None:
+        if isinstance(self.state, Over):
+            return
+        if link.is_stream:
+            self.client.recv(b"", self.clock.now())
+            self.take_rest()
+        default = "the server closed it" if link.is_stream else "its socket was closed"
+        self.breaks(f"the connection to the server has ended: {error or default}", error)
+
+    def paused(self, link: Link, is_full: bool) -> None:
+        self.notices.tell_pause(is_full)
+
+    def breaks(self, what: str, error: Optional[Exception]) -> None:
+        """The connection has ended, or the path to the server is gone: nothing can be done any more."""
+        if not isinstance(self.state, Over):
+            self.diagnosis.breaks(what, error)
+            self.client.protocol_error()
+            self.drive()
+
+    # The client
+
+    def drive(self) -> None:
+        """Does all that is due, and sets the timer for the next time."""
+        if self._is_driving:
+            return
+        self._is_driving = True
+        try:
+            while not isinstance(self.state, Over):
+                now = self.clock.now()
+                self._transmit(now)
+                self._take_events()
+                rest = self.client.poll(now)
+                if isinstance(rest, WaitUntil):
+                    if rest.time > now:
+                        return self._alarm.set(rest.time)
+                elif isinstance(rest, AllocateTcpSocket):
+                    self.requests.spawn(self.streams.open(rest))
+                elif isinstance(rest, TcpClose):
+                    self.streams.drop(rest.local)
+                else:
+                    self._take_events()
+                    self.end(None if isinstance(self.state, Leaving) else self.diagnosis.ended())
+        finally:
+            self._is_driving = False
+
+    def _transmit(self, now: int) -> None:
+        while not isinstance(self.state, Over) and (packet := self.client.poll_transmit(now)) is not None:
+            self.requests.sent(packet.data)
+            link = self.link if packet.local == self.link.local else self.streams.link_at(packet.local)
+            if link is not None:
+                link.send(packet.data)
+
+    def _wake(self) -> None:
+        self.diagnosis.begins()
+        self.drive()
+
+    def _take_events(self) -> None:
+        while not isinstance(self.state, Over) and (event := self.client.poll_event()) is not None:
+            self._take_event(event)
+
+    def _take_event(self, event: Event) -> None:
+        if isinstance(event, AllocationCreated):
+            self._allocated(event.address)
+        elif isinstance(event, AllocationCreateFailed):
+            if isinstance(self.state, Opening):
+                _fail(self.state, self.diagnosis.no_address())
+        elif isinstance(event, PermissionCreated):
+            self.grants.created(permission(event.ip))
+        elif isinstance(event, PermissionCreateFailed):
+            self._lost(permission(event.ip))
+        elif isinstance(event, ChannelCreated):
+            self.grants.created(channel(event.peer))
+        elif isinstance(event, ChannelCreateFailed):
+            self._lost(channel(event.peer))
+        elif isinstance(event, TcpConnected):
+            self.streams.connected(event.peer)
+        else:
+            self.streams.failed(event.peer)
+
+    def _allocated(self, address: Address) -> None:
+        if isinstance(self.state, Leaving):
+            self._delete()
+        elif isinstance(self.state, Opening):
+            before, self.address, self.state = self.state, address, Open(address)
+            settle(before.heard, None)
+            settle(before.ready, None)
+
+    def _lost(self, key: Key) -> None:
+        if self.grants.failed(key) and self.link.is_stream:
+            # TCP repeats what is lost, so the server does not read, or its answers do not come.
+            self.breaks(f"the connection to the server has ended: no answer from {self.server.uri} to a refresh", None)
+
+    async def heard(self) -> None:
+        """Waits until the server has answered anything. `AllocationFailed` where it does not."""
+        if isinstance(self.state, Opening):
+            await self.state.heard
+
+    async def ready(self) -> None:
+        """Waits until there is a relayed address. `AllocationFailed` where there is none."""
+        if isinstance(self.state, Opening):
+            await self.state.ready
+        elif isinstance(self.state, Over):
+            raise self.diagnosis.no_address()
+
+    # The end
+
+    def _fail_soon(self, error: AllocationFailed) -> None:
+        """Gives up the allocation, unless a signed answer comes soon."""
+        if isinstance(self.state, Opening):
+            self._loop.call_later(GRACE, _fail, self.state, error)
+
+    async def leave(self) -> None:
+        """Gives the relayed address back to the server, and ends when it has answered, or after two seconds."""
+        if isinstance(self.state, Opening) and self.requests.allocates < 2:
+            self.end(None)  # No signed request has left, so that the server cannot have granted one.
+        elif isinstance(self.state, (Opening, Open)):
+            before, self.state = self.state, Leaving()
+            if isinstance(before, Opening):
+                _fail(before, AllocationFailed("the client was closed"))
+            else:
+                self.streams.close()
+                self._delete()
+            self.drive()
+        try:
+            await asyncio.wait([self.over], timeout=DELETE_WAIT)
+        finally:
+            self.end(None)
+
+    def _delete(self) -> None:
+        try:
+            self.client.delete(self.clock.now())
+        except Refused:
+            self.end(None)
+
+    def abandon(self) -> None:
+        """The user has lost the client without closing it. It may be called in any thread."""
+        if not self._loop.is_closed():
+            self._loop.call_soon_threadsafe(lambda: self.requests.spawn(self.leave()))
+
+    def end(self, why: Optional[Ended]) -> None:
+        """Closes all, with why it has ended by itself, or None where the user has closed it."""
+        before = self.state
+        if isinstance(before, Over):
+            return
+        self.state = Over(why)
+        if isinstance(before, Opening):
+            _fail(before, AllocationFailed("the client was closed") if why is None else self.diagnosis.no_address())
+        self.over.set_result(None)
+        self.client.close()
+        self.path.end()
+        self.requests.end(self.ending)
+        self.streams.end()
+        self._alarm.cancel()
+        self.link.close()
+        if self.link.is_stream:
+            self._loop.call_later(GRACE, self.link.abort)  # The server may have stopped reading.
+
+    def open_client(self) -> Client:
+        """The client. `Ended` where it has ended."""
+        if isinstance(self.state, Over):
+            raise self.ending()
+        return self.client
+
+    def ending(self) -> Ended:
+        """Why a call is not made any more, as a new error for each."""
+        why = self.state.why if isinstance(self.state, Over) else None
+        return Ended("the client was closed") if why is None else because(Ended(*why.args), why.__cause__)
+
+
+def _fail(opening: Opening, error: AllocationFailed) -> None:
+    for waiter in (opening.heard, opening.ready):
+        if settle(waiter, error):
+            waiter.exception()  # Nobody has to wait for it.

@@ -1,0 +1,259 @@
+"""A relayed address for asyncio: what users call."""
+from __future__ import annotations
+
+import asyncio
+import ssl as tls
+from typing import AsyncIterator, Optional, Tuple, Union
+
+from .address import Address, AddressLike, SocketAddress, checked_ip, checked_peer
+from .client import Buffer, Client, Times
+from .clock import Clock
+from .errors import Refused
+from .inbox import Inbox, Receiver
+from .lifetime import Lifetime
+from .link import Link
+from .notices import Lost, Notices, Told
+from .path import Check
+from .servers import Server
+from .session import Session
+from .settings import check_times, credential
+from .streams import Pair
+from .uri import TurnUri, parse
+
+__all__ = ["Lost", "TurnClient"]
+
+# A datagram over IPv4 carries so many bytes, and coturn reads no longer message of a stream: the connection then hangs.
+MAX_MESSAGE = 65_507
+
+
+class TurnClient(Told, Lifetime):
+    """A relayed address of a TURN server.
+
+        async with TurnClient("turn:turn.example.org", "user", "password") as relay:
+            await relay.send(b"hello", ("192.0.2.7", 9000))
+            async for data, peer in relay:
+                ...
+
+    `uri` is that of the server (RFC 7065), as text or parsed. `relay` is the transport between server and peers: `"udp"`, or
+    `"tcp"` for streams (`connect`, `accept`; RFC 6062), which needs a URI with TCP. `family` is that of the relayed address,
+    4 or 6. `ssl` is the context for `turns:` URIs, by default `ssl.create_default_context()`. `times` says how long a request
+    waits for its answer (`Times`). At most `queue` packets of peers wait to be taken; a further one is dropped and counted. With
+    `receiver` there is no queue: it is called with data and peer, in the event loop, and must not block. What it raises goes to the
+    event loop's exception handler. `probe` is how often the path to the server is checked, in seconds: three checks in a row
+    without an answer end the relay. By default none is made. `anonymous` hides the user name (RFC 8489, section 14.4):
+    `"required"` always, `"disabled"` never, and `"auto"` never so far. `max_stale_nonces` is how many challenges in a row are
+    answered. It should be greater than the number of permissions and channels: their refreshes may all be challenged at once, and
+    that of the relayed address too.
+
+    Peers are IP addresses with ports; names are not resolved. What is counted and told:
+
+    - `dropped`: packets of peers that came and were dropped, since `queue` of them were waiting.
+    - `unsent`: packets to peers that the socket did not take. What is lost further on, nobody counts.
+    - `lost`: the last 1,024 permissions and channels that the server no longer renews, as `Lost`; `on_lost`, if it is set, is
+      called with each.
+    - `on_error`, if it is set, is called with each error of a socket over UDP that does not end it, as when a network goes.
+
+    Entering it raises `AllocationFailed` where there is no relayed address, and `WrongCredentials` where it is for user name
+    or password. Both have `code` and `phrase`, what an error response said. `times` limits the wait for each answer. Over TCP
+    and TLS the connection comes before: the system gives up on it after about two minutes, and asyncio on the handshake of TLS
+    after 60 s. `asyncio.wait_for(client.open(), seconds)` limits it all. It is used in one event loop. Where the server's name has
+    several addresses, an attempt with the next one begins after 250 ms (RFC 8305), and the first one that answers is used.
+
+    Over UDP the relay ends when the socket is closed by an error, and when the system refuses several packets in a row. A server
+    that is silent is told by `on_lost`, at most five minutes after the last renewal of a permission, and `closed` becomes True when
+    the relayed address expires, up to half an hour after its last renewal; with `probe=15` within a minute. Over TCP and TLS a
+    silent server ends the relay within a minute. `address` keeps its last value.
+
+    Making it raises `ValueError` or `TypeError`, which says what is wrong; for `anonymous` and `max_stale_nonces`, for an empty
+    user, and for a user or password that is too long, opening it does.
+    """
+
+    def __init__(self, uri: Union[str, TurnUri], user: Union[str, bytes], password: Union[str, bytes], *, relay: str = "udp",
+                 family: int = 4, ssl: Optional[tls.SSLContext] = None, times: Optional[Times] = None, queue: int = 1024,
+                 receiver: Optional[Receiver] = None, probe: Optional[float] = None, anonymous: str = "auto",
+                 max_stale_nonces: int = 256, clock: Optional[Clock] = None) -> None:
+        self.uri = parse(uri) if isinstance(uri, str) else uri
+        if relay not in ("udp", "tcp"):
+            raise ValueError(f"relay is 'udp' or 'tcp', and not {relay!r}")
+        if relay == "tcp" and self.uri.transport != "tcp":
+            raise ValueError("relay='tcp' needs a server over TCP: turn:HOST?transport=tcp, or turns:HOST (RFC 6062, section 4.1)")
+        if family not in (4, 6):
+            raise ValueError(f"family is 4 or 6, and not {family!r}")
+        if probe is not None and not probe > 0:
+            raise ValueError(f"probe is a number of seconds above 0, and not {probe!r}")
+        check_times(times)
+        Lifetime.__init__(self, Server(self.uri, ssl), Inbox(queue, receiver))
+        Told.__init__(self, self._inbox, Notices())
+        self._user, self._password = credential("user", user), credential("password", password)
+        self._times, self._anonymous, self._max_stale_nonces = times, anonymous, max_stale_nonces
+        self._relay, self._family, self._probe = relay, family, probe
+        self._clock = clock or Clock()
+        # How much had come when `send` was called last.
+        self._count = -1
+
+    def _session_over(self, link: Link) -> Session:
+        try:
+            client = Client(link.local, link.remote, self._user, self._password, families=(self._family,),
+                            transport=self.uri.transport, allocation=self._relay, times=self._times, anonymous=self._anonymous,
+                            max_stale_nonces=self._max_stale_nonces)
+        except BaseException:
+            link.close()
+            raise
+        session = Session(client, link, self._server, self._relay, self._max_stale_nonces, self._clock, self._inbox, self._notices)
+        if self._probe is not None:
+            session.path.probe(self._probe)
+        return session
+
+    # What there is
+
+    @property
+    def address(self) -> Address:
+        """The relayed address: peers send to it, and see data come from it. It stays readable after the end.
+
+        `Ended` where there never was one.
+        """
+        found = self._phase.address if isinstance(self._phase, Session) else None
+        if found is None:
+            raise self._ending()
+        return found
+
+    @property
+    def mapped_address(self) -> Optional[Address]:
+        """This client's own address as the server saw it at the beginning, or None where it did not say it (RFC 8489, section
+        14.2). `check` tells it as it is now."""
+        return self._phase.mapped if isinstance(self._phase, Session) else None
+
+    @property
+    def local_address(self) -> SocketAddress:
+        """The address of the socket to the server."""
+        return self._session().link.local
+
+    # Requests
+
+    async def permit(self, ip: str) -> None:
+        """Lets an IP address send to the relayed address, and get data (RFC 8656, section 9). It is renewed until the end.
+
+        Waits for the server's answer. `PermissionFailed`, `Ended`; `ValueError` where it is no IP address; `Refused`
+        (`no-allocation`) where it has another family than the relayed address.
+        """
+        host, session = checked_ip(ip), self._session()
+        self._check_family(host)
+        await session.grants.permit(host)
+
+    async def bind(self, peer: AddressLike) -> None:
+        """Gives a peer a channel, and a permission: its packets then have 4 bytes of header (RFC 8656, section 12).
+
+        Waits for the server's answer. `ChannelFailed`, `PermissionFailed`, `Ended`; `Refused` where the peer's earlier channel is
+        still reserved (`expired`), where all 4,096 numbers are taken (`already-exists`), and where it has another family than the
+        relayed address (`no-allocation`).
+        """
+        where, session = checked_peer(peer), self._session()
+        self._check_family(where.host)
+        await session.grants.bind(where)
+
+    async def check(self) -> Check:
+        """Asks the server for a sign of life, and this client's address as it sees it now: a Binding request (RFC 8489, section 3),
+        which is sent three times over UDP, and is unanswered after 3.5 s. `Ended` where the client has ended."""
+        return await self._session().path.check()
+
+    async def send(self, data: Buffer, peer: AddressLike) -> None:
+        """Sends data to a peer: requests its permission first, and waits where the socket is full.
+
+        It does not wait for the data to arrive. Where nothing was received since the last `send`, it lets the event loop do other
+        work first, so that a loop of sends does not keep it from reading. A peer whose permission the server has refused is left
+        alone for five seconds, then for ten, up to 80: until then `PermissionFailed` comes at once. `PermissionFailed`, `Ended`;
+        `Refused` (`no-allocation`) for another family than that of the relayed address; `ValueError` for data that does not fit
+        (`sendto`).
+        """
+        session = self._session()
+        # asyncio reads one datagram in a round of its loop. Before the data is sent, so that a send that is cancelled is none.
+        if self._count == session.count:
+            await asyncio.sleep(0)
+        self._count = session.count
+        while not session.link.writable.is_set():
+            await session.link.writable.wait()
+        try:
+            self.sendto(data, peer)
+        except Refused as refusal:
+            if refusal.reason != "no-permission":
+                raise
+            await session.grants.permit_to_send(checked_peer(peer).host)
+            self.sendto(data, peer)
+
+    def sendto(self, data: Buffer, peer: AddressLike) -> None:
+        """Sends data to a peer that has a permission, at once, as a datagram: where the socket is full, it is dropped.
+
+        With its header a message has at most 65,507 bytes. So data has at most 65,500 for a peer with a channel, else 65,468,
+        and for an IPv6 peer 65,456. `Refused` (`no-permission`; `no-allocation` for another family than that of the relayed
+        address), `Ended`; `ValueError` for longer data, and with `relay="tcp"`, which has streams.
+        """
+        session = self._phase
+        if not isinstance(session, Session) or session.over.done():
+            raise self._ending()
+        if self._relay == "tcp":
+            raise ValueError("relay='tcp' has streams: use connect, or accept")
+        try:
+            packet = session.client.send_to(peer, data, self._clock.now()).data
+        except Refused:
+            self._check_family(peer[0])
+            raise
+        if len(packet) > MAX_MESSAGE:
+            raise ValueError(f"the message to {peer} has {len(packet)} bytes with its header, and at most {MAX_MESSAGE} fit")
+        if not session.link.send_data(packet):
+            self._notices.unsent += 1
+
+    def _check_family(self, ip: str) -> None:
+        """Refuses a peer that the relayed address cannot reach."""
+        if (":" in ip) != (self._family == 6):
+            other = 4 if self._family == 6 else 6
+            detail = f"the relayed address is IPv{self._family}, and {ip} is IPv{other} (family={other} gets such an address)"
+            raise Refused("no-allocation", detail=detail)
+
+    async def connect(self, peer: AddressLike) -> Pair:
+        """Connects to a peer over TCP, by the server (RFC 6062, section 4.3). It needs `relay="tcp"`.
+
+        `PermissionFailed`, `ConnectFailed`, `Ended`; `Refused` where there is such a connection, or the peer has another family;
+        `ValueError` with `relay="udp"`.
+        """
+        self._check_streams("connect")
+        return await self._session().streams.connect(checked_peer(peer))
+
+    async def accept(self) -> Pair:
+        """Waits for a peer to connect to the relayed address over TCP: `writer.get_extra_info("peername")` is which.
+
+        The peer needs a permission (RFC 6062, section 4.4). `Ended`; `ValueError` with `relay="udp"`.
+        """
+        self._check_streams("accept")
+        return await self._session().streams.accept()
+
+    def _check_streams(self, call: str) -> None:
+        if self._relay != "tcp":
+            raise ValueError(f"{call} needs relay='tcp'")
+
+    # Data of peers
+
+    def __aiter__(self) -> AsyncIterator[Tuple[bytes, Address]]:
+        return self
+
+    async def __anext__(self) -> Tuple[bytes, Address]:
+        """The next data of a peer. It ends when the client is closed; `Ended` where it ended by itself, or was not opened;
+        `RuntimeError` with `receiver=`, which takes all."""
+        found = await self._take()
+        if found is None:
+            if self._has_failed():
+                raise self._ending()
+            raise StopAsyncIteration
+        return found
+
+    async def receive(self) -> Tuple[bytes, Address]:
+        """The next data of a peer, and the peer. `Ended` where the client has ended, or was not opened; `RuntimeError` with
+        `receiver=`, which takes all."""
+        found = await self._take()
+        if found is None:
+            raise self._ending()
+        return found
+
+    async def _take(self) -> Optional[Tuple[bytes, Address]]:
+        if self._inbox.has_receiver:
+            raise RuntimeError("the receiver of this client takes all data: there is none to wait for")
+        return None if self._is_not_opened() else await self._inbox.take()
