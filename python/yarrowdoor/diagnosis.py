@@ -67,7 +67,8 @@ class Diagnosis:
         if self._error_now is not None:
             return AllocationFailed(self._why())
         waited = (self._clock.now() - self._heard) / 1e9
-        return because(AllocationFailed(f"no answer from {self._server} in {waited:.1f} s"), self.socket_error)
+        why = f": {self.socket_error}" if self.socket_error else ""
+        return because(AllocationFailed(f"no answer from {self._server} in {waited:.1f} s{why}"), self.socket_error)
 
     def _why(self) -> str:
         if self.broken:

@@ -61,9 +61,9 @@ class Lifetime:
     def __del__(self) -> None:
         session = getattr(self, "_phase", None)
         if isinstance(session, Session) and not isinstance(session.state, Over):
+            session.abandon()
             warnings.warn(f"unclosed {type(self).__name__} at {session.address}: use `async with`, or `close`", ResourceWarning,
                           stacklevel=2, source=self)
-            session.abandon()
 
     async def open(self) -> None:
         """Connects to the server, and waits for a relayed address: what entering does. It is called once.
@@ -118,7 +118,8 @@ class Lifetime:
         try:
             return await first_of(hosts, attempt, _discard)
         except NoneSucceeded as none:
-            raise self._unreachable(none.failures) from None
+            failures = none.failures
+        raise self._unreachable(failures)
 
     def _unreachable(self, failures: Dict[str, Exception]) -> Exception:
         """What says of each address why it could not be used."""

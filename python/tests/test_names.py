@@ -1,0 +1,148 @@
+"""The addresses of a server's name: tried one beside the other, and each named where none serves."""
+import asyncio
+import contextlib
+import socket
+import time
+import unittest
+import unittest.mock
+from typing import Any, Iterator, List, Tuple
+
+from yarrowdoor import AllocationFailed, Times, TurnClient
+from yarrowdoor.uri import TurnUri
+
+from .network import SECOND, Endpoint, StreamEndpoint
+from .server import Server
+
+SHORT = Times(initial=100_000_000, longest=SECOND, last=300_000_000, count=3)  # 0.1 + 0.2 + 0.3 s
+
+
+@contextlib.contextmanager
+def resolving(*hosts: str) -> Iterator[None]:
+    """A resolver that knows these addresses of each name."""
+    async def found(host: str, port: int, **kinds: Any) -> List[Tuple[Any, ...]]:
+        is_udp = kinds.get("type") == socket.SOCK_DGRAM
+        kind = (socket.SOCK_DGRAM, socket.IPPROTO_UDP) if is_udp else (socket.SOCK_STREAM, socket.IPPROTO_TCP)
+        asked = hosts if host == "turn.example.org" else (host,)
+        return [(socket.AF_INET, *kind, "", (it, port)) for it in asked]
+
+    with unittest.mock.patch.object(asyncio.get_running_loop(), "getaddrinfo", found):
+        yield
+
+
+def port_of(uri: str) -> int:
+    return int(uri.split(":")[2].partition("?")[0])
+
+
+class Names(unittest.IsolatedAsyncioTestCase):
+    async def serve(self) -> Endpoint:
+        endpoint = await Endpoint.start(Server())
+        self.addCleanup(endpoint.close)
+        return endpoint
+
+    def hole(self, host: str, port: int) -> None:
+        """An address that takes packets and says nothing."""
+        taken = socket.socket(socket.AF_INET, socket.SOCK_DGRAM)
+        self.addCleanup(taken.close)
+        taken.bind((host, port))
+
+    async def test_a_first_address_that_is_silent(self) -> None:
+        port = port_of((await self.serve()).uri)
+        self.hole("127.0.0.2", port)
+        start = time.monotonic()
+        with resolving("127.0.0.2", "127.0.0.1"):
+            async with TurnClient(f"turn:turn.example.org:{port}", "user", "pass") as relay:
+                self.assertEqual(relay.address, ("10.9.9.9", 40000))
+                self.assertEqual(relay.mapped_address, relay.local_address)
+        self.assertLess(time.monotonic() - start, 5)  # and not the 39.5 s of a request
+
+    async def test_no_address_answers(self) -> None:
+        with socket.socket(type=socket.SOCK_DGRAM) as one:
+            one.bind(("127.0.0.2", 0))
+            port = one.getsockname()[1]
+            self.hole("127.0.0.3", port)
+            relay = TurnClient(f"turn:turn.example.org:{port}", "user", "pass", times=SHORT)
+            with resolving("127.0.0.2", "127.0.0.3", "127.0.0.4"), self.assertRaises(AllocationFailed) as failed:
+                await relay.open()
+        said = str(failed.exception)
+        for host in ("127.0.0.2: no answer", "127.0.0.3: no answer", "127.0.0.4: .*refused"):
+            self.assertRegex(said, host)
+        self.assertTrue(relay.closed)
+
+    async def test_a_first_address_that_is_silent_over_tcp(self) -> None:
+        endpoint = await StreamEndpoint.start(Server())
+        self.addCleanup(endpoint.close)
+        connect = asyncio.get_running_loop().create_connection
+
+        async def connect_or_hang(made: Any, host: str, port: int, **options: Any) -> Any:
+            if host == "127.0.0.2":
+                await asyncio.sleep(60)
+            return await connect(made, host, port, **options)
+
+        with resolving("127.0.0.2", "127.0.0.1"):
+            with unittest.mock.patch.object(asyncio.get_running_loop(), "create_connection", connect_or_hang):
+                uri = TurnUri("turn.example.org", port_of(endpoint.uri), "tcp")
+                async with TurnClient(uri, "user", "pass") as relay:
+                    self.assertEqual(relay.address, ("10.9.9.9", 40000))
+
+    async def test_a_name_that_is_not_found(self) -> None:
+        async def nothing(*it: object, **kinds: object) -> None:
+            raise socket.gaierror(socket.EAI_NONAME, "Name or service not known")
+
+        relay = TurnClient("turn:turn.example.org", "user", "pass")
+        with unittest.mock.patch.object(asyncio.get_running_loop(), "getaddrinfo", nothing):
+            with self.assertRaisesRegex(AllocationFailed, "Name or service not known") as failed:
+                await relay.open()
+        self.assertIsInstance(failed.exception.__cause__, socket.gaierror)
+        self.assertTrue(relay.closed)
+
+    async def test_a_connection_that_is_refused(self) -> None:
+        relay = TurnClient("turn:127.0.0.1:1?transport=tcp", "user", "pass")
+        with self.assertRaises(AllocationFailed) as failed:
+            await relay.open()
+        self.assertIsInstance(failed.exception.__cause__, ConnectionRefusedError)
+        self.assertTrue(relay.closed)
+
+    async def test_an_address_that_succeeds_beside_another(self) -> None:
+        """Both addresses answer in one round of the loop: one is used, and the socket of the other one is closed."""
+        endpoint = await self.serve()
+        take, late = endpoint.datagram_received, []
+        endpoint.datagram_received = lambda *it: late.append(it)
+        opened: List[Any] = []
+        create = asyncio.get_running_loop().create_datagram_endpoint
+
+        async def count(*it: Any, **options: Any) -> Any:
+            opened.append(await create(*it, **options))
+            return opened[-1]
+
+        with resolving("127.0.0.1"), unittest.mock.patch.object(asyncio.get_running_loop(), "create_datagram_endpoint", count):
+            with unittest.mock.patch("yarrowdoor.servers.interleaved", lambda hosts: ["127.0.0.1", "127.0.0.1"]):
+                opening = asyncio.ensure_future(TurnClient(endpoint.uri, "user", "pass").open())
+                while len(late) < 2:
+                    await asyncio.sleep(0.01)
+                endpoint.datagram_received = take
+                for it in late:
+                    take(*it)
+                relay = await opening
+        self.assertEqual([transport.is_closing() for transport, _ in opened].count(True), 1)
+        del relay
+
+
+class Arguments(unittest.TestCase):
+    def test_a_name_that_is_none(self) -> None:
+        for host in ("a..b", "a" * 64 + ".org", ".".join(["a" * 60] * 5), ""):
+            for form in (TurnUri(host), TurnUri(host, transport="tcp")):
+                with self.subTest(host=host), self.assertRaisesRegex(ValueError, "is no name of a host"):
+                    TurnClient(form, "user", "pass")
+        with self.assertRaises(ValueError):
+            TurnClient("turn:a..b", "user", "pass")
+        TurnClient("turn:bücher.example".replace("ü", "%C3%BC"), "user", "pass")
+
+    def test_families_take_turns(self) -> None:
+        from yarrowdoor.servers import interleaved
+
+        given = ["2001:db8::1", "2001:db8::2", "192.0.2.1", "2001:db8::1", "fe80::1%3"]
+        self.assertEqual(interleaved(given), ["2001:db8::1", "192.0.2.1", "2001:db8::2", "fe80::1%3"])
+
+
+if __name__ == "__main__":
+    unittest.main()
