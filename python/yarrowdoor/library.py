@@ -115,6 +115,8 @@ class Handle:
         self._call: Callable[..., int] = library.call
         self._acquire, self._release = lock.acquire, lock.release
         self._finalizer = weakref.finalize(self, library.free, place)
+        # At exit a daemon thread may still be in a call. The system takes the memory back.
+        self._finalizer.atexit = False
         self._request = bytearray(REQUEST.size)
         self._answer = bytearray(ANSWER.size + len(guard))
         self._beyond = guard

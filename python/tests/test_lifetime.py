@@ -1,0 +1,181 @@
+"""Opening, closing, and what is left of a client that nobody closes."""
+import asyncio
+import gc
+import os
+import pathlib
+import subprocess
+import sys
+import textwrap
+import unittest
+import unittest.mock
+import warnings
+import weakref
+from typing import Any
+
+from yarrowdoor import AllocationFailed, Ended, TurnClient, WrongCredentials
+
+from .network import Endpoint, StreamEndpoint
+from .server import Server
+
+
+class Opening(unittest.IsolatedAsyncioTestCase):
+    async def serve(self, delay: float = 0.0, **settings: Any) -> Endpoint:
+        """A server whose answers take their time."""
+        endpoint = await Endpoint.start(Server(**settings))
+        self.addCleanup(endpoint.close)
+        send = endpoint.send
+        if delay:
+            endpoint.send = lambda *it: asyncio.get_running_loop().call_later(delay, send, *it)
+        return endpoint
+
+    async def wait_for_allocation(self, endpoint: Endpoint) -> None:
+        while not endpoint.server.allocations:
+            await asyncio.sleep(0.005)
+
+    async def test_opening_that_is_cancelled_gives_its_allocation_back(self) -> None:
+        endpoint = await self.serve(delay=0.2)
+        relay = TurnClient(endpoint.uri, "user", "pass")
+        opening = asyncio.ensure_future(relay.open())
+        await self.wait_for_allocation(endpoint)  # granted, and its success is under way
+        opening.cancel()
+        with self.assertRaises(asyncio.CancelledError):
+            await opening
+        self.assertEqual(endpoint.server.allocations, {})
+        self.assertTrue(relay.closed)
+        await asyncio.wait_for(relay.close(), 1)
+
+    async def test_closing_while_it_opens(self) -> None:
+        endpoint = await self.serve(delay=0.2)
+        relay = TurnClient(endpoint.uri, "user", "pass")
+        opening = asyncio.ensure_future(relay.open())
+        await self.wait_for_allocation(endpoint)
+        await relay.close()
+        self.assertTrue(relay.closed)
+        self.assertEqual(endpoint.server.allocations, {})
+        with self.assertRaisesRegex(AllocationFailed, "^the client was closed$"):
+            await asyncio.wait_for(opening, 1)
+        with self.assertRaisesRegex(Ended, "^the client was closed$"):
+            await relay.receive()
+
+    async def test_closing_while_it_connects(self) -> None:
+        endpoint = await StreamEndpoint.start(Server())
+        self.addCleanup(endpoint.listener.close)
+        loop = asyncio.get_running_loop()
+        connect = loop.create_connection
+
+        async def connect_late(*it: Any, **options: Any) -> Any:
+            await asyncio.sleep(0.3)
+            return await connect(*it, **options)
+
+        relay = TurnClient(endpoint.uri, "user", "pass")
+        with unittest.mock.patch.object(loop, "create_connection", connect_late):
+            opening = asyncio.ensure_future(relay.open())
+            await asyncio.sleep(0.05)
+            await relay.close()
+            self.assertTrue(relay.closed)
+            with self.assertRaises(AllocationFailed):
+                await asyncio.wait_for(opening, 2)
+        self.assertEqual(endpoint.server.allocations, {})
+
+    async def test_a_refusal_that_nobody_signed_and_a_grant_that_comes_late(self) -> None:
+        """The grant is given back when it comes, though opening has failed before."""
+        endpoint = await self.serve(delay=1.5)
+        relay = TurnClient(endpoint.uri, "user", "pass")
+        receive, answered = endpoint.server.receive, []
+
+        def forge(data: bytes, source: Any, now: float) -> Any:
+            """A challenge at once, and to a signed request a 401 at once, before the answer."""
+            packets = receive(data, source, now)
+            if endpoint.server.allocations and not answered:
+                message = bytes([1, 0x13]) + packets[0][0][2:20]
+                answered.append(message)
+                body = b"\0\x09\0\4\0\0\4\1"
+                endpoint.transport.sendto(message[:2] + len(body).to_bytes(2, "big") + message[4:20] + body, source)
+            elif not endpoint.server.allocations:
+                for packet, where in packets:
+                    endpoint.transport.sendto(packet, where)
+                return []
+            return packets
+
+        endpoint.server.receive = forge
+        with self.assertRaises(WrongCredentials):
+            await relay.open()
+        self.assertEqual(len(endpoint.server.allocations), 1)
+        await relay.close()
+        self.assertEqual(endpoint.server.allocations, {})
+
+    async def test_waiting_while_it_opens(self) -> None:
+        endpoint = await self.serve(delay=0.1)
+        relay = TurnClient(endpoint.uri, "user", "pass")
+        opening = asyncio.ensure_future(relay.open())
+        await asyncio.sleep(0.01)
+        with self.assertRaisesRegex(Ended, "^there is no relayed address yet$"):
+            relay.address
+        waiting = asyncio.ensure_future(relay.wait_closed())
+        await opening
+        await relay.close()
+        await asyncio.wait_for(waiting, 1)
+
+
+class Arguments(unittest.IsolatedAsyncioTestCase):
+    async def test_receiving_with_a_receiver(self) -> None:
+        relay = TurnClient("turn:127.0.0.1", "user", "pass", receiver=lambda data, peer: None)
+        for call in (relay.receive, relay.__anext__):
+            with self.assertRaises(RuntimeError):
+                await asyncio.wait_for(call(), 1)
+
+    async def test_numbers(self) -> None:
+        for wrong in ({"queue": 0}, {"queue": -5}, {"probe": 0}, {"probe": -1.0}):
+            with self.subTest(**wrong), self.assertRaises(ValueError):
+                TurnClient("turn:127.0.0.1", "user", "pass", **wrong)
+
+
+class Abandoned(unittest.IsolatedAsyncioTestCase):
+    async def test_a_client_that_nobody_closes(self) -> None:
+        """It is collected, which is told, and its relayed address is given back."""
+        endpoint = await Endpoint.start(Server())
+        self.addCleanup(endpoint.close)
+        relay = TurnClient(endpoint.uri, "user", "pass")
+        await relay.open()
+        await relay.permit("10.1.0.1")
+        told = []
+        with warnings.catch_warnings():
+            warnings.simplefilter("always")
+            # One that is recorded keeps what it is about.
+            warnings.showwarning = lambda message, category, *where: told.append((category, str(message)))
+            gone = weakref.ref(relay)
+            del relay
+            gc.collect()
+            self.assertIsNone(gone())
+        self.assertEqual([category for category, message in told if "unclosed TurnClient" in message], [ResourceWarning])
+        for _ in range(200):
+            if not endpoint.server.allocations:
+                break
+            await asyncio.sleep(0.01)
+        self.assertEqual(endpoint.server.allocations, {})
+
+
+class AtExit(unittest.TestCase):
+    def test_no_client_is_freed_while_a_thread_may_use_it(self) -> None:
+        program = textwrap.dedent("""
+            import atexit, ctypes
+            from yarrowdoor import client, library
+
+            class Counting:
+                def __init__(self):
+                    self.of, self.freed, self.call, self.new = library.load(), 0, library.load().call, library.load().new
+                def free(self, place):
+                    self.freed += 1
+                    self.of.free(place)
+
+            atexit.register(lambda: print("freed at exit:", counting.freed))  # runs after those that are registered later
+            counting = Counting()
+            used = client.Client(("127.0.0.1", 1), ("127.0.0.1", 2), "u", "p", library=counting)
+        """)
+        env = {**os.environ, "PYTHONPATH": str(pathlib.Path(__file__).resolve().parent.parent)}
+        ran = subprocess.run([sys.executable, "-c", program], env=env, stdout=subprocess.PIPE, text=True, timeout=60)
+        self.assertEqual(ran.stdout, "freed at exit: 0\n")
+
+
+if __name__ == "__main__":
+    unittest.main()
