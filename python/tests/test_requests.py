@@ -1,0 +1,129 @@
+"""Requests: each has its own answer, none holds up the others, and a refused one is not repeated at once."""
+import asyncio
+import time
+import unittest
+from typing import Any, List, Tuple
+
+from yarrowdoor import Clock, Ended, PermissionFailed, Times, TurnClient
+
+from .network import SECOND, Endpoint
+from .server import CREATE_PERMISSION, Message, Server, Where, parse, unxored
+
+SHORT = Times(initial=100_000_000, longest=SECOND, last=300_000_000, count=2)  # 0.1 + 0.3 s
+
+
+class CountingServer(Server):
+    """A server that counts the CREATE_PERMISSIONs it gets, and is silent to some."""
+
+    def __init__(self, silent: str = "none", **settings: Any) -> None:
+        super().__init__(**settings)
+        self.silent, self.asked = silent, []  # type: str, List[str]
+
+    def receive(self, data: bytes, source: Where, now: float) -> List[Tuple[bytes, Where]]:
+        if data[0] < 4 and parse(data).kind == CREATE_PERMISSION:
+            self.asked.append(unxored(parse(data).attributes[0x0012])[0])
+            if self.asked[-1].startswith(self.silent):
+                return []
+        return super().receive(data, source, now)
+
+
+class Requests(unittest.IsolatedAsyncioTestCase):
+    async def serve(self, server: Server) -> Endpoint:
+        endpoint = await Endpoint.start(server)
+        self.addCleanup(endpoint.close)
+        return endpoint
+
+    async def test_a_request_without_an_answer_has_no_code_of_another_one(self) -> None:
+        endpoint = await self.serve(Server(denied=("10.1.0.2",)))
+        async with TurnClient(endpoint.uri, "user", "pass", times=SHORT) as relay:
+            with self.assertRaises(PermissionFailed) as refused:
+                await relay.permit("10.1.0.2")
+            self.assertEqual(refused.exception.code, 403)
+            endpoint.server.is_dead = True
+            for ip in ("10.1.0.3", "10.1.0.2"):
+                with self.assertRaises(PermissionFailed) as silent:
+                    await relay.permit(ip)
+                self.assertEqual((ip, silent.exception.code, silent.exception.phrase), (ip, None, ""))
+
+    async def test_requests_without_an_answer_hold_up_no_other(self) -> None:
+        endpoint = await self.serve(CountingServer(silent="10.66."))
+        times = Times(initial=100_000_000, longest=SECOND, last=20 * SECOND, count=2)
+        async with TurnClient(endpoint.uri, "user", "pass", times=times) as relay:
+            silent = [asyncio.ensure_future(relay.permit(f"10.66.0.{number}")) for number in range(20)]
+            await asyncio.sleep(0.01)
+            await asyncio.wait_for(relay.permit("10.1.0.1"), 15)  # and not after 20 s
+            self.assertEqual(len(set(endpoint.server.asked)), 21)
+            self.assertFalse(any(it.done() for it in silent))
+        with self.assertRaises(Ended):
+            await silent[0]
+        await asyncio.gather(*silent, return_exceptions=True)
+
+    async def test_few_requests_wait_to_be_sent(self) -> None:
+        """The time of each begins when the client makes it, so that it does not make all at once."""
+        endpoint = await self.serve(CountingServer())
+        async with TurnClient(endpoint.uri, "user", "pass") as relay:
+            client = relay._session().client
+            made, create = [], client.create_permission
+
+            def count(ip: str, now: int) -> None:
+                made.append(len(set(endpoint.server.asked)))
+                create(ip, now)
+
+            client.create_permission = count
+            await asyncio.gather(*(relay.permit(f"10.1.0.{number}") for number in range(40)))
+        self.assertEqual(len(made), 40)
+        self.assertLessEqual(max(number - asked for number, asked in enumerate(made)), 9)
+
+    async def test_sending_to_a_peer_that_was_refused(self) -> None:
+        server = CountingServer(denied=("10.1.0.2",))
+        endpoint = await self.serve(server)
+        clock = Clock()
+        now = clock.now
+        async with TurnClient(endpoint.uri, "user", "pass", clock=clock) as relay:
+            for _ in range(50):
+                with self.assertRaises(PermissionFailed) as failed:
+                    await relay.send(b"hello", ("10.1.0.2", 9000))
+                self.assertEqual(failed.exception.code, 403)
+            self.assertEqual(len(server.asked), 1)
+            for later, asked in ((4, 1), (6, 2), (10, 2), (17, 3)):  # it rests for five seconds, and then for ten
+                clock.now = lambda later=later: now() + later * SECOND
+                with self.assertRaises(PermissionFailed):
+                    await relay.send(b"hello", ("10.1.0.2", 9000))
+                self.assertEqual((later, len(server.asked)), (later, asked))
+            server.denied = ()
+            await relay.permit("10.1.0.2")  # asks at once
+            await relay.send(b"hello", ("10.1.0.2", 9000))
+            self.assertEqual(await asyncio.wait_for(relay.receive(), 5), (b"hello", ("10.1.0.2", 9000)))
+
+
+class RestartedServer(Server):
+    """A server that refuses the refreshes of an allocation that it does not know, as coturn does."""
+
+    def answer(self, message: Message, source: Where, allocation: Any, now: float) -> bytes:
+        answer = super().answer(message, source, allocation, now)
+        return answer.replace(b"\0\0\4\x25no", b"\0\0\4\0no") if allocation is None else answer
+
+
+class Ends(unittest.IsolatedAsyncioTestCase):
+    """The text of an end says what has happened."""
+
+    async def end(self, server: Server, clear: bool) -> str:
+        endpoint = await Endpoint.start(server)
+        self.addCleanup(endpoint.close)
+        async with TurnClient(endpoint.uri, "user", "pass", clock=Clock(rate=60)) as relay:
+            if clear:
+                server.allocations.clear()
+            with self.assertRaises(Ended) as ended:
+                await asyncio.wait_for(relay.wait_closed(), 20)
+        return str(ended.exception)
+
+    async def test_a_server_that_was_restarted(self) -> None:
+        for server in (Server(lifetime=70), RestartedServer(lifetime=70)):
+            self.assertRegex(await self.end(server, clear=True), r"\((437|400) no\): it no longer knows it, as after a restart$")
+
+    async def test_a_server_whose_lifetimes_are_short(self) -> None:
+        self.assertRegex(await self.end(Server(lifetime=70), clear=False), "^the server renews the relayed address for 70 s only")
+
+
+if __name__ == "__main__":
+    unittest.main()
