@@ -103,10 +103,19 @@ class StreamEndpoint:
         source = writer.get_extra_info("peername")
         with contextlib.suppress(asyncio.IncompleteReadError, ConnectionError):
             while True:
-                head = await reader.readexactly(20)
-                data = head + await reader.readexactly(int.from_bytes(head[2:4], "big"))
-                for answer, _ in self.server.receive(data, source, asyncio.get_running_loop().time()):
-                    writer.write(answer)
+                head = await reader.readexactly(4)
+                size = int.from_bytes(head[2:4], "big")
+                is_channel = head[0] >> 6 == 1
+                rest = await reader.readexactly((size + 3) // 4 * 4 if is_channel else 16 + size)
+                self.send(self.server.receive(head + rest, source, asyncio.get_running_loop().time()), source)
+
+    def send(self, packets: List[Tuple[bytes, Where]], client: Where) -> None:
+        now = asyncio.get_running_loop().time()
+        for data, where in packets:
+            if where == client:
+                self.writer.write(data + bytes(-len(data) % 4))
+            else:
+                self.send(self.server.from_peer(data, where, client, now), client)
 
     def end(self, resets: bool) -> None:
         """Ends the connection of the client, by a reset or orderly."""

@@ -62,12 +62,19 @@ class RelayTransport(asyncio.DatagramTransport):
         self._refused: Dict[Address, float] = {}
         self._tasks: Set[asyncio.Future[None]] = set()
         self._is_closing = False
+        relay.on_pause, relay.on_error = self._pause, protocol.error_received
         protocol.connection_made(self)
         self._spawn(self._watch())
 
-    def take(self, data: Any, peer: Address) -> None:
+    def take(self, data: bytes, peer: Address) -> None:
         """Takes data of a peer."""
-        self.protocol.datagram_received(bytes(data), peer)
+        self.protocol.datagram_received(data, peer)
+
+    def _pause(self, is_full: bool) -> None:
+        if is_full:
+            self.protocol.pause_writing()
+        else:
+            self.protocol.resume_writing()
 
     def sendto(self, data: Any, addr: Optional[Any] = None) -> None:
         """Sends data to a peer, when it has a channel. Where the server gives it none, the data is dropped."""

@@ -97,3 +97,13 @@ class Told:
     @on_error.setter
     def on_error(self, told: Optional[Callable[[Exception], None]]) -> None:
         self._notices.on_error = told
+
+    @property
+    def on_pause(self) -> Optional[Callable[[bool], None]]:
+        """Called with True when the socket is full, so that `sendto` drops data, and with False when it is no longer, if it is
+        set."""
+        return self._notices.on_pause
+
+    @on_pause.setter
+    def on_pause(self, told: Optional[Callable[[bool], None]]) -> None:
+        self._notices.on_pause = told

@@ -1,0 +1,188 @@
+"""Streams: to the server over TCP, and to peers (RFC 6062); receivers that raise, and sockets that are full."""
+import asyncio
+import contextlib
+import os
+import signal
+import socket
+import struct
+import subprocess
+import unittest
+import unittest.mock
+from typing import Any, List
+
+from yarrowdoor import PermissionFailed, TurnClient, reasons
+from yarrowdoor.aioice import create_turn_endpoint
+
+from . import coturn as coturn_server
+from .network import Endpoint, StreamEndpoint
+from .server import Server
+
+PEER = ("10.1.0.1", 9)
+FRAME = struct.pack("!HH", 0x4000, 4) + b"data"
+ODD_FRAME = struct.pack("!HH", 0x4000, 1) + b"x\0\0\0"
+
+
+class ToTheServer(unittest.IsolatedAsyncioTestCase):
+    async def serve(self, **settings: Any) -> StreamEndpoint:
+        endpoint = await StreamEndpoint.start(Server(**settings))
+        self.addCleanup(endpoint.close)
+        return endpoint
+
+    async def test_frames_wherever_they_are_cut(self) -> None:
+        """What an error response says is read after any piece that ends in the middle of a frame."""
+        for frame, data in ((FRAME, b"data"), (ODD_FRAME, b"x")):
+            for cut in range(len(frame)):
+                endpoint = await self.serve(denied=("10.1.0.2",))
+                async with TurnClient(endpoint.uri, "user", "pass") as relay:
+                    await relay.bind(PEER)
+                    endpoint.writer.get_extra_info("socket").setsockopt(socket.IPPROTO_TCP, socket.TCP_NODELAY, 1)
+                    endpoint.writer.write(frame + frame[:cut])
+                    self.assertEqual(await asyncio.wait_for(relay.receive(), 5), (data, PEER))
+                    endpoint.writer.write(frame[cut:])
+                    self.assertEqual(await asyncio.wait_for(relay.receive(), 5), (data, PEER))
+                    with self.subTest(frame=frame, cut=cut), self.assertRaises(PermissionFailed) as failed:
+                        await relay.permit("10.1.0.2")
+                    self.assertEqual(failed.exception.code, 403)
+
+    async def test_a_receiver_that_raises(self) -> None:
+        """Its exception goes to the event loop's handler, and the relay goes on."""
+        told: List[Any] = []
+        asyncio.get_running_loop().set_exception_handler(lambda loop, context: told.append(context))
+        for kind in (Endpoint, StreamEndpoint):
+            endpoint = await kind.start(Server())
+            self.addCleanup(endpoint.close)
+            came: List[bytes] = []
+
+            def receive(data: bytes, peer: Any, came: List[bytes] = came) -> None:
+                came.append(data)
+                raise ZeroDivisionError(data)
+
+            async with TurnClient(endpoint.uri, "user", "pass", receiver=receive) as relay:
+                await relay.bind(PEER)
+                for number in range(2):
+                    if kind is Endpoint:
+                        relay.sendto(b"data", PEER)
+                    else:
+                        endpoint.writer.write(FRAME)
+                    while len(came) <= number and not relay.closed:
+                        await asyncio.sleep(0.01)
+                self.assertFalse(relay.closed)
+                await relay.permit("10.1.0.9")
+            self.assertEqual([type(it.get("exception")) for it in told], [ZeroDivisionError] * 2)
+            self.assertRegex(told[0]["message"], "^the receiver of a TurnClient raised")
+            told.clear()
+
+
+class Told(asyncio.DatagramProtocol):
+    """A protocol that keeps what it is told."""
+
+    def __init__(self) -> None:
+        self.told: List[Any] = []
+
+    def pause_writing(self) -> None:
+        self.told.append("pause")
+
+    def resume_writing(self) -> None:
+        self.told.append("resume")
+
+    def error_received(self, exc: Exception) -> None:
+        self.told.append(type(exc))
+
+
+class Transports(unittest.IsolatedAsyncioTestCase):
+    """What the protocol of a `RelayTransport` is told."""
+
+    async def test_a_socket_that_is_full(self) -> None:
+        endpoint = await StreamEndpoint.start(Server())
+        self.addCleanup(endpoint.close)
+        host, port = endpoint.listener.sockets[0].getsockname()
+        transport, protocol = await create_turn_endpoint(Told, (host, port), "user", "pass", transport="tcp")
+        transport.sendto(b"x", PEER)
+        while PEER not in transport._bound:
+            await asyncio.sleep(0.01)
+        endpoint.writer.transport.pause_reading()
+        for _ in range(20_000):
+            if protocol.told:
+                break
+            transport.sendto(bytes(1200), PEER)
+        self.assertEqual((protocol.told, transport.relay.unsent), (["pause"], 0))
+        endpoint.writer.transport.resume_reading()
+        for _ in range(500):
+            if len(protocol.told) > 1:
+                break
+            await asyncio.sleep(0.01)
+        self.assertEqual(protocol.told, ["pause", "resume"])
+        transport.close()
+        with contextlib.suppress(Exception):
+            await asyncio.wait_for(transport.relay.wait_closed(), 5)
+
+    async def test_a_socket_that_is_refused(self) -> None:
+        endpoint = await Endpoint.start(Server())
+        transport, protocol = await create_turn_endpoint(Told, endpoint.transport.get_extra_info("sockname"), "user", "pass")
+        transport.sendto(b"x", PEER)
+        while PEER not in transport._bound:
+            await asyncio.sleep(0.01)
+        endpoint.close()
+        for _ in range(500):
+            transport.sendto(b"x", PEER)
+            if protocol.told:
+                break
+            await asyncio.sleep(0.01)
+        self.assertEqual(protocol.told[:1], [ConnectionRefusedError])
+        transport.close()
+        await asyncio.sleep(0)
+
+
+@unittest.skipUnless(coturn_server.IS_HERE, coturn_server.WHY)
+class ToPeers(unittest.IsolatedAsyncioTestCase):
+    async def test_bytes_of_a_peer_are_no_frames(self) -> None:
+        """A connection that is bound is not read for messages: zeros are none, and cost nothing."""
+        size = 1_000_000
+
+        async def give(reader: asyncio.StreamReader, writer: asyncio.StreamWriter) -> None:
+            await reader.readexactly(1)
+            writer.write(bytes(size))
+            with contextlib.suppress(ConnectionError):
+                await writer.drain()
+
+        with coturn_server.coturn() as at:
+            peers = await asyncio.start_server(give, "127.0.0.1", 0)
+            self.addCleanup(peers.close)
+            uri = at.uri("turn:127.0.0.1:{port}?transport=tcp")
+            async with TurnClient(uri, "user", "pass", relay="tcp") as relay:
+                with unittest.mock.patch.object(reasons, "read", wraps=reasons.read) as reads:
+                    reader, writer = await asyncio.wait_for(relay.connect(peers.sockets[0].getsockname()), 10)
+                    writer.write(b"x")
+                    await asyncio.wait_for(reader.readexactly(size), 20)
+                writer.close()
+        self.assertLess(reads.call_count, 50)
+
+    async def test_streams_end_with_the_relay(self) -> None:
+        """What waits in a connection to a server that has stopped is dropped when the relay is closed."""
+        made: List["subprocess.Popen[bytes]"] = []
+        real = subprocess.Popen
+
+        def popen(*it: Any, **options: Any) -> "subprocess.Popen[bytes]":
+            made.append(real(*it, **options))
+            return made[-1]
+
+        with unittest.mock.patch("subprocess.Popen", popen), coturn_server.coturn() as at:
+            peers = await asyncio.start_server(lambda reader, writer: asyncio.sleep(60), "127.0.0.1", 0)
+            self.addCleanup(peers.close)
+            relay = TurnClient(at.uri("turn:127.0.0.1:{port}?transport=tcp"), "user", "pass", relay="tcp")
+            await relay.open()
+            reader, writer = await asyncio.wait_for(relay.connect(peers.sockets[0].getsockname()), 10)
+            os.kill(made[-1].pid, signal.SIGSTOP)
+            try:
+                for _ in range(160):
+                    writer.write(bytes(65_536))
+                self.assertGreater(writer.transport.get_write_buffer_size(), 0)
+                await asyncio.wait_for(relay.close(), 10)
+                await asyncio.sleep(0.1)
+                self.assertEqual(writer.transport.get_write_buffer_size(), 0)
+            finally:
+                os.kill(made[-1].pid, signal.SIGCONT)
+
+
+if __name__ == "__main__":
+    unittest.main()
