@@ -10,7 +10,7 @@ import struct
 from typing import Dict, List, NamedTuple, Optional, Tuple
 
 COOKIE = b"\x21\x12\xa4\x42"
-ALLOCATE, REFRESH, SEND, DATA, CREATE_PERMISSION, CHANNEL_BIND = 3, 4, 6, 7, 8, 9
+BINDING, ALLOCATE, REFRESH, SEND, DATA, CREATE_PERMISSION, CHANNEL_BIND = 1, 3, 4, 6, 7, 8, 9
 LIFETIME = 600
 Where = Tuple[str, int]
 
@@ -70,6 +70,8 @@ class Server:
         self.answered: Dict[Tuple[Where, bytes], bytes] = {}
         self.nonce, self.nonce_since = b"nonce-0", 0.0
         self.is_dead = False
+        self.answers_bindings = True
+        self.bindings = 0
         self.challenges = 0
         self.refreshes = 0
 
@@ -85,6 +87,9 @@ class Server:
             peer = allocation.channels.get(number) if allocation else None
             return [(data[4 : 4 + size], peer)] if peer else []
         message = parse(data)
+        if message.kind == BINDING:
+            self.bindings += 1
+            return [(self.mapped(message, source), source)] if self.answers_bindings else []
         if message.kind == SEND | 0x0010:
             peer = unxored(message.attributes[0x0012])
             is_allowed = allocation and allocation.permissions.get(peer[0], 0) > now
@@ -95,6 +100,10 @@ class Server:
             if answer[0:2] != b"\1\x13":  # a challenge may be answered again, with another nonce
                 self.answered[source, message.transaction] = answer
         return [(answer, source)]
+
+    def mapped(self, message: Message, source: Where) -> bytes:
+        body = attribute(0x0020, xored(source))
+        return struct.pack("!HH", BINDING | 0x0100, len(body)) + COOKIE + message.transaction + body
 
     def from_peer(self, data: bytes, peer: Where, client: Where, now: float) -> List[Tuple[bytes, Where]]:
         """Takes data of a peer for the relayed address of a client."""

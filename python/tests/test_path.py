@@ -1,0 +1,268 @@
+"""A path to the server that goes: it is told, and a short interruption is none."""
+import asyncio
+import os
+import pathlib
+import shutil
+import socket
+import subprocess
+import sys
+import textwrap
+import time
+import unittest
+from typing import Any, List
+
+import yarrowdoor
+from yarrowdoor import Clock, Ended, TurnClient
+
+from . import coturn as coturn_server
+from .network import Endpoint, StreamEndpoint
+from .server import Server
+
+PEER = ("10.1.0.1", 9000)
+IS_UVLOOP = os.environ.get("YARROWDOOR_LOOP") == "uvloop"
+
+
+class Checks(unittest.IsolatedAsyncioTestCase):
+    """`check`, and `probe=`, which does it by itself."""
+
+    async def serve(self, kind: Any = Endpoint, **settings: Any) -> Any:
+        endpoint = await kind.start(Server(**settings))
+        self.addCleanup(endpoint.close)
+        return endpoint
+
+    async def test_a_check(self) -> None:
+        for kind in (Endpoint, StreamEndpoint):
+            endpoint = await self.serve(kind)
+            async with TurnClient(endpoint.uri, "user", "pass", clock=Clock(rate=20)) as relay:
+                self.assertEqual(await relay.check(), yarrowdoor.Check(True, relay.local_address))
+                self.assertEqual(endpoint.server.bindings, 1)
+                endpoint.server.answers_bindings = False
+                self.assertEqual(await relay.check(), yarrowdoor.Check(False, None))
+                self.assertEqual(endpoint.server.bindings, 4 if kind is Endpoint else 2)
+                checking = asyncio.ensure_future(relay.check())
+                await asyncio.sleep(0.01)
+            for call in (lambda: checking, relay.check):
+                with self.assertRaisesRegex(Ended, "^the client was closed$"):
+                    await call()
+
+    async def test_an_address_that_has_changed(self) -> None:
+        endpoint = await self.serve()
+        async with TurnClient(endpoint.uri, "user", "pass") as relay:
+            mapped, endpoint.server.mapped = endpoint.server.mapped, lambda message, source: mapped(message, ("192.0.2.7", 9))
+            self.assertEqual(await relay.check(), yarrowdoor.Check(True, ("192.0.2.7", 9)))
+            self.assertEqual(relay.mapped_address, relay.local_address)
+
+    async def test_a_silent_server_that_is_probed(self) -> None:
+        endpoint = await self.serve()
+        async with TurnClient(endpoint.uri, "user", "pass", probe=15, clock=Clock(rate=60)) as relay:
+            await asyncio.sleep(1)  # a minute
+            self.assertGreaterEqual(endpoint.server.bindings, 3)
+            endpoint.server.is_dead = True
+            start = time.monotonic()
+            why = "^the connection to the server has ended: no answer from .* to 3 checks in a row$"
+            with self.assertRaisesRegex(Ended, why):
+                await asyncio.wait_for(relay.receive(), 10)
+            self.assertLess((time.monotonic() - start) * 60, 75)  # within a minute, on a machine that is late by a quarter of one
+
+    async def test_a_server_that_answers_no_binding_and_sends_data(self) -> None:
+        endpoint = await self.serve()
+        endpoint.server.answers_bindings = False
+        async with TurnClient(endpoint.uri, "user", "pass", probe=15, clock=Clock(rate=60)) as relay:
+            await relay.permit(PEER[0])
+            until = time.monotonic() + 2
+            while time.monotonic() < until:
+                await relay.send(b"hello", PEER)
+                self.assertEqual(await asyncio.wait_for(relay.receive(), 5), (b"hello", PEER))
+                await asyncio.sleep(0.01)
+            self.assertFalse(relay.closed)
+            self.assertGreater(endpoint.server.bindings, 9)
+
+    @unittest.skipUnless(coturn_server.IS_HERE, coturn_server.WHY)
+    async def test_coturn(self) -> None:
+        for options, is_answered in (((), True), (("--no-stun",), False)):
+            with coturn_server.coturn(*options) as at:
+                async with TurnClient(at.uri(), "user", "pass", clock=Clock(rate=10)) as relay:
+                    checked = await relay.check()
+                    self.assertEqual(checked, yarrowdoor.Check(is_answered, relay.local_address if is_answered else None))
+
+
+class Sockets(unittest.IsolatedAsyncioTestCase):
+    """Errors of a socket, and its end."""
+
+    async def test_a_socket_that_is_lost(self) -> None:
+        """What another event loop than asyncio's does after an error of a socket over UDP."""
+        endpoint = await Endpoint.start(Server())
+        self.addCleanup(endpoint.close)
+        relay = TurnClient(endpoint.uri, "user", "pass")
+        await relay.open()
+        receiving = asyncio.ensure_future(relay.receive())
+        await asyncio.sleep(0)
+        link = relay._link if hasattr(relay, "_link") else relay._session().link
+        link.connection_lost(OSError(101, "Network is unreachable"))
+        with self.assertRaisesRegex(Ended, "^the connection to the server has ended: .*Network is unreachable$") as ended:
+            await asyncio.wait_for(receiving, 2)
+        self.assertIsInstance(ended.exception.__cause__, OSError)
+        self.assertTrue(relay.closed)
+        with self.assertRaises(Ended):
+            relay.sendto(b"x", PEER)
+
+    @unittest.skipIf(IS_UVLOOP, "uvloop closes a socket after its first error")
+    async def test_a_server_whose_port_is_closed(self) -> None:
+        endpoint = await Endpoint.start(Server())
+        errors: List[Exception] = []
+        async with TurnClient(endpoint.uri, "user", "pass", clock=Clock(rate=10)) as relay:
+            relay.on_error = errors.append
+            await relay.bind(PEER)
+            endpoint.close()
+            await asyncio.sleep(0)
+            relay.sendto(b"x", PEER)
+            with self.assertRaisesRegex(Ended, "^the connection to the server has ended: .*refused") as ended:
+                await asyncio.wait_for(relay.receive(), 10)
+        self.assertIsInstance(ended.exception.__cause__, ConnectionRefusedError)
+        self.assertGreaterEqual(len(errors), 3)
+
+    @unittest.skipIf(IS_UVLOOP, "uvloop closes a socket after its first error")
+    async def test_a_port_that_is_closed_for_a_short_time(self) -> None:
+        endpoint = await Endpoint.start(Server())
+        where, loop = endpoint.transport.get_extra_info("sockname"), asyncio.get_running_loop()
+        errors: List[Exception] = []
+        async with TurnClient(endpoint.uri, "user", "pass") as relay:
+            relay.on_error = errors.append
+            await relay.bind(PEER)
+            endpoint.close()
+            await asyncio.sleep(0)
+            relay.sendto(b"x", PEER)
+            while not errors:
+                await asyncio.sleep(0.01)
+            transport, _ = await loop.create_datagram_endpoint(lambda: endpoint, local_addr=where)
+            endpoint.transport = transport
+            self.addCleanup(transport.close)
+            await asyncio.sleep(3.5)  # longer than it takes to give up
+            self.assertFalse(relay.closed)
+            relay.sendto(b"again", PEER)
+            self.assertEqual(await asyncio.wait_for(relay.receive(), 5), (b"again", PEER))
+
+    async def test_a_server_over_tcp_that_answers_no_refresh(self) -> None:
+        """TCP repeats what is lost, so that is the end, and not only a lost permission."""
+        endpoint = await StreamEndpoint.start(Server(lifetime=3600))
+        self.addCleanup(endpoint.close)
+        async with TurnClient(endpoint.uri, "user", "pass", clock=Clock(rate=300)) as relay:
+            await relay.permit(PEER[0])
+            endpoint.server.is_dead = True
+            start = time.monotonic()
+            with self.assertRaisesRegex(Ended, "^the connection to the server has ended: no answer from .* to a refresh$"):
+                await asyncio.wait_for(relay.receive(), 10)
+            self.assertLess((time.monotonic() - start) * 300, 900)  # and not an hour
+
+    async def test_options_of_a_connection(self) -> None:
+        """The system gives up on a silent one after 30 s."""
+        endpoint = await StreamEndpoint.start(Server())
+        self.addCleanup(endpoint.close)
+        async with TurnClient(endpoint.uri, "user", "pass") as relay:
+            with socket.socket(fileno=os.dup(relay._session().link.transport.get_extra_info("socket").fileno())) as own:
+                self.assertEqual(own.getsockopt(socket.IPPROTO_TCP, socket.TCP_USER_TIMEOUT), 30_000)
+                self.assertEqual(own.getsockopt(socket.SOL_SOCKET, socket.SO_KEEPALIVE), 1)
+                self.assertEqual(own.getsockopt(socket.IPPROTO_TCP, socket.TCP_KEEPIDLE), 15)
+
+
+PROGRAM = """
+    import asyncio, subprocess, sys, time
+    from yarrowdoor import Ended, TurnClient
+    from tests.network import Endpoint
+    from tests.server import Server
+
+    async def main():
+        peer, loop = ("10.1.0.1", 9), asyncio.get_running_loop()
+        transport, endpoint = await loop.create_datagram_endpoint(lambda: Endpoint(Server()), local_addr=("0.0.0.0", 0))
+        endpoint.transport = transport
+        async with TurnClient("turn:10.99.0.1:%d" % transport.get_extra_info("sockname")[1], "user", "pass") as relay:
+            await relay.bind(peer)
+            subprocess.run("ip addr del 10.99.0.1/24 dev lo", shell=True, check=True)
+            away = float(sys.argv[1])
+            if away:
+                loop.call_later(away, subprocess.run, ["ip", "addr", "add", "10.99.0.1/24", "dev", "lo"])
+            start = time.monotonic()
+            while time.monotonic() < start + 8:
+                try:
+                    await relay.send(b"x", peer)
+                    await asyncio.wait_for(relay.receive(), 0.1)
+                    if not away or time.monotonic() > start + 6:
+                        return print("data comes")
+                except asyncio.TimeoutError:
+                    pass
+                except Ended as ended:
+                    return print("ended:", type(ended.__cause__).__name__, ended)
+            print("nothing comes, and nothing is told")
+
+    asyncio.run(main())
+"""
+
+
+SILENCE = """
+    import asyncio, os, subprocess, sys, time
+    import yarrowdoor.link
+    from yarrowdoor import Clock, Ended, TurnClient
+    from tests import network
+    from tests.server import Server
+
+    async def main():
+        yarrowdoor.link.KEEPALIVE, yarrowdoor.link.USER_TIMEOUT = 2, 3_000
+        endpoint = await getattr(network, sys.argv[1]).start(Server())
+        probe = {"probe": 15, "clock": Clock(rate=10)} if sys.argv[1] == "Endpoint" else {}
+        relay = TurnClient(endpoint.uri, "user", "pass", **probe)
+        await relay.open()
+        start = time.monotonic()
+        subprocess.run("tc qdisc add dev lo root blackhole", shell=True, check=True)
+        try:
+            await asyncio.wait_for(relay.receive(), 15)
+        except Ended as ended:
+            print(f"ended after {time.monotonic() - start:.1f} s: {ended}", flush=True)
+        except asyncio.TimeoutError:
+            print("nothing is told", flush=True)
+        os._exit(0)
+
+    asyncio.run(main())
+"""
+
+
+def has_namespaces() -> bool:
+    """Whether this user may make network namespaces."""
+    if not shutil.which("unshare") or not shutil.which("ip"):
+        return False
+    made = subprocess.run(["unshare", "-n", "ip", "link", "set", "lo", "up"], stdout=subprocess.DEVNULL, stderr=subprocess.DEVNULL)
+    return made.returncode == 0
+
+
+@unittest.skipUnless(has_namespaces(), "this user may make no network namespace (unshare -n)")
+class Interfaces(unittest.TestCase):
+    """An interface that loses its address, in a network namespace."""
+
+    def run_without_address(self, seconds: float) -> str:
+        return self.run_in_namespace(PROGRAM, str(seconds))
+
+    def run_in_namespace(self, program: str, *words: str) -> str:
+        python = [sys.executable, "-c", "import tests\n" + textwrap.dedent(program), *words]
+        shell = 'ip link set lo up && ip addr add 10.99.0.1/24 dev lo && exec "$@"'
+        top = str(pathlib.Path(__file__).resolve().parent.parent)
+        ran = subprocess.run(["unshare", "-n", "sh", "-c", shell, "sh", *python], env={**os.environ, "PYTHONPATH": top},
+                             stdout=subprocess.PIPE, stderr=subprocess.STDOUT, text=True, timeout=60)
+        return ran.stdout
+
+    def test_an_address_that_goes(self) -> None:
+        self.assertRegex(self.run_without_address(0), "^ended: OSError the connection to the server has ended: ")
+
+    def test_an_address_that_comes_back_soon(self) -> None:
+        said = self.run_without_address(0.15)
+        self.assertRegex(said, "^ended: OSError the connection" if IS_UVLOOP else "^data comes$")
+
+    def test_silence(self) -> None:
+        """A path that drops all, and says nothing. The times are a tenth of those that a user has."""
+        for kind, why in (("Endpoint", "no answer from .* to 3 checks in a row"), ("StreamEndpoint", ".*timed out")):
+            with self.subTest(kind=kind):
+                said = self.run_in_namespace(SILENCE, kind)
+                self.assertRegex(said, f"^ended after [0-9.]+ s: the connection to the server has ended: {why}\n$")
+                self.assertLess(float(said.split()[2]), 9)
+
+
+if __name__ == "__main__":
+    unittest.main()
