@@ -1,41 +1,75 @@
-"""Makes the wheel of the package: a build backend (PEP 517) that needs the standard library alone.
+"""Makes wheels and source archives of the package: a build backend (PEP 517, PEP 660) that needs the standard library alone.
 
-The library for C comes from the folder `YARROWDOOR_DIST`, by default `../dist`, which tools/library makes. The wheel holds
-it, its checksum (`yarrowdoor/SHA256SUMS`), and what proved it (`yarrowdoor/PROOF`). The same files make the same wheel. Where
-PROOF does not say that the library is proved, the version of the wheel ends with `+unproved`.
+A wheel holds the library for C where there is one in the folder `YARROWDOOR_DIST`, by default `../dist`, which tools/library
+makes: the library, its checksum (`yarrowdoor/SHA256SUMS`), and what proved it (`yarrowdoor/PROOF`). Else the package is made
+without it, where `YARROWDOOR_LIB` names one or the system has one: that one is used. Where no PROOF says that the library is
+proved, the version ends with `+unproved`. The same files make the same wheel.
 
-    python3 build_wheel.py FOLDER       puts the wheel into the folder, and prints its name
+    python3 build_wheel.py FOLDER       puts a wheel with the library into the folder, and prints its name
 """
+from __future__ import annotations
+
 import base64
+import ctypes
+import gzip
 import hashlib
+import io
 import os
 import pathlib
 import re
 import struct
 import sys
+import tarfile
 import zipfile
+from typing import Any, Dict, Optional
 
 HERE = pathlib.Path(__file__).resolve().parent
 LIBRARY = "libyarrowdoor.so.0"
 MACHINES = {62: "x86_64", 183: "aarch64"}
 # The newest C library of the GNU project that the wheel may ask for: pip knows the tag from it.
 GLIBC = (2, 17)
+# The time of all files in what is made, in seconds since 1970: 2020-01-01.
+TIME = 1_577_836_800
 
 
 def project(name: str) -> str:
     """A text of pyproject.toml."""
-    return re.search(rf'^{name} = "(.*)"$', (HERE / "pyproject.toml").read_text(), re.M)[1]
+    found = re.search(rf'^{name} = "(.*)"$', (HERE / "pyproject.toml").read_text(), re.M)
+    if found is None:
+        sys.exit(f"pyproject.toml has no {name}")
+    return found[1]
 
 
-def dist() -> pathlib.Path:
-    """The folder of the library, which has to be as its SHA256SUMS say."""
-    folder = pathlib.Path(os.environ.get("YARROWDOOR_DIST") or HERE.parent / "dist")
+def release() -> str:
+    """The version of the package, which stands in yarrowdoor/version.py alone, without what says that it is not proved."""
+    found = re.search(r'^__version__ = "(.*)\+unproved"$', (HERE / "yarrowdoor" / "version.py").read_text(), re.M)
+    if found is None:
+        sys.exit("yarrowdoor/version.py has no __version__")
+    return found[1]
+
+
+def dist() -> Optional[pathlib.Path]:
+    """The folder of the library, which has to be as its SHA256SUMS say. None where there is none, and none was named."""
+    named = os.environ.get("YARROWDOOR_DIST")
+    folder = pathlib.Path(named or HERE.parent / "dist")
     if not (folder / LIBRARY).exists():
-        sys.exit(f"there is no {folder / LIBRARY}: run tools/library, or set YARROWDOOR_DIST")
+        if named:
+            sys.exit(f"there is no {folder / LIBRARY}: run tools/library")
+        return None
     line = f"{hashlib.sha256((folder / LIBRARY).read_bytes()).hexdigest()}  {LIBRARY}"
     if line not in (folder / "SHA256SUMS").read_text().splitlines():
         sys.exit(f"{folder / LIBRARY} is not as {folder / 'SHA256SUMS'} says")
     return folder
+
+
+def check_other_library() -> None:
+    """Ends, and says what is missing, where a package without a library would find none."""
+    named = os.environ.get("YARROWDOOR_LIB") or LIBRARY
+    try:
+        ctypes.CDLL(named)
+    except OSError as error:
+        sys.exit(f"there is no library for C ({error}): run tools/library, or let YARROWDOOR_LIB name one, or YARROWDOOR_DIST its "
+                 "folder")
 
 
 def is_proved(proof: str) -> bool:
@@ -46,34 +80,40 @@ def is_proved(proof: str) -> bool:
     return bool(has_passed or re.search(r"(?<!\S)logic=proved(?!\S)", proof))
 
 
-def version(folder: pathlib.Path) -> str:
-    """The version of the wheel: one whose library is not proved says so (a local version of PEP 440)."""
-    return project("version") + ("" if is_proved((folder / "PROOF").read_text()) else "+unproved")
+def version(folder: Optional[pathlib.Path]) -> str:
+    """The version of a wheel: one whose library is not proved, or is another's, says so (a local version of PEP 440)."""
+    return release() + ("" if folder is not None and is_proved((folder / "PROOF").read_text()) else "+unproved")
 
 
 def platform(library: bytes) -> str:
-    """The tag of the machine and the C library that this library needs."""
+    """The tag of the machine and the C library that this library needs. One that names no C library fits that of musl too."""
     machine = MACHINES.get(struct.unpack_from("<H", library, 18)[0])
     versions = [(int(it[1]), int(it[2])) for it in re.finditer(rb"GLIBC_(\d+)\.(\d+)", library)]
     if machine is None or max(versions, default=(0, 0)) > GLIBC:
         sys.exit(f"there is no tag for this library: machine {machine}, versions {versions}")
-    return f"manylinux_{GLIBC[0]}_{GLIBC[1]}_{machine}"
+    gnu = f"manylinux_{GLIBC[0]}_{GLIBC[1]}_{machine}"
+    return gnu if versions or b"libc.so.6" in library else f"{gnu}.musllinux_1_1_{machine}"
 
 
-def files(folder: pathlib.Path) -> "dict[str, bytes]":
-    """All files of the package, by their names in the wheel."""
-    found = {f"yarrowdoor/{it.name}": it.read_bytes() for it in sorted((HERE / "yarrowdoor").glob("*.py"))}
-    found["yarrowdoor/py.typed"] = b""
-    found[f"yarrowdoor/{LIBRARY}"] = (folder / LIBRARY).read_bytes()
-    found["yarrowdoor/PROOF"] = (folder / "PROOF").read_bytes()
-    found["yarrowdoor/SHA256SUMS"] = f"{hashlib.sha256(found[f'yarrowdoor/{LIBRARY}']).hexdigest()}  {LIBRARY}\n".encode()
-    return found
+def sources() -> Dict[str, bytes]:
+    """The files of the package, by their names in it."""
+    return {f"yarrowdoor/{it.name}": it.read_bytes() for it in sorted((HERE / "yarrowdoor").iterdir())
+            if it.suffix == ".py" or it.name == "py.typed"}
+
+
+def licence() -> bytes:
+    """The text of the licence, which stands beside the package in a source archive, and above it in the repository."""
+    found = [it for it in (HERE / "LICENSE", HERE.parent / "LICENSE") if it.exists()]
+    if not found:
+        sys.exit("there is no LICENSE")
+    return found[0].read_bytes()
 
 
 def metadata(version: str) -> bytes:
-    head = [("Metadata-Version", "2.1"), ("Name", project("name")), ("Version", version),
-            ("Summary", project("description")), ("License", "MIT OR Apache-2.0"), ("Requires-Python", project("requires-python")),
-            ("Description-Content-Type", "text/markdown")]
+    head = [("Metadata-Version", "2.1"), ("Name", project("name")), ("Version", version), ("Summary", project("description")),
+            ("License", "MIT OR Apache-2.0"), ("License-File", "LICENSE"), ("Requires-Python", project("requires-python"))]
+    head += [("Classifier", it) for it in re.findall(r'^    "(.* :: .*)",$', (HERE / "pyproject.toml").read_text(), re.M)]
+    head += [("Description-Content-Type", "text/markdown")]
     lines = "".join(f"{name}: {value}\n" for name, value in head)
     return f"{lines}\n{(HERE / 'README.md').read_text()}".encode()
 
@@ -82,20 +122,19 @@ def sum_of(data: bytes) -> str:
     return base64.urlsafe_b64encode(hashlib.sha256(data).digest()).rstrip(b"=").decode()
 
 
-def build_wheel(wheel_directory, config_settings=None, metadata_directory=None):
-    """Makes the wheel, and returns its name (PEP 517)."""
-    folder = dist()
-    found = files(folder)
-    tag = f"py3-none-{platform(found[f'yarrowdoor/{LIBRARY}'])}"
-    about = f"{project('name')}-{version(folder)}"
+def write_wheel(directory: str, version: str, tag: str, found: Dict[str, bytes]) -> str:
+    """Writes a wheel with these files, and its own, and returns its name."""
+    about = f"{project('name')}-{version}"
     info = f"{about}.dist-info"
-    found[f"{info}/METADATA"] = metadata(version(folder))
-    found[f"{info}/LICENSE"] = (HERE.parent / "LICENSE").read_bytes() if (HERE.parent / "LICENSE").exists() else b""
-    found[f"{info}/WHEEL"] = f"Wheel-Version: 1.0\nGenerator: build_wheel\nRoot-Is-Purelib: false\nTag: {tag}\n".encode()
+    tags = "".join(f"Tag: py3-none-{it}\n" for it in tag.split("."))
+    found[f"{info}/METADATA"] = metadata(version)
+    found[f"{info}/LICENSE"] = licence()
+    is_pure = "true" if tag == "any" else "false"
+    found[f"{info}/WHEEL"] = f"Wheel-Version: 1.0\nGenerator: build_wheel\nRoot-Is-Purelib: {is_pure}\n{tags}".encode()
     record = "".join(f"{name},sha256={sum_of(data)},{len(data)}\n" for name, data in found.items())
     found[f"{info}/RECORD"] = f"{record}{info}/RECORD,,\n".encode()
-    name = f"{about}-{tag}.whl"
-    with zipfile.ZipFile(os.path.join(wheel_directory, name), "w", zipfile.ZIP_DEFLATED) as wheel:
+    name = f"{about}-py3-none-{tag}.whl"
+    with zipfile.ZipFile(os.path.join(directory, name), "w", zipfile.ZIP_DEFLATED) as wheel:
         for path, data in found.items():
             entry = zipfile.ZipInfo(path, (2020, 1, 1, 0, 0, 0))
             entry.external_attr = (0o755 if path.endswith(LIBRARY) else 0o644) << 16
@@ -104,13 +143,54 @@ def build_wheel(wheel_directory, config_settings=None, metadata_directory=None):
     return name
 
 
-def build_sdist(sdist_directory, config_settings=None):
-    """There is none: a wheel is made from the repository and dist/ (PEP 517 asks for this function)."""
-    raise NotImplementedError("only wheels are made, by tools/wheel")
+def build_wheel(wheel_directory: str, config_settings: Any = None, metadata_directory: Any = None) -> str:
+    """Makes a wheel, with the library if there is a `dist`, and returns its name (PEP 517)."""
+    folder, found, tag = dist(), sources(), "any"
+    called = version(folder)
+    found["yarrowdoor/version.py"] = re.sub(rb'"[^"]*"$', f'"{called}"'.encode(), found["yarrowdoor/version.py"].rstrip()) + b"\n"
+    if folder is None:
+        check_other_library()
+    else:
+        library = (folder / LIBRARY).read_bytes()
+        found[f"yarrowdoor/{LIBRARY}"], tag = library, platform(library)
+        found["yarrowdoor/PROOF"] = (folder / "PROOF").read_bytes()
+        found["yarrowdoor/SHA256SUMS"] = f"{hashlib.sha256(library).hexdigest()}  {LIBRARY}\n".encode()
+    return write_wheel(wheel_directory, called, tag, found)
+
+
+def build_editable(wheel_directory: str, config_settings: Any = None, metadata_directory: Any = None) -> str:
+    """Makes a wheel that names this folder, and returns its name (PEP 660). The library is the one that `YARROWDOOR_LIB` names, or
+    the system's."""
+    check_other_library()
+    return write_wheel(wheel_directory, version(None), "any", {"yarrowdoor.pth": f"{HERE}\n".encode()})
+
+
+def build_sdist(sdist_directory: str, config_settings: Any = None) -> str:
+    """Makes an archive of the sources, without the library, and returns its name (PEP 517)."""
+    about = f"{project('name')}-{release()}"
+    found = sources()
+    for name in ("pyproject.toml", "build_wheel.py", "README.md"):
+        found[name] = (HERE / name).read_bytes()
+    found["LICENSE"], found["PKG-INFO"] = licence(), metadata(release())
+    packed = io.BytesIO()
+    with tarfile.open(fileobj=packed, mode="w", format=tarfile.PAX_FORMAT) as archive:
+        for path, data in sorted(found.items()):
+            entry = tarfile.TarInfo(f"{about}/{path}")
+            entry.size, entry.mtime, entry.mode = len(data), TIME, 0o644
+            archive.addfile(entry, io.BytesIO(data))
+    with open(os.path.join(sdist_directory, f"{about}.tar.gz"), "wb") as file:
+        file.write(gzip.compress(packed.getvalue(), mtime=TIME))
+    return f"{about}.tar.gz"
+
+
+def main() -> None:
+    if len(sys.argv) != 2:
+        sys.exit(__doc__)
+    if dist() is None:
+        sys.exit(f"there is no {HERE.parent / 'dist' / LIBRARY}: run tools/library, or set YARROWDOOR_DIST")
+    pathlib.Path(sys.argv[1]).mkdir(parents=True, exist_ok=True)
+    print(build_wheel(sys.argv[1]))
 
 
 if __name__ == "__main__":
-    if len(sys.argv) != 2:
-        sys.exit(__doc__)
-    pathlib.Path(sys.argv[1]).mkdir(parents=True, exist_ok=True)
-    print(build_wheel(sys.argv[1]))
+    main()

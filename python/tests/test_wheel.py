@@ -1,12 +1,16 @@
-"""The version of a wheel, which says where its library is not proved."""
+"""Wheels and source archives: what is in them, that they are made the same twice, and what their version says of proofs."""
 import hashlib
 import importlib.util
 import os
 import pathlib
+import subprocess
+import sys
+import tarfile
 import tempfile
 import unittest
 import unittest.mock
 import zipfile
+from typing import Any, Optional
 
 BACKEND = pathlib.Path(__file__).resolve().parent.parent / "build_wheel.py"
 HEAD = "proved with: rt 1\nsources: 0123456\nrt lib in crates/turn_c:\n"
@@ -15,11 +19,23 @@ NO_GATE = "the gate: no log was given\n"
 LIBRARY = b"\x7fELF" + bytes(14) + (62).to_bytes(2, "little") + bytes(44)
 
 
-def backend():
+def backend() -> Any:
     spec = importlib.util.spec_from_file_location("build_wheel", BACKEND)
+    if spec is None or spec.loader is None:
+        raise ImportError(str(BACKEND))
     module = importlib.util.module_from_spec(spec)
     spec.loader.exec_module(module)
     return module
+
+
+def wheel_with(proof: str, room: str, library: bytes = LIBRARY) -> str:
+    """The name of a wheel in this folder, made with this PROOF."""
+    folder = pathlib.Path(room)
+    (folder / "libyarrowdoor.so.0").write_bytes(library)
+    (folder / "SHA256SUMS").write_text(f"{hashlib.sha256(library).hexdigest()}  libyarrowdoor.so.0\n")
+    (folder / "PROOF").write_text(proof)
+    with unittest.mock.patch.dict(os.environ, YARROWDOOR_DIST=room):
+        return str(backend().build_wheel(room))
 
 
 @unittest.skipUnless(BACKEND.exists(), "the sources are not here")
@@ -40,18 +56,14 @@ class Versions(unittest.TestCase):
     )
 
     def version_with(self, proof: str) -> str:
-        """The version in the name and in the metadata of a wheel with this PROOF."""
+        """The version in the name, the metadata and the package of a wheel with this PROOF."""
         with tempfile.TemporaryDirectory() as room:
-            folder = pathlib.Path(room)
-            (folder / "libyarrowdoor.so.0").write_bytes(LIBRARY)
-            (folder / "SHA256SUMS").write_text(f"{hashlib.sha256(LIBRARY).hexdigest()}  libyarrowdoor.so.0\n")
-            (folder / "PROOF").write_text(proof)
-            with unittest.mock.patch.dict(os.environ, YARROWDOOR_DIST=room):
-                name = backend().build_wheel(room)
+            name = wheel_with(proof, room)
             _, version, *_ = name.split("-")
-            with zipfile.ZipFile(folder / name) as wheel:
+            with zipfile.ZipFile(pathlib.Path(room, name)) as wheel:
                 metadata = wheel.read(f"yarrowdoor-{version}.dist-info/METADATA").decode()
                 self.assertEqual(wheel.read("yarrowdoor/PROOF").decode(), proof)
+                self.assertIn(f'\n__version__ = "{version}"\n', wheel.read("yarrowdoor/version.py").decode())
             self.assertIn(f"\nVersion: {version}\n", metadata)
             return version
 
@@ -63,6 +75,96 @@ class Versions(unittest.TestCase):
         for proof in self.UNPROVED:
             with self.subTest(proof=proof):
                 self.assertRegex(self.version_with(proof), r"^[0-9.]+\+unproved$")
+
+    def test_the_package_for_rust_has_the_same(self) -> None:
+        manifest = BACKEND.parent.parent / "rust" / "Cargo.toml"
+        if not manifest.exists():
+            self.skipTest("the sources of the package for Rust are not here")
+        self.assertIn(f'\nversion = "{backend().release()}"\n', manifest.read_text())
+
+
+@unittest.skipUnless(BACKEND.exists(), "the sources are not here")
+class Files(unittest.TestCase):
+    def test_a_wheel_that_is_made_twice(self) -> None:
+        made = []
+        for _ in range(2):
+            with tempfile.TemporaryDirectory() as room:
+                made.append(pathlib.Path(room, wheel_with(HEAD, room)).read_bytes())
+        self.assertEqual(made[0], made[1])
+
+    def test_the_files_of_a_wheel(self) -> None:
+        with tempfile.TemporaryDirectory() as room:
+            with zipfile.ZipFile(pathlib.Path(room, wheel_with(HEAD, room))) as wheel:
+                names = wheel.namelist()
+                info = next(it for it in names if it.endswith("/METADATA")).rpartition("/")[0]
+                metadata, record = wheel.read(f"{info}/METADATA").decode(), wheel.read(f"{info}/RECORD").decode()
+                self.assertIn(b"MIT License", wheel.read(f"{info}/LICENSE"))
+        self.assertIn("yarrowdoor/py.typed", names)
+        self.assertEqual([it.split(",")[0] for it in record.splitlines()], names)
+        for line in ("License-File: LICENSE", "Classifier: Typing :: Typed", "Requires-Python: >=3.9"):
+            self.assertIn(f"\n{line}\n", metadata)
+
+    def test_the_systems_that_a_wheel_fits(self) -> None:
+        for library, tag in ((LIBRARY, "manylinux_2_17_x86_64.musllinux_1_1_x86_64"),
+                             (LIBRARY + b"libc.so.6\0GLIBC_2.2.5\0", "manylinux_2_17_x86_64")):
+            with tempfile.TemporaryDirectory() as room:
+                self.assertTrue(wheel_with(HEAD, room, library).endswith(f"-py3-none-{tag}.whl"))
+        with tempfile.TemporaryDirectory() as room, self.assertRaisesRegex(SystemExit, "^there is no tag for this library"):
+            wheel_with(HEAD, room, LIBRARY + b"GLIBC_2.34\0")
+
+    def test_a_library_that_is_not_as_its_sums_say(self) -> None:
+        with tempfile.TemporaryDirectory() as room:
+            wheel_with(HEAD, room)
+            pathlib.Path(room, "libyarrowdoor.so.0").write_bytes(b"other")
+            with unittest.mock.patch.dict(os.environ, YARROWDOOR_DIST=room):
+                with self.assertRaisesRegex(SystemExit, "is not as .*SHA256SUMS says$"):
+                    backend().build_wheel(room)
+
+
+@unittest.skipUnless(BACKEND.exists(), "the sources are not here")
+class Sources(unittest.TestCase):
+    """A source archive, and what is made of it where the library is elsewhere."""
+
+    def setUp(self) -> None:
+        room = tempfile.TemporaryDirectory()
+        self.addCleanup(room.cleanup)
+        self.room = pathlib.Path(room.name)
+        name = backend().build_sdist(room.name)
+        self.archive = (self.room / name).read_bytes()
+        with tarfile.open(self.room / name) as archive:
+            archive.extractall(self.room)
+        self.top = self.room / name[: -len(".tar.gz")]
+
+    def build(self, call: str, library: Optional[str]) -> "subprocess.CompletedProcess[str]":
+        env = {key: value for key, value in os.environ.items() if not key.startswith("YARROWDOOR_")}
+        if library is not None:
+            env["YARROWDOOR_LIB"] = library
+        program = f"import build_wheel; print(build_wheel.{call}({str(self.room)!r}))"
+        return subprocess.run([sys.executable, "-B", "-c", program], cwd=self.top, env=env, stdout=subprocess.PIPE,
+                              stderr=subprocess.PIPE, text=True)
+
+    def test_an_archive_that_is_made_twice(self) -> None:
+        self.assertEqual((self.room / backend().build_sdist(str(self.room))).read_bytes(), self.archive)
+        self.assertEqual(self.build("build_sdist", None).returncode, 0)
+        self.assertEqual((self.room / f"{self.top.name}.tar.gz").read_bytes(), self.archive)
+
+    def test_no_library(self) -> None:
+        for call in ("build_wheel", "build_editable"):
+            ran = self.build(call, "/nowhere/libyarrowdoor.so.0")
+            self.assertEqual(ran.returncode, 1)
+            self.assertRegex(ran.stderr, r"\Athere is no library for C \(.*\): run tools/library, or [^\n]*\n\Z")
+
+    def test_a_library_elsewhere(self) -> None:
+        library = os.environ.get("YARROWDOOR_LIB")
+        if library is None:
+            self.skipTest("YARROWDOOR_LIB names no library")
+        ran = self.build("build_wheel", library)
+        self.assertRegex(ran.stdout, r"^yarrowdoor-[0-9.]+\+unproved-py3-none-any\.whl\n$")
+        with zipfile.ZipFile(self.room / ran.stdout.strip()) as wheel:
+            self.assertFalse([it for it in wheel.namelist() if ".so" in it or it.endswith("PROOF")])
+        ran = self.build("build_editable", library)
+        with zipfile.ZipFile(self.room / ran.stdout.strip()) as wheel:
+            self.assertEqual(wheel.read("yarrowdoor.pth").decode().strip(), str(self.top.resolve()))
 
 
 if __name__ == "__main__":

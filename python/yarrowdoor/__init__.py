@@ -20,10 +20,10 @@ from .notices import Lost
 from .path import Check
 from .turn import TurnClient
 from .uri import TurnUri
-
-__version__ = "0.1.0"
+from .version import __version__
 
 __all__ = [
     "Address", "AllocationFailed", "Busy", "ChannelFailed", "Check", "Client", "Clock", "ConnectFailed", "Ended", "LibraryError",
     "Lost", "PermissionFailed", "Refused", "Times", "TurnClient", "TurnUri", "WrongCredentials", "YarrowdoorError",
+    "__version__",
 ]
