@@ -9,6 +9,7 @@ import subprocess
 import sys
 import tempfile
 import threading
+import time
 import unittest
 from typing import List
 
@@ -152,17 +153,21 @@ class Ownership(unittest.TestCase):
         self.assertEqual(client.poll(0), sans_io.WaitUntil(0))
 
     def test_many_threads_break_nothing(self) -> None:
-        client = new_client()
+        """No call is made while another one is under way: it is `Busy`. The library is one that takes its time, in which threads
+        change."""
+        slow = SlowLibrary()
+        client = new_client(library=slow)
         client.poll_transmit(0)
         wrong: List[object] = []
+        busy: List[Busy] = []
 
         def use() -> None:
-            for _ in range(3000):
+            for _ in range(50):
                 try:
                     if client.poll(0) != sans_io.WaitUntil(500_000_000):
                         wrong.append("another answer")
-                except Busy:
-                    pass
+                except Busy as error:
+                    busy.append(error)
                 except Exception as error:
                     wrong.append(error)
 
@@ -171,7 +176,8 @@ class Ownership(unittest.TestCase):
             thread.start()
         for thread in threads:
             thread.join()
-        self.assertEqual(wrong, [])
+        self.assertEqual((wrong, slow.together), ([], 1))
+        self.assertGreater(len(busy), 0)
 
     def test_each_client_is_freed_once(self) -> None:
         counted = CountingLibrary()
@@ -209,6 +215,23 @@ class CountingLibrary:
     def free(self, client: ctypes.c_void_p) -> None:
         self.freed += 1
         self.of.free(client)
+
+
+class SlowLibrary(CountingLibrary):
+    """The library, whose calls last longer, and count how many are made at once."""
+
+    def __init__(self) -> None:
+        super().__init__()
+        self.inside = self.together = 0
+        self.call = self.call_slowly
+
+    def call_slowly(self, *args: object) -> int:
+        self.inside += 1
+        self.together = max(self.together, self.inside)
+        time.sleep(0.001)
+        answer = self.of.call(*args)
+        self.inside -= 1
+        return int(answer)
 
 
 OTHER = """
