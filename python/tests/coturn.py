@@ -6,7 +6,7 @@ import socket
 import subprocess
 import tempfile
 import time
-from typing import Iterator, NamedTuple
+from typing import Any, Iterator, NamedTuple
 
 IS_HERE = shutil.which("turnserver") is not None
 WHY = "coturn is not installed (turnserver of Debian's package coturn)"
@@ -61,7 +61,7 @@ def coturn(*options: str) -> Iterator[Coturn]:
             server.wait()
 
 
-def wait_for(port: int, server: "subprocess.Popen[bytes]") -> None:
+def wait_for(port: int, server: "subprocess.Popen[Any]") -> None:
     """Waits until the server accepts connections."""
     for _ in range(200):
         with contextlib.suppress(OSError), socket.create_connection(("127.0.0.1", port), 1):

@@ -4,11 +4,12 @@ A peer sends back what it gets. Packets are lost, late and doubled by the number
 """
 import asyncio
 import contextlib
+import functools
 import heapq
 import random
 import socket
 import struct
-from typing import Callable, Dict, List, Optional, Tuple
+from typing import Any, Callable, List, Tuple, Type, TypeVar
 
 from yarrowdoor import client as sans_io
 
@@ -18,11 +19,14 @@ CLIENT, SERVER = ("10.0.0.1", 5000), ("10.0.0.2", 3478)
 SECOND = 1_000_000_000
 
 
+_Event = TypeVar("_Event")
+
+
 class Network:
-    """A client and a server, in a time of their own: minutes pass in a moment, and each run is the same."""
+    """A client and a server, in a time of their own: minutes pass at once, and each run is the same."""
 
     def __init__(self, server: Server, delay: float = 0.01, loss: float = 0.0, doubled: float = 0.0, jitter: float = 0.0,
-                 seed: int = 1, **settings: object) -> None:
+                 seed: int = 1, **settings: Any) -> None:
         self.client = sans_io.Client(CLIENT, SERVER, "user", "pass", seed=bytes(31) + bytes([seed]), **settings)
         self.server, self.delay, self.loss, self.doubled, self.jitter = server, delay, loss, doubled, jitter
         self.draw = random.Random(seed)
@@ -30,7 +34,7 @@ class Network:
         self.queue: List[Tuple[int, int, Callable[[], None]]] = []
         self.count = 0
         self.events: List[sans_io.Event] = []
-        self.data: List[Tuple[bytes, sans_io.Address]] = []
+        self.data: List[Tuple[bytes, Tuple[str, int]]] = []
         self.is_closed = False
         self.sent_packets = 0
 
@@ -52,7 +56,7 @@ class Network:
     def serve(self, packets: List[Tuple[bytes, Where]]) -> None:
         for data, where in packets:
             if where == CLIENT:
-                self.carry(lambda data=data: self.to_client(data))
+                self.carry(functools.partial(self.to_client, data))
             else:
                 self.serve(self.server.from_peer(data, where, CLIENT, self.now / SECOND))
 
@@ -61,7 +65,7 @@ class Network:
         if isinstance(answer, sans_io.PeerData):
             self.data.append((bytes(answer.data), answer.peer))
 
-    def send(self, data: bytes, peer: sans_io.Address) -> None:
+    def send(self, data: bytes, peer: Tuple[str, int]) -> None:
         self.to_server(self.client.send_to(peer, data, self.now).data)
 
     def run(self, seconds: float) -> None:
@@ -75,17 +79,21 @@ class Network:
             if isinstance(rest, sans_io.Closed):
                 self.events += iter(self.client.poll_event, None)
                 self.is_closed = True
-            elif rest.time > self.now:
+            elif isinstance(rest, sans_io.WaitUntil) and rest.time > self.now:
                 self.now = min(rest.time, self.queue[0][0] if self.queue else rest.time, until + 1)
                 while self.queue and self.queue[0][0] <= self.now:
                     heapq.heappop(self.queue)[2]()
 
-    def of(self, kind: type) -> List[sans_io.Event]:
+    def of(self, kind: Type[_Event]) -> List[_Event]:
         return [it for it in self.events if isinstance(it, kind)]
 
 
 class StreamEndpoint:
     """A server on a socket of this host, over TCP. It has one client at a time."""
+
+    listener: asyncio.AbstractServer
+    where: Tuple[str, int]
+    writer: Any
 
     def __init__(self, server: Server) -> None:
         self.server = server
@@ -94,8 +102,9 @@ class StreamEndpoint:
     @classmethod
     async def start(cls, server: Server) -> "StreamEndpoint":
         endpoint = cls(server)
-        endpoint.listener = await asyncio.start_server(endpoint.serve, "127.0.0.1", 0)
-        endpoint.uri = "turn:%s:%d?transport=tcp" % endpoint.listener.sockets[0].getsockname()
+        endpoint.listener = listener = await asyncio.start_server(endpoint.serve, "127.0.0.1", 0)
+        endpoint.where = listener.sockets[0].getsockname()
+        endpoint.uri = "turn:%s:%d?transport=tcp" % endpoint.where
         return endpoint
 
     async def serve(self, reader: asyncio.StreamReader, writer: asyncio.StreamWriter) -> None:
@@ -133,7 +142,7 @@ class Endpoint(asyncio.DatagramProtocol):
 
     def __init__(self, server: Server) -> None:
         self.server = server
-        self.transport: Optional[asyncio.DatagramTransport] = None
+        self.transport: Any = None
         self.uri = ""
 
     @classmethod

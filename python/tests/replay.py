@@ -1,6 +1,6 @@
 """Runs a trace (docs/LINES.md) by `client.Client`, and gives the lines that turn_replay prints. A trace has no bad line here."""
 import ipaddress
-from typing import Callable, Dict, Iterator, List
+from typing import Any, Callable, Dict, Iterator, List, Optional
 
 from yarrowdoor import client as sans_io
 from yarrowdoor.errors import Refused
@@ -8,7 +8,7 @@ from yarrowdoor.errors import Refused
 
 def address(text: str) -> sans_io.Address:
     ip, _, port = text.rpartition(":")
-    return ip_of(ip), int(port)
+    return sans_io.Address(ip_of(ip), int(port))
 
 
 def ip_of(text: str) -> str:
@@ -19,7 +19,7 @@ def shown_ip(ip: str) -> str:
     return f"[{ipaddress.ip_address(ip).packed.hex()}]" if ":" in ip else ip
 
 
-def shown(where: sans_io.Address) -> str:
+def shown(where: sans_io.SocketAddress) -> str:
     return f"{shown_ip(where[0])}:{where[1]}"
 
 
@@ -41,13 +41,13 @@ def client_of(head: str) -> sans_io.Client:
     )
 
 
-def shown_packet(packet: object) -> str:
+def shown_packet(packet: Optional[sans_io.Packet]) -> str:
     if packet is None:
         return "none"
     return f"send {packet.transport} {shown(packet.local)} {shown(packet.remote)} {to_hex(packet.data)}"
 
 
-def shown_data(answer: object) -> str:
+def shown_data(answer: Optional[sans_io.PeerData]) -> str:
     return "none" if answer is None else f"data {answer.transport} {shown(answer.peer)} {to_hex(answer.data)}"
 
 
@@ -67,7 +67,7 @@ def shown_received(answer: sans_io.Received) -> str:
     return "handled" if isinstance(answer, sans_io.Handled) else "ignored"
 
 
-EVENTS: Dict[type, Callable[[object], str]] = {
+EVENTS: Dict[type, Callable[[Any], str]] = {
     type(None): lambda it: "none",
     sans_io.AllocationCreated: lambda it: f"allocated {it.transport} {shown(it.address)}",
     sans_io.AllocationCreateFailed: lambda it: f"allocate-failed {it.family}",
@@ -86,9 +86,9 @@ class Replay:
         self.relay = head.split(" ")[3]
 
     def answer(self, line: str) -> str:
-        moment, name, *words = line.split(" ")
+        now, name, *words = line.split(" ")
         try:
-            return getattr(self, name)(int(moment), *words)
+            return str(getattr(self, name)(int(now), *words) or "ok")
         except Refused as refusal:
             return f"refused {refusal.reason}" + (f" {refusal.until}" if refusal.reason == "expired" else "")
 
@@ -112,27 +112,27 @@ class Replay:
     def send(self, now: int, way: str, peer: str, data: str) -> str:
         return shown_packet(self.client.send_to(address(peer), from_hex(data), now, transport=way))
 
-    def permit(self, now: int, way: str, ip: str) -> str:
-        return self.client.create_permission(ip_of(ip), now, transport=way) or "ok"
+    def permit(self, now: int, way: str, ip: str) -> None:
+        self.client.create_permission(ip_of(ip), now, transport=way)
 
-    def bind(self, now: int, way: str, peer: str) -> str:
-        return self.client.bind_channel(address(peer), now, transport=way) or "ok"
+    def bind(self, now: int, way: str, peer: str) -> None:
+        self.client.bind_channel(address(peer), now, transport=way)
 
-    def connect(self, now: int, peer: str) -> str:
-        return self.client.tcp_connect(address(peer), now) or "ok"
+    def connect(self, now: int, peer: str) -> None:
+        self.client.tcp_connect(address(peer), now)
 
-    def socket(self, now: int, number: str, way: str, source: str, to: str, peer: str, local: str) -> str:
+    def socket(self, now: int, number: str, way: str, source: str, to: str, peer: str, local: str) -> None:
         wanted = sans_io.AllocateTcpSocket(int(number), way, address(source), address(to), address(peer))
-        return self.client.allocated_tcp_socket(wanted, None if local == "-" else address(local), now) or "ok"
+        self.client.allocated_tcp_socket(wanted, None if local == "-" else address(local), now)
 
-    def delete(self, now: int) -> str:
-        return self.client.delete(now) or "ok"
+    def delete(self, now: int) -> None:
+        self.client.delete(now)
 
-    def closed(self, now: int, local: str, remote: str) -> str:
-        return self.client.tcp_closed(address(local), address(remote), now) or "ok"
+    def closed(self, now: int, local: str, remote: str) -> None:
+        self.client.tcp_closed(address(local), address(remote), now)
 
-    def error(self, now: int) -> str:
-        return self.client.protocol_error() or "ok"
+    def error(self, now: int) -> None:
+        self.client.protocol_error()
 
     def relayed(self, now: int) -> str:
         return self.listed([f"{it.transport} {shown(it.address)}" for it in self.client.relayed_addresses()])

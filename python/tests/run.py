@@ -24,4 +24,5 @@ class Limited(unittest.TextTestResult):
 
 if __name__ == "__main__":
     names = [f"tests.{it}" for it in sys.argv[1:]]
-    unittest.main(module=None, argv=[sys.argv[0], "-v", *names], testRunner=unittest.TextTestRunner(resultclass=Limited, verbosity=2))
+    runner = unittest.TextTestRunner(resultclass=Limited, verbosity=2)
+    unittest.main(module=None, argv=[sys.argv[0], *names], testRunner=runner)

@@ -1,19 +1,22 @@
 """The ICE agent of aioice over this client: two agents connect, relay to relay, through coturn."""
 import asyncio
 import unittest
+from typing import Any
 
 try:
     import aioice
     from aioice.ice import TransportPolicy
+
+    HAS_AIOICE = True
 except ImportError:
-    aioice = None
+    HAS_AIOICE = False
 
 import yarrowdoor.aioice
 
 from . import coturn as server
 
 
-@unittest.skipIf(aioice is None, "aioice is not installed (Debian's package python3-aioice)")
+@unittest.skipUnless(HAS_AIOICE, "aioice is not installed (Debian's package python3-aioice)")
 @unittest.skipUnless(server.IS_HERE, server.WHY)
 class Agents(unittest.IsolatedAsyncioTestCase):
     def setUp(self) -> None:
@@ -23,10 +26,10 @@ class Agents(unittest.IsolatedAsyncioTestCase):
         yarrowdoor.aioice.install()
         self.addCleanup(setattr, aioice.turn, "create_turn_endpoint", own)
 
-    def agent(self, at: server.Coturn, transport: str, is_controlling: bool) -> "aioice.Connection":
-        return aioice.Connection(ice_controlling=is_controlling, components=1, turn_server=("127.0.0.1", at.port),
-                                 turn_username="user", turn_password="pass", turn_transport=transport, use_ipv6=False,
-                                 transport_policy=TransportPolicy.RELAY)
+    def agent(self, at: server.Coturn, transport: str, is_controlling: bool) -> Any:
+        return aioice.ice.Connection(ice_controlling=is_controlling, components=1, turn_server=("127.0.0.1", at.port),
+                                     turn_username="user", turn_password="pass", turn_transport=transport, use_ipv6=False,
+                                     transport_policy=TransportPolicy.RELAY)
 
     async def connect(self, transport: str) -> None:
         with server.coturn() as at:

@@ -6,9 +6,9 @@ import ssl
 import time
 import unittest
 import unittest.mock
-from typing import AsyncIterator, Awaitable, Callable
+from typing import Any, AsyncIterator, Awaitable, Callable, ClassVar
 
-from yarrowdoor import Clock, ConnectFailed, PermissionFailed, TurnClient, WrongCredentials
+from yarrowdoor import Address, Clock, ConnectFailed, PermissionFailed, TurnClient, WrongCredentials
 from yarrowdoor.link import Link
 
 from . import coturn as server
@@ -17,10 +17,10 @@ from . import coturn as server
 class Echo(asyncio.DatagramProtocol):
     """A peer that sends back what it gets."""
 
-    def connection_made(self, transport) -> None:
+    def connection_made(self, transport: Any) -> None:
         self.transport = transport
 
-    def datagram_received(self, data: bytes, source) -> None:
+    def datagram_received(self, data: bytes, source: Any) -> None:
         self.transport.sendto(data, source)
 
 
@@ -30,7 +30,7 @@ class Sink(asyncio.DatagramProtocol):
     def __init__(self, came: "asyncio.Queue[bytes]") -> None:
         self.came = came
 
-    def datagram_received(self, data: bytes, source) -> None:
+    def datagram_received(self, data: bytes, source: Any) -> None:
         self.came.put_nowait(data)
 
 
@@ -54,6 +54,8 @@ async def echo_stream(reader: asyncio.StreamReader, writer: asyncio.StreamWriter
 
 @unittest.skipUnless(server.IS_HERE, server.WHY)
 class Coturn(unittest.IsolatedAsyncioTestCase):
+    server: ClassVar[server.Coturn]
+
     @classmethod
     def setUpClass(cls) -> None:
         stack = contextlib.ExitStack()
@@ -65,7 +67,7 @@ class Coturn(unittest.IsolatedAsyncioTestCase):
             self.skipTest("openssl is not installed, which makes a certificate")
         return ssl.create_default_context(cafile=self.server.certificate)
 
-    async def echo(self, uri: str, **settings: object) -> None:
+    async def echo(self, uri: str, **settings: Any) -> None:
         async with echo_peer() as peer, TurnClient(uri, "user", "pass", **settings) as relay:
             self.assertEqual(relay.mapped_address, relay.local_address)
             for way in (relay.permit(peer[0]), relay.bind(peer)):
@@ -128,7 +130,7 @@ class Coturn(unittest.IsolatedAsyncioTestCase):
                 await relay.permit("0.0.0.1")
             self.assertEqual(failed.exception.code, 403)
 
-    async def streams(self, uri: str, most: int, **settings: object) -> None:
+    async def streams(self, uri: str, most: int, **settings: Any) -> None:
         peers = await asyncio.start_server(echo_stream, "127.0.0.1", 0)
         peer = peers.sockets[0].getsockname()
         async with TurnClient(uri, "user", "pass", relay="tcp", **settings) as relay:
@@ -208,7 +210,7 @@ class Coturn(unittest.IsolatedAsyncioTestCase):
             await relay.permit(peer[0])
             opens = relay._server.connect
 
-            async def open_late(*them: object) -> Link:
+            async def open_late(*them: Any) -> Link:
                 await asyncio.sleep(0.5)
                 opened.append(await opens(*them))
                 return opened[-1]
@@ -234,7 +236,7 @@ class Coturn(unittest.IsolatedAsyncioTestCase):
             await asyncio.sleep(0.5)
             connected = relay._session().streams.connected
 
-            def cancel(bound: "tuple[str, int]") -> None:
+            def cancel(bound: Address) -> None:
                 connected(bound)
                 connecting.cancel()
 
@@ -252,7 +254,7 @@ class Coturn(unittest.IsolatedAsyncioTestCase):
         self.addCleanup(peers.close)
         first = iter(["127.0.0.1"])
 
-        async def lead(host: str, port: int, **kinds: int) -> "list[tuple]":
+        async def lead(host: str, port: int, **kinds: int) -> "list[tuple[Any, ...]]":
             return [(socket.AF_INET, socket.SOCK_STREAM, socket.IPPROTO_TCP, "", (next(first, "127.0.0.2"), port))]
 
         with unittest.mock.patch.object(asyncio.get_running_loop(), "getaddrinfo", lead):

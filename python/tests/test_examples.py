@@ -7,6 +7,7 @@ import subprocess
 import sys
 import tempfile
 import unittest
+from typing import Any, ClassVar
 
 from . import coturn as server
 
@@ -30,6 +31,10 @@ def start(*words: str) -> "subprocess.Popen[str]":
 @unittest.skipUnless(EXAMPLES.exists(), "the sources are not here")
 @unittest.skipUnless(server.IS_HERE, server.WHY)
 class Examples(unittest.TestCase):
+    server: ClassVar[server.Coturn]
+    room: ClassVar[str]
+    port: ClassVar[int]
+
     @classmethod
     def setUpClass(cls) -> None:
         stack = contextlib.ExitStack()
@@ -43,10 +48,11 @@ class Examples(unittest.TestCase):
 
     def echo(self, *options: str) -> None:
         program = start(str(EXAMPLES / "turn.py"), *options, "user", "pass", f"127.0.0.1:{self.port}", "hello")
-        self.addCleanup(program.stdout.close)
-        lines = [program.stdout.readline() for _ in range(2)]
+        said: Any = program.stdout
+        self.addCleanup(said.close)
+        lines = [said.readline() for _ in range(2)]
         program.send_signal(signal.SIGINT)
-        rest = program.stdout.read()
+        rest = said.read()
         self.assertRegex(lines[0], r"^relayed at 127\.0\.0\.1 \d+$")
         self.assertEqual((lines[1], rest), (f"data from 127.0.0.1 {self.port} hello\n", ""))
         self.assertEqual(program.wait(10), 0)

@@ -11,7 +11,7 @@ import tempfile
 import threading
 import time
 import unittest
-from typing import List
+from typing import Any, Dict, List
 
 from yarrowdoor import address, layout, library
 from yarrowdoor import client as sans_io
@@ -24,7 +24,7 @@ LOCAL, REMOTE = ("192.168.0.1", 1000), ("10.0.0.2", 2000)
 PAGE = ROOT / "docs" / "LINES.md"
 
 
-def new_client(**settings: object) -> sans_io.Client:
+def new_client(**settings: Any) -> sans_io.Client:
     return sans_io.Client(LOCAL, REMOTE, "user", "pass", seed=bytes(32), algorithms=("sha1",), **settings)
 
 
@@ -78,53 +78,59 @@ class Refusals(unittest.TestCase):
     """What is no call, and what the client refuses."""
 
     def test_what_is_no_client(self) -> None:
-        for settings in (
+        wrong: List[Dict[str, Any]] = [
             {"allocation": "tcp"}, {"transport": "sctp"}, {"families": ()}, {"families": (4, 6, 4)}, {"families": (5,)},
             {"algorithms": ("md5",)}, {"anonymous": "yes"}, {"times": sans_io.Times(initial=-1)}, {"seed": bytes(31)},
-            {"user": ""}, {"user": "u" * 509}, {"password": "p" * 65536}, {"local": ("localhost", 1)}, {"remote": ("1.2.3.4", 70000)},
-        ):
-            chosen = {"local": LOCAL, "remote": REMOTE, "user": "user", "password": "pass", **settings}
+            {"user": ""}, {"user": "u" * 509}, {"password": "p" * 65536}, {"local": ("localhost", 1)},
+            {"remote": ("1.2.3.4", 70000)},
+        ]
+        for settings in wrong:
+            chosen: Dict[str, Any] = {"local": LOCAL, "remote": REMOTE, "user": "user", "password": "pass", **settings}
             with self.subTest(settings=list(settings)), self.assertRaises(ValueError):
                 sans_io.Client(**chosen)
 
     def test_what_is_no_call(self) -> None:
         client = new_client()
-        for bad in (
+        three: Any = ("1.2.3.4", 5, 6)
+        calls: List[Any] = [
             lambda: client.poll(-1), lambda: client.poll((1 << 62) + 1), lambda: client.poll(1 << 64),
             lambda: client.recv(b"", 0, transport="sctp"), lambda: client.recv(b"", 0, remote=("::g", 1)),
             lambda: client.send_to(("1.2.3.4", 5), bytes(65505), 0), lambda: client.create_permission("1.2.3", 0),
-            lambda: client.bind_channel(("1.2.3.4", -1), 0), lambda: client.tcp_connect(("1.2.3.4", 5, 6), 0),
-        ):
+            lambda: client.bind_channel(("1.2.3.4", -1), 0), lambda: client.tcp_connect(three, 0),
+        ]
+        for bad in calls:
             with self.assertRaises(ValueError):
                 bad()
         self.assertEqual(client.poll(0), sans_io.WaitUntil(0))
 
     def test_what_is_refused(self) -> None:
         client = new_client()
-        for refused, reason in (
+        calls: List[Any] = [
             (lambda: client.delete(0), "no-allocation"), (lambda: client.create_permission("1.2.3.4", 0), "no-allocation"),
             (lambda: client.bind_channel(("1.2.3.4", 5), 0), "no-allocation"),
             (lambda: client.send_to(("1.2.3.4", 5), b"", 0), "no-permission"),
-        ):
+        ]
+        for refused, reason in calls:
             with self.assertRaises(Refused) as found:
                 refused()
             self.assertEqual((found.exception.reason, found.exception.until), (reason, 0))
 
     def test_ipv6(self) -> None:
         client = sans_io.Client(("fe80::1", 1000, 0, 3), ("fe80::2", 2000, 0, 3), "user", "pass", families=(6,))
-        packet = client.poll_transmit(0)
+        packet: Any = client.poll_transmit(0)
         self.assertEqual((packet.local, packet.remote), (("fe80::1", 1000, 0, 3), ("fe80::2", 2000, 0, 3)))
         self.assertEqual(address.socket_address(address.packed(("::1", 5, 0, 0))), ("::1", 5))
 
     def test_buffers_of_the_caller(self) -> None:
-        answers = []
-        for kind in (bytes, bytearray, memoryview, lambda it: memoryview(bytearray(it)), lambda it: memoryview(it * 2)[::2]):
-            client = new_client()
+        answers: List[Any] = []
+        kinds: List[Any] = [bytes, bytearray, memoryview, lambda it: memoryview(bytearray(it)), lambda it: memoryview(it * 2)[::2]]
+        for kind in kinds:
+            client: Any = new_client()
             client.poll_transmit(0)
             challenge = bytes.fromhex(
                 "011300202112a44276b8e0ada0f13d90405d6ae50009000400000401001400057265616c6d000000001500056e6f6e6365000000")
             doubled = bytes(it for one in challenge for it in (one, 0))
-            given = memoryview(doubled)[::2] if kind not in (bytes, bytearray, memoryview) and len(answers) == 4 else kind(challenge)
+            given = memoryview(doubled)[::2] if len(answers) == len(kinds) - 1 else kind(challenge)
             answers.append((client.recv(given, 0), client.poll_transmit(50_000_000).data))
         self.assertEqual(answers, answers[:1] * 5)
         self.assertEqual(answers[0][0], sans_io.Handled())
@@ -196,7 +202,8 @@ class Ownership(unittest.TestCase):
     def test_a_closed_client_makes_no_call(self) -> None:
         client = new_client()
         client.close()
-        for call in (lambda: client.poll(0), lambda: client.recv(b"x", 0), lambda: client.send_to(("1.2.3.4", 5), b"", 0)):
+        calls: List[Any] = [lambda: client.poll(0), lambda: client.recv(b"x", 0), lambda: client.send_to(("1.2.3.4", 5), b"", 0)]
+        for call in calls:
             with self.assertRaises(ValueError):
                 call()
 
@@ -205,12 +212,13 @@ class CountingLibrary:
     """The library, with the clients counted that it makes and frees."""
 
     def __init__(self) -> None:
-        self.of, self.made, self.freed, self.call = library.load(), 0, 0, library.load().call
+        self.of, self.made, self.freed = library.load(), 0, 0
+        self.call: Any = self.of.call
 
     def new(self, *args: object) -> int:
         error = self.of.new(*args)
         self.made += not error
-        return error
+        return int(error)
 
     def free(self, client: ctypes.c_void_p) -> None:
         self.freed += 1

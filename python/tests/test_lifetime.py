@@ -10,7 +10,7 @@ import unittest
 import unittest.mock
 import warnings
 import weakref
-from typing import Any
+from typing import Any, List
 
 from yarrowdoor import AllocationFailed, Ended, TurnClient, WrongCredentials
 
@@ -19,16 +19,16 @@ from .server import Server
 
 
 class Opening(unittest.IsolatedAsyncioTestCase):
-    async def serve(self, delay: float = 0.0, **settings: Any) -> Endpoint:
+    async def serve(self, delay: float = 0.0, **settings: Any) -> Any:
         """A server whose answers take their time."""
-        endpoint = await Endpoint.start(Server(**settings))
+        endpoint: Any = await Endpoint.start(Server(**settings))
         self.addCleanup(endpoint.close)
         send = endpoint.send
         if delay:
             endpoint.send = lambda *it: asyncio.get_running_loop().call_later(delay, send, *it)
         return endpoint
 
-    async def wait_for_allocation(self, endpoint: Endpoint) -> None:
+    async def wait_for_allocation(self, endpoint: Any) -> None:
         while not endpoint.server.allocations:
             await asyncio.sleep(0.005)
 
@@ -81,7 +81,7 @@ class Opening(unittest.IsolatedAsyncioTestCase):
         """The grant is given back when it comes, though opening has failed before."""
         endpoint = await self.serve(delay=1.5)
         relay = TurnClient(endpoint.uri, "user", "pass")
-        receive, answered = endpoint.server.receive, []
+        receive, answered = endpoint.server.receive, []  # type: Any, List[bytes]
 
         def forge(data: bytes, source: Any, now: float) -> Any:
             """A challenge at once, and to a signed request a 401 at once, before the answer."""
@@ -125,7 +125,8 @@ class Arguments(unittest.IsolatedAsyncioTestCase):
                 await asyncio.wait_for(call(), 1)
 
     async def test_numbers(self) -> None:
-        for wrong in ({"queue": 0}, {"queue": -5}, {"probe": 0}, {"probe": -1.0}):
+        numbers: List[Any] = [{"queue": 0}, {"queue": -5}, {"probe": 0}, {"probe": -1.0}]
+        for wrong in numbers:
             with self.subTest(**wrong), self.assertRaises(ValueError):
                 TurnClient("turn:127.0.0.1", "user", "pass", **wrong)
 

@@ -34,7 +34,7 @@ def port_of(uri: str) -> int:
 
 
 class Names(unittest.IsolatedAsyncioTestCase):
-    async def serve(self) -> Endpoint:
+    async def serve(self) -> Any:
         endpoint = await Endpoint.start(Server())
         self.addCleanup(endpoint.close)
         return endpoint
@@ -116,15 +116,16 @@ class Names(unittest.IsolatedAsyncioTestCase):
 
         with resolving("127.0.0.1"), unittest.mock.patch.object(asyncio.get_running_loop(), "create_datagram_endpoint", count):
             with unittest.mock.patch("yarrowdoor.servers.interleaved", lambda hosts: ["127.0.0.1", "127.0.0.1"]):
-                opening = asyncio.ensure_future(TurnClient(endpoint.uri, "user", "pass").open())
+                relay = TurnClient(endpoint.uri, "user", "pass")
+                opening = asyncio.ensure_future(relay.open())
                 while len(late) < 2:
                     await asyncio.sleep(0.01)
                 endpoint.datagram_received = take
                 for it in late:
                     take(*it)
-                relay = await opening
+                await opening
         self.assertEqual([transport.is_closing() for transport, _ in opened].count(True), 1)
-        del relay
+        await relay.close()
 
 
 class Arguments(unittest.TestCase):

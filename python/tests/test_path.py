@@ -11,7 +11,6 @@ import time
 import unittest
 from typing import Any, List
 
-import yarrowdoor
 from yarrowdoor import Clock, Ended, TurnClient
 
 from . import coturn as coturn_server
@@ -34,10 +33,10 @@ class Checks(unittest.IsolatedAsyncioTestCase):
         for kind in (Endpoint, StreamEndpoint):
             endpoint = await self.serve(kind)
             async with TurnClient(endpoint.uri, "user", "pass", clock=Clock(rate=20)) as relay:
-                self.assertEqual(await relay.check(), yarrowdoor.Check(True, relay.local_address))
+                self.assertEqual(await relay.check(), (True, relay.local_address))
                 self.assertEqual(endpoint.server.bindings, 1)
                 endpoint.server.answers_bindings = False
-                self.assertEqual(await relay.check(), yarrowdoor.Check(False, None))
+                self.assertEqual(await relay.check(), (False, None))
                 self.assertEqual(endpoint.server.bindings, 4 if kind is Endpoint else 2)
                 checking = asyncio.ensure_future(relay.check())
                 await asyncio.sleep(0.01)
@@ -49,7 +48,7 @@ class Checks(unittest.IsolatedAsyncioTestCase):
         endpoint = await self.serve()
         async with TurnClient(endpoint.uri, "user", "pass") as relay:
             mapped, endpoint.server.mapped = endpoint.server.mapped, lambda message, source: mapped(message, ("192.0.2.7", 9))
-            self.assertEqual(await relay.check(), yarrowdoor.Check(True, ("192.0.2.7", 9)))
+            self.assertEqual(await relay.check(), (True, ("192.0.2.7", 9)))
             self.assertEqual(relay.mapped_address, relay.local_address)
 
     async def test_a_silent_server_that_is_probed(self) -> None:
@@ -83,7 +82,7 @@ class Checks(unittest.IsolatedAsyncioTestCase):
             with coturn_server.coturn(*options) as at:
                 async with TurnClient(at.uri(), "user", "pass", clock=Clock(rate=10)) as relay:
                     checked = await relay.check()
-                    self.assertEqual(checked, yarrowdoor.Check(is_answered, relay.local_address if is_answered else None))
+                    self.assertEqual(checked, (is_answered, relay.local_address if is_answered else None))
 
 
 class Sockets(unittest.IsolatedAsyncioTestCase):
@@ -160,7 +159,7 @@ class Sockets(unittest.IsolatedAsyncioTestCase):
         self.addCleanup(endpoint.close)
         async with TurnClient(endpoint.uri, "user", "pass") as relay:
             with socket.socket(fileno=os.dup(relay._session().link.transport.get_extra_info("socket").fileno())) as own:
-                self.assertEqual(own.getsockopt(socket.IPPROTO_TCP, socket.TCP_USER_TIMEOUT), 30_000)
+                self.assertEqual(own.getsockopt(socket.IPPROTO_TCP, getattr(socket, "TCP_USER_TIMEOUT")), 30_000)
                 self.assertEqual(own.getsockopt(socket.SOL_SOCKET, socket.SO_KEEPALIVE), 1)
                 self.assertEqual(own.getsockopt(socket.IPPROTO_TCP, socket.TCP_KEEPIDLE), 15)
 

@@ -2,11 +2,17 @@
 import struct
 import unittest
 
+from typing import Any
+
 from yarrowdoor import reasons
 
 from .server import COOKIE, attribute, xored
 
 TRANSACTION = bytes(range(12))
+
+
+def read(data: bytes) -> Any:
+    return reasons.read(data)
 
 
 def message(kind: int, body: bytes) -> bytes:
@@ -20,32 +26,32 @@ SUCCESS = message(0x0103, attribute(0x0020, xored(("192.0.2.7", 4000))) + attrib
 
 class Reading(unittest.TestCase):
     def test_responses(self) -> None:
-        self.assertEqual(reasons.read(REFUSAL), (reasons.ALLOCATE, False, True, TRANSACTION, (401, "no"), None))
-        self.assertEqual(reasons.read(SUCCESS), (reasons.ALLOCATE, False, True, TRANSACTION, None, ("192.0.2.7", 4000)))
+        self.assertEqual(read(REFUSAL), (reasons.ALLOCATE, False, True, TRANSACTION, (401, "no"), None))
+        self.assertEqual(read(SUCCESS), (reasons.ALLOCATE, False, True, TRANSACTION, None, ("192.0.2.7", 4000)))
         mapped = b"\0\2" + struct.pack("!H", 4000 ^ 0x2112) + bytes(a ^ b for a, b in zip(bytes(15) + b"\1", COOKIE + TRANSACTION))
-        self.assertEqual(reasons.read(message(0x0103, attribute(0x0020, mapped))).mapped, ("::1", 4000))
+        self.assertEqual(read(message(0x0103, attribute(0x0020, mapped))).mapped, ("::1", 4000))
 
     def test_a_phrase_that_cannot_be_printed(self) -> None:
         for phrase, wanted in ((b"Unauthorized\0\0", "Unauthorized"), (b"\0", ""), (b"a\x1b[31m b\n", "a[31m b"),
                                (b"\xff", "\ufffd"), ("für dich nicht".encode(), "für dich nicht")):
-            self.assertEqual(reasons.read(message(0x0113, attribute(0x0009, b"\0\0\4\1" + phrase))).error, (401, wanted))
+            self.assertEqual(read(message(0x0113, attribute(0x0009, b"\0\0\4\1" + phrase))).error, (401, wanted))
 
     def test_methods(self) -> None:
         for kind, method in ((0x0118, reasons.CREATE_PERMISSION), (0x0119, reasons.CHANNEL_BIND), (0x011A, reasons.CONNECT)):
-            self.assertEqual(reasons.read(message(kind, ERROR)).method, method)
+            self.assertEqual(read(message(kind, ERROR)).method, method)
 
     def test_what_integrity_does_not_cover(self) -> None:
         late = message(0x0103, attribute(0x0008, bytes(20)) + attribute(0x0020, xored(("192.0.2.7", 4000))))
-        self.assertEqual(reasons.read(late).mapped, None)
+        self.assertEqual(read(late).mapped, None)
 
     def test_what_is_no_response(self) -> None:
-        request, indication = reasons.read(message(0x0003, b"")), reasons.read(message(0x0017, b""))
+        request, indication = read(message(0x0003, b"")), read(message(0x0017, b""))
         self.assertEqual((request.is_request, request.is_response), (True, False))
         self.assertEqual((indication.is_request, indication.is_response), (False, False))
 
     def test_what_is_no_message(self) -> None:
         for data in (b"", REFUSAL[:19], REFUSAL[:-1], b"\x40\0\0\0" + REFUSAL, REFUSAL[:4] + b"\0\0\0\0" + REFUSAL[8:]):
-            self.assertIsNone(reasons.read(data))
+            self.assertIsNone(read(data))
 
     def test_attributes(self) -> None:
         found = message(0x0104, attribute(0x000D, b"\0\0\2\x58") + attribute(0x0008, bytes(20)) + attribute(0x8022, b"late"))
@@ -53,9 +59,9 @@ class Reading(unittest.TestCase):
 
     def test_what_is_malformed(self) -> None:
         for body in (attribute(0x0009, b"\0\0\4"), b"\0\x09\0", b"\0\x09\xff\xff\0\0"):
-            self.assertEqual(reasons.read(message(0x0113, body)).error, None)
+            self.assertEqual(read(message(0x0113, body)).error, None)
         for value in (b"", bytes(8), b"\0\1" + bytes(18)):
-            self.assertEqual(reasons.read(message(0x0103, attribute(0x0020, value))).mapped, None)
+            self.assertEqual(read(message(0x0103, attribute(0x0020, value))).mapped, None)
 
 
 class Streams(unittest.TestCase):

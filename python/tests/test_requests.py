@@ -1,8 +1,8 @@
 """Requests: each has its own answer, none holds up the others, and a refused one is not repeated at once."""
 import asyncio
-import time
+import functools
 import unittest
-from typing import Any, List, Tuple
+from typing import Any, Callable, List, Tuple
 
 from yarrowdoor import Clock, Ended, PermissionFailed, Times, TurnClient
 
@@ -27,8 +27,12 @@ class CountingServer(Server):
         return super().receive(data, source, now)
 
 
+def later_by(now: Callable[[], int], more: int) -> int:
+    return now() + more
+
+
 class Requests(unittest.IsolatedAsyncioTestCase):
-    async def serve(self, server: Server) -> Endpoint:
+    async def serve(self, server: Server) -> Any:
         endpoint = await Endpoint.start(server)
         self.addCleanup(endpoint.close)
         return endpoint
@@ -62,7 +66,7 @@ class Requests(unittest.IsolatedAsyncioTestCase):
         """The time of each begins when the client makes it, so that it does not make all at once."""
         endpoint = await self.serve(CountingServer())
         async with TurnClient(endpoint.uri, "user", "pass") as relay:
-            client = relay._session().client
+            client: Any = relay._session().client
             made, create = [], client.create_permission
 
             def count(ip: str, now: int) -> None:
@@ -77,7 +81,7 @@ class Requests(unittest.IsolatedAsyncioTestCase):
     async def test_sending_to_a_peer_that_was_refused(self) -> None:
         server = CountingServer(denied=("10.1.0.2",))
         endpoint = await self.serve(server)
-        clock = Clock()
+        clock: Any = Clock()
         now = clock.now
         async with TurnClient(endpoint.uri, "user", "pass", clock=clock) as relay:
             for _ in range(50):
@@ -86,7 +90,7 @@ class Requests(unittest.IsolatedAsyncioTestCase):
                 self.assertEqual(failed.exception.code, 403)
             self.assertEqual(len(server.asked), 1)
             for later, asked in ((4, 1), (6, 2), (10, 2), (17, 3)):  # it rests for five seconds, and then for ten
-                clock.now = lambda later=later: now() + later * SECOND
+                clock.now = functools.partial(later_by, now, later * SECOND)
                 with self.assertRaises(PermissionFailed):
                     await relay.send(b"hello", ("10.1.0.2", 9000))
                 self.assertEqual((later, len(server.asked)), (later, asked))

@@ -5,9 +5,10 @@ import socket
 import time
 import unittest
 import unittest.mock
+from typing import Any, List
 
 from yarrowdoor import (
-    AllocationFailed, ChannelFailed, Clock, Ended, PermissionFailed, Refused, Times, TurnClient, WrongCredentials,
+    Address, AllocationFailed, ChannelFailed, Clock, Ended, PermissionFailed, Refused, Times, TurnClient, WrongCredentials,
 )
 from yarrowdoor.client import (
     AllocationCreated, AllocationCreateFailed, ChannelCreated, ChannelCreateFailed, PermissionCreated, PermissionCreateFailed,
@@ -22,10 +23,10 @@ from .server import Server as TestServer
 class InItsOwnTime(unittest.TestCase):
     """`client.Client` and a server, with a network in between."""
 
-    def allocated(self, server: TestServer, **settings: object) -> Network:
+    def allocated(self, server: TestServer, **settings: Any) -> Network:
         network = Network(server, **settings)
         network.run(30)
-        self.assertEqual(network.events, [AllocationCreated(("10.9.9.9", 40000), "udp")])
+        self.assertEqual(network.events, [AllocationCreated(Address("10.9.9.9", 40000), "udp")])
         return network
 
     def test_thirty_peers_and_a_stale_nonce(self) -> None:
@@ -139,15 +140,18 @@ class Arguments(unittest.TestCase):
             TurnClient(TurnUri("turn.example.org", 5349, "udp", secure=True), "user", "pass")
 
     def test_credentials(self) -> None:
-        for user, password, name in ((None, "pass", "user"), ("user", None, "password"), (5, "pass", "user")):
+        wrong: List[Any] = [(None, "pass", "user"), ("user", None, "password"), (5, "pass", "user")]
+        for user, password, name in wrong:
             with self.assertRaisesRegex(TypeError, f"^{name} is str or bytes, and not "):
                 TurnClient("turn:127.0.0.1", user, password)
 
     def test_times(self) -> None:
-        for times in (3, 0.5, (1, 2, 3, 4)):
+        wrong: List[Any] = [3, 0.5, (1, 2, 3, 4)]
+        for times in wrong:
             with self.assertRaisesRegex(TypeError, "^times is a yarrowdoor.Times, whose waits are nanoseconds"):
                 TurnClient("turn:127.0.0.1", "user", "pass", times=times)
-        for times in (Times(initial=0.5), Times(initial=-1), Times(initial=1 << 64)):
+        half: Any = 0.5
+        for times in (Times(initial=half), Times(initial=-1), Times(initial=1 << 64)):
             with self.assertRaisesRegex(ValueError, "^times.initial is a whole number of nanoseconds"):
                 TurnClient("turn:127.0.0.1", "user", "pass", times=times)
 
@@ -155,7 +159,7 @@ class Arguments(unittest.TestCase):
 class ThroughASocket(unittest.IsolatedAsyncioTestCase):
     """`TurnClient` and a server on a socket of this host."""
 
-    async def serve(self, **settings: object) -> Endpoint:
+    async def serve(self, **settings: Any) -> Any:
         endpoint = await Endpoint.start(TestServer(**settings))
         self.addCleanup(endpoint.close)
         return endpoint
@@ -244,7 +248,7 @@ class ThroughASocket(unittest.IsolatedAsyncioTestCase):
 
     async def test_what_on_lost_raises_is_not_the_clients(self) -> None:
         endpoint = await self.serve()
-        told = []
+        told: List[Any] = []
         asyncio.get_running_loop().set_exception_handler(lambda loop, context: told.append(context["exception"]))
 
         def refuse(lost: object) -> None:
@@ -373,7 +377,8 @@ class ThroughASocket(unittest.IsolatedAsyncioTestCase):
         endpoint = await self.serve()
         endpoint.server.is_dead = True
         times = Times(initial=100_000_000, longest=SECOND, last=100_000_000, count=2)
-        with self.assertRaisesRegex(AllocationFailed, r"^no answer from turn:127\.0\.0\.1:\d+\?transport=udp in \d\.\d s$") as failed:
+        why = r"^no answer from turn:127\.0\.0\.1:\d+\?transport=udp in \d\.\d s$"
+        with self.assertRaisesRegex(AllocationFailed, why) as failed:
             await TurnClient(endpoint.uri, "user", "pass", times=times).open()
         self.check_waited(failed.exception, 0.2)
         self.assertEqual((failed.exception.code, failed.exception.phrase), (None, ""))
@@ -398,7 +403,7 @@ class ThroughASocket(unittest.IsolatedAsyncioTestCase):
         endpoint = await self.serve()
         receive = endpoint.server.receive
 
-        def receive_once(*it: object) -> "list[object]":
+        def receive_once(*it: Any) -> Any:
             packets = receive(*it)
             endpoint.server.is_dead = True
             return packets
@@ -420,7 +425,7 @@ class ThroughASocket(unittest.IsolatedAsyncioTestCase):
 
     async def test_a_server_that_dies(self) -> None:
         endpoint = await self.serve()
-        told = []
+        told: List[Any] = []
         async with TurnClient(endpoint.uri, "user", "pass", clock=Clock(rate=300)) as relay:
             relay.on_lost = told.append
             await relay.permit("10.1.0.1")
@@ -431,7 +436,8 @@ class ThroughASocket(unittest.IsolatedAsyncioTestCase):
                     self.fail("nothing comes")
             self.assertTrue(relay.closed)
             peer = ("10.1.0.1", 1)
-            for call in (relay.wait_closed, relay.receive, lambda: relay.permit("10.1.0.2"), lambda: relay.send(b"", peer)):
+            calls: List[Any] = [relay.wait_closed, relay.receive, lambda: relay.permit("10.1.0.2"), lambda: relay.send(b"", peer)]
+            for call in calls:
                 with self.assertRaisesRegex(Ended, why):
                     await call()
             self.assertEqual(relay.address, ("10.9.9.9", 40000))
@@ -479,12 +485,13 @@ class ThroughASocket(unittest.IsolatedAsyncioTestCase):
     async def test_what_is_not_open(self) -> None:
         relay = TurnClient("turn:127.0.0.1", "user", "pass")
         peer = ("10.1.0.1", 1)
-        calls = (relay.wait_closed, relay.receive, relay.__anext__, lambda: relay.permit(peer[0]), lambda: relay.bind(peer),
-                 lambda: relay.send(b"", peer))
+        calls: List[Any] = [relay.wait_closed, relay.receive, relay.__anext__, lambda: relay.permit(peer[0]),
+                            lambda: relay.bind(peer), lambda: relay.send(b"", peer)]
         for call in calls:
             with self.assertRaisesRegex(Ended, "^the client was not opened$"):
                 await call()
-        for read in (lambda: relay.address, lambda: relay.local_address, lambda: relay.sendto(b"", ("10.1.0.1", 1))):
+        reads: List[Any] = [lambda: relay.address, lambda: relay.local_address, lambda: relay.sendto(b"", ("10.1.0.1", 1))]
+        for read in reads:
             with self.assertRaisesRegex(Ended, "^the client was not opened$"):
                 read()
         await relay.close()
@@ -493,7 +500,8 @@ class ThroughASocket(unittest.IsolatedAsyncioTestCase):
     async def test_calls_that_do_not_fit(self) -> None:
         endpoint = await self.serve()
         async with TurnClient(endpoint.uri, "user", "pass") as relay:
-            for name, call in (("connect", relay.connect(("10.1.0.1", 1))), ("accept", relay.accept())):
+            calls: List[Any] = [("connect", relay.connect(("10.1.0.1", 1))), ("accept", relay.accept())]
+            for name, call in calls:
                 with self.assertRaisesRegex(ValueError, f"^{name} needs relay='tcp'$"):
                     await call
             peer = ("2001:db8::1", 1)

@@ -48,7 +48,8 @@ class ToTheServer(unittest.IsolatedAsyncioTestCase):
         """Its exception goes to the event loop's handler, and the relay goes on."""
         told: List[Any] = []
         asyncio.get_running_loop().set_exception_handler(lambda loop, context: told.append(context))
-        for kind in (Endpoint, StreamEndpoint):
+        kinds: List[Any] = [Endpoint, StreamEndpoint]
+        for kind in kinds:
             endpoint = await kind.start(Server())
             self.addCleanup(endpoint.close)
             came: List[bytes] = []
@@ -95,7 +96,7 @@ class Transports(unittest.IsolatedAsyncioTestCase):
     async def test_a_socket_that_is_full(self) -> None:
         endpoint = await StreamEndpoint.start(Server())
         self.addCleanup(endpoint.close)
-        host, port = endpoint.listener.sockets[0].getsockname()
+        host, port = endpoint.where
         transport, protocol = await create_turn_endpoint(Told, (host, port), "user", "pass", transport="tcp")
         transport.sendto(b"x", PEER)
         while PEER not in transport._bound:

@@ -28,7 +28,8 @@ class Uris(unittest.TestCase):
             "", "turn:", "example.org", "stun:example.org", "turn://example.org", "turn:example.org:", "turn:example.org:0",
             "turn:example.org:65536", "turn:example.org:x", "turn:user@example.org", "turn:example.org?transport=sctp",
             "turn:example.org?transport=", "turn:example.org?other=1", "turn:example.org#x", "turn:2001:db8::1", "turn:[::g]",
-            "turn:[1.2.3.4]", "turn:exa mple.org", "turn:example.org?transport=udp&transport=tcp", "turn:a%ff", "turn:example.org\n",
+            "turn:[1.2.3.4]", "turn:exa mple.org", "turn:example.org?transport=udp&transport=tcp", "turn:a%ff",
+            "turn:example.org\n",
             "turns:example.org?transport=udp",
         ):
             with self.subTest(text=text), self.assertRaises(ValueError):
