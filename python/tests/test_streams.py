@@ -137,12 +137,13 @@ class Transports(unittest.IsolatedAsyncioTestCase):
 @unittest.skipUnless(coturn_server.IS_HERE, coturn_server.WHY)
 class ToPeers(unittest.IsolatedAsyncioTestCase):
     async def test_bytes_of_a_peer_are_no_frames(self) -> None:
-        """A connection that is bound is not read for messages: zeros are none, and cost nothing."""
+        """A connection that is bound is not read for messages, also where they look like some."""
+        message = b"\1\1\0\0\x21\x12\xa4\x42" + bytes(12)
         size = 1_000_000
 
         async def give(reader: asyncio.StreamReader, writer: asyncio.StreamWriter) -> None:
             await reader.readexactly(1)
-            writer.write(bytes(size))
+            writer.write(message * (size // len(message)))
             with contextlib.suppress(ConnectionError):
                 await writer.drain()
 
