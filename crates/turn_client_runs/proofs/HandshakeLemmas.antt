@@ -1,5 +1,5 @@
 -- A client whose server answers its first requests.
-use Rattle.std.proofs.Common.{◌≡◌, ◌≢◌, ◌⊎◌, ℕ, ◌+◌, ◌^◌, ◌<◌, ◌≤◌, min, Bool, true, false, cond, not, ◌||◌, leb, ltb, eqb, List, [], ◌∷◌, ◌++◌, map, drop, Option, Some, None, refl, inl, inr, ap, sym}
+use Rattle.std.proofs.Common.{◌≡◌, ◌≢◌, ◌⊎◌, ℕ, ◌+◌, ◌^◌, ◌<◌, ◌≤◌, min, Bool, true, false, cond, not, ◌||◌, ltb, eqb, List, [], ◌∷◌, ◌++◌, map, drop, Option, Some, None, refl, inl, inr, ap, sym}
 use Rattle.std.proofs.Common.{subst, ◌∙◌, arith}
 use Rattle.std.specs.Prelude.{IfSome, IsSome, filter, if◌then◌else◌, nat_le, slice_get}
 use Rattle.std.specs.List.{list_any}

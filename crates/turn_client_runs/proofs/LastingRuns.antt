@@ -41,6 +41,7 @@ use Rattle.turn_client_api.specs.declared.call.Call.TheVariants.{BindChannel, Cr
 use Rattle.turn_client_laws.proofs.HasLemmas.{Has, filter-has, has-all, has-filter, map-has}
 use Rattle.turn_client_laws.proofs.InAllocationLemmas.{room-of}
 use Rattle.turn_client_laws.proofs.TwoPurposes.{purpose-with}
+use Rattle.turn_client_runs.specs.LastingRuns.{LastsThrough}
 use Rattle.turn_client_runs.specs.Lasting.{with_expiry, IsRequested, RequestsSucceed, as_granted, Answers, DatagramsAreMessages, GrantsLast, HasRoom, HasStill, IsInForce, IsQuiet, IsSteady, IsSuccess}
 use Rattle.turn_client_runs.specs.Lasting.{IsWithin, RunsSteadily, SuccessesEndRequests, ahead_of, expiry_of}
 use Rattle.turn_client_runs.proofs.MadeLemmas.{success-ends}
@@ -83,7 +84,7 @@ arrives packet now s udp is = datagram ∙ whole
 pub datagram-message : DatagramsAreMessages
 datagram-message packet now s udp is = ap (λ (z : Outcome × State). z.1) (arrives packet now s udp is)
 
-received : (packet : Transmit (List ℕ)) (now : ℕ) (s : State) → s.phase ≡ Allocated → IsSuccess packet now s → state_after (Recv packet now) s ≡ (response_step true packet.payload now s).1
+pub received : (packet : Transmit (List ℕ)) (now : ℕ) (s : State) → s.phase ≡ Allocated → IsSuccess packet now s → state_after (Recv packet now) s ≡ (response_step true packet.payload now s).1
 received packet now s p is = is.message ∙ ap (λ (z : Outcome × State). z.1) (judged ∙ signed)
   where
     judged : message_step packet.payload now s ≡ signed_step true packet.payload now s
@@ -458,3 +459,11 @@ grants-last count slots delay now s earlier later steady run = lasts count slots
 
 pub requests-succeed : RequestsSucceed
 requests-succeed count slots delay now s earlier later steady run = succeeds count slots delay now s earlier later steady run
+
+-- the same, of the calls of the second part alone
+module _ (count slots delay now : ℕ) (s : State) (before after : List Call) (steady : IsSteady count slots delay now s) (run : RunsSteadily count slots delay now s (before ++ after)) where
+  pub lasts-through : LastsThrough delay (time_of_all now before) (state_after_all s before) after
+  lasts-through g there = (
+    λ in_force. subst (HasStill g (time_of_all (time_of_all now before) after)) (joined s before after) (lasts count slots delay now s before after steady run g there in_force),
+    λ requested late. subst (HasStill g (time_of_all (time_of_all now before) after)) (joined s before after) (succeeds count slots delay now s before after steady run g there requested late),
+  )

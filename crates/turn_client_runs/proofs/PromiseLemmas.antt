@@ -26,6 +26,9 @@ use Rattle.turn_client_runs.proofs.HeldLemmas.{held-from}
 use Rattle.turn_client_runs.proofs.ShortLemmas.{streams-short}
 use Rattle.turn_client_runs.specs.Short.{StreamsAreShort}
 use Rattle.turn_client_runs.proofs.HoldLemmas.{holds-found, reaches-behind}
+use Rattle.turn_client_runs.proofs.LastingRuns.{lasts-through}
+use Rattle.turn_client_runs.specs.Lasting.{RunsSteadily}
+use Rattle.turn_client_runs.specs.LastingRuns.{GrantsLastInRuns}
 use Rattle.turn_client_runs.proofs.PeerLemmas.{received, tells-permitted}
 use Rattle.turn_client_runs.proofs.ProcessedLemmas.{calls-process}
 use Rattle.turn_client_runs.proofs.RealmLemmas.{turns-realm}
@@ -97,6 +100,11 @@ module _ (transport : TransportType) (local remote : SocketAddr) (config : Confi
 
   pub run-short : StreamsAreShort first calls
   run-short = streams-short transport local remote config seed calls
+
+  pub run-lasts : GrantsLastInRuns first calls
+  run-lasts earlier middle later e = λ count slots delay now before after cut steady run.
+      let s = state_after_all first earlier in
+      lasts-through count slots delay now s before after steady (subst (RunsSteadily count slots delay now s) cut run)
 
   pub run-cuts : CutsAgree first calls
   run-cuts earlier middle later e = λ at pieces now tcp drained are. run-cut at pieces now (state_after_all first earlier) (quiet now tcp drained) middle are

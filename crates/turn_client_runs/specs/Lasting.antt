@@ -1,7 +1,6 @@
 -- No grant is lost while the server answers and the caller sends what is due (RFC 8656, sections 8, 9 and 12).
 use Rattle.std.specs.Prelude.{◌≡◌, ◌⊎◌, ℕ, ◌+◌, ◌*◌, ◌/◌, ◌^◌, ◌<◌, ◌≤◌, min, true, false, List, [], ◌∷◌, ◌++◌, length}
 use Rattle.std.specs.Prelude.{IfSome, IsSomeAnd, All, ⊤}
-use Rattle.std.specs.Prelude.{IfSome, IsSomeAnd, All, ⊤}
 use Rattle.std.specs.List.{Contains}
 use Rattle.turn_stun.specs.Message.{id_of}
 use Rattle.turn_stun.specs.declared.message.header.MessageClass.TheVariants.{Success}

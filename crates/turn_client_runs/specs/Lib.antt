@@ -15,6 +15,7 @@ pub mod Short
 pub mod Sleeps
 pub mod Inputs
 pub mod Lasting
+pub mod LastingRuns
 pub mod Silence
 pub mod OnTime
 pub mod Handshake
