@@ -25,6 +25,7 @@ pub mod LastingEffects
 pub mod LastingListings
 pub mod LastingPolls
 pub mod LastingReplies
+pub mod LastingRowLemmas
 pub mod LastingRuns
 pub mod LastingSends
 pub mod LastingStands
@@ -46,6 +47,7 @@ pub mod RunCutLemmas
 pub mod RunEvents
 pub mod RunGrants
 pub mod RunLemmas
+pub mod ServerLemmas
 pub mod ShortLemmas
 pub mod SignedCalls
 pub mod SignedLemmas

@@ -15,7 +15,9 @@ pub mod Short
 pub mod Sleeps
 pub mod Inputs
 pub mod Lasting
+pub mod LastingRows
 pub mod LastingRuns
 pub mod Silence
 pub mod OnTime
+pub mod Server
 pub mod Handshake

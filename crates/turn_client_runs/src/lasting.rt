@@ -1,5 +1,6 @@
 //! No grant is lost while the server answers and the caller sends what is due.
 
+ghost use Rattle.turn_client_runs.specs.LastingRows.{RelayStaysUp};
 ghost use Rattle.turn_client_runs.specs.Lasting.{DatagramsAreMessages, GrantsLast, RequestsSucceed, SuccessesEndRequests};
 
 /// While the server answers and the caller is on time, no allocation, permission or channel is lost: what is
@@ -25,4 +26,11 @@ pub fn grants_last_while_the_server_answers()
     ensures asked { RequestsSucceed }
     ensures ended { SuccessesEndRequests }
     ensures datagrams { DatagramsAreMessages }
+{}
+
+/// A client over UDP with an allocation, and a server that grants what it requests: the client binds a channel, and for 700 s
+/// the run keeps all premises of `grants_last_while_the_server_answers`. The allocation, the permission and the channel
+/// are refreshed. So these premises can be met, and no grant stands only because it has not expired yet.
+pub fn a_relay_stays_up()
+    ensures lasts { RelayStaysUp }
 {}

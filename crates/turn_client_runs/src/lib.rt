@@ -25,6 +25,7 @@ mod numbers;
 mod peers;
 mod promises;
 mod replies;
+mod server;
 mod silence;
 mod sleeps;
 
@@ -36,10 +37,11 @@ pub use cut::{
 };
 pub use granted::grants_have_replies;
 pub use handshake::handshakes_succeed;
-pub use lasting::grants_last_while_the_server_answers;
+pub use lasting::{a_relay_stays_up, grants_last_while_the_server_answers};
 pub use numbers::numbers_stay_distinct;
 pub use peers::only_permitted_is_received;
 pub use promises::runs_keep_their_promises;
 pub use replies::replies_count_once_in_runs;
+pub use server::requests_can_be_granted;
 pub use silence::silence_ends_a_client;
 pub use sleeps::runs_miss_no_deadline;

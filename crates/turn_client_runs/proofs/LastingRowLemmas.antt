@@ -1,0 +1,514 @@
+-- A run that meets all premises, and in which each grant is refreshed.
+use Rattle.std.proofs.Common.{◌≡◌, ◌∙◌, ℕ, ◌+◌, ◌^◌, ◌<◌, ◌≤◌, true, false, List, [], ◌∷◌, Some, ap, arith, eqb, inl, inr, refl, subst, sym}
+use Rattle.std.specs.Prelude.{All, IsSome, Option}
+use Rattle.std.specs.List.{IsDistinct}
+use Rattle.std.proofs.lemmas.Bool.{eq-eqb}
+use Rattle.turn_stun.specs.declared.transport.TransportType.TheVariants.{Udp}
+use Rattle.turn_stun.specs.declared.transport.Transmit.{Transmit}
+use Rattle.turn_types.specs.declared.family.AddressFamily.TheVariants.{IPV4}
+use Rattle.turn_agent.specs.TransactionIds.{Source, behind_id}
+use Rattle.turn_agent.specs.Agent.{first_sent}
+use Rattle.turn_agent.specs.declared.transaction.Transaction.{Transaction}
+use Rattle.turn_client_api.specs.State.{State, seconds}
+use Rattle.turn_client_api.specs.declared.state.Phase.TheVariants.{New, Allocated}
+use Rattle.turn_client_api.specs.declared.call.Call.{Call}
+use Rattle.turn_client_api.specs.declared.call.Call.TheVariants.{BindChannel, Recv, PollTransmit, PollEvent}
+use Rattle.turn_client_api.specs.declared.grant.Grant.{Grant}
+use Rattle.turn_client_api.specs.declared.grant.Grant.TheVariants.{Allocation, Channel, Permission}
+use Rattle.turn_client_api.specs.declared.grant.Progress.TheVariants.{Pending}
+use Rattle.turn_client_api.specs.declared.event.TurnEvent.TheVariants.{ChannelCreated, PermissionCreated}
+use Rattle.turn_client_api.specs.declared.grant.Purpose.{Purpose}
+use Rattle.turn_client_api.specs.declared.grant.Purpose.TheVariants.{ForRefresh, ForPermission, ForChannel}
+use Rattle.turn_client_api.specs.declared.poll.TurnPollRet.{TurnPollRet}
+use Rattle.turn_client_api.specs.declared.poll.TurnPollRet.TheVariants.{WaitUntil}
+use Rattle.turn_client_api.specs.Alarm.{AllHaveAllocation, FitsPhaseForPoll, HasAllocation, IsBeforeGrants, IsIdleUntil, IsTimely}
+use Rattle.turn_client_api.specs.Due.{refresh_time}
+use Rattle.turn_client_api.specs.Calls.{channel_numbers}
+use Rattle.turn_client_api.specs.Effect.{granted_until, new_allocation}
+use Rattle.turn_client_api.specs.Grants.{purposes_of}
+use Rattle.turn_client_api.specs.Payloads.{response_step}
+use Rattle.turn_client_api.specs.Poll.{poll_step}
+use Rattle.turn_client_api.specs.Requests.{asked_lifetime, fresh_id, listings, request_for, to_server}
+use Rattle.turn_client_api.specs.Steps.{state_after, state_after_all}
+use Rattle.turn_client_api.specs.Transmit.{is_refresh_due}
+use Rattle.turn_client_laws.specs.LawsRows.{granted_at, ip_of_peer, peer, relayed_v4}
+use Rattle.turn_client_laws.proofs.HasLemmas.{Has, all-has}
+use Rattle.turn_client_laws.proofs.TimelyLemmas.{poll-timely}
+use Rattle.turn_client_runs.specs.Lasting.{HasRoom, IsInForce, IsSteady, IsSuccess, IsWithin, RunsSteadily, ahead_of, expiry_of}
+use Rattle.turn_client_runs.specs.LastingRows.{RelayStaysUp, allocated_at_0, calls_of_700_s, granted_call, refreshed_grants, served}
+use Rattle.turn_client_runs.specs.OnTime.{IsOnTime}
+use Rattle.turn_client_runs.specs.Server.{from_server, success_for}
+use Rattle.turn_client_runs.proofs.LastingRuns.{received}
+use Rattle.turn_client_runs.proofs.ServerLemmas.{IsReplyFor, requests-can-be-granted, success-read}
+
+eqb-self : (n : ℕ) → eqb n n ≡ true
+eqb-self n = eq-eqb n n refl
+
+all-none : {X : Type 0} (P : X → Type 0) → All P []
+all-none P = all-has P [] (λ x h. absurd h)
+
+all-one : {X : Type 0} (P : X → Type 0) (a : X) → P a → All P (a ∷ [])
+all-one P a p = all-has P (a ∷ []) by
+  where
+    by : (x : _) → Has x (a ∷ []) → P x
+    by x (inl e) = subst P (sym e) p
+    by x (inr none) = absurd none
+
+-- ---- a caller that polled is on time until the time that it was told
+
+on-time : (now time next : ℕ) (s : State) → FitsPhaseForPoll s → AllHaveAllocation s → poll_step now s ≡ (WaitUntil time, s) → now < time → now ≤ next → next ≤ time → next ≤ 2 ^ 62
+    → IsOnTime now next s
+on-time now time next s fits housed told later from until range = record {
+  later = from;
+  in_range = range;
+  punctual = λ t after before. ap (λ (p : Option (Transmit (List ℕ)) × State). p.0) (idle.sends_nothing t after (omega (arith, before, until)));
+}
+  where
+    timely : IsTimely (poll_step now s).0 now s (poll_step now s).1
+    timely = poll-timely now s fits housed (omega (arith, from, range))
+
+    idle : IsIdleUntil now time s
+    idle = (subst (λ (p : TurnPollRet × State). IsTimely p.0 now s p.1) told timely).0 later
+
+-- no time passes
+at-once : (now : ℕ) (s : State) → now ≤ 2 ^ 62 → IsOnTime now now s
+at-once now s range = record { later = omega arith; in_range = range; punctual = λ t after before. absurd (omega (arith, after, before)) }
+
+-- ---- one request, its reply and the events
+
+abbrev delay : ℕ
+delay = 100_000_000
+
+-- the rest of the run is steady, and ends with these grants
+abbrev Goes : ℕ → State → List Call → Type 0
+Goes before s calls = RunsSteadily 3 1 delay before s calls × ((state_after_all s calls).grants ≡ refreshed_grants)
+
+-- the state before a request is sent, after that, after its reply, and after the events
+pub record IsRound (before now id : ℕ) (purpose : Purpose) (others : List Purpose) (text : List ℕ) (s u r v : State) : Type 0 where
+  on_time : IsOnTime before now s
+  waits : All (λ x. now ≤ x.last_send + delay) s.transactions
+  sends : state_after (PollTransmit now) s ≡ u
+  transactions : u.transactions ≡ first_sent id u.remote now text ∷ []
+  listed : u.listed ≡ listings id (purpose ∷ others)
+  purposes : purposes_of id u ≡ purpose ∷ others
+  phase : u.phase ≡ Allocated
+  over_udp : u.transport ≡ Udp
+  held : IsSome u.held
+  small : id < 2 ^ 96
+  in_range : now + delay ≤ 2 ^ 62
+  awaits : IsOnTime now (now + delay) u
+  replied : (message : List ℕ) → IsReplyFor purpose id message → (response_step true message (now + delay) u).1 ≡ r
+  answered : r.transactions ≡ []
+  told : state_after PollEvent (state_after PollEvent r) ≡ v
+  within_u : IsWithin 3 1 u
+  within_r : IsWithin 3 1 r
+  within_v : IsWithin 3 1 v
+
+module _ (before now id last : ℕ) (later : List ℕ) (purpose : Purpose) (others : List Purpose) (text : List ℕ) (s u r v : State) (is : IsRound before now id purpose others text s u r v) where
+  abbrev reply : Call
+  reply = Recv (from_server u (success_for u purpose id)) (now + delay)
+
+  reply-is : granted_call (now + delay) u ≡ reply
+  reply-is = rw is.listed refl
+
+  success : IsSuccess (from_server u (success_for u purpose id)) (now + delay) u
+  success = requests-can-be-granted (now + delay) id purpose others u is.over_udp is.held is.small (rw (is.transactions, eqb-self id) refl) is.purposes
+
+  after-reply : state_after reply u ≡ r
+  after-reply = received (from_server u (success_for u purpose id)) (now + delay) u is.phase success ∙ is.replied (success_for u purpose id) (success-read purpose id u is.small is.held)
+
+  waits-u : All (λ x. now + delay ≤ x.last_send + delay) u.transactions
+  waits-u = rw is.transactions (all-one (λ (x : Transaction). now + delay ≤ x.last_send + delay) (first_sent id u.remote now text) (omega arith))
+
+  waits-r : All (λ x. now + delay ≤ x.last_send + delay) r.transactions
+  waits-r = rw is.answered (all-none (λ (x : Transaction). now + delay ≤ x.last_send + delay))
+
+  -- the events do not change this
+  waits-e : All (λ x. now + delay ≤ x.last_send + delay) (state_after PollEvent r).transactions
+  waits-e = waits-r
+
+  tail : Goes (now + delay) v (served last later v) → Goes (now + delay) r (PollEvent ∷ PollEvent ∷ served last later (state_after PollEvent (state_after PollEvent r)))
+  tail (runs, ends) =
+      let rest : RunsSteadily 3 1 delay (now + delay) (state_after PollEvent (state_after PollEvent r)) (served last later (state_after PollEvent (state_after PollEvent r))) =
+      subst (λ (x : State). RunsSteadily 3 1 delay (now + delay) x (served last later x)) (sym is.told) runs in
+      let over : (state_after_all (state_after PollEvent (state_after PollEvent r)) (served last later (state_after PollEvent (state_after PollEvent r)))).grants ≡ refreshed_grants =
+      subst (λ (x : State). (state_after_all x (served last later x)).grants ≡ refreshed_grants) (sym is.told) ends in
+      let within-v : IsWithin 3 1 (state_after PollEvent (state_after PollEvent r)) = subst (IsWithin 3 1) (sym is.told) is.within_v in (
+        (
+          record { on_time = at-once (now + delay) r is.in_range; answered = waits-r },
+          tt,
+          is.within_r,
+          (record { on_time = at-once (now + delay) (state_after PollEvent r) is.in_range; answered = waits-e }, tt, within-v, rest),
+        ),
+        over,
+      )
+
+  after-u : Goes (now + delay) v (served last later v)
+      → Goes now u (granted_call (now + delay) u ∷ PollEvent ∷ PollEvent ∷ served last later (state_after PollEvent (state_after PollEvent (state_after (granted_call (now + delay) u) u))))
+  after-u goes = subst (λ (call : Call). Goes now u (call ∷ PollEvent ∷ PollEvent ∷ served last later (state_after PollEvent (state_after PollEvent (state_after call u))))) (sym reply-is) by
+    where
+      by : Goes now u (reply ∷ PollEvent ∷ PollEvent ∷ served last later (state_after PollEvent (state_after PollEvent (state_after reply u))))
+      by =
+          let rest = subst (λ (x : State). Goes (now + delay) x (PollEvent ∷ PollEvent ∷ served last later (state_after PollEvent (state_after PollEvent x)))) (sym after-reply) (tail goes) in
+          let within = subst (IsWithin 3 1) (sym after-reply) is.within_r in
+          ((record { on_time = is.awaits; answered = waits-u }, inl success, within, rest.0), rest.1)
+
+  pub round : Goes (now + delay) v (served last later v) → Goes before s (served last (now ∷ later) s)
+  round goes =
+      let rest = subst (λ (x : State). Goes now x (granted_call (now + delay) x ∷ PollEvent ∷ PollEvent ∷ served last later (state_after PollEvent (state_after PollEvent (state_after (granted_call (now + delay) x) x)))))
+      (sym is.sends) (after-u goes) in
+      let within = subst (IsWithin 3 1) (sym is.sends) is.within_u in
+      ((record { on_time = is.on_time; answered = is.waits }, tt, within, rest.0), rest.1)
+
+-- ---- the states of the run
+
+-- with all three, which expire then; the last packet was sent at this time
+abbrev with_three : ℕ → ℕ → ℕ → ℕ → Source → State → State
+with_three time allocation permission channel ids s = granted_at time (
+    Allocation (record { relayed = relayed_v4; first_lifetime = seconds 600; expiry = allocation; is_expired = false })
+    ∷ Permission ip_of_peer (granted_until permission true)
+    ∷ Channel 0x4000 peer (granted_until channel true)
+    ∷ []
+    ) (record s { ids = ids; challenges = 0 })
+
+-- and then a request for this was sent
+abbrev requesting : ℕ → ℕ → Purpose → List ℕ → State → State
+requesting now id purpose text s = record s {
+  ids = behind_id s.ids;
+  transactions = first_sent id s.remote now text ∷ [];
+  listed = listings id (purpose ∷ []);
+  last_send = Some now;
+}
+
+fits : (s : State) → s.phase ≡ Allocated → IsSome s.last_send → FitsPhaseForPoll s
+fits s p sent = record {
+  nothing_sent = λ new. absurd (let no : Allocated ≡ New = sym p ∙ new in cc);
+  sent_before = λ not queued. sent;
+  no_grants = λ before. absurd (subst IsBeforeGrants p before);
+}
+
+three-housed : (time a p c : ℕ) (ids : Source) (s : State) → AllHaveAllocation (with_three time a p c ids s)
+three-housed time a p c ids s = all-has (HasAllocation (with_three time a p c ids s)) (with_three time a p c ids s).grants by
+  where
+    by : (g : Grant) → Has g (with_three time a p c ids s).grants → HasAllocation (with_three time a p c ids s) g
+    by g (inl e) = rw e refl
+    by g (inr (inl e)) = rw e refl
+    by g (inr (inr (inl e))) = rw e refl
+    by g (inr (inr (inr none))) = absurd none
+
+-- ---- a refresh
+
+module _ (before now time a p c a' p' c' : ℕ) (ids : Source) (purpose : Purpose) (s : State) (some : IsSome s.held) where
+  abbrev old : ℕ → State
+  old sent = with_three sent a p c ids s
+
+  abbrev text : ℕ → List ℕ
+  text sent = request_for (old sent) purpose (fresh_id (old sent))
+
+  abbrev asked : ℕ → State
+  asked sent = requesting now (fresh_id (old sent)) purpose (text sent) (old sent)
+
+  abbrev new : State
+  new = with_three now a' p' c' (behind_id ids) s
+
+  pub refreshed : (sent : ℕ) → IsOnTime before now (old sent) → state_after (PollTransmit now) (old sent) ≡ asked sent → poll_step now (asked sent) ≡ (WaitUntil time, asked sent)
+      → now + delay ≤ time → now + delay ≤ 2 ^ 62
+      → ((message : List ℕ) → IsReplyFor purpose (fresh_id (old sent)) message → (response_step true message (now + delay) (asked sent)).1 ≡ new)
+      → IsRound before now (fresh_id (old sent)) purpose [] (text sent) (old sent) (asked sent) new new
+  refreshed sent punctual sends told later range replied = record {
+    on_time = punctual;
+    waits = all-none (λ (x : Transaction). now ≤ x.last_send + delay);
+    sends = sends;
+    transactions = refl;
+    listed = refl;
+    purposes = rw (eqb-self (fresh_id (old sent))) refl;
+    phase = refl;
+    over_udp = refl;
+    held = some;
+    small = omega arith;
+    in_range = range;
+    awaits = on-time now time (now + delay) (asked sent) (fits (asked sent) refl refl) (three-housed sent a p c ids s) told (omega (arith, later)) (omega arith) later range;
+    replied = replied;
+    answered = refl;
+    told = refl;
+    within_u = (omega arith, omega arith);
+    within_r = (omega arith, omega arith);
+    within_v = (omega arith, omega arith);
+  }
+
+-- ---- the rounds
+
+module _ (s : State) (some : IsSome s.held) where
+  abbrev s0 : State
+  s0 = allocated_at_0 s
+
+  abbrev bound : State
+  bound = state_after (BindChannel Udp peer 1_000_000_000) s0
+
+  abbrev ids1 : Source
+  ids1 = behind_id s.ids
+
+  abbrev s1 : State
+  s1 = with_three 1_000_000_000 600_000_000_000 301_100_000_000 601_100_000_000 ids1 s
+
+  abbrev s2 : State
+  s2 = with_three 241_100_000_000 600_000_000_000 541_200_000_000 601_100_000_000 (behind_id ids1) s
+
+  abbrev s3 : State
+  s3 = with_three 481_200_000_000 600_000_000_000 781_300_000_000 601_100_000_000 (behind_id (behind_id ids1)) s
+
+  abbrev s4 : State
+  s4 = with_three 540_000_000_000 1_140_100_000_000 781_300_000_000 601_100_000_000 (behind_id (behind_id (behind_id ids1))) s
+
+  abbrev s5 : State
+  s5 = with_three 541_100_000_000 1_140_100_000_000 781_300_000_000 1_141_200_000_000 (behind_id (behind_id (behind_id (behind_id ids1)))) s
+
+  told-1 : poll_step 1_100_000_000 s1 ≡ (WaitUntil 241_100_000_000, s1)
+  unfolding refresh_time
+  told-1 = refl
+
+  told-2 : poll_step 241_200_000_000 s2 ≡ (WaitUntil 481_200_000_000, s2)
+  unfolding refresh_time
+  told-2 = refl
+
+  told-3 : poll_step 481_300_000_000 s3 ≡ (WaitUntil 540_000_000_000, s3)
+  unfolding refresh_time
+  told-3 = refl
+
+  told-4 : poll_step 540_100_000_000 s4 ≡ (WaitUntil 541_100_000_000, s4)
+  unfolding refresh_time
+  told-4 = refl
+
+  told-5 : poll_step 541_200_000_000 s5 ≡ (WaitUntil 721_300_000_000, s5)
+  unfolding refresh_time
+  told-5 = refl
+
+  told-6 : poll_step 700_000_000_000 s5 ≡ (WaitUntil 721_300_000_000, s5)
+  unfolding refresh_time
+  told-6 = refl
+
+  told-0 : poll_step 0 s0 ≡ (WaitUntil 540_000_000_000, s0)
+  unfolding refresh_time
+  told-0 = refl
+
+  -- ---- the channel is bound
+
+  abbrev id1 : ℕ
+  id1 = fresh_id s0
+
+  abbrev pending : List Grant
+  pending = new_allocation 600 0 relayed_v4 ∷ Channel 0x4000 peer (Pending true) ∷ Permission ip_of_peer (Pending true) ∷ []
+
+  abbrev text1 : List ℕ
+  text1 = request_for (granted_at 0 pending s) (ForChannel 0x4000 peer) id1
+
+  abbrev queued_bind : State
+  queued_bind = record (granted_at 0 pending s) {
+    ids = ids1;
+    transactions = first_sent id1 s.remote 1_000_000_000 text1 ∷ [];
+    listed = listings id1 (ForChannel 0x4000 peer ∷ ForPermission ip_of_peer ∷ []);
+    queue = record { packet = to_server s0 s.local text1; is_request = true } ∷ [];
+  }
+
+  abbrev sent_bind : State
+  sent_bind = record queued_bind { queue = []; last_send = Some 1_000_000_000 }
+
+  abbrev granted_bind : State
+  granted_bind = record s1 { events = PermissionCreated Udp ip_of_peer ∷ ChannelCreated Udp peer ∷ [] }
+
+  binds : bound ≡ queued_bind
+  unfolding channel_numbers
+  binds = refl
+
+  told-bind : poll_step 1_000_000_000 sent_bind ≡ (WaitUntil 1_500_000_000, sent_bind)
+  unfolding refresh_time
+  told-bind = refl
+
+  bind-housed : AllHaveAllocation sent_bind
+  bind-housed = all-has (HasAllocation sent_bind) pending by
+    where
+      by : (g : Grant) → Has g pending → HasAllocation sent_bind g
+      by g (inl e) = rw e refl
+      by g (inr (inl e)) = rw e refl
+      by g (inr (inr (inl e))) = rw e refl
+      by g (inr (inr (inr none))) = absurd none
+
+  -- the same with another ID
+  abbrev bind_sent : ℕ → List ℕ → State
+  bind_sent id text = record sent_bind {
+    transactions = first_sent id s.remote 1_000_000_000 text ∷ [];
+    listed = listings id (ForChannel 0x4000 peer ∷ ForPermission ip_of_peer ∷ []);
+  }
+
+  replied-1 : (id : ℕ) (text message : List ℕ) → IsReplyFor (ForChannel 0x4000 peer) id message → (response_step true message 1_100_000_000 (bind_sent id text)).1 ≡ granted_bind
+  replied-1 id text message is = rw (is.named, is.of_method, eqb-self id, eqb-self id) refl
+
+  round-1 : IsRound 1_000_000_000 1_000_000_000 id1 (ForChannel 0x4000 peer) (ForPermission ip_of_peer ∷ []) text1 queued_bind sent_bind granted_bind s1
+  round-1 = record {
+    on_time = at-once 1_000_000_000 queued_bind (omega arith);
+    waits = all-one (λ (x : Transaction). 1_000_000_000 ≤ x.last_send + delay) (first_sent id1 s.remote 1_000_000_000 text1) (omega arith);
+    sends = refl;
+    transactions = refl;
+    listed = refl;
+    purposes = rw (eqb-self id1) refl;
+    phase = refl;
+    over_udp = refl;
+    held = some;
+    small = omega arith;
+    in_range = omega arith;
+    awaits = on-time 1_000_000_000 1_500_000_000 1_100_000_000 sent_bind (fits sent_bind refl refl) bind-housed told-bind (omega arith) (omega arith) (omega arith) (omega arith);
+    replied = replied-1 id1 text1;
+    answered = refl;
+    told = refl;
+    within_u = (omega arith, omega arith);
+    within_r = (omega arith, omega arith);
+    within_v = (omega arith, omega arith);
+  }
+
+  -- ---- the refreshes
+
+  punctual-2 : IsOnTime 1_100_000_000 241_100_000_000 s1
+  punctual-2 = on-time 1_100_000_000 241_100_000_000 241_100_000_000 s1 (fits s1 refl refl) (three-housed 1_000_000_000 600_000_000_000 301_100_000_000 601_100_000_000 ids1 s) told-1 (omega arith) (omega arith) (omega arith) (omega arith)
+
+  punctual-3 : IsOnTime 241_200_000_000 481_200_000_000 s2
+  punctual-3 = on-time 241_200_000_000 481_200_000_000 481_200_000_000 s2 (fits s2 refl refl) (three-housed 241_100_000_000 600_000_000_000 541_200_000_000 601_100_000_000 (behind_id ids1) s) told-2 (omega arith) (omega arith) (omega arith) (omega arith)
+
+  punctual-4 : IsOnTime 481_300_000_000 540_000_000_000 s3
+  punctual-4 = on-time 481_300_000_000 540_000_000_000 540_000_000_000 s3 (fits s3 refl refl) (three-housed 481_200_000_000 600_000_000_000 781_300_000_000 601_100_000_000 (behind_id (behind_id ids1)) s) told-3 (omega arith) (omega arith) (omega arith) (omega arith)
+
+  punctual-5 : IsOnTime 540_100_000_000 541_100_000_000 s4
+  punctual-5 = on-time 540_100_000_000 541_100_000_000 541_100_000_000 s4 (fits s4 refl refl) (three-housed 540_000_000_000 1_140_100_000_000 781_300_000_000 601_100_000_000 (behind_id (behind_id (behind_id ids1))) s) told-4 (omega arith) (omega arith) (omega arith) (omega arith)
+
+  punctual-6 : IsOnTime 541_200_000_000 700_000_000_000 s5
+  punctual-6 = on-time 541_200_000_000 721_300_000_000 700_000_000_000 s5 (fits s5 refl refl) (three-housed 541_100_000_000 1_140_100_000_000 781_300_000_000 1_141_200_000_000 (behind_id (behind_id (behind_id (behind_id ids1)))) s) told-5 (omega arith) (omega arith) (omega arith) (omega arith)
+
+  abbrev asked-2 : State
+  asked-2 = requesting 241_100_000_000 (fresh_id s1) (ForPermission ip_of_peer) (request_for s1 (ForPermission ip_of_peer) (fresh_id s1)) s1
+
+  abbrev asked-3 : State
+  asked-3 = requesting 481_200_000_000 (fresh_id s2) (ForPermission ip_of_peer) (request_for s2 (ForPermission ip_of_peer) (fresh_id s2)) s2
+
+  abbrev asked-4 : State
+  asked-4 = requesting 540_000_000_000 (fresh_id s3) (ForRefresh IPV4 asked_lifetime) (request_for s3 (ForRefresh IPV4 asked_lifetime) (fresh_id s3)) s3
+
+  abbrev asked-5 : State
+  asked-5 = requesting 541_100_000_000 (fresh_id s4) (ForChannel 0x4000 peer) (request_for s4 (ForChannel 0x4000 peer) (fresh_id s4)) s4
+
+  sent-2 : state_after (PollTransmit 241_100_000_000) s1 ≡ asked-2
+  unfolding refresh_time is_refresh_due
+  sent-2 = refl
+
+  sent-3 : state_after (PollTransmit 481_200_000_000) s2 ≡ asked-3
+  unfolding refresh_time is_refresh_due
+  sent-3 = refl
+
+  sent-4 : state_after (PollTransmit 540_000_000_000) s3 ≡ asked-4
+  unfolding refresh_time is_refresh_due
+  sent-4 = refl
+
+  sent-5 : state_after (PollTransmit 541_100_000_000) s4 ≡ asked-5
+  unfolding refresh_time is_refresh_due
+  sent-5 = refl
+
+  waits-2 : poll_step 241_100_000_000 asked-2 ≡ (WaitUntil 241_600_000_000, asked-2)
+  unfolding refresh_time
+  waits-2 = refl
+
+  waits-3 : poll_step 481_200_000_000 asked-3 ≡ (WaitUntil 481_700_000_000, asked-3)
+  unfolding refresh_time
+  waits-3 = refl
+
+  waits-4 : poll_step 540_000_000_000 asked-4 ≡ (WaitUntil 540_500_000_000, asked-4)
+  unfolding refresh_time
+  waits-4 = refl
+
+  waits-5 : poll_step 541_100_000_000 asked-5 ≡ (WaitUntil 541_600_000_000, asked-5)
+  unfolding refresh_time
+  waits-5 = refl
+
+  replied-2 : (message : List ℕ) → IsReplyFor (ForPermission ip_of_peer) (fresh_id s1) message → (response_step true message 241_200_000_000 asked-2).1 ≡ s2
+  replied-2 message is = rw (is.named, is.of_method, eqb-self (fresh_id s1)) refl
+
+  replied-3 : (message : List ℕ) → IsReplyFor (ForPermission ip_of_peer) (fresh_id s2) message → (response_step true message 481_300_000_000 asked-3).1 ≡ s3
+  replied-3 message is = rw (is.named, is.of_method, eqb-self (fresh_id s2)) refl
+
+  replied-4 : (message : List ℕ) → IsReplyFor (ForRefresh IPV4 asked_lifetime) (fresh_id s3) message → (response_step true message 540_100_000_000 asked-4).1 ≡ s4
+  replied-4 message is = rw (is.named, is.of_method, eqb-self (fresh_id s3), is.lasts) refl
+
+  replied-5 : (message : List ℕ) → IsReplyFor (ForChannel 0x4000 peer) (fresh_id s4) message → (response_step true message 541_200_000_000 asked-5).1 ≡ s5
+  replied-5 message is = rw (is.named, is.of_method, eqb-self (fresh_id s4)) refl
+
+  -- ---- all of the run
+
+  last-poll : Goes 541_200_000_000 s5 (served (seconds 700) [] s5)
+  last-poll = (
+    (
+      record { on_time = punctual-6; answered = all-none (λ (x : Transaction). 700_000_000_000 ≤ x.last_send + delay) },
+      tt,
+      subst (λ (q : TurnPollRet × State). IsWithin 3 1 q.1) (sym told-6) (omega arith, omega arith),
+      tt,
+    ),
+    ap (λ (q : TurnPollRet × State). q.1.grants) told-6,
+  )
+
+  from-5 : Goes 540_100_000_000 s4 (served (seconds 700) (541_100_000_000 ∷ []) s4)
+  from-5 = round 540_100_000_000 541_100_000_000 (fresh_id s4) (seconds 700) [] (ForChannel 0x4000 peer) [] _ s4 asked-5 s5 s5
+      (refreshed 540_100_000_000 541_100_000_000 541_600_000_000 1_140_100_000_000 781_300_000_000 601_100_000_000 1_140_100_000_000 781_300_000_000 1_141_200_000_000
+      (behind_id (behind_id (behind_id ids1))) (ForChannel 0x4000 peer) s some 540_000_000_000 punctual-5 sent-5 waits-5 (omega arith) (omega arith) replied-5) last-poll
+
+  from-4 : Goes 481_300_000_000 s3 (served (seconds 700) (540_000_000_000 ∷ 541_100_000_000 ∷ []) s3)
+  from-4 = round 481_300_000_000 540_000_000_000 (fresh_id s3) (seconds 700) (541_100_000_000 ∷ []) (ForRefresh IPV4 asked_lifetime) [] _ s3 asked-4 s4 s4
+      (refreshed 481_300_000_000 540_000_000_000 540_500_000_000 600_000_000_000 781_300_000_000 601_100_000_000 1_140_100_000_000 781_300_000_000 601_100_000_000
+      (behind_id (behind_id ids1)) (ForRefresh IPV4 asked_lifetime) s some 481_200_000_000 punctual-4 sent-4 waits-4 (omega arith) (omega arith) replied-4) from-5
+
+  from-3 : Goes 241_200_000_000 s2 (served (seconds 700) (481_200_000_000 ∷ 540_000_000_000 ∷ 541_100_000_000 ∷ []) s2)
+  from-3 = round 241_200_000_000 481_200_000_000 (fresh_id s2) (seconds 700) (540_000_000_000 ∷ 541_100_000_000 ∷ []) (ForPermission ip_of_peer) [] _ s2 asked-3 s3 s3
+      (refreshed 241_200_000_000 481_200_000_000 481_700_000_000 600_000_000_000 541_200_000_000 601_100_000_000 600_000_000_000 781_300_000_000 601_100_000_000
+      (behind_id ids1) (ForPermission ip_of_peer) s some 241_100_000_000 punctual-3 sent-3 waits-3 (omega arith) (omega arith) replied-3) from-4
+
+  from-2 : Goes 1_100_000_000 s1 (served (seconds 700) (241_100_000_000 ∷ 481_200_000_000 ∷ 540_000_000_000 ∷ 541_100_000_000 ∷ []) s1)
+  from-2 = round 1_100_000_000 241_100_000_000 (fresh_id s1) (seconds 700) (481_200_000_000 ∷ 540_000_000_000 ∷ 541_100_000_000 ∷ []) (ForPermission ip_of_peer) [] _ s1 asked-2 s2 s2
+      (refreshed 1_100_000_000 241_100_000_000 241_600_000_000 600_000_000_000 301_100_000_000 601_100_000_000 600_000_000_000 541_200_000_000 601_100_000_000
+      ids1 (ForPermission ip_of_peer) s some 1_000_000_000 punctual-2 sent-2 waits-2 (omega arith) (omega arith) replied-2) from-3
+
+  from-1 : Goes 1_000_000_000 queued_bind (served (seconds 700) (1_000_000_000 ∷ 241_100_000_000 ∷ 481_200_000_000 ∷ 540_000_000_000 ∷ 541_100_000_000 ∷ []) queued_bind)
+  from-1 = round 1_000_000_000 1_000_000_000 id1 (seconds 700) (241_100_000_000 ∷ 481_200_000_000 ∷ 540_000_000_000 ∷ 541_100_000_000 ∷ []) (ForChannel 0x4000 peer) (ForPermission ip_of_peer ∷ []) text1
+      queued_bind sent_bind granted_bind s1 round-1 from-2
+
+  begins : IsSteady 3 1 delay 0 s0
+  unfolding IsDistinct
+  begins = record {
+    allocated = refl;
+    none_queued = refl;
+    none_outstanding = refl;
+    none_listed = refl;
+    sent_before = omega arith;
+    in_force = all-one (IsInForce 0) (new_allocation 600 0 relayed_v4) (refl, omega arith);
+    none_late = all-one (λ g. 0 + ahead_of 60_000_000_000 g ≤ expiry_of g) (new_allocation 600 0 relayed_v4) (omega arith);
+    room = all-one (λ g. HasRoom 3 1 50_000_000 delay (ahead_of 60_000_000_000 g)) (new_allocation 600 0 relayed_v4) (omega arith);
+    room_for_more = omega arith;
+    within = (omega arith, omega arith);
+    distinct = (tt, tt);
+    housed = all-one (HasAllocation s0) (new_allocation 600 0 relayed_v4) refl;
+    prompt = omega arith;
+    in_range = omega arith;
+  }
+
+  goes : Goes 0 s0 (calls_of_700_s s0)
+  goes =
+      let rest = subst (λ (x : State). Goes 1_000_000_000 x (served (seconds 700) (1_000_000_000 ∷ 241_100_000_000 ∷ 481_200_000_000 ∷ 540_000_000_000 ∷ 541_100_000_000 ∷ []) x)) (sym binds) from-1 in
+      let within = subst (IsWithin 3 1) (sym binds) (omega arith, omega arith) in (
+        (
+          record {
+            on_time = on-time 0 540_000_000_000 1_000_000_000 s0 (fits s0 refl refl) (all-one (HasAllocation s0) (new_allocation 600 0 relayed_v4) refl) told-0 (omega arith) (omega arith) (omega arith) (omega arith);
+            answered = all-none (λ (x : Transaction). 1_000_000_000 ≤ x.last_send + delay);
+          },
+          tt,
+          within,
+          rest.0,
+        ),
+        rest.1,
+      )
+
+pub relay-stays-up : RelayStaysUp
+relay-stays-up s some = record { begins = begins s some; runs = (goes s some).0; refreshes = (goes s some).1 }

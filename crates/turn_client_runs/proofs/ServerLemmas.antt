@@ -1,0 +1,220 @@
+-- A signed success for each request.
+use Rattle.std.proofs.Common.{◌≡◌, ◌∙◌, ℕ, ◌+◌, ◌^◌, ◌<◌, ◌≤◌, true, false, List, [], ◌∷◌, length, Some, None, ap, arith, refl, subst, sym}
+use Rattle.std.specs.Prelude.{IsSome, IsSomeAnd, Option}
+use Rattle.std.specs.Cmp.Lexicographic.{nat_list_eq_equiv}
+use Rattle.turn_stun.specs.Attributes.{first_of, seen_after, seen_of}
+use Rattle.turn_stun.specs.Message.{Attribute, attributes_of, id_of, padded_len, type_of}
+use Rattle.turn_stun.specs.MessageType.{class_of, method_of, type_number}
+use Rattle.turn_stun.specs.Writer.{AddsAttribute, IsWritten, header_of, with_attribute}
+use Rattle.turn_stun.specs.declared.message.header.MessageClass.TheVariants.{Success}
+use Rattle.turn_stun.specs.declared.transport.TransportType.TheVariants.{Udp}
+use Rattle.turn_stun.proofs.FaultLemmas.{IsMessage-no_fault, attributes_of-is}
+use Rattle.turn_stun.proofs.WriteLemmas.{IsWritten-IsMessage, header_of-IsMessage, header_of-IsWritten, with_attribute-AddsAttribute, with_attribute-IsWritten}
+use Rattle.turn_types.specs.Values.{number_value}
+use Rattle.turn_auth.specs.LongTerm.{Challenge}
+use Rattle.turn_auth.specs.Integrity.{IntegrityHolds, covered_text, integrity_holds, integrity_kind, mac_of}
+use Rattle.turn_auth.specs.Signature.{with_integrity}
+use Rattle.turn_auth.specs.Validation.{IsValidated, held_key, validation_of}
+use Rattle.turn_auth.specs.declared.integrity.IntegrityAlgorithm.{IntegrityAlgorithm}
+use Rattle.turn_auth.specs.declared.integrity.IntegrityAlgorithm.TheVariants.{Sha1, Sha256}
+use Rattle.turn_auth.proofs.DigestLemmas.{length-hmac_sha1, length-hmac_sha256}
+use Rattle.turn_auth.proofs.SignLemmas.{begun_is_unsigned, is_unsigned-push, signed_behind}
+use Rattle.turn_agent.specs.Agent.{is_outstanding}
+use Rattle.turn_client_api.specs.State.{State, auth_of}
+use Rattle.turn_client_api.specs.declared.grant.Purpose.{Purpose}
+use Rattle.turn_client_api.specs.declared.grant.Purpose.TheVariants.{ForAllocation, ForRefresh, ForPermission, ForChannel, ForConnect, ForBind}
+use Rattle.turn_client_api.specs.Grants.{purposes_of}
+use Rattle.turn_client_api.specs.Judgement.{class_in, lifetime_in, method_in}
+use Rattle.turn_client_api.specs.Payloads.{is_message}
+use Rattle.turn_client_api.specs.Requests.{method_for}
+use Rattle.turn_client_laws.proofs.AddressLemmas.{same_address-self}
+use Rattle.turn_client_runs.specs.Lasting.{Grants, IsSuccess}
+use Rattle.turn_client_runs.specs.Server.{RequestsCanBeGranted, from_server, success_for}
+use Rattle.turn_client_runs.proofs.LastingRuns.{datagram-message}
+
+-- the lifetime of 600 s
+abbrev seconds_600 : List ℕ
+seconds_600 = number_value 600
+
+mac-len : (algorithm : IntegrityAlgorithm) (key text : List ℕ) → length (mac_of algorithm key text) ≤ 32
+mac-len Sha1 key text = omega (arith, length-hmac_sha1 key text)
+mac-len Sha256 key text = omega (arith, length-hmac_sha256 key text)
+
+kind-in-range : (algorithm : IntegrityAlgorithm) → integrity_kind algorithm < 2 ^ 16
+kind-in-range Sha1 = omega arith
+kind-in-range Sha256 = omega arith
+
+-- ---- the bytes
+
+module _ (type id : ℕ) (t : type < 2 ^ 14) (i : id < 2 ^ 96) (algorithm : IntegrityAlgorithm) (key : List ℕ) where
+  abbrev begun : List ℕ
+  begun = header_of type id
+
+  abbrev unsigned : List ℕ
+  unsigned = with_attribute 0x000d seconds_600 begun
+
+  abbrev mac : List ℕ
+  mac = mac_of algorithm key (covered_text algorithm (length unsigned) unsigned)
+
+  abbrev whole : List ℕ
+  whole = with_integrity algorithm key unsigned
+
+  begun-written : IsWritten begun
+  begun-written = header_of-IsWritten type id t i
+
+  lifetime-added : AddsAttribute begun unsigned 0x000d seconds_600
+  lifetime-added = with_attribute-AddsAttribute 0x000d seconds_600 begun begun-written (omega arith) (omega arith)
+
+  unsigned-written : IsWritten unsigned
+  unsigned-written = with_attribute-IsWritten 0x000d seconds_600 begun begun-written (omega arith) (omega arith)
+
+  unsigned-len : length unsigned ≡ 28
+  unfolding with_attribute
+  unsigned-len = refl
+
+  room : length unsigned + (4 + padded_len (length mac)) ≤ 65552
+  room = let short = mac-len algorithm key (covered_text algorithm (length unsigned) unsigned) in omega (arith, unsigned-len, short)
+
+  mac-added : AddsAttribute unsigned whole (integrity_kind algorithm) mac
+  mac-added = with_attribute-AddsAttribute (integrity_kind algorithm) mac unsigned unsigned-written (kind-in-range algorithm) room
+
+  whole-written : IsWritten whole
+  whole-written = with_attribute-IsWritten (integrity_kind algorithm) mac unsigned unsigned-written (kind-in-range algorithm) room
+
+  whole-type : type_of whole ≡ type
+  whole-type = mac-added.type ∙ lifetime-added.type ∙ (header_of-IsMessage type id t i).has_type
+
+  whole-id : id_of whole ≡ id
+  whole-id = mac-added.id ∙ lifetime-added.id ∙ (header_of-IsMessage type id t i).has_id
+
+  whole-attributes : attributes_of whole ≡ record { offset = length begun; kind = 0x000d; value = seconds_600 } ∷ record { offset = length unsigned; kind = integrity_kind algorithm; value = mac } ∷ []
+  whole-attributes = mac-added.attributes ∙ rw lifetime-added.attributes (rw (attributes_of-is begun type id [] (header_of-IsMessage type id t i)) refl)
+
+  whole-message : is_message whole ≡ true
+  whole-message = rw (IsMessage-no_fault whole _ _ _ (IsWritten-IsMessage whole whole-written)) refl
+
+  whole-holds : IntegrityHolds whole algorithm key
+  whole-holds = signed_behind algorithm key unsigned mac whole refl refl mac-added
+      (is_unsigned-push begun unsigned 0x000d seconds_600 lifetime-added refl (begun_is_unsigned begun type id (header_of-IsMessage type id t i))) (omega (arith, unsigned-len))
+
+  whole-lifetime : lifetime_in whole ≡ Some 600
+  unfolding seen_after
+  whole-lifetime = rw whole-attributes refl
+
+-- what holds is found to hold
+holds-true : (bytes : List ℕ) (algorithm : IntegrityAlgorithm) (key : List ℕ) → IntegrityHolds bytes algorithm key → integrity_holds bytes algorithm key ≡ true
+holds-true bytes algorithm key h = by (first_of (integrity_kind algorithm) (seen_of bytes)) refl
+  where
+    by : (o : Option Attribute) → first_of (integrity_kind algorithm) (seen_of bytes) ≡ o → integrity_holds bytes algorithm key ≡ true
+    by None e = absurd (subst (λ (o : Option Attribute). IsSomeAnd o (λ first. first.value ≡ mac_of algorithm key (covered_text algorithm first.offset bytes))) e h)
+    by (Some a) e =
+        let same : a.value ≡ mac_of algorithm key (covered_text algorithm a.offset bytes) = subst (λ (o : Option Attribute). IsSomeAnd o (λ first. first.value ≡ mac_of algorithm key (covered_text algorithm first.offset bytes))) e h in
+        rw (e, same) (nat_list_eq_equiv.refl (mac_of algorithm key (covered_text algorithm a.offset bytes)))
+
+-- ---- the reply
+
+type-in-range : (purpose : Purpose) → type_number (method_for purpose) Success < 2 ^ 14
+type-in-range ForAllocation = omega arith
+type-in-range (ForRefresh family lifetime) = omega arith
+type-in-range (ForPermission ip) = omega arith
+type-in-range (ForChannel number peer) = omega arith
+type-in-range (ForConnect peer) = omega arith
+type-in-range (ForBind local peer connection_id) = omega arith
+
+class-success : (purpose : Purpose) → class_of (type_number (method_for purpose) Success) ≡ Success
+class-success ForAllocation = refl
+class-success (ForRefresh family lifetime) = refl
+class-success (ForPermission ip) = refl
+class-success (ForChannel number peer) = refl
+class-success (ForConnect peer) = refl
+class-success (ForBind local peer connection_id) = refl
+
+method-same : (purpose : Purpose) → method_of (type_number (method_for purpose) Success) ≡ method_for purpose
+method-same ForAllocation = refl
+method-same (ForRefresh family lifetime) = refl
+method-same (ForPermission ip) = refl
+method-same (ForChannel number peer) = refl
+method-same (ForConnect peer) = refl
+method-same (ForBind local peer connection_id) = refl
+
+module _ (purpose : Purpose) (id : ℕ) (i : id < 2 ^ 96) (held : Challenge) (s : State) (holds : s.held ≡ Some held) where
+  abbrev type : ℕ
+  type = type_number (method_for purpose) Success
+
+  abbrev key : List ℕ
+  key = held_key s.config.credentials held
+
+  abbrev text : List ℕ
+  text = with_integrity held.algorithm key (with_attribute 0x000d (number_value 600) (header_of type id))
+
+  text-type : type_of text ≡ type
+  text-type = whole-type type id (type-in-range purpose) i held.algorithm key
+
+  text-class : class_in text ≡ Success
+  text-class = ap class_of text-type ∙ class-success purpose
+
+  -- the client holds a challenge, so the reply is signed
+  text-is : success_for s purpose id ≡ text
+  text-is = let unsigned-type = (lifetime-added type id (type-in-range purpose) i held.algorithm key).type ∙ (header_of-IsMessage type id (type-in-range purpose) i).has_type in
+      rw (holds, unsigned-type, class-success purpose) refl
+
+  text-validated : IsValidated (validation_of (auth_of s) text)
+  text-validated = rw (text-class, holds, holds-true text held.algorithm key (whole-holds type id (type-in-range purpose) i held.algorithm key)) tt
+
+  text-method : method_in text ≡ method_for purpose
+  text-method = ap method_of text-type ∙ method-same purpose
+
+  text-id : id_of text ≡ id
+  text-id = whole-id type id (type-in-range purpose) i held.algorithm key
+
+  text-lifetime : lifetime_in text ≡ Some 600
+  text-lifetime = whole-lifetime type id (type-in-range purpose) i held.algorithm key
+
+  text-grants : Grants text purpose
+  text-grants = by purpose text-method
+    where
+      by : (p : Purpose) → method_in text ≡ method_for p → Grants text p
+      by (ForRefresh family seconds) m = (m, rw text-lifetime (omega arith))
+      by ForAllocation m = (m, tt)
+      by (ForPermission ip) m = (m, tt)
+      by (ForChannel number peer) m = (m, tt)
+      by (ForConnect peer) m = (m, tt)
+      by (ForBind local peer connection_id) m = (m, tt)
+
+  text-success : (now : ℕ) (others : List Purpose) → s.transport ≡ Udp → is_outstanding id s.transactions ≡ true → purposes_of id s ≡ purpose ∷ others → IsSuccess (from_server s text) now s
+  text-success now others udp outstanding purposes = record {
+    message = datagram-message (from_server s text) now s udp (record {
+      from_server = rw (udp, same_address-self s.remote) refl;
+      to_client = same_address-self s.local;
+      whole = whole-message type id (type-in-range purpose) i held.algorithm key;
+    });
+    success = text-class;
+    signed = text-validated;
+    outstanding = rw text-id outstanding;
+    answers = rw (text-id, purposes) text-grants;
+  }
+
+pub requests-can-be-granted : RequestsCanBeGranted
+requests-can-be-granted now id purpose others s udp some i outstanding purposes = by s.held refl some
+  where
+    by : (o : Option Challenge) → s.held ≡ o → IsSome o → IsSuccess (from_server s (success_for s purpose id)) now s
+    by None e h = absurd (let no : false ≡ true = h in cc)
+    by (Some held) e h =
+        subst (λ (bytes : List ℕ). IsSuccess (from_server s bytes) now s) (sym (text-is purpose id i held s e)) (text-success purpose id i held s e now others udp outstanding purposes)
+
+-- what a client reads in the reply
+pub record IsReplyFor (purpose : Purpose) (id : ℕ) (message : List ℕ) : Type 0 where
+  pub named : id_of message ≡ id
+  pub of_method : method_in message ≡ method_for purpose
+  pub lasts : lifetime_in message ≡ Some 600
+
+pub success-read : (purpose : Purpose) (id : ℕ) (s : State) → id < 2 ^ 96 → IsSome s.held → IsReplyFor purpose id (success_for s purpose id)
+success-read purpose id s i some = by s.held refl some
+  where
+    by : (o : Option Challenge) → s.held ≡ o → IsSome o → IsReplyFor purpose id (success_for s purpose id)
+    by None e h = absurd (let no : false ≡ true = h in cc)
+    by (Some held) e h = subst (IsReplyFor purpose id) (sym (text-is purpose id i held s e)) (record {
+      named = text-id purpose id i held s e;
+      of_method = text-method purpose id i held s e;
+      lasts = text-lifetime purpose id i held s e;
+    })

@@ -1,0 +1,5 @@
+use Rattle.turn_client_runs.proofs.LastingRowLemmas.{relay-stays-up}
+use Rattle.turn_client_runs.proofs.lasting.a_relay_stays_up.Goals as goal
+
+pub returns : goal.returns
+returns c = record { lasts = relay-stays-up }
