@@ -7,6 +7,7 @@ ghost use Rattle.turn_client_runs.specs.Processed.{CallsProcessInputs};
 ghost use Rattle.turn_client_runs.specs.Promises.{AfterEach, BoundHaveSuccess, CutsAgree, FewAreAnswered, GrantsHaveReplies, DeliversOnlyPermitted, InEachPart};
 ghost use Rattle.turn_client_runs.specs.Promises.{NumbersAreDistinct, RealmIsAnswered, RealmStays, RepliesCountOnce};
 ghost use Rattle.turn_client_runs.specs.Events.{EventsHaveCauses};
+ghost use Rattle.turn_client_runs.specs.LastingRuns.{GrantsLastInRuns};
 ghost use Rattle.turn_client_runs.specs.Short.{StreamsAreShort};
 ghost use Rattle.turn_client_runs.specs.Sleeps.{SleepsThroughNothing};
 ghost use Rattle.turn_client_proto.specs.Delivered.{AnswersOnlyPermitted};
@@ -65,6 +66,10 @@ pub struct Replayed {
 /// - `cuts`: over TCP, if `poll_recv` returns none and changes nothing, pieces of a stream at one time, none of
 ///   them empty and each followed by `poll_recv` until it returns none, return the payloads of their joined
 ///   bytes, and leave the same client.
+/// - `lasts`: in each part of the run that begins with all grants in force and none of their refreshes late, and in which
+///   the server answers and the caller is on time, what is in force stays in force, and a permission or channel that is
+///   requested is in force after the server's delay (RFC 8656, sections 8, 9 and 12). The premises are those of
+///   `grants_last_while_the_server_answers`.
 /// - `alarm`: a caller that sleeps until the time that each `poll` returns misses no deadline.
 ///
 /// Times are at most 2^62 nanoseconds, and may go back from call to call. If the allocation relays over UDP,
@@ -100,6 +105,7 @@ pub fn replay(
     ensures events { EventsHaveCauses (initial transport local remote config seed) calls.now }
     ensures short { StreamsAreShort (initial transport local remote config seed) calls.now }
     ensures cuts { CutsAgree (initial transport local remote config seed) calls.now }
+    ensures lasts { GrantsLastInRuns (initial transport local remote config seed) calls.now }
     ensures alarm { SleepsThroughNothing (initial transport local remote config seed) calls.now }
 {
     make_run(alloc, transport, local, remote, config, seed, calls)

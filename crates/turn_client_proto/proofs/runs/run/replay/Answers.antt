@@ -1,4 +1,4 @@
-use Rattle.turn_client_runs.proofs.PromiseLemmas.{run-bound, run-cuts, run-events, run-few, run-granted, run-hears, run-held, run-numbers, run-processed, run-realm, run-replies, run-short}
+use Rattle.turn_client_runs.proofs.PromiseLemmas.{run-bound, run-cuts, run-events, run-few, run-granted, run-hears, run-held, run-lasts, run-numbers, run-processed, run-realm, run-replies, run-short}
 use Rattle.turn_client_api.specs.State.{initial}
 use Rattle.turn_client_proto.proofs.HeardLemmas.{gives-let-in}
 use Rattle.turn_client_proto.proofs.RunLemmas.{timely}
@@ -44,6 +44,9 @@ returns-clause-short c = run-short c.args.transport c.args.local c.args.remote c
 
 pub returns-clause-cuts : goal.returns-clause-cuts
 returns-clause-cuts c = run-cuts c.args.transport c.args.local c.args.remote c.args.config c.args.seed c.args.calls.now
+
+pub returns-clause-lasts : goal.returns-clause-lasts
+returns-clause-lasts c = run-lasts c.args.transport c.args.local c.args.remote c.args.config c.args.seed c.args.calls.now
 
 pub returns-clause-alarm : goal.returns-clause-alarm
 returns-clause-alarm c = timely c.args.transport c.args.local c.args.remote c.args.config c.args.seed c.args.calls.now c.requires.callable
