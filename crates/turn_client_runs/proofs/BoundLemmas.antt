@@ -18,6 +18,8 @@ use Rattle.turn_client_api.specs.Steps.{state_after, state_after_all}
 use Rattle.turn_client_api.specs.declared.call.Call.{Call}
 use Rattle.turn_client_api.specs.declared.grant.DataConnection.{DataConnection}
 use Rattle.turn_client_api.specs.declared.grant.Grant.TheVariants.{Connection}
+use Rattle.turn_client_api.specs.declared.grant.Purpose.{Purpose}
+use Rattle.turn_client_api.specs.declared.grant.Purpose.TheVariants.{ForBind}
 use Rattle.turn_client_api.specs.declared.state.Mode.TheVariants.{Control, Waiting}
 use Rattle.turn_client_api.specs.declared.state.Phase.{Phase}
 use Rattle.turn_client_api.specs.declared.state.Phase.TheVariants.{Allocated}
@@ -42,10 +44,11 @@ use Rattle.turn_client_laws.proofs.StandLemmas.{Covers, contains-has, covers-has
 use Rattle.turn_client_laws.proofs.TurnBringLemmas.{IsBrought, leaves-bring}
 use Rattle.turn_client_runs.specs.Bound.{BindsToPeer, BoundConnectionsHaveSuccess, BoundStreamsHaveSuccess, HasConnectionSuccess, HasSuccess, HasTransactionEnded, IsBoundSince, StreamsAreBoundBefore}
 use Rattle.turn_client_runs.specs.Inputs.{IsAmong, handled_in}
-use Rattle.turn_client_runs.proofs.GrantTurns.{kept-alike}
+use Rattle.turn_client_runs.proofs.CallGrants.{quiet}
+use Rattle.turn_client_runs.proofs.GrantTurns.{Granting, IsConnectionTo, IsGivenAt, granting-brought, kept-alike}
 use Rattle.turn_client_runs.proofs.MadeLemmas.{waiting-made}
 use Rattle.turn_client_runs.proofs.RunLemmas.{run-did}
-use Rattle.turn_client_runs.proofs.TurnsOfRuns.{among-none, in_call, run-brings, takes-or}
+use Rattle.turn_client_runs.proofs.TurnsOfRuns.{among-left, among-none, among-right, in_call, takes-or}
 
 -- ---- an input that binds ends its request
 
@@ -71,6 +74,21 @@ not_both local one control waiting = by one.stream refl
         let c : stream.mode ≡ Control = rw e at control in
         let (w, ends) : (stream.mode ≡ Waiting) × (stream.local ≡ local) = rw e at waiting in
         cc (sym c ∙ w)
+
+-- what two claims on an input cause is caused by an input of which both hold
+both : (P : State → Type 0) (A B : Input → Type 0) → IsBrought P A → IsBrought P B → IsBrought P (λ one. A one × B one)
+both P A B k l = record {
+  differs = k.differs;
+  message = λ one over whole h. join one (k.message one over whole h) (l.message one over whole h);
+  binds = λ one stream of waits whole h. join one (k.binds one stream of waits whole h) (l.binds one stream of waits whole h);
+  gone = k.gone;
+  ended = k.ended;
+}
+  where
+    join : (one : Input) → P one.before ⊎ A one → P one.before ⊎ B one → P one.before ⊎ (A one × B one)
+    join one (inl there) second = inl there
+    join one (inr a) (inl there) = inl there
+    join one (inr a) (inr b) = inr (a, b)
 
 -- ---- what only an input over a waiting connection causes ends its request there
 
@@ -244,12 +262,53 @@ module _ (c : DataConnection) where
     | inr did ↦ inr did
   ]
 
-  connection-ends : (call : Call) (s : State) → IsOpen (state_after call s) → IsOpen s ⊎ IsDoneBy (λ one. IsConnecting c one × HasTransactionEnded one) call s
-  connection-ends = call-ends IsOpen (IsConnecting c) (Grants.bringing (Connection c)) (λ one did. (c.local, did.1.over))
-      (λ s t leaves same. covers-left s.grants t.grants (Connection c) leaves) connection-others
+  -- the input binds a connection from its local address, and grants this one
+  abbrev Joins : Input → Type 0
+  Joins one = (IsConnecting c one × HasTransactionEnded one) × Granting (Connection c) one
 
-  connection-after : (s : State) (calls : List Call) → s.grants ≡ [] → IsBoundConnection c (state_after_all s calls) → HasConnectionSuccess c (handled_in s calls)
-  connection-after s calls none h = by (run-brings IsOpen (λ one. IsConnecting c one × HasTransactionEnded one) connection-ends s calls (bound-open (state_after_all s calls) h))
+  joining-brought : IsBrought IsOpen Joins
+  joining-brought = both IsOpen (λ one. IsConnecting c one × HasTransactionEnded one) (Granting (Connection c))
+      (bringing-ends IsOpen (IsConnecting c) (Grants.bringing (Connection c)) (λ one did. (c.local, did.1.over)) (λ s t leaves same. covers-left s.grants t.grants (Connection c) leaves))
+      (granting-brought (Connection c))
+
+  quiet-open : (call : Call) (s : State) → (TakesInput call → ⊥) → IsOpen (state_after call s) → IsOpen s ⊎ ⊥
+  quiet-open call s other stands = elim (connection-others call s stands) [
+    | inl was ↦ inl was
+    | inr done ↦ absurd (among-none (IsConnecting c) (subst (IsAmong (IsConnecting c)) (quiet call s other) done))
+  ]
+
+  -- its peer is that of the connection that was there
+  from-granted : (one : Input) (p : Purpose) → IsGivenAt one p (Connection c) → IsConnectionTo c.local c.peer one
+  from-granted one (ForBind local peer id) (at, there, none) = subst (λ (x : SocketAddr). IsConnectionTo x c.peer one) (sym at) there
+  from-granted one p given = absurd given
+
+  -- whose request was made for the peer
+  joins-to-peer : (call : Call) (s : State) → Founded s → (one : Input) → Contains (handled call s) one → Joins one → BindsToPeer c.local c.peer one
+  joins-to-peer call s founded one among (((peer, bind), ended), granting) =
+      let (asked, steady, single) = founded in
+      let to : BindsToPeer c.local peer one = binds-to-peer c.local peer call s founded one among (bind, ended) in
+      let (was, there, at, same) = from-granted one granting.purpose granting.given in
+      let for = turns-ask-connections call s asked steady single one among c.local to.0.asked to.0.number was to.0.listed there at in
+      subst (λ (x : SocketAddr). BindsToPeer c.local x one) (sym to.1 ∙ (sym for ∙ same)) to
+
+  call-joins : (call : Call) (s : State) → Founded s → IsOpen (state_after call s) → IsOpen s ⊎ HasConnectionSuccess c (handled call s)
+  call-joins call s founded h = elim (leaves-bring IsOpen Joins joining-brought (λ call s. ⊥) quiet-open call s (state_after call s) (inl refl) h) [
+    | inl was ↦ inl was
+    | inr (inl none) ↦ absurd none
+    | inr (inr (one, among, joins)) ↦ inr (one, among, joins-to-peer call s founded one among joins)
+  ]
+
+  run-joins : (s : State) (calls : List Call) → Founded s → IsOpen (state_after_all s calls) → IsOpen s ⊎ HasConnectionSuccess c (handled_in s calls)
+  run-joins s [] founded h = inl h
+  run-joins s (call ∷ calls) founded h =
+      let more = handled_in (state_after call s) calls in
+      elim (run-joins (state_after call s) calls (call-founded call s founded) h) [
+        | inl there ↦ elim (call-joins call s founded there) [ inl was ↦ inl was | inr did ↦ inr (among-left (BindsToPeer c.local c.peer) (handled call s) more did) ]
+        | inr among ↦ inr (among-right (BindsToPeer c.local c.peer) (handled call s) more among)
+      ]
+
+  connection-after : (s : State) (calls : List Call) → Founded s → s.grants ≡ [] → IsBoundConnection c (state_after_all s calls) → HasConnectionSuccess c (handled_in s calls)
+  connection-after s calls founded none h = by (run-joins s calls founded (bound-open (state_after_all s calls) h))
     where
       by : IsOpen s ⊎ HasConnectionSuccess c (handled_in s calls) → HasConnectionSuccess c (handled_in s calls)
       by (inl (is, there, kept)) = absurd (rw none at there)
@@ -257,4 +316,5 @@ module _ (c : DataConnection) where
 
 pub connections-have-success : (transport : TransportType) (own remote : SocketAddr) (config : Config) (seed : List ℕ) (calls : List Call)
     → BoundConnectionsHaveSuccess (initial transport own remote config seed) calls
-connections-have-success transport own remote config seed calls c h = connection-after c (initial transport own remote config seed) calls refl h
+connections-have-success transport own remote config seed calls c h =
+    connection-after c (initial transport own remote config seed) calls (initial-founded transport own remote config seed) refl h

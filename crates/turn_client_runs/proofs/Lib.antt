@@ -31,7 +31,11 @@ pub mod LastingSends
 pub mod LastingStands
 pub mod LastingTime
 pub mod LastingTransmits
+pub mod ListedPurposes
 pub mod MadeLemmas
+pub mod OfferCalls
+pub mod OfferMessages
+pub mod OfferRuns
 pub mod PeerLemmas
 pub mod PieceLemmas
 pub mod PiecesLemmas

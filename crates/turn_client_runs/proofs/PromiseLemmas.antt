@@ -11,6 +11,7 @@ use Rattle.turn_client_runs.specs.Challenges.{IsWithinChallengeLimit}
 use Rattle.turn_client_runs.specs.Promises.{AfterEach, BoundHaveSuccess, CutsAgree, FewAreAnswered, GrantsHaveReplies, DeliversOnlyPermitted, NumbersAreDistinct, RealmIsAnswered, RealmStays}
 use Rattle.turn_client_runs.specs.Promises.{RepliesCountOnce}
 use Rattle.turn_client_runs.specs.Events.{EventsHaveCauses}
+use Rattle.turn_client_runs.specs.Offers.{BoundAreOffered}
 use Rattle.turn_client_runs.specs.Processed.{CallsProcessInputs}
 use Rattle.turn_client_runs.specs.Replies.{CountsOnce}
 use Rattle.turn_client_runs.specs.Cut.{IsQuiet}
@@ -29,6 +30,7 @@ use Rattle.turn_client_runs.proofs.HoldLemmas.{holds-found, reaches-behind}
 use Rattle.turn_client_runs.proofs.LastingRuns.{lasts-through}
 use Rattle.turn_client_runs.specs.Lasting.{RunsSteadily}
 use Rattle.turn_client_runs.specs.LastingRuns.{GrantsLastInRuns}
+use Rattle.turn_client_runs.proofs.OfferRuns.{bound-are-offered}
 use Rattle.turn_client_runs.proofs.PeerLemmas.{received, tells-permitted}
 use Rattle.turn_client_runs.proofs.ProcessedLemmas.{calls-process}
 use Rattle.turn_client_runs.proofs.RealmLemmas.{turns-realm}
@@ -66,6 +68,9 @@ module _ (transport : TransportType) (local remote : SocketAddr) (config : Confi
     connections-have-success transport local remote config seed earlier,
     streams-are-bound-before transport local remote config seed earlier,
   )
+
+  pub run-offers : AfterEach BoundAreOffered first calls
+  run-offers earlier later e = bound-are-offered transport local remote config seed earlier
 
   pub run-hears : DeliversOnlyPermitted first calls
   run-hears = (

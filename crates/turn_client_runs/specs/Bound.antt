@@ -3,7 +3,7 @@ use Rattle.std.specs.Prelude.{◌≡◌, ◌⊎◌, List, ◌∷◌, ◌++◌}
 use Rattle.std.specs.declared.net.socket_addr.SocketAddr.{SocketAddr}
 use Rattle.turn_client_api.specs.State.{State}
 use Rattle.turn_client_laws.specs.Handled.{Input, handled, processed}
-use Rattle.turn_client_laws.specs.LawsBound.{IsBindInput, IsBoundConnection, IsConnecting}
+use Rattle.turn_client_laws.specs.LawsBound.{IsBindInput, IsBoundConnection}
 use Rattle.turn_client_laws.specs.LawsHandled.{IsBoundAt}
 use Rattle.turn_client_laws.specs.LawsReplies.{IsNotAwaited}
 use Rattle.turn_client_api.specs.declared.call.Call.{Call}
@@ -26,9 +26,9 @@ BindsToPeer local peer one = (bind : IsBindInput local peer one) × (bind.asked 
 abbrev pub HasSuccess : SocketAddr → SocketAddr → List Input → Type 0
 HasSuccess local peer inputs = IsAmong (BindsToPeer local peer) inputs
 
--- so did one of these inputs for the data connection
+-- so did one of these inputs for the data connection, to its peer
 abbrev pub HasConnectionSuccess : DataConnection → List Input → Type 0
-HasConnectionSuccess c inputs = IsAmong (λ one. IsConnecting c one × HasTransactionEnded one) inputs
+HasConnectionSuccess c inputs = HasSuccess c.local c.peer inputs
 
 -- one of these calls bound the stream at this local address to this peer by such an input, and it is bound
 -- since

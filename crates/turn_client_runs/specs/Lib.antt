@@ -21,3 +21,4 @@ pub mod Silence
 pub mod OnTime
 pub mod Server
 pub mod Handshake
+pub mod Offers

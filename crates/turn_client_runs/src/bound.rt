@@ -14,8 +14,8 @@ pub fn bound_streams_have_their_success()
     ensures before { HoldsOfRuns StreamsAreBoundBefore }
 {}
 
-/// Each data connection that is bound after a run, among what the server granted, was bound by such an
-/// input of the run (RFC 6062, section 4.3).
+/// Each data connection that is bound after a run, among what the server granted, was bound to its peer by such
+/// an input of the run (RFC 6062, section 4.3).
 pub fn bound_connections_have_their_success()
     ensures { HoldsOfRuns BoundConnectionsHaveSuccess }
 {}

@@ -8,6 +8,7 @@ ghost use Rattle.turn_client_runs.specs.Promises.{AfterEach, BoundHaveSuccess, C
 ghost use Rattle.turn_client_runs.specs.Promises.{NumbersAreDistinct, RealmIsAnswered, RealmStays, RepliesCountOnce};
 ghost use Rattle.turn_client_runs.specs.Events.{EventsHaveCauses};
 ghost use Rattle.turn_client_runs.specs.LastingRuns.{GrantsLastInRuns};
+ghost use Rattle.turn_client_runs.specs.Offers.{BoundAreOffered};
 ghost use Rattle.turn_client_runs.specs.Short.{StreamsAreShort};
 ghost use Rattle.turn_client_runs.specs.Sleeps.{SleepsThroughNothing};
 ghost use Rattle.turn_client_proto.specs.Delivered.{AnswersOnlyPermitted};
@@ -42,6 +43,10 @@ pub struct Replayed {
 ///   The relayed address of an allocation stands in the success to its ALLOCATE, which is among the inputs too.
 /// - `bound`: each bound stream was bound by such a success, to the CONNECTION_BIND of a connection that the caller
 ///   opened for this peer, and has been bound since (RFC 6062, section 4.3).
+/// - `offers`: the caller opened each of them before, by an accepted `allocated_tcp_socket`, which took the first
+///   offer of this peer with the connection ID of that CONNECTION_BIND. The offer came from the signed success to
+///   a CONNECT that an accepted `tcp_connect` had asked for, or from a ConnectionAttempt that the server sent for
+///   this peer, each with this CONNECTION-ID, and stood until it was taken (RFC 6062, sections 4.3 and 4.4).
 /// - `numbers`: after each call, no channel number names two peers.
 /// - `given`, `heard`: in any consecutive calls, so in each call, all data of peers among the replies is that
 ///   of an input of these calls, whose peer had a permission, a channel or a bound data connection when it was
@@ -95,6 +100,7 @@ pub fn replay(
     ensures granted { AfterEach GrantsHaveReplies (initial transport local remote config seed) calls.now }
     ensures numbers { AfterEach NumbersAreDistinct (initial transport local remote config seed) calls.now }
     ensures bound { AfterEach BoundHaveSuccess (initial transport local remote config seed) calls.now }
+    ensures offers { AfterEach BoundAreOffered (initial transport local remote config seed) calls.now }
     ensures given { InEachPart AnswersOnlyPermitted (initial transport local remote config seed) calls.now }
     ensures heard { DeliversOnlyPermitted (initial transport local remote config seed) calls.now }
     ensures counted { RepliesCountOnce (initial transport local remote config seed) calls.now }

@@ -1,4 +1,4 @@
-use Rattle.turn_client_runs.proofs.PromiseLemmas.{run-bound, run-cuts, run-events, run-few, run-granted, run-hears, run-held, run-lasts, run-numbers, run-processed, run-realm, run-replies, run-short}
+use Rattle.turn_client_runs.proofs.PromiseLemmas.{run-bound, run-cuts, run-events, run-few, run-granted, run-hears, run-held, run-lasts, run-numbers, run-offers, run-processed, run-realm, run-replies, run-short}
 use Rattle.turn_client_api.specs.State.{initial}
 use Rattle.turn_client_proto.proofs.HeardLemmas.{gives-let-in}
 use Rattle.turn_client_proto.proofs.RunLemmas.{timely}
@@ -13,6 +13,9 @@ returns-clause-numbers c = run-numbers c.args.transport c.args.local c.args.remo
 
 pub returns-clause-bound : goal.returns-clause-bound
 returns-clause-bound c = run-bound c.args.transport c.args.local c.args.remote c.args.config c.args.seed c.args.calls.now
+
+pub returns-clause-offers : goal.returns-clause-offers
+returns-clause-offers c = run-offers c.args.transport c.args.local c.args.remote c.args.config c.args.seed c.args.calls.now
 
 pub returns-clause-given : goal.returns-clause-given
 returns-clause-given c = λ earlier middle later e.
