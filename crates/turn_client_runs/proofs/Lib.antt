@@ -19,6 +19,8 @@ pub mod GrantTurns
 pub mod HandshakeLemmas
 pub mod HeldLemmas
 pub mod HoldLemmas
+pub mod InOrderRuns
+pub mod InOrderSteps
 pub mod LastingCalls
 pub mod LastingCounts
 pub mod LastingEffects
@@ -51,6 +53,10 @@ pub mod RunCutLemmas
 pub mod RunEvents
 pub mod RunGrants
 pub mod RunLemmas
+pub mod SentCalls
+pub mod SentQueues
+pub mod SentRuns
+pub mod SentTexts
 pub mod ServerLemmas
 pub mod ShortLemmas
 pub mod SignedCalls

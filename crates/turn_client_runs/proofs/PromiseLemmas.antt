@@ -12,6 +12,7 @@ use Rattle.turn_client_runs.specs.Promises.{AfterEach, BoundHaveSuccess, CutsAgr
 use Rattle.turn_client_runs.specs.Promises.{RepliesCountOnce}
 use Rattle.turn_client_runs.specs.Events.{EventsHaveCauses}
 use Rattle.turn_client_runs.specs.Offers.{BoundAreOffered}
+use Rattle.turn_client_runs.specs.InOrder.{InputsFollow}
 use Rattle.turn_client_runs.specs.Processed.{CallsProcessInputs}
 use Rattle.turn_client_runs.specs.Replies.{CountsOnce}
 use Rattle.turn_client_runs.specs.Cut.{IsQuiet}
@@ -25,12 +26,14 @@ use Rattle.turn_client_runs.proofs.BoundLemmas.{connections-have-success, stream
 use Rattle.turn_client_runs.proofs.ChallengeLemmas.{challenge-counts, falls-by-replies, few-answered, initial-patient, leaves-patient, realm-stays, run-configured}
 use Rattle.turn_client_runs.proofs.HeldLemmas.{held-from}
 use Rattle.turn_client_runs.proofs.ShortLemmas.{streams-short}
+use Rattle.turn_client_runs.specs.Sent.{PacketsGoOut}
 use Rattle.turn_client_runs.specs.Short.{StreamsAreShort}
 use Rattle.turn_client_runs.proofs.HoldLemmas.{holds-found, reaches-behind}
 use Rattle.turn_client_runs.proofs.LastingRuns.{lasts-through}
 use Rattle.turn_client_runs.specs.Lasting.{RunsSteadily}
 use Rattle.turn_client_runs.specs.LastingRuns.{GrantsLastInRuns}
 use Rattle.turn_client_runs.proofs.OfferRuns.{bound-are-offered}
+use Rattle.turn_client_runs.proofs.InOrderRuns.{inputs-follow}
 use Rattle.turn_client_runs.proofs.PeerLemmas.{received, tells-permitted}
 use Rattle.turn_client_runs.proofs.ProcessedLemmas.{calls-process}
 use Rattle.turn_client_runs.proofs.RealmLemmas.{turns-realm}
@@ -38,6 +41,7 @@ use Rattle.turn_client_runs.proofs.ReplyLemmas.{made-between, made-in, made-unti
 use Rattle.turn_client_runs.proofs.RunCutLemmas.{run-cut}
 use Rattle.turn_client_runs.proofs.RunEvents.{events-have-causes}
 use Rattle.turn_client_runs.proofs.RunGrants.{first-hold, grants-have-replies}
+use Rattle.turn_client_runs.proofs.SentRuns.{run-goes_out}
 use Rattle.turn_client_runs.proofs.ComingLemmas.{turns-come}
 use Rattle.turn_client_runs.proofs.ReceivedRuns.{turns-received}
 use Rattle.turn_client_laws.proofs.StandLemmas.{contains-has}
@@ -99,6 +103,12 @@ module _ (transport : TransportType) (local remote : SocketAddr) (config : Confi
 
   pub run-processed : CallsProcessInputs first calls
   run-processed = calls-process first calls
+
+  pub run-order : InputsFollow first calls
+  run-order = inputs-follow transport local remote config seed calls
+
+  pub run-sent : PacketsGoOut first calls
+  run-sent = run-goes_out transport local remote config seed calls
 
   pub run-events : EventsHaveCauses first calls
   run-events = events-have-causes transport local remote config seed calls

@@ -11,8 +11,11 @@ pub mod Processed
 pub mod Promises
 pub mod Received
 pub mod Replies
+pub mod Sent
+pub mod SentRows
 pub mod Short
 pub mod Sleeps
+pub mod InOrder
 pub mod Inputs
 pub mod Lasting
 pub mod LastingRows

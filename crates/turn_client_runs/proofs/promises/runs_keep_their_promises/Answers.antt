@@ -1,4 +1,4 @@
-use Rattle.turn_client_runs.proofs.PromiseLemmas.{run-bound, run-cuts, run-events, run-few, run-granted, run-hears, run-held, run-lasts, run-numbers, run-offers, run-processed, run-realm, run-replies, run-short}
+use Rattle.turn_client_runs.proofs.PromiseLemmas.{run-bound, run-cuts, run-events, run-few, run-granted, run-hears, run-held, run-lasts, run-numbers, run-offers, run-order, run-processed, run-realm, run-replies, run-sent, run-short}
 use Rattle.turn_client_runs.proofs.promises.runs_keep_their_promises.Goals as goal
 
 pub returns : goal.returns
@@ -13,6 +13,8 @@ returns c = record {
   realm = run-realm;
   held = run-held;
   processed = run-processed;
+  order = run-order;
+  sent = run-sent;
   events = run-events;
   short = run-short;
   cuts = run-cuts;

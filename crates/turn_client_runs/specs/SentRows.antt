@@ -1,0 +1,34 @@
+-- Worked calls, so that the check computes what they take out of a stream, and what they send.
+use Rattle.std.specs.Prelude.{true, List, [], ◌∷◌, ◌++◌, Option, Some, option_map}
+use Rattle.std.specs.declared.net.socket_addr.SocketAddr.{SocketAddr}
+use Rattle.turn_stun.specs.declared.transport.TransportType.TheVariants.{Tcp}
+use Rattle.turn_stun.specs.declared.transport.Transmit.{Transmit}
+use Rattle.turn_client_api.specs.State.{State, seconds}
+use Rattle.turn_client_api.specs.declared.call.Call.{Call}
+use Rattle.turn_client_api.specs.declared.call.Call.TheVariants.{AllocatedTcpSocket, PollRecv, Recv}
+use Rattle.turn_client_api.specs.declared.grant.Grant.TheVariants.{Offer}
+use Rattle.turn_client_api.specs.declared.grant.Origin.TheVariants.{OwnConnect}
+use Rattle.turn_client_api.specs.Steps.{state_after}
+use Rattle.turn_client_api.specs.Transmit.{next_transmit}
+use Rattle.turn_client_laws.specs.LawsPieces.{abc_frame, client, data_end, half_header, hello_message, over_tcp, server}
+use Rattle.turn_client_laws.specs.LawsRows.{peer}
+
+-- one piece of the control connection has two frames and half of a header, and the client is polled once
+abbrev pub two_frames_and_half : List Call
+two_frames_and_half =
+    Recv (record { payload = abc_frame ++ hello_message ++ half_header; transport = Tcp; from = server; to = client }) (seconds 1)
+    ∷ PollRecv (seconds 1) ∷ []
+
+-- a client over TCP whose CONNECT to the peer has succeeded, with the connection ID 7
+abbrev pub offered : State → State
+offered s =
+    let t = over_tcp (Offer (record { connection_id = 7; peer = peer; is_reported = true; origin = OwnConnect }) ∷ []) [] s in
+    record t { config = record t.config { allocation_transport = Tcp } }
+
+-- the caller opens the data connection at 1 s
+abbrev pub socket_named : State → State
+socket_named s = state_after (AllocatedTcpSocket 7 (record { transport = Tcp; from = client; to = server }) peer (Some data_end) (seconds 1)) (offered s)
+
+-- from where the next packet goes then
+abbrev pub sent_next_from : State → Option SocketAddr
+sent_next_from s = option_map (λ packet. packet.from) (next_transmit (seconds 1) s)
