@@ -3,12 +3,14 @@
 ghost use Rattle.std.specs.Prelude.{◌≡◌, All, IfOk, OnOk};
 ghost use Rattle.turn_client_api.specs.State.{initial};
 ghost use Rattle.turn_client_proto.specs.Client.{state_of};
+ghost use Rattle.turn_client_runs.specs.InOrder.{InputsFollow};
 ghost use Rattle.turn_client_runs.specs.Processed.{CallsProcessInputs};
 ghost use Rattle.turn_client_runs.specs.Promises.{AfterEach, BoundHaveSuccess, CutsAgree, FewAreAnswered, GrantsHaveReplies, DeliversOnlyPermitted, InEachPart};
 ghost use Rattle.turn_client_runs.specs.Promises.{NumbersAreDistinct, RealmIsAnswered, RealmStays, RepliesCountOnce};
 ghost use Rattle.turn_client_runs.specs.Events.{EventsHaveCauses};
 ghost use Rattle.turn_client_runs.specs.LastingRuns.{GrantsLastInRuns};
 ghost use Rattle.turn_client_runs.specs.Offers.{BoundAreOffered};
+ghost use Rattle.turn_client_runs.specs.Sent.{PacketsGoOut};
 ghost use Rattle.turn_client_runs.specs.Short.{StreamsAreShort};
 ghost use Rattle.turn_client_runs.specs.Sleeps.{SleepsThroughNothing};
 ghost use Rattle.turn_client_proto.specs.Delivered.{AnswersOnlyPermitted};
@@ -62,6 +64,14 @@ pub struct Replayed {
 /// - `processed`: `recv` and `poll_recv` change what their inputs change, one after the other, and apart from the
 ///   bytes in the streams nothing else, or the server closed a stream. No other call activates a grant. The data
 ///   of peers that a call returns is that of its inputs.
+/// - `order`: the inputs out of a stream are all that arrives for it, in order: what it held before any
+///   consecutive calls, and then what arrived for it in them, is what they took out of it, and then the rest, unless one of
+///   them opens the stream. It holds the rest, unless a byte with which no frame begins broke it.
+/// - `sent`: each packet of `poll_transmit` goes to the server. A CONNECTION_BIND goes over the data connection
+///   that it is to bind, from the local address that the caller named (RFC 6062, section 4.3), all else from the
+///   client's own. What `send_to` gives is for the peer that was named: over its bound data connection, in a
+///   ChannelData message of its active channel, or in a Send indication with its address (RFC 8656, sections 11.1
+///   and 12.5).
 /// - `events`: each event that `poll_event` returns has its cause in an earlier call, and has waited since. What
 ///   it reports as created was granted by a signed success to an own request for it. What it reports as failed
 ///   was refused by a signed reply, timed out or expired at a `poll`, or ended with the client; or a message of
@@ -108,6 +118,8 @@ pub fn replay(
     ensures realm { RealmStays (initial transport local remote config seed) calls.now }
     ensures held { RealmIsAnswered (initial transport local remote config seed) calls.now }
     ensures processed { CallsProcessInputs (initial transport local remote config seed) calls.now }
+    ensures order { InputsFollow (initial transport local remote config seed) calls.now }
+    ensures sent { PacketsGoOut (initial transport local remote config seed) calls.now }
     ensures events { EventsHaveCauses (initial transport local remote config seed) calls.now }
     ensures short { StreamsAreShort (initial transport local remote config seed) calls.now }
     ensures cuts { CutsAgree (initial transport local remote config seed) calls.now }

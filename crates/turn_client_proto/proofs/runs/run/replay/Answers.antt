@@ -1,4 +1,4 @@
-use Rattle.turn_client_runs.proofs.PromiseLemmas.{run-bound, run-cuts, run-events, run-few, run-granted, run-hears, run-held, run-lasts, run-numbers, run-offers, run-processed, run-realm, run-replies, run-short}
+use Rattle.turn_client_runs.proofs.PromiseLemmas.{run-bound, run-cuts, run-events, run-few, run-granted, run-hears, run-held, run-lasts, run-numbers, run-offers, run-order, run-processed, run-realm, run-replies, run-sent, run-short}
 use Rattle.turn_client_api.specs.State.{initial}
 use Rattle.turn_client_proto.proofs.HeardLemmas.{gives-let-in}
 use Rattle.turn_client_proto.proofs.RunLemmas.{timely}
@@ -38,6 +38,12 @@ returns-clause-held c = run-held c.args.transport c.args.local c.args.remote c.a
 
 pub returns-clause-processed : goal.returns-clause-processed
 returns-clause-processed c = run-processed c.args.transport c.args.local c.args.remote c.args.config c.args.seed c.args.calls.now
+
+pub returns-clause-order : goal.returns-clause-order
+returns-clause-order c = run-order c.args.transport c.args.local c.args.remote c.args.config c.args.seed c.args.calls.now
+
+pub returns-clause-sent : goal.returns-clause-sent
+returns-clause-sent c = run-sent c.args.transport c.args.local c.args.remote c.args.config c.args.seed c.args.calls.now
 
 pub returns-clause-events : goal.returns-clause-events
 returns-clause-events c = run-events c.args.transport c.args.local c.args.remote c.args.config c.args.seed c.args.calls.now
