@@ -67,3 +67,11 @@ pub mod StreamAtLemmas
 pub mod TogetherLemmas
 pub mod TurnsOfRuns
 pub mod WholeLemmas
+pub mod ToldCounts
+pub mod ToldLemmas
+pub mod ToldReplies
+pub mod ToldInputs
+pub mod ToldTime
+pub mod ToldCalls
+pub mod ToldRequests
+pub mod ToldRuns

@@ -25,3 +25,5 @@ pub mod OnTime
 pub mod Server
 pub mod Handshake
 pub mod Offers
+pub mod Told
+pub mod ToldRows

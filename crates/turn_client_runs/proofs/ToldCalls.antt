@@ -1,0 +1,209 @@
+-- A call that takes no input tells nothing anew, but for what it requests.
+use Rattle.std.proofs.Common.{◌≡◌, ℕ, ◌≤◌, Bool, true, false, not, ◌&&◌, ◌||◌, leb, List, [], ◌∷◌, filter_map, find, flat_map, Option, Some, None, Result, refl, arith, inl, inr}
+use Rattle.std.specs.Prelude.{nat_le, slice_get, ⊤}
+use Rattle.std.specs.List.{list_any}
+use Rattle.std.specs.Net.Socket.{socket_ip}
+use Rattle.std.proofs.lemmas.Bool.{cases_Bool}
+use Rattle.std.specs.declared.net.ip_addr.IpAddr.{IpAddr}
+use Rattle.std.specs.declared.net.socket_addr.SocketAddr.{SocketAddr}
+use Rattle.turn_stun.specs.declared.transport.TransportType.{TransportType}
+use Rattle.turn_stun.specs.declared.transport.TransportType.TheVariants.{Udp, Tcp}
+use Rattle.turn_agent.specs.Agent.{due, same_address}
+use Rattle.turn_client_api.specs.State.{State, agent_of, later_by}
+use Rattle.turn_client_api.specs.declared.call.Call.{Call}
+use Rattle.turn_client_api.specs.declared.call.Call.TheVariants.{Delete, CreatePermission, BindChannel, TcpConnect, AllocatedTcpSocket, TcpClosed, SendTo, Recv, PollRecv, Poll, PollTransmit}
+use Rattle.turn_client_api.specs.declared.call.Call.TheVariants.{PollEvent, RelayedAddresses, Permissions, HavePermission, ProtocolError, SetPermissionKept, SetChannelKept}
+use Rattle.turn_client_api.specs.declared.event.TurnEvent.{TurnEvent}
+use Rattle.turn_client_api.specs.declared.grant.DataConnection.{DataConnection}
+use Rattle.turn_client_api.specs.declared.grant.Grant.{Grant}
+use Rattle.turn_client_api.specs.declared.grant.Grant.TheVariants.{Connect, Connection}
+use Rattle.turn_client_api.specs.declared.grant.Origin.{Origin}
+use Rattle.turn_client_api.specs.declared.grant.Origin.TheVariants.{ServerRequest}
+use Rattle.turn_client_api.specs.declared.grant.Purpose.TheVariants.{ForConnect}
+use Rattle.turn_client_api.specs.declared.grant.Relay.{Relay}
+use Rattle.turn_client_api.specs.declared.state.Phase.{Phase}
+use Rattle.turn_client_api.specs.declared.state.Phase.TheVariants.{New, Allocated}
+use Rattle.turn_client_api.specs.Calls.{active_channel, bound_to, can_send_to, connect_step, deleted, in_allocation, is_allocated, is_closed, is_control, is_granted_in, is_local_taken}
+use Rattle.turn_client_api.specs.Calls.{is_offer_of}
+use Rattle.turn_client_api.specs.Calls.{is_open_to, keep_step, marked, marked_if, offer_origin, offer_taken, on_channel, on_connection, send_over, socket_opened, socket_refused, socket_step}
+use Rattle.turn_client_api.specs.Calls.{with_marks, without_first}
+use Rattle.turn_client_api.specs.Connections.{is_connected, is_connecting}
+use Rattle.turn_client_api.specs.Due.{is_paused, keepalive_times}
+use Rattle.turn_client_api.specs.Effect.{closed, fail_all}
+use Rattle.turn_client_api.specs.Grants.{allocations, as_connection, changed_allocation, family_of_ip, find_allocation_to, has_active_permission, is_of_family, is_past, is_permission_of}
+use Rattle.turn_client_api.specs.Grants.{same_transport}
+use Rattle.turn_client_api.specs.Grants.{with_expired, with_grant, without_grants}
+use Rattle.turn_client_api.specs.Receive.{connection_gone}
+use Rattle.turn_client_api.specs.Requests.{fresh_id, requested}
+use Rattle.turn_client_api.specs.Retry.{bind_time}
+use Rattle.turn_client_api.specs.Steps.{state_after}
+use Rattle.turn_client_api.specs.Transmit.{idle_step, keepalive_step, queue_step, refreshes_in, reply_step, transmit_step}
+use Rattle.turn_client_laws.proofs.CaseLemmas.{by_found, by_test}
+use Rattle.turn_client_runs.specs.Told.{is_to_come}
+use Rattle.turn_client_runs.proofs.LastingCounts.{passes}
+use Rattle.turn_client_runs.proofs.ToldLemmas.{Spends, spends-mapped, spends-more, spends-removed, spends-same, spends-trans}
+use Rattle.turn_client_runs.proofs.ToldInputs.{gone-spends}
+use Rattle.turn_client_runs.proofs.ToldReplies.{changed-comes, fail-spends}
+use Rattle.turn_client_runs.proofs.ToldTime.{poll-spends}
+
+marked-comes : (e : TurnEvent) (is_kept : Bool) (g : Grant) → is_to_come e (marked is_kept g) ≡ is_to_come e g
+marked-comes e is_kept g = grind arith
+
+connect-comes : (e : TurnEvent) (peer : SocketAddr) → is_to_come e (Connect peer) ≡ false
+connect-comes e peer = grind arith
+
+connection-comes : (e : TurnEvent) (c : DataConnection) → is_to_come e (Connection c) ≡ false
+connection-comes e c = grind arith
+
+fewer-first : (p which : Grant → Bool) (gs : List Grant) → passes p (without_first which gs) ≤ passes p gs
+fewer-first p which [] = omega arith
+fewer-first p which (g ∷ gs) = elim (cases_Bool (which g)) [ inl f ↦ rw f (omega arith) | inr f ↦ rw f (omega (arith, fewer-first p which gs)) ]
+
+module _ (e : TurnEvent) (s : State) where
+  abbrev Leaves : {A : Type 0} → A × State → Type 0
+  Leaves x = Spends e s x.1
+
+  same : Spends e s s
+  same = spends-same e s s refl refl refl
+
+  -- what waits, what is granted and what is requested stays
+  stays : (t : State) → t.events ≡ s.events → t.grants ≡ s.grants → t.families ≡ s.families → Spends e s t
+  stays t events grants families = spends-same e s t events grants families
+
+  -- ---- an allocation that can be used
+
+  expired : (ip : IpAddr) → Spends e s (with_expired (family_of_ip ip) s)
+  expired ip = spends-mapped e (changed_allocation which change) (changed-comes e which change) s (with_expired (family_of_ip ip) s) refl refl refl
+    where
+      which : Relay → Bool
+      which a = is_of_family (family_of_ip ip) a.relayed
+
+      change : Relay → Relay
+      change a = record a { is_expired = true }
+
+  -- refused, or as it is otherwise
+  pub in-allocation : {E : Type 0} (P : Result Unit E × State → Type 0) (o : Option Relay) (ip : IpAddr) (now : ℕ) (refusal : E) (otherwise : Result Unit E × State)
+      → ((x : Result Unit E × State) → Spends e s x.1 → P x) → P otherwise → P (in_allocation o ip now refusal s otherwise)
+  in-allocation P None ip now refusal otherwise refused h = refused _ same
+  in-allocation P (Some a) ip now refusal otherwise refused h = by_test P (is_past now a) _ otherwise (λ f. refused _ (expired ip)) (λ f. h)
+
+  connect-leaves : (peer : SocketAddr) (now : ℕ) → Leaves (connect_step peer now s)
+  connect-leaves peer now =
+      by_test Leaves (not (is_allocated s.phase)) _ _ (λ f. same)
+      (λ f. by_test Leaves (not (has_active_permission (socket_ip peer) s)) _ _ (λ f. same)
+      (λ f. by_test Leaves (is_connected peer s || is_connecting peer s) _ _ (λ f. same)
+      (λ f. spends-more e (Connect peer) (connect-comes e peer) s (requested (fresh_id s) (ForConnect peer) now (with_grant (Connect peer) s)) refl refl refl)))
+
+  -- ---- data connections
+
+  taken : (id : ℕ) (peer : SocketAddr) → Spends e s (offer_taken id peer s)
+  taken id peer = omega (arith, fewer-first (is_to_come e) (is_offer_of id peer) s.grants)
+
+  opened-leaves : (id : ℕ) (peer local : SocketAddr) (origin : Origin) (now : ℕ) → Spends e s (socket_opened id peer local origin now s)
+  opened-leaves id peer local (ServerRequest request) now =
+      spends-trans e s (offer_taken id peer s) (socket_opened id peer local (ServerRequest request) now s) (taken id peer)
+      (spends-more e (Connection c) (connection-comes e c) (offer_taken id peer s) (socket_opened id peer local (ServerRequest request) now s) refl refl refl)
+    where
+      c : DataConnection
+      c = record { local = local; peer = peer; deadline = Some (later_by bind_time now) }
+  opened-leaves id peer local origin now =
+      spends-trans e s (offer_taken id peer s) (socket_opened id peer local origin now s) (taken id peer)
+      (spends-more e (Connection c) (connection-comes e c) (offer_taken id peer s) (socket_opened id peer local origin now s) refl refl refl)
+    where
+      c : DataConnection
+      c = record { local = local; peer = peer; deadline = Some (later_by bind_time now) }
+
+  refused-leaves : (id : ℕ) (peer : SocketAddr) (origin : Origin) → Spends e s (socket_refused id peer origin s)
+  refused-leaves id peer (ServerRequest request) = taken id peer
+  refused-leaves id peer origin = taken id peer
+
+  socket-leaves : (id : ℕ) (peer : SocketAddr) (local : Option SocketAddr) (origin : Origin) (now : ℕ) → Leaves (socket_step id peer local origin now s)
+  socket-leaves id peer None origin now = refused-leaves id peer origin
+  socket-leaves id peer (Some local) origin now = by_test Leaves (is_local_taken local s) _ _ (λ f. same) (λ f. opened-leaves id peer local origin now)
+
+  -- ---- data for a peer
+
+  connection-leaves : (o : Option DataConnection) (bytes : List ℕ) → Leaves (on_connection o bytes s)
+  connection-leaves (Some c) bytes = same
+  connection-leaves None bytes = same
+
+  channel-leaves : (channels : List (ℕ × ℕ)) (peer : SocketAddr) (bytes : List ℕ) (now : ℕ) → Leaves (on_channel channels peer bytes now s)
+  channel-leaves [] peer bytes now = stays (on_channel [] peer bytes now s).1 refl refl refl
+  channel-leaves ((number, expiry) ∷ others) peer bytes now =
+      by_test Leaves (leb now expiry) _ _ (λ f. same) (λ f. stays (on_channel [] peer bytes now s).1 refl refl refl)
+
+  over-leaves : (transport : TransportType) (peer : SocketAddr) (bytes : List ℕ) (now : ℕ) → Leaves (send_over transport peer bytes now s)
+  over-leaves Tcp peer bytes now = connection-leaves (find (bound_to peer) (filter_map as_connection s.grants)) bytes
+  over-leaves Udp peer bytes now = channel-leaves (filter_map (active_channel peer) s.grants) peer bytes now
+
+  -- ---- packets
+
+  abbrev Sends : {A : Type 0} → A × State → Type 0
+  Sends x = (x.1.events ≡ s.events) × (x.1.grants ≡ s.grants) × (x.1.families ≡ s.families)
+
+  idle-sends : (p : Phase) (now : ℕ) → Sends (idle_step p now s)
+  idle-sends New now = (refl, refl, refl)
+  idle-sends Allocated now = by_found Sends _ (slice_get (flat_map (refreshes_in now s) (allocations s)) 0) (keepalive_step now s) (λ purpose f. (refl, refl, refl))
+      (by_test Sends (list_any (λ time. nat_le time now) (keepalive_times s)) _ (None, s) (λ f. (refl, refl, refl)) (λ f. (refl, refl, refl)))
+  idle-sends p now = (refl, refl, refl)
+
+  transmit-sends : (now : ℕ) → Sends (transmit_step now s)
+  transmit-sends now =
+      by_found Sends _ (due (agent_of s) now) _ (λ t f. (refl, refl, refl))
+      (by_test Sends (is_paused now s) (reply_step s) (queue_step now s) (λ f. (refl, refl, refl))
+      (λ f. by_found Sends _ (slice_get s.queue 0) (idle_step s.phase now s) (λ q g. (refl, refl, refl)) (idle-sends s.phase now)))
+
+  -- ---- what is kept, and the end
+
+  marks : (which : Grant → Bool) (is_kept : Bool) → Spends e s (with_marks which is_kept s)
+  marks which is_kept = spends-mapped e (marked_if which is_kept)
+      (λ g. by_test (λ (h : Grant). is_to_come e h ≡ is_to_come e g) (which g) (marked is_kept g) g (λ is. marked-comes e is_kept g) (λ other. refl)) s (with_marks which is_kept s) refl refl refl
+
+  keep-leaves : (transport : TransportType) (which : Grant → Bool) (is_kept : Bool) → Leaves (keep_step transport which is_kept s)
+  keep-leaves transport which is_kept =
+      by_test Leaves (same_transport transport s.config.allocation_transport && list_any which s.grants) _ _ (λ f. marks which is_kept) (λ f. same)
+
+  deleted-spends : (now : ℕ) → Spends e s (deleted now s)
+  deleted-spends now =
+      let t = without_grants is_granted_in s in
+      spends-trans e s t (deleted now s) (spends-removed e is_granted_in s t refl refl refl)
+      (spends-mapped e (changed_allocation (λ a. true) change) (changed-comes e (λ a. true) change) t (deleted now s) refl refl refl)
+    where
+      change : Relay → Relay
+      change a = record a { expiry = now; is_expired = true }
+
+  -- ---- all of them
+
+  -- it requests no permission and no channel, takes no input and no event
+  abbrev pub IsQuiet : Call → Type 0
+  IsQuiet (CreatePermission transport ip now) = ⊥
+  IsQuiet (BindChannel transport peer now) = ⊥
+  IsQuiet (Recv packet now) = ⊥
+  IsQuiet (PollRecv now) = ⊥
+  IsQuiet PollEvent = ⊥
+  IsQuiet call = ⊤
+
+  pub quiet-spends : (call : Call) → IsQuiet call → Spends e s (state_after call s)
+  quiet-spends (CreatePermission transport ip now) is = absurd is
+  quiet-spends (BindChannel transport peer now) is = absurd is
+  quiet-spends (Recv packet now) is = absurd is
+  quiet-spends (PollRecv now) is = absurd is
+  quiet-spends PollEvent is = absurd is
+  quiet-spends (Delete now) is = by_test Leaves (is_allocated s.phase) _ _ (λ f. deleted-spends now) (λ f. same)
+  quiet-spends (TcpConnect peer now) is = in-allocation Leaves (find_allocation_to Tcp (socket_ip peer) s) (socket_ip peer) now _ (connect_step peer now s) (λ x h. h) (connect-leaves peer now)
+  quiet-spends (AllocatedTcpSocket id tuple peer local now) is =
+      by_test Leaves (same_transport s.config.allocation_transport Tcp && is_control tuple s && is_allocated s.phase) _ _
+      (λ f. by_found Leaves (λ origin. socket_step id peer local origin now s) (offer_origin id peer s) _ (λ origin g. socket-leaves id peer local origin now) same) (λ f. same)
+  quiet-spends (TcpClosed local remote now) is =
+      by_test (Spends e s) (same_transport s.transport Tcp && same_address remote s.remote) (connection_gone local s) s (λ f. gone-spends e local s) (λ f. same)
+  quiet-spends (SendTo transport peer bytes now) is =
+      by_test Leaves (can_send_to transport (socket_ip peer) s) _ _ (λ f. over-leaves transport peer bytes now) (λ f. same)
+  quiet-spends (Poll now) is = poll-spends e now s
+  quiet-spends (PollTransmit now) is = let (events, grants, families) = transmit-sends now in stays (transmit_step now s).1 events grants families
+  quiet-spends ProtocolError is =
+      by_test (Spends e s) (is_closed s.phase) s (closed (fail_all s)) (λ f. same) (λ f. fail-spends e s (closed (fail_all s)) refl refl refl)
+  quiet-spends (SetPermissionKept transport ip is_kept) is = keep-leaves transport (is_permission_of ip) is_kept
+  quiet-spends (SetChannelKept transport peer is_kept) is = keep-leaves transport (is_open_to peer) is_kept
+  quiet-spends RelayedAddresses is = same
+  quiet-spends (Permissions transport relayed) is = same
+  quiet-spends (HavePermission transport to) is = same

@@ -1,0 +1,94 @@
+-- In each part of a run no cause is told twice.
+use Rattle.std.proofs.Common.{◌≡◌, ℕ, ◌+◌, ◌≤◌, true, List, [], ◌∷◌, refl, sym, subst, arith, inl, inr}
+use Rattle.std.specs.List.{Contains}
+use Rattle.std.specs.declared.net.socket_addr.SocketAddr.{SocketAddr}
+use Rattle.turn_stun.specs.declared.transport.TransportType.{TransportType}
+use Rattle.turn_client_api.specs.Config.{Config, is_family_list}
+use Rattle.turn_client_api.specs.State.{State, initial}
+use Rattle.turn_client_api.specs.declared.call.Call.{Call}
+use Rattle.turn_client_api.specs.declared.call.Call.TheVariants.{BindChannel, CreatePermission, PollEvent, PollRecv, Recv}
+use Rattle.turn_client_api.specs.declared.event.TurnEvent.{TurnEvent}
+use Rattle.turn_client_api.specs.Receive.{connection_gone}
+use Rattle.turn_client_api.specs.Steps.{state_after, state_after_all}
+use Rattle.turn_client_api.specs.Streams.{without_stream}
+use Rattle.turn_client_laws.specs.Handled.{Input, handled}
+use Rattle.turn_client_laws.specs.LawsAllocates.{AllocatesInOrder}
+use Rattle.turn_client_laws.specs.LawsHandled.{ProcessesInputs, TakesInput}
+use Rattle.turn_client_laws.specs.LawsOrder.{IsUngranted}
+use Rattle.turn_client_laws.proofs.ConfiguredLemmas.{call-configured}
+use Rattle.turn_client_laws.proofs.EditsOfMessages.{edits-IsKept}
+use Rattle.turn_client_laws.proofs.FixedFields.{fixed-all-edits}
+use Rattle.turn_client_laws.proofs.HasLemmas.{Has}
+use Rattle.turn_client_laws.proofs.StandLemmas.{has-contains}
+use Rattle.turn_client_laws.proofs.TurnChainLemmas.{calls-do}
+use Rattle.turn_client_laws.proofs.TurnKeepLemmas.{before-kept}
+use Rattle.turn_client_runs.specs.Told.{CausesAreToldOnce, due_of, in_calls, is_awaited_by, is_like, is_to_come, requested_by, told_by}
+use Rattle.turn_client_runs.proofs.QuietLemmas.{calls-keep}
+use Rattle.turn_client_runs.proofs.RunGrants.{Keeps, call-keeps, first-keeps, keeps-signed}
+use Rattle.turn_client_runs.proofs.ToldCalls.{quiet-spends}
+use Rattle.turn_client_runs.proofs.ToldCounts.{count-passes, passes-first}
+use Rattle.turn_client_runs.proofs.ToldInputs.{gone-spends, lead-spends}
+use Rattle.turn_client_runs.proofs.ToldLemmas.{Spends, load, spends-same, spends-trans}
+use Rattle.turn_client_runs.proofs.ToldReplies.{IsSettled}
+use Rattle.turn_client_runs.proofs.ToldRequests.{channel-requests, permission-requests}
+
+-- ---- the inputs of a call
+
+-- the configuration has each family once at most
+abbrev NamesOnce : State → Type 0
+NamesOnce s = is_family_list s.config.address_families ≡ true
+
+input-configured : (call : Call) (s : State) (one : Input) → Contains (handled call s) one → one.before.config ≡ s.config
+input-configured = before-kept (λ s t. t.config ≡ s.config) (edits-IsKept (λ s t. t.config ≡ s.config) (fixed-all-edits (λ f. f.1.0)) (λ s streams. refl))
+
+settled : (s : State) → AllocatesInOrder s → NamesOnce s → IsSettled s
+settled s (times, its, families) names phase = elim (families (subst IsUngranted (sym phase) tt)) [ inl same ↦ rw same names | inr (one, two) ↦ rw one refl ]
+
+input-settled : (call : Call) (s : State) → Keeps s → NamesOnce s → (one : Input) → Has one (handled call s) → IsSettled one.before
+input-settled call s keeps names one there =
+    let among = has-contains one (handled call s) there in
+    settled one.before (keeps-signed call s keeps one among).0 (rw (input-configured call s one among) names)
+
+module _ (e : TurnEvent) where
+  inputs-spend : (call : Call) (s : State) → Keeps s → NamesOnce s → TakesInput call → Spends e s (state_after call s)
+  inputs-spend call s keeps names takes = by (calls-do call s takes)
+    where
+      by : ProcessesInputs call s → Spends e s (state_after call s)
+      by (inl lead) = lead-spends e (handled call s) s (state_after call s) (input-settled call s keeps names) lead
+      by (inr end) =
+          let t = connection_gone end.local s in
+          let u = without_stream end.local t in
+          subst (Spends e s) (sym end.gone) (spends-trans e s t u (gone-spends e end.local s) (spends-same e t u refl refl refl))
+
+  -- ---- a call
+
+  call-tells : (call : Call) (s : State) → Keeps s → NamesOnce s → told_by e call s + load e (state_after call s) ≤ load e s + requested_by e call s
+  call-tells PollEvent s keeps names = omega (arith, passes-first (is_like e) s.events)
+  call-tells (CreatePermission transport ip now) s keeps names = omega (arith, permission-requests e s transport ip now)
+  call-tells (BindChannel transport peer now) s keeps names = omega (arith, channel-requests e s transport peer now)
+  call-tells (Recv packet now) s keeps names = omega (arith, inputs-spend (Recv packet now) s keeps names tt)
+  call-tells (PollRecv now) s keeps names = omega (arith, inputs-spend (PollRecv now) s keeps names tt)
+  call-tells call s keeps names = omega (arith, quiet-spends e s call tt)
+
+  -- ---- a run
+
+  call-names : (call : Call) (s : State) → NamesOnce s → NamesOnce (state_after call s)
+  call-names call s names = rw (call-configured call s) names
+
+  calls-tell : (calls : List Call) (s : State) → Keeps s → NamesOnce s
+      → in_calls (told_by e) s calls + load e (state_after_all s calls) ≤ load e s + in_calls (requested_by e) s calls
+  calls-tell [] s keeps names = omega arith
+  calls-tell (call ∷ calls) s keeps names =
+      omega (arith, call-tells call s keeps names, calls-tell calls (state_after call s) (call-keeps call s keeps) (call-names call s names))
+
+  due-load : (s : State) → due_of e s ≡ load e s
+  due-load s = omega (arith, count-passes (is_like e) s.events, count-passes (is_to_come e) s.grants, count-passes (is_awaited_by e) s.families)
+
+pub causes-told-once : (transport : TransportType) (local remote : SocketAddr) (config : Config) (seed : List ℕ) (calls : List Call)
+    → CausesAreToldOnce (initial transport local remote config seed) calls
+causes-told-once transport local remote config seed calls names earlier middle later split e =
+    let first = initial transport local remote config seed in
+    let s = state_after_all first earlier in
+    let keeps = calls-keep Keeps call-keeps earlier first (first-keeps transport local remote config seed) in
+    let still = calls-keep NamesOnce (call-names e) earlier first names in
+    omega (arith, calls-tell e middle s keeps still, due-load e s, due-load e (state_after_all s middle))

@@ -1,0 +1,39 @@
+//! No cause is told twice.
+
+ghost use Rattle.std.specs.Prelude.{◌≡◌, ◌∷◌, [], ℕ, List};
+ghost use Rattle.std.specs.declared.net.socket_addr.SocketAddr.{SocketAddr};
+ghost use Rattle.turn_stun.specs.declared.transport.TransportType.{TransportType};
+ghost use Rattle.turn_stun.specs.declared.transport.TransportType.TheVariants.{Udp};
+ghost use Rattle.turn_types.specs.declared.family.AddressFamily.TheVariants.{IPV4};
+ghost use Rattle.turn_client_api.specs.Config.{Config};
+ghost use Rattle.turn_client_api.specs.State.{State, initial};
+ghost use Rattle.turn_client_api.specs.Steps.{state_after_all};
+ghost use Rattle.turn_client_api.specs.declared.event.TurnEvent.TheVariants.{AllocationCreateFailed, PermissionCreateFailed};
+ghost use Rattle.turn_client_laws.specs.LawsRows.{ip_of_peer};
+ghost use Rattle.turn_client_runs.specs.Holds.{HoldsOfRuns};
+ghost use Rattle.turn_client_runs.specs.Told.{CausesAreToldOnce, due_of, in_calls, requested_by, told_by};
+ghost use Rattle.turn_client_runs.specs.ToldRows.{ended_twice, lost_and_requested, permitted};
+
+/// In each part of a run of a new client no cause is told twice, if no memory allocation fails (RFC 8656,
+/// sections 7, 9 and 12). Of each requested address family at most one event tells that it was allocated or
+/// that it failed. Of each permission and each channel at most one event tells that it was created, and at
+/// most one that it failed, for each request of the caller that found no such grant: so it was lost, whatever
+/// the cause, between two events that tell that it was created.
+///
+/// Of data connections nothing is counted here.
+pub fn causes_are_told_once()
+    ensures { HoldsOfRuns CausesAreToldOnce }
+{}
+
+/// Worked runs in which events are told, and counted.
+pub fn events_are_counted()
+    // A new client is ended twice: that its address family failed is told once.
+    ensures ended { (transport : TransportType) (local remote : SocketAddr) (config : Config) (seed : List ℕ) → config.address_families ≡ IPV4 ∷ []
+        → in_calls (told_by (AllocationCreateFailed IPV4)) (initial transport local remote config seed) ended_twice ≡ 1 }
+    // The failure of a permission that is granted is told once; the caller requests it once more, so it may be told once more.
+    ensures before { (s : State) → due_of (PermissionCreateFailed Udp ip_of_peer) (permitted s) ≡ 1 }
+    ensures told { (s : State) → in_calls (told_by (PermissionCreateFailed Udp ip_of_peer)) (permitted s) lost_and_requested ≡ 1 }
+    ensures requested { (s : State) → in_calls (requested_by (PermissionCreateFailed Udp ip_of_peer)) (permitted s) lost_and_requested ≡ 1 }
+    ensures after { (s : State)
+        → due_of (PermissionCreateFailed Udp ip_of_peer) (state_after_all (permitted s) lost_and_requested) ≡ 1 }
+{}
