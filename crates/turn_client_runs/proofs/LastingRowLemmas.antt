@@ -155,7 +155,8 @@ module _ (before now id last : ℕ) (later : List ℕ) (purpose : Purpose) (othe
 
   pub round : Goes (now + delay) v (served last later v) → Goes before s (served last (now ∷ later) s)
   round goes =
-      let rest = subst (λ (x : State). Goes now x (granted_call (now + delay) x ∷ PollEvent ∷ PollEvent ∷ served last later (state_after PollEvent (state_after PollEvent (state_after (granted_call (now + delay) x) x)))))
+      let rest = subst (λ (x : State). Goes now x (granted_call (now + delay) x ∷ PollEvent ∷ PollEvent
+      ∷ served last later (state_after PollEvent (state_after PollEvent (state_after (granted_call (now + delay) x) x)))))
       (sym is.sends) (after-u goes) in
       let within = subst (IsWithin 3 1) (sym is.sends) is.within_u in
       ((record { on_time = is.on_time; answered = is.waits }, tt, within, rest.0), rest.1)
@@ -195,6 +196,11 @@ three-housed time a p c ids s = all-has (HasAllocation (with_three time a p c id
     by g (inr (inl e)) = rw e refl
     by g (inr (inr (inl e))) = rw e refl
     by g (inr (inr (inr none))) = absurd none
+
+three-on-time : (now time next sent a p c : ℕ) (ids : Source) (s : State) → poll_step now (with_three sent a p c ids s) ≡ (WaitUntil time, with_three sent a p c ids s)
+    → now < time → now ≤ next → next ≤ time → next ≤ 2 ^ 62 → IsOnTime now next (with_three sent a p c ids s)
+three-on-time now time next sent a p c ids s told later from until range =
+    on-time now time next (with_three sent a p c ids s) (fits (with_three sent a p c ids s) refl refl) (three-housed sent a p c ids s) told later from until range
 
 -- ---- a refresh
 
@@ -368,19 +374,24 @@ module _ (s : State) (some : IsSome s.held) where
   -- ---- the refreshes
 
   punctual-2 : IsOnTime 1_100_000_000 241_100_000_000 s1
-  punctual-2 = on-time 1_100_000_000 241_100_000_000 241_100_000_000 s1 (fits s1 refl refl) (three-housed 1_000_000_000 600_000_000_000 301_100_000_000 601_100_000_000 ids1 s) told-1 (omega arith) (omega arith) (omega arith) (omega arith)
+  punctual-2 = three-on-time 1_100_000_000 241_100_000_000 241_100_000_000 1_000_000_000 600_000_000_000 301_100_000_000 601_100_000_000
+      ids1 s told-1 (omega arith) (omega arith) (omega arith) (omega arith)
 
   punctual-3 : IsOnTime 241_200_000_000 481_200_000_000 s2
-  punctual-3 = on-time 241_200_000_000 481_200_000_000 481_200_000_000 s2 (fits s2 refl refl) (three-housed 241_100_000_000 600_000_000_000 541_200_000_000 601_100_000_000 (behind_id ids1) s) told-2 (omega arith) (omega arith) (omega arith) (omega arith)
+  punctual-3 = three-on-time 241_200_000_000 481_200_000_000 481_200_000_000 241_100_000_000 600_000_000_000 541_200_000_000 601_100_000_000
+      (behind_id ids1) s told-2 (omega arith) (omega arith) (omega arith) (omega arith)
 
   punctual-4 : IsOnTime 481_300_000_000 540_000_000_000 s3
-  punctual-4 = on-time 481_300_000_000 540_000_000_000 540_000_000_000 s3 (fits s3 refl refl) (three-housed 481_200_000_000 600_000_000_000 781_300_000_000 601_100_000_000 (behind_id (behind_id ids1)) s) told-3 (omega arith) (omega arith) (omega arith) (omega arith)
+  punctual-4 = three-on-time 481_300_000_000 540_000_000_000 540_000_000_000 481_200_000_000 600_000_000_000 781_300_000_000 601_100_000_000
+      (behind_id (behind_id ids1)) s told-3 (omega arith) (omega arith) (omega arith) (omega arith)
 
   punctual-5 : IsOnTime 540_100_000_000 541_100_000_000 s4
-  punctual-5 = on-time 540_100_000_000 541_100_000_000 541_100_000_000 s4 (fits s4 refl refl) (three-housed 540_000_000_000 1_140_100_000_000 781_300_000_000 601_100_000_000 (behind_id (behind_id (behind_id ids1))) s) told-4 (omega arith) (omega arith) (omega arith) (omega arith)
+  punctual-5 = three-on-time 540_100_000_000 541_100_000_000 541_100_000_000 540_000_000_000 1_140_100_000_000 781_300_000_000 601_100_000_000
+      (behind_id (behind_id (behind_id ids1))) s told-4 (omega arith) (omega arith) (omega arith) (omega arith)
 
   punctual-6 : IsOnTime 541_200_000_000 700_000_000_000 s5
-  punctual-6 = on-time 541_200_000_000 721_300_000_000 700_000_000_000 s5 (fits s5 refl refl) (three-housed 541_100_000_000 1_140_100_000_000 781_300_000_000 1_141_200_000_000 (behind_id (behind_id (behind_id (behind_id ids1)))) s) told-5 (omega arith) (omega arith) (omega arith) (omega arith)
+  punctual-6 = three-on-time 541_200_000_000 721_300_000_000 700_000_000_000 541_100_000_000 1_140_100_000_000 781_300_000_000 1_141_200_000_000
+      (behind_id (behind_id (behind_id (behind_id ids1)))) s told-5 (omega arith) (omega arith) (omega arith) (omega arith)
 
   abbrev asked-2 : State
   asked-2 = requesting 241_100_000_000 (fresh_id s1) (ForPermission ip_of_peer) (request_for s1 (ForPermission ip_of_peer) (fresh_id s1)) s1
@@ -472,8 +483,8 @@ module _ (s : State) (some : IsSome s.held) where
       ids1 (ForPermission ip_of_peer) s some 1_000_000_000 punctual-2 sent-2 waits-2 (omega arith) (omega arith) replied-2) from-3
 
   from-1 : Goes 1_000_000_000 queued_bind (served (seconds 700) (1_000_000_000 ∷ 241_100_000_000 ∷ 481_200_000_000 ∷ 540_000_000_000 ∷ 541_100_000_000 ∷ []) queued_bind)
-  from-1 = round 1_000_000_000 1_000_000_000 id1 (seconds 700) (241_100_000_000 ∷ 481_200_000_000 ∷ 540_000_000_000 ∷ 541_100_000_000 ∷ []) (ForChannel 0x4000 peer) (ForPermission ip_of_peer ∷ []) text1
-      queued_bind sent_bind granted_bind s1 round-1 from-2
+  from-1 = round 1_000_000_000 1_000_000_000 id1 (seconds 700) (241_100_000_000 ∷ 481_200_000_000 ∷ 540_000_000_000 ∷ 541_100_000_000 ∷ [])
+      (ForChannel 0x4000 peer) (ForPermission ip_of_peer ∷ []) text1 queued_bind sent_bind granted_bind s1 round-1 from-2
 
   begins : IsSteady 3 1 delay 0 s0
   unfolding IsDistinct
@@ -500,7 +511,8 @@ module _ (s : State) (some : IsSome s.held) where
       let within = subst (IsWithin 3 1) (sym binds) (omega arith, omega arith) in (
         (
           record {
-            on_time = on-time 0 540_000_000_000 1_000_000_000 s0 (fits s0 refl refl) (all-one (HasAllocation s0) (new_allocation 600 0 relayed_v4) refl) told-0 (omega arith) (omega arith) (omega arith) (omega arith);
+            on_time = on-time 0 540_000_000_000 1_000_000_000 s0 (fits s0 refl refl) (all-one (HasAllocation s0) (new_allocation 600 0 relayed_v4) refl) told-0
+                (omega arith) (omega arith) (omega arith) (omega arith);
             answered = all-none (λ (x : Transaction). 1_000_000_000 ≤ x.last_send + delay);
           },
           tt,

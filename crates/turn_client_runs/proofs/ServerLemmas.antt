@@ -103,13 +103,12 @@ module _ (type id : ℕ) (t : type < 2 ^ 14) (i : id < 2 ^ 96) (algorithm : Inte
 
 -- what holds is found to hold
 holds-true : (bytes : List ℕ) (algorithm : IntegrityAlgorithm) (key : List ℕ) → IntegrityHolds bytes algorithm key → integrity_holds bytes algorithm key ≡ true
-holds-true bytes algorithm key h = by (first_of (integrity_kind algorithm) (seen_of bytes)) refl
+holds-true bytes algorithm key h = by (first_of (integrity_kind algorithm) (seen_of bytes)) refl h
   where
-    by : (o : Option Attribute) → first_of (integrity_kind algorithm) (seen_of bytes) ≡ o → integrity_holds bytes algorithm key ≡ true
-    by None e = absurd (subst (λ (o : Option Attribute). IsSomeAnd o (λ first. first.value ≡ mac_of algorithm key (covered_text algorithm first.offset bytes))) e h)
-    by (Some a) e =
-        let same : a.value ≡ mac_of algorithm key (covered_text algorithm a.offset bytes) = subst (λ (o : Option Attribute). IsSomeAnd o (λ first. first.value ≡ mac_of algorithm key (covered_text algorithm first.offset bytes))) e h in
-        rw (e, same) (nat_list_eq_equiv.refl (mac_of algorithm key (covered_text algorithm a.offset bytes)))
+    by : (o : Option Attribute) → first_of (integrity_kind algorithm) (seen_of bytes) ≡ o
+        → IsSomeAnd o (λ first. first.value ≡ mac_of algorithm key (covered_text algorithm first.offset bytes)) → integrity_holds bytes algorithm key ≡ true
+    by None e h = absurd h
+    by (Some a) e same = rw (e, same) (nat_list_eq_equiv.refl (mac_of algorithm key (covered_text algorithm a.offset bytes)))
 
 -- ---- the reply
 
