@@ -1,3 +1,4 @@
 pub mod EndedLemmas
 pub mod RunLemmas
 pub mod DriverLemmas
+pub mod OnTimeLemmas

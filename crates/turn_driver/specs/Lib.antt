@@ -2,3 +2,4 @@ pub mod Given
 pub mod Next
 pub mod Run
 pub mod Driver
+pub mod OnTime

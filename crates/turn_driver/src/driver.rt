@@ -3,6 +3,7 @@
 ghost use Rattle.std.specs.Prelude.{◌≡◌, ◌≤◌, ◌^◌, IfOk, OnErr, OnOk, Some};
 ghost use Rattle.turn_driver.specs.Given.{packet_in, packet_of};
 ghost use Rattle.turn_driver.specs.Next.{IsRestful};
+ghost use Rattle.turn_driver.specs.OnTime.{WakesOnTime};
 ghost use Rattle.turn_driver.specs.Run.{IsWhole};
 ghost use Rattle.turn_driver.specs.Driver.{Draws, Stops, StopsAtHand, begun, drive_state, driven, drive_step, drive_steps};
 
@@ -15,7 +16,8 @@ use turn_stun::transport::Transmit;
 
 /// One iteration of the caller's loop: passes in a packet, if there is one, and then polls the client until it
 /// has nothing more to do, at most `most` times. All that the client returns is appended to the list, in order.
-/// The result says what follows.
+/// The result says what follows: a caller that calls again by then is on time, so that no grant is lost while the server
+/// answers (`turn_client_runs::grants_last_while_the_server_answers`, [`loops_are_on_time`](crate::loops_are_on_time)).
 ///
 /// # Errors
 ///
@@ -34,6 +36,7 @@ pub fn drive_client<C: TurnClientApi>(
     ensures whole { OnOk result (IsWhole (packet_in came) now (drive_state tasks.old.items (C.state client.old))
         (drive_state tasks.new.items (C.state client.new))) }
     ensures restful { IfOk result (λ rest. IsRestful rest now (C.state client.new)) }
+    ensures on_time { IfOk result (λ rest. WakesOnTime rest now (C.state client.new)) }
     ensures no_memory { OnErr result (Stops most came now (drive_state tasks.old.items (C.state client.old))
         (drive_state tasks.new.items (C.state client.new))) }
 {

@@ -30,8 +30,10 @@
 
 mod driver;
 mod next;
+mod on_time;
 mod task;
 
 pub use driver::drive_client;
 pub use next::{Next, next_task};
+pub use on_time::loops_are_on_time;
 pub use task::{Rest, Task};

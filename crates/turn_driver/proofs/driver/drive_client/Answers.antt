@@ -6,6 +6,7 @@ use Rattle.turn_driver.specs.Given.{packet_in, packet_of}
 use Rattle.turn_driver.specs.Driver.{Draws, DriveState, begun, driven, drive_steps}
 use Rattle.turn_driver.specs.declared.task.Task.{Task}
 use Rattle.turn_driver.specs.declared.task.Rest.TheVariants.{Now}
+use Rattle.turn_driver.proofs.OnTimeLemmas.{wakes-ok}
 use Rattle.turn_driver.proofs.RunLemmas.{whole-ok}
 use Rattle.turn_driver.proofs.driver.drive_client.Given.{Over}
 use Rattle.turn_driver.proofs.driver.drive_client.Goals as goal
@@ -43,3 +44,6 @@ returns-clause-no_memory g c =
     let state = g.C.TurnClientApi.state in
     on_err_weaker _ (λ draws. inr (subst (λ (t : DriveState). Draws c.args.most c.args.now t (driven c.poll_tasks.new.tasks.items Now (state c.poll_tasks.new.client)))
     (starts g c) draws)) c.poll_tasks.ensures.no_memory
+
+pub returns-clause-on_time : goal.returns-clause-on_time
+returns-clause-on_time g c = wakes-ok c.poll_tasks.result c.args.now (g.C.TurnClientApi.state c.poll_tasks.new.client) c.requires.now_in_range c.poll_tasks.ensures.restful
