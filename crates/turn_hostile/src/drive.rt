@@ -10,6 +10,7 @@ use std::net::SocketAddr;
 use turn_client_api::{TurnClientApi, TurnEvent};
 use turn_hostile_net::draws::Draws;
 use turn_hostile_net::fault::{Fault, expect};
+use turn_hostile_net::marks::{Kept, kept_by};
 use turn_hostile_net::model::Model;
 use turn_hostile_net::network::Network;
 use turn_hostile_net::packet::Packet;
@@ -112,6 +113,12 @@ impl Drive {
         let act = act_of(&mut self.draws, self.kind, self.ends);
         let words = format!(in self.alloc; "{act}")?;
         let outcome = self.make(client, words.as_str())?;
+        if let (Act::Keep(relays, Kept::Permission(ip), _), Outcome::Other) = (act, outcome) {
+            expect(
+                !client.have_permission(relays, ip),
+                "a permission in use is neither kept nor let go",
+            )?;
+        }
         let bytes = self.session.bytes.as_slice();
         learn(&mut self.model, act, outcome, bytes, self.now)
     }
@@ -210,6 +217,12 @@ impl Drive {
             expect(
                 self.model.name(number, peer, self.now, self.latest)?,
                 "a channel number names two peers",
+            )?;
+        }
+        if let Some(what) = kept_by(request.purpose) {
+            expect(
+                self.model.marks.send(request.id, what)?,
+                "what was let go is refreshed",
             )?;
         }
         self.network

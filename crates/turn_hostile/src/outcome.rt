@@ -60,6 +60,8 @@ pub fn outcome_of(reply: &Reply, bytes: &mut Vec<u8>) -> Result<Outcome, Fault> 
         | Reply::BindChannel(Ok(()))
         | Reply::TcpConnect(Ok(()))
         | Reply::Delete(Ok(()))
+        | Reply::SetPermissionKept(Ok(()))
+        | Reply::SetChannelKept(Ok(()))
         | Reply::HavePermission(true) => Ok(Outcome::Accepted),
         _ => Ok(Outcome::Other),
     }
@@ -85,11 +87,13 @@ pub fn learn(
         return Ok(());
     }
     match act {
-        Act::Permit(relays, ip) => model
-            .events
-            .allow(TurnEvent::PermissionCreateFailed(relays, ip)),
+        Act::Permit(relays, ip) => model.request_permission(relays, ip),
         Act::Bind(relays, peer) => model.request_channel(relays, peer, now),
         Act::Connect(peer) => model.events.allow(TurnEvent::TcpConnectFailed(peer)),
+        Act::Keep(_, what, is_kept) => expect(
+            model.marks.say(what, is_kept),
+            "what was never requested is kept or let go",
+        ),
         Act::Have(_, ip) => expect(
             model.facts.has(Fact::Permitted(ip)),
             "a permission was not granted",

@@ -4,6 +4,7 @@ use crate::acts::Act;
 use std::alloc::{AllocError, Global};
 use std::fmt;
 use std::net::{IpAddr, SocketAddr};
+use turn_hostile_net::marks::Kept;
 use turn_hostile_net::packet::Packet;
 use turn_hostile_net::world::{local, server};
 use turn_types::TransportType;
@@ -59,6 +60,10 @@ fn transport_word(transport: TransportType) -> &'static str {
     }
 }
 
+fn keep_word(is_kept: bool) -> &'static str {
+    if is_kept { "keep" } else { "release" }
+}
+
 /// The words of the call, without its time.
 impl fmt::Display for Act {
     fn fmt<W: fmt::Write>(&self, f: &mut fmt::Formatter<W>) -> fmt::Result {
@@ -68,6 +73,12 @@ impl fmt::Display for Act {
             Act::Lose => write!(f, "error"),
             Act::Permit(relays, ip) => write_with_ip(f, "permit", relays, ip),
             Act::Have(relays, ip) => write_with_ip(f, "have", relays, ip),
+            Act::Keep(relays, Kept::Permission(ip), is_kept) => {
+                write_with_ip(f, keep_word(is_kept), relays, ip)
+            }
+            Act::Keep(relays, Kept::Channel(peer), is_kept) => {
+                write_with_address(f, keep_word(is_kept), relays, peer)
+            }
             Act::Bind(relays, peer) => write_with_address(f, "bind", relays, peer),
             Act::Connect(peer) => {
                 let peer = Address(peer);

@@ -16,6 +16,7 @@ pub mod events;
 pub mod facts;
 pub mod fault;
 mod forge;
+pub mod marks;
 mod message;
 pub mod model;
 pub mod network;

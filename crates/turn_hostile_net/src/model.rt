@@ -3,6 +3,7 @@
 use crate::events::Events;
 use crate::facts::{Fact, Facts};
 use crate::fault::Fault;
+use crate::marks::{Kept, Marks};
 use crate::numbers::{KEPT, Numbers, PENDING};
 use crate::offers::Offers;
 use crate::packet::{Answer, Effect, Truth};
@@ -30,6 +31,8 @@ pub struct Model {
     pub events: Events,
     /// The channel numbers that were requested.
     pub numbers: Numbers,
+    /// What the caller keeps, and has let go.
+    pub marks: Marks,
     /// The data connections that were offered.
     pub offers: Offers,
     /// The requests to which a signed response came through.
@@ -51,6 +54,7 @@ impl Model {
             events: first_events(alloc, kind)?,
             facts: Facts::new(alloc),
             numbers: Numbers::new(alloc),
+            marks: Marks::new(alloc),
             offers: Offers::new(alloc),
             answered: Vec::new(alloc),
             allocated: 0,
@@ -83,6 +87,7 @@ impl Model {
     /// lasts, and five minutes more.
     pub fn settle(&mut self, truth: Truth, now: u64) {
         if let Truth::Answers(answer) = truth {
+            self.marks.answer(answer.id);
             if let Effect::Bound(number, peer) = answer.effect {
                 let until = now.saturating_add(KEPT).min(self.allocated);
                 self.numbers.settle(number, peer, until);
@@ -179,6 +184,17 @@ impl Model {
         self.events.allow(TurnEvent::TcpConnected(peer))
     }
 
+    /// A permission is requested, which may fail.
+    ///
+    /// # Errors
+    ///
+    /// If memory allocation fails.
+    pub fn request_permission(&mut self, relays: TransportType, ip: IpAddr) -> Result<(), Fault> {
+        self.marks.request(Kept::Permission(ip), 1)?;
+        self.events
+            .allow(TurnEvent::PermissionCreateFailed(relays, ip))
+    }
+
     /// A channel is requested, and perhaps a permission with it: either may fail.
     ///
     /// # Errors
@@ -191,6 +207,8 @@ impl Model {
         now: u64,
     ) -> Result<(), Fault> {
         self.numbers.request(peer, now)?;
+        self.marks.request(Kept::Channel(peer), 1)?;
+        self.marks.request(Kept::Permission(peer.ip()), 0)?;
         self.events
             .allow(TurnEvent::PermissionCreateFailed(relays, peer.ip()))?;
         self.events

@@ -6,7 +6,7 @@ use std::alloc::Global;
 use std::error::Error;
 use std::process::Abort;
 use turn_client_api::{
-    BindChannelError, CreatePermissionError, DeleteError, SendError, TcpAllocateError,
+    BindChannelError, CreatePermissionError, DeleteError, KeepError, SendError, TcpAllocateError,
     TcpConnectError,
 };
 use turn_stun::instant::Instant;
@@ -69,7 +69,13 @@ fn errors_of_create_permission_say_what_is_wrong(rt: HostRuntime) {
 }
 
 #[test]
-fn errors_of_delete_say_what_is_wrong(rt: HostRuntime) {
+fn errors_of_keeping_and_of_delete_say_what_is_wrong(rt: HostRuntime) {
+    says(
+        &rt,
+        rt.alloc(),
+        &KeepError::NotGranted,
+        "There is no such permission or channel",
+    );
     says(
         &rt,
         rt.alloc(),

@@ -109,6 +109,8 @@ pub(crate) struct Row {
     /// An allocation is marked as expired, an offer as reported.
     pub(crate) is_marked: bool,
     pub(crate) reason: Reason,
+    /// A permission or a channel was not let go.
+    pub(crate) is_kept: bool,
     /// It is to be removed.
     pub(crate) goes: bool,
 }
@@ -125,6 +127,7 @@ impl Row {
             lifetime: 0,
             is_marked: false,
             reason: Reason::Own,
+            is_kept: true,
             goes: false,
         }
     }
@@ -213,6 +216,18 @@ impl Plain {
         let row = Row::new(kind, key, draw.n % 8);
         self.add(&row)?;
         self.list(draw.m, &row, purpose)
+    }
+
+    /// The permission for this peer, or a channel that is not reserved, is kept or let go. Returns whether there is one.
+    pub(crate) fn keeps(&mut self, kind: Kind, peer: u8, is_kept: bool) -> bool {
+        let mut is_there = false;
+        for row in self.rows.iter_mut() {
+            if row.is_to(kind, peer) && row.stage != Stage::Reserved {
+                row.is_kept = is_kept;
+                is_there = true;
+            }
+        }
+        is_there
     }
 
     /// Replaces the row of this kind and key by this one, in its place.

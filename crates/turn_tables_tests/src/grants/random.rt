@@ -7,13 +7,14 @@ mod compare;
 mod connections;
 
 use crate::fixture::same;
-use crate::grants::plain::{Plain, SECOND, TRANSPORT};
+use crate::grants::plain::{Kind, Plain, SECOND, TRANSPORT, address};
 use crate::grants::random::compare::is_same;
 use std::alloc::{AllocError, Global};
 use std::process::Abort;
 use std::test::Fail;
 use turn_client_api::TurnEvent;
 use turn_client_grants::GrantLedger;
+use turn_stun::transport::TransportType;
 use turn_types::AddressFamily;
 
 /// Numbers that look random: a linear congruence modulo 2^64.
@@ -71,6 +72,23 @@ fn is_refused(rt: &impl Abort, ledger: &mut GrantLedger, draw: &Draw) {
     same(rt, ledger.reserve(too_many, 0, 0).is_err(), true);
     same(rt, ledger.reserve(1, too_many, 0).is_err(), true);
     same(rt, ledger.reserve(1, 1, too_many).is_err(), true);
+}
+
+/// A permission or a channel is kept, or let go. Over the other transport there is none.
+fn keeps(rt: &impl Abort, ledger: &mut GrantLedger, plain: &mut Plain, draw: &Draw) {
+    let peer = address(draw.n % 8);
+    let is_kept = draw.m % 3 == 0;
+    let other = ledger.set_permission_kept(TransportType::Udp, peer.ip(), is_kept);
+    same(rt, other.is_ok(), false);
+    if draw.m % 2 == 0 {
+        let answer = ledger.set_permission_kept(TRANSPORT, peer.ip(), is_kept);
+        let is_there = plain.keeps(Kind::Permission, draw.n % 8, is_kept);
+        same(rt, answer.is_ok(), is_there);
+    } else {
+        let answer = ledger.set_channel_kept(TRANSPORT, peer, is_kept);
+        let is_there = plain.keeps(Kind::Channel, draw.n % 8, is_kept);
+        same(rt, answer.is_ok(), is_there);
+    }
 }
 
 /// The caller polls up to so many events and addresses to close.
@@ -173,10 +191,10 @@ fn changes(
     third_changes(ledger, plain, kind - 19, draw)
 }
 
-/// Whether a step of this kind is a change by a request, a reply or the time. The others poll or refuse
+/// Whether a step of this kind is a change by the caller, a reply or the time. The others poll or refuse
 /// memory.
 fn is_change(kind: u64) -> bool {
-    kind < 27
+    kind < 27 || kind == 30
 }
 
 /// Makes one change, refuses memory, or polls.
@@ -190,6 +208,7 @@ fn step(
     match kind {
         27 | 28 => polls(rt, ledger, plain, draw.m % 32),
         29 => is_refused(rt, ledger, draw),
+        30 => keeps(rt, ledger, plain, draw),
         kind => changes(ledger, plain, kind, draw)?,
     }
     Ok(())
@@ -219,7 +238,7 @@ fn steps(
         }
         time = time.saturating_add((random.draw() % 9).saturating_mul(SECOND));
         let draw = random.change(time);
-        let kind = random.draw() % 30;
+        let kind = random.draw() % 31;
         step(rt, ledger, plain, kind, &draw)?;
         is_same(rt, ledger, plain, draw.now, alloc)?;
         count = count.saturating_add(u32::from(is_change(kind)));

@@ -12,10 +12,10 @@ impl Row {
     /// The progress of the row.
     fn progress(&self) -> Progress {
         match self.stage {
-            Stage::Pending => Progress::Pending(true),
+            Stage::Pending => Progress::Pending(self.is_kept),
             Stage::Active => Progress::Active(Lease {
                 expiry: at(self.until),
-                is_kept: true,
+                is_kept: self.is_kept,
             }),
             Stage::Reserved => Progress::Reserved(at(self.until)),
         }
@@ -77,7 +77,7 @@ impl Row {
     }
 
     /// Whether the row has this kind and this peer.
-    fn is_to(&self, kind: Kind, peer: u8) -> bool {
+    pub(crate) fn is_to(&self, kind: Kind, peer: u8) -> bool {
         self.kind == kind && self.peer == peer
     }
 }

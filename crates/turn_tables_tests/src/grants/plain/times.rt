@@ -50,11 +50,12 @@ impl Row {
 }
 
 impl Plain {
-    /// When the row is to be refreshed: never while a request for it is listed, or once its allocation is expired.
+    /// When the row is to be refreshed: never while it is let go or a request for it is listed, or once its allocation is
+    /// expired.
     fn refresh_time(&self, row: &Row) -> Option<u64> {
         let relay = self.find(Kind::Allocation, u32::from(is_ipv6(row.peer)));
         let is_in_use = relay.is_some_and(|relay| !relay.is_marked);
-        if row.is_refreshed() && is_in_use && !self.has_request(row) {
+        if row.is_refreshed() && row.is_kept && is_in_use && !self.has_request(row) {
             return Some(row.until.saturating_sub(row.ahead()));
         }
         None
