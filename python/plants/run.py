@@ -7,6 +7,7 @@ with the test. Without a name all are tried, N (2) side by side. It prints a lin
 """
 import argparse
 import pathlib
+import re
 import shutil
 import subprocess
 import sys
@@ -48,7 +49,9 @@ def try_one(edit: pathlib.Path) -> Tuple[bool, str]:
         ends = []
         for at in (TOP, room):
             ran = subprocess.run(words, cwd=at, stdout=subprocess.PIPE, stderr=subprocess.STDOUT, text=True, timeout=300)
-            ends.append((ran.returncode, ran.stdout.strip().splitlines()[-1]))
+            # What a test leaves behind may be printed after its summary.
+            summary = [it for it in ran.stdout.splitlines() if re.match(r"OK$|FAILED \(", it)]
+            ends.append((ran.returncode, summary[-1] if summary else "no summary"))
     is_seen = ends[0] == (0, "OK") and ends[1][1].startswith("FAILED")
     return is_seen, f"{'seen' if is_seen else 'NOT SEEN'}: {edit.stem}: {seen}: without it {ends[0][1]}, with it {ends[1][1]}"
 

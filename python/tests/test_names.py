@@ -81,8 +81,10 @@ class Names(unittest.IsolatedAsyncioTestCase):
         with resolving("127.0.0.2", "127.0.0.1"):
             with unittest.mock.patch.object(asyncio.get_running_loop(), "create_connection", connect_or_hang):
                 uri = TurnUri("turn.example.org", port_of(endpoint.uri), "tcp")
-                async with TurnClient(uri, "user", "pass") as relay:
-                    self.assertEqual(relay.address, ("10.9.9.9", 40000))
+                relay = TurnClient(uri, "user", "pass")
+                await asyncio.wait_for(relay.open(), 20)
+                self.assertEqual(relay.address, ("10.9.9.9", 40000))
+                await relay.close()
 
     async def test_a_name_that_is_not_found(self) -> None:
         async def nothing(*it: object, **kinds: object) -> None:

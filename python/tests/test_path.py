@@ -32,12 +32,14 @@ class Checks(unittest.IsolatedAsyncioTestCase):
     async def test_a_check(self) -> None:
         for kind in (Endpoint, StreamEndpoint):
             endpoint = await self.serve(kind)
-            async with TurnClient(endpoint.uri, "user", "pass", clock=Clock(rate=20)) as relay:
+            clock: Any = Clock()
+            async with TurnClient(endpoint.uri, "user", "pass", clock=clock) as relay:
                 self.assertEqual(await relay.check(), (True, relay.local_address))
-                self.assertEqual(endpoint.server.bindings, 1)
                 endpoint.server.answers_bindings = False
+                clock.real = lambda seconds: seconds / 5
+                before = endpoint.server.bindings
                 self.assertEqual(await relay.check(), (False, None))
-                self.assertEqual(endpoint.server.bindings, 4 if kind is Endpoint else 2)
+                self.assertEqual(endpoint.server.bindings - before, 3 if kind is Endpoint else 1)
                 checking = asyncio.ensure_future(relay.check())
                 await asyncio.sleep(0.01)
             for call in (lambda: checking, relay.check):
@@ -80,7 +82,7 @@ class Checks(unittest.IsolatedAsyncioTestCase):
     async def test_coturn(self) -> None:
         for options, is_answered in (((), True), (("--no-stun",), False)):
             with coturn_server.coturn(*options) as at:
-                async with TurnClient(at.uri(), "user", "pass", clock=Clock(rate=10)) as relay:
+                async with TurnClient(at.uri(), "user", "pass") as relay:
                     checked = await relay.check()
                     self.assertEqual(checked, (is_answered, relay.local_address if is_answered else None))
 

@@ -67,16 +67,24 @@ class Requests(unittest.IsolatedAsyncioTestCase):
         endpoint = await self.serve(CountingServer())
         async with TurnClient(endpoint.uri, "user", "pass") as relay:
             client: Any = relay._session().client
-            made, create = [], client.create_permission
+            create, transmit = client.create_permission, client.poll_transmit
+            made, sent, most = 0, 0, 0
 
-            def count(ip: str, now: int) -> None:
-                made.append(len(set(endpoint.server.asked)))
+            def count_made(ip: str, now: int) -> None:
+                nonlocal made, most
+                made, most = made + 1, max(most, made + 1 - sent)
                 create(ip, now)
 
-            client.create_permission = count
+            def count_sent(now: int) -> Any:
+                nonlocal sent
+                packet = transmit(now)
+                sent += packet is not None
+                return packet
+
+            client.create_permission, client.poll_transmit = count_made, count_sent
             await asyncio.gather(*(relay.permit(f"10.1.0.{number}") for number in range(40)))
-        self.assertEqual(len(made), 40)
-        self.assertLessEqual(max(number - asked for number, asked in enumerate(made)), 9)
+        self.assertEqual(made, 40)
+        self.assertLessEqual(most, 8)
 
     async def test_sending_to_a_peer_that_was_refused(self) -> None:
         server = CountingServer(denied=("10.1.0.2",))
@@ -89,7 +97,7 @@ class Requests(unittest.IsolatedAsyncioTestCase):
                     await relay.send(b"hello", ("10.1.0.2", 9000))
                 self.assertEqual(failed.exception.code, 403)
             self.assertEqual(len(server.asked), 1)
-            for later, asked in ((4, 1), (6, 2), (10, 2), (17, 3)):  # it rests for five seconds, and then for ten
+            for later, asked in ((4, 1), (6, 2), (13, 2), (17, 3)):  # it rests for five seconds, and then for ten
                 clock.now = functools.partial(later_by, now, later * SECOND)
                 with self.assertRaises(PermissionFailed):
                     await relay.send(b"hello", ("10.1.0.2", 9000))

@@ -169,7 +169,11 @@ class ToPeers(unittest.IsolatedAsyncioTestCase):
             return made[-1]
 
         with unittest.mock.patch("subprocess.Popen", popen), coturn_server.coturn() as at:
-            peers = await asyncio.start_server(lambda reader, writer: asyncio.sleep(60), "127.0.0.1", 0)
+            async def hold(reader: asyncio.StreamReader, writer: asyncio.StreamWriter) -> None:
+                await asyncio.sleep(60)
+                writer.close()
+
+            peers = await asyncio.start_server(hold, "127.0.0.1", 0)
             self.addCleanup(peers.close)
             relay = TurnClient(at.uri("turn:127.0.0.1:{port}?transport=tcp"), "user", "pass", relay="tcp")
             await relay.open()
