@@ -1,5 +1,5 @@
 -- In a run the inputs out of a stream take all that arrives for it, in order.
-use Rattle.std.proofs.Common.{◌≡◌, ◌⊎◌, ◌∙◌, ◌++◌, ◌&&◌, ℕ, Bool, true, false, cond, List, [], ◌∷◌, Option, Some, None, Result, Ok, refl, sym, subst, ap, inl, inr, append_assoc}
+use Rattle.std.proofs.Common.{◌≡◌, ◌⊎◌, ◌∙◌, ◌++◌, ◌&&◌, ℕ, Bool, true, false, cond, List, [], ◌∷◌, Option, Some, None, Result, refl, sym, subst, ap, inl, inr, append_assoc}
 use Rattle.std.specs.Prelude.{◌≢◌, find, is_some}
 use Rattle.std.specs.Option.{option_map_or}
 use Rattle.std.specs.List.{IsDistinct}
@@ -27,22 +27,20 @@ use Rattle.turn_client_api.specs.Grants.{same_transport}
 use Rattle.turn_client_api.specs.Payloads.{Handled, Ignored, Outcome, channel_sent, datagram_step, is_channel_frame, is_message, message_step}
 use Rattle.turn_client_api.specs.Receive.{connection_gone, first_frame_step, is_from_server, piece_step, recv_step, stream_step, then_all}
 use Rattle.turn_client_api.specs.Steps.{state_after, state_after_all}
-use Rattle.turn_client_api.specs.Streams.{poll_recv_step, stream_at, without_stream}
+use Rattle.turn_client_api.specs.Streams.{stream_at, without_stream}
 use Rattle.turn_client_laws.specs.Handled.{Input, datagram_input, fed_taken, handled, piece_inputs, poll_recv_inputs, recv_inputs, stream_inputs}
-use Rattle.turn_client_laws.specs.LawsHandled.{TakesInput}
 use Rattle.turn_client_laws.specs.LawsStreams.{AreApart}
 use Rattle.turn_client_laws.proofs.AddressLemmas.{same_address-self, same_address-true}
 use Rattle.turn_client_laws.proofs.CaseLemmas.{by_found, by_test}
 use Rattle.turn_client_laws.proofs.EditsOfCalls.{delete-walk, quiet-walk}
 use Rattle.turn_client_laws.proofs.HasLemmas.{Has, has-append, has-found, map-has}
 use Rattle.turn_client_laws.proofs.NumberLemmas.{all-of}
-use Rattle.turn_client_laws.proofs.StreamApartLemmas.{IsNoneOf, ends}
+use Rattle.turn_client_laws.proofs.StreamApartLemmas.{ends}
 use Rattle.turn_client_laws.proofs.StreamCallLemmas.{call-apart, initial-apart}
 use Rattle.turn_client_laws.proofs.StreamMessageLemmas.{Same, Same-KeepsEdits, message-same}
-use Rattle.turn_client_runs.specs.InOrder.{InputsFollow, Opens, OpensNone, TakesAll, bytes_out_of, held_at}
+use Rattle.turn_client_runs.specs.InOrder.{InputsFollow, Opens, OpensNone, bytes_out_of, held_at}
 use Rattle.turn_client_runs.specs.Inputs.{handled_in}
 use Rattle.turn_client_runs.specs.Received.{piece_in_call, pieces_for, unless_broken}
-use Rattle.turn_client_runs.proofs.CallGrants.{quiet}
 use Rattle.turn_client_runs.proofs.InOrderSteps.{Flows, Goes, differs-or, fed-goes, filter-flows, holds-rest, no-more, out-append, poll-goes, then_all-goes}
 use Rattle.turn_client_runs.proofs.QuietLemmas.{calls-keep}
 use Rattle.turn_client_runs.proofs.SentCalls.{opens-or}
@@ -110,7 +108,8 @@ module _ (a : SocketAddr) where
     nothing-flows : Flows a (all ++ cond (same_address stream.local a) [] []) taken s.streams
     nothing-flows = elim (same_address stream.local a) as (λ b. Flows a (all ++ cond b [] []) taken s.streams) [ true ↦ rw (append-nil all) flows | false ↦ rw (append-nil all) flows ]
 
-    piece-goes : (m : Mode) → stream.mode ≡ m → (piece : List ℕ) → Goes a (all ++ arrived m piece) taken (piece_inputs (record stream { mode = m }) piece now s) (piece_step (record stream { mode = m }) piece now s).1
+    piece-goes : (m : Mode) → stream.mode ≡ m → (piece : List ℕ)
+        → Goes a (all ++ arrived m piece) taken (piece_inputs (record stream { mode = m }) piece now s) (piece_step (record stream { mode = m }) piece now s).1
     piece-goes Control is piece =
         let u = record stream { mode = Control } in
         then_all-goes a now (all ++ arrived Control piece) taken (fed_taken u piece now s) (first_frame_step u piece now s) (fed Control is (λ f. cc) piece)

@@ -1,5 +1,5 @@
 -- A step of a stream takes what comes next of it, and no other stream loses anything.
-use Rattle.std.proofs.Common.{◌≡◌, ◌⊎◌, ◌∙◌, ◌++◌, ℕ, zero, suc, Bool, true, false, cond, List, [], ◌∷◌, drop, filter, map, take, Option, Some, None, refl, sym, subst, ap, inl, inr, append_assoc}
+use Rattle.std.proofs.Common.{◌≡◌, ◌∙◌, ◌++◌, ℕ, zero, suc, Bool, true, false, cond, List, [], ◌∷◌, drop, filter, map, take, Option, Some, None, refl, sym, subst, ap, inl, inr, append_assoc}
 use Rattle.std.specs.Prelude.{◌≢◌, find}
 use Rattle.std.proofs.lemmas.Bool.{cases_Bool}
 use Rattle.std.proofs.lemmas.List.{append-nil, take-append-drop}
@@ -8,13 +8,15 @@ use Rattle.turn_types.specs.Frames.{begins_no_frame, frame_len}
 use Rattle.turn_agent.specs.Agent.{same_address}
 use Rattle.turn_client_api.specs.State.{State}
 use Rattle.turn_client_api.specs.declared.state.Mode.{Mode}
-use Rattle.turn_client_api.specs.declared.state.Mode.TheVariants.{Control, Waiting, Bound, Broken}
+use Rattle.turn_client_api.specs.declared.state.Mode.TheVariants.{Bound, Broken}
 use Rattle.turn_client_api.specs.declared.state.Stream.{Stream}
 use Rattle.turn_client_api.specs.Payloads.{Handled, Ignored, Outcome, Payload, PeerData}
 use Rattle.turn_client_api.specs.Receive.{first_frame_step, then_all}
-use Rattle.turn_client_api.specs.Streams.{broken_at, detached_frame_step, first_ready_step, frame_step, framed_by, go_on, is_ready, max_steps, next_frame_step, payload_in, poll_recv_step, steps_until_payload}
+use Rattle.turn_client_api.specs.Streams.{broken_at, detached_frame_step, first_ready_step, frame_step, framed_by, go_on, is_ready, max_steps}
+use Rattle.turn_client_api.specs.Streams.{next_frame_step, payload_in, poll_recv_step, steps_until_payload}
 use Rattle.turn_client_api.specs.Streams.{with_bytes}
-use Rattle.turn_client_laws.specs.Handled.{Input, fed_taken, frame_taken, inputs_taken, is_front, poll_recv_inputs, stream_inputs_taken, stream_with_piece, taken_first, taken_in, taken_of_len, then_taken}
+use Rattle.turn_client_laws.specs.Handled.{Input, fed_taken, inputs_taken, is_front, poll_recv_inputs}
+use Rattle.turn_client_laws.specs.Handled.{stream_inputs_taken, stream_with_piece, taken_first, taken_in, taken_of_len, then_taken}
 use Rattle.turn_client_laws.specs.Handled.{unless_given}
 use Rattle.turn_client_laws.proofs.AddressLemmas.{same_address-self, same_address-true}
 use Rattle.turn_client_laws.proofs.GrantOriginLemmas.{has-mapped}

@@ -1,10 +1,10 @@
 -- Which packets a call queues that processes no input, and which data connections it requests to be bound.
-use Rattle.std.proofs.Common.{◌≡◌, ◌⊎◌, ◌∙◌, ◌++◌, ℕ, Bool, true, false, not, cond, ◌&&◌, ◌||◌, leb, List, [], ◌∷◌, drop, filter, filter_map, flat_map, Option, Some, None, Result, Ok, Err, refl, sym, subst, ap}
+use Rattle.std.proofs.Common.{◌≡◌, ◌⊎◌, ◌∙◌, ◌++◌, ℕ, Bool, true, false, not, cond, ◌&&◌, ◌||◌, leb, List, [], ◌∷◌, drop, filter, filter_map, flat_map}
+use Rattle.std.proofs.Common.{Option, Some, None, Result, Ok, Err, refl, sym, subst, ap}
 use Rattle.std.proofs.Common.{arith, inl, inr}
 use Rattle.std.specs.Prelude.{codes, find, is_some, nat_le, slice_get}
-use Rattle.std.specs.List.{Contains, list_any}
+use Rattle.std.specs.List.{list_any}
 use Rattle.std.specs.Net.Socket.{socket_ip}
-use Rattle.std.proofs.lemmas.Bool.{cases_Bool}
 use Rattle.std.specs.declared.net.ip_addr.IpAddr.{IpAddr}
 use Rattle.std.specs.declared.net.socket_addr.SocketAddr.{SocketAddr}
 use Rattle.turn_stun.specs.declared.transport.TransportType.{TransportType}
@@ -15,7 +15,6 @@ use Rattle.turn_client_api.specs.declared.call.Call.{Call}
 use Rattle.turn_client_api.specs.declared.call.Call.TheVariants.{Delete, CreatePermission, BindChannel, TcpConnect, AllocatedTcpSocket, TcpClosed, SendTo, Recv, PollRecv, Poll, PollTransmit}
 use Rattle.turn_client_api.specs.declared.call.Call.TheVariants.{PollEvent, RelayedAddresses, Permissions, HavePermission, ProtocolError, SetPermissionKept, SetChannelKept}
 use Rattle.turn_client_api.specs.declared.error.TcpAllocateError.{TcpAllocateError}
-use Rattle.turn_client_api.specs.declared.error.TcpAllocateError.TheVariants as Socket
 use Rattle.turn_client_api.specs.declared.grant.DataConnection.{DataConnection}
 use Rattle.turn_client_api.specs.declared.grant.Grant.{Grant}
 use Rattle.turn_client_api.specs.declared.grant.Grant.TheVariants.{Allocation, Connect, Connection, Permission}
@@ -31,15 +30,16 @@ use Rattle.turn_client_api.specs.declared.poll.TurnPollRet.{TurnPollRet}
 use Rattle.turn_client_api.specs.declared.state.Phase.{Phase}
 use Rattle.turn_client_api.specs.declared.state.Phase.TheVariants.{New, Requesting, Authenticating, Allocated}
 use Rattle.turn_client_api.specs.declared.state.Queued.{Queued}
-use Rattle.turn_client_api.specs.Calls.{active_channel, allocated_tcp_socket_step, bind_channel, bound_by, bound_to, can_send_to, channel_step, channels_to, connect_step, delete_text, deleted, free_number}
+use Rattle.turn_client_api.specs.Calls.{active_channel, allocated_tcp_socket_step, bind_channel, bound_by, bound_to, can_send_to}
+use Rattle.turn_client_api.specs.Calls.{channel_step, channels_to, connect_step, deleted, free_number}
 use Rattle.turn_client_api.specs.Calls.{answered_with, in_allocation, is_allocated, is_closed, is_control, is_in_progress, is_local_taken, is_open_to, offer_origin, offer_taken, on_channel}
 use Rattle.turn_client_api.specs.Calls.{on_connection, permission_step, reserved_from, send_over, socket_opened, socket_refused, socket_step}
 use Rattle.turn_client_api.specs.Connections.{connection_at, is_connected, is_connecting}
 use Rattle.turn_client_api.specs.Due.{has_event, has_reply, is_paused, keepalive_times}
 use Rattle.turn_client_api.specs.Effect.{closed, fail_all, transaction_ended}
-use Rattle.turn_client_api.specs.Grants.{allocations, as_connection, family_of, family_of_ip, find_allocation_to, has_active_permission, is_past, is_permission_of, permission_state, same_transport, with_expired, with_grant}
-use Rattle.turn_client_api.specs.Poll.{answer_step, is_listed_for_allocation, lapsed, next_offer, offer_step, poll_step, silent_step, timed_out_step, timed_step}
-use Rattle.turn_client_api.specs.Receive.{connection_gone}
+use Rattle.turn_client_api.specs.Grants.{allocations, as_connection, family_of, family_of_ip, find_allocation_to, has_active_permission}
+use Rattle.turn_client_api.specs.Grants.{is_past, is_permission_of, permission_state, same_transport, with_expired, with_grant}
+use Rattle.turn_client_api.specs.Poll.{answer_step, is_listed_for_allocation, lapsed, next_offer, offer_step, poll_step, timed_out_step, timed_step}
 use Rattle.turn_client_api.specs.Requests.{accepted_reply, asked_lifetime, connection_timed_out, fresh_id, requested}
 use Rattle.turn_client_api.specs.Retry.{bind_time}
 use Rattle.turn_client_api.specs.Steps.{state_after}
@@ -163,7 +163,8 @@ module _ (call : Call) (s : State) where
 
   allocation-queues : {E : Type 0} (o : Option Relay) (ip : IpAddr) (now : ℕ) (refusal : E) (otherwise : Result Unit E × State) → Leaves otherwise → Leaves (in_allocation o ip now refusal s otherwise)
   allocation-queues None ip now refusal otherwise h = same s refl
-  allocation-queues (Some a) ip now refusal otherwise h = by_test Leaves (is_past now a) (Err refusal, with_expired (family_of_ip ip) s) otherwise (λ e. same (with_expired (family_of_ip ip) s) refl) (λ e. h)
+  allocation-queues (Some a) ip now refusal otherwise h =
+      by_test Leaves (is_past now a) (Err refusal, with_expired (family_of_ip ip) s) otherwise (λ e. same (with_expired (family_of_ip ip) s) refl) (λ e. h)
 
   channel-queues : (number : ℕ) (peer : SocketAddr) (now : ℕ) → After (bind_channel number peer now s)
   channel-queues number peer now = one _ refl refl refl (request-else s (ForChannel number peer) (fresh_id s) tt)
@@ -239,7 +240,8 @@ module _ (id : ℕ) (tuple : Socket5Tuple) (peer : SocketAddr) (now : ℕ) (s : 
       Claim : Result Unit TcpAllocateError × State → Type 0
       Claim x = allocated_tcp_socket_step id tuple peer local now s ≡ x → After (taking local) s x.1
 
-      of : (at : Option SocketAddr) (origin : Origin) → allocated_tcp_socket_step id tuple peer at now s ≡ socket_step id peer at origin now s → After (taking at) s (socket_step id peer at origin now s).1
+      of : (at : Option SocketAddr) (origin : Origin) → allocated_tcp_socket_step id tuple peer at now s ≡ socket_step id peer at origin now s
+          → After (taking at) s (socket_step id peer at origin now s).1
       of None origin e = refused-queues (taking None) s id peer origin
       of (Some at) origin e =
           by_test (λ (x : Result Unit TcpAllocateError × State). allocated_tcp_socket_step id tuple peer (Some at) now s ≡ x → After (taking (Some at)) s x.1) (is_local_taken at s) _ _
@@ -281,14 +283,17 @@ call-queues (SendTo transport peer bytes now) s other =
 call-queues (Poll now) s other = same (Poll now) s (poll_step now s).1 (poll-quiet now s)
 call-queues (PollTransmit now) s other = transmit-queues (PollTransmit now) s now
 call-queues PollEvent s other = λ q there. inl there
-call-queues ProtocolError s other = by_test (After ProtocolError s) (is_closed s.phase) s (closed (fail_all s)) (λ e. same ProtocolError s s refl) (λ e. same ProtocolError s (closed (fail_all s)) refl)
+call-queues ProtocolError s other =
+    by_test (After ProtocolError s) (is_closed s.phase) s (closed (fail_all s)) (λ e. same ProtocolError s s refl) (λ e. same ProtocolError s (closed (fail_all s)) refl)
 call-queues RelayedAddresses s other = λ q there. inl there
 call-queues (Permissions transport relayed) s other = λ q there. inl there
 call-queues (HavePermission transport to) s other = λ q there. inl there
 call-queues (SetPermissionKept transport ip is_kept) s other =
-    by_test (Leaves (SetPermissionKept transport ip is_kept) s) (same_transport transport s.config.allocation_transport && list_any (is_permission_of ip) s.grants) _ _ (λ e. λ q there. inl there) (λ e. λ q there. inl there)
+    by_test (Leaves (SetPermissionKept transport ip is_kept) s) (same_transport transport s.config.allocation_transport && list_any (is_permission_of ip) s.grants) _ _
+    (λ e. λ q there. inl there) (λ e. λ q there. inl there)
 call-queues (SetChannelKept transport peer is_kept) s other =
-    by_test (Leaves (SetChannelKept transport peer is_kept) s) (same_transport transport s.config.allocation_transport && list_any (is_open_to peer) s.grants) _ _ (λ e. λ q there. inl there) (λ e. λ q there. inl there)
+    by_test (Leaves (SetChannelKept transport peer is_kept) s) (same_transport transport s.config.allocation_transport && list_any (is_open_to peer) s.grants) _ _
+    (λ e. λ q there. inl there) (λ e. λ q there. inl there)
 
 -- ---- which call requests to bind a data connection
 
@@ -315,7 +320,8 @@ module _ (local peer : SocketAddr) (id : ℕ) where
   asks-bind (PollTransmit now) s at (e, inr (phase, f)) = absurd (refreshes-else now s (ForBind local peer id) (first-has (ForBind local peer id) (flat_map (refreshes_in now s) (allocations s)) f))
   asks-bind call s at asks = absurd asks
 
-  pub listed-opens : (call : Call) (s : State) (l : Listing) → (TakesInput call → ⊥) → l.purpose ≡ ForBind local peer id → Has l (state_after call s).listed → Has l s.listed ⊎ OpensFor call s local peer id
+  pub listed-opens : (call : Call) (s : State) (l : Listing) → (TakesInput call → ⊥) → l.purpose ≡ ForBind local peer id
+      → Has l (state_after call s).listed → Has l s.listed ⊎ OpensFor call s local peer id
   listed-opens call s l other is there = elim (listings-made call s (state_after call s) l (inl refl) (has-contains l (state_after call s).listed there)) [
     | inl old ↦ inl (contains-has l s.listed old)
     | inr made ↦ elim (listing-here call s) [

@@ -2,7 +2,6 @@
 use Rattle.std.proofs.Common.{◌≡◌, ◌⊎◌, ℕ, Bool, true, false, not, cond, ◌&&◌, ◌||◌, eqb, leb, ltb, List, [], ◌∷◌, ◌++◌, fold, length, Option, Some, None, refl, inl, inr}
 use Rattle.std.proofs.Common.{◌∙◌}
 use Rattle.std.specs.Prelude.{codes, find, is_some}
-use Rattle.std.specs.Option.{option_map_or}
 use Rattle.std.specs.Net.Socket.{socket_ip}
 use Rattle.std.specs.declared.net.ip_addr.IpAddr.{IpAddr}
 use Rattle.std.specs.declared.net.socket_addr.SocketAddr.{SocketAddr}
@@ -11,7 +10,6 @@ use Rattle.turn_stun.specs.Message.{id_of}
 use Rattle.turn_stun.specs.declared.transport.TransportType.TheVariants.{Tcp}
 use Rattle.turn_types.specs.declared.family.AddressFamily.{AddressFamily}
 use Rattle.turn_types.specs.declared.family.AddressFamily.TheVariants.{IPV4, IPV6}
-use Rattle.turn_agent.specs.Agent.{same_address}
 use Rattle.turn_client_api.specs.State.{State}
 use Rattle.turn_client_api.specs.declared.event.TurnEvent.TheVariants.{AllocationCreateFailed}
 use Rattle.turn_client_api.specs.declared.grant.DataConnection.{DataConnection}
@@ -25,14 +23,14 @@ use Rattle.turn_client_api.specs.declared.state.Phase.{Phase}
 use Rattle.turn_client_api.specs.declared.state.Phase.TheVariants.{Authenticating, New}
 use Rattle.turn_client_api.specs.declared.state.Queued.{Queued}
 use Rattle.turn_client_api.specs.Connections.{attempt_indicated, attempt_requested, bind_again, bind_answered, bind_step, bound, is_connected, not_bound}
-use Rattle.turn_client_api.specs.Effect.{allocate_denied, allocate_granted, allocated, allocation_mismatch, challenges_reset, channel_answered, closed, connect_answered, delete_answered, effect}
+use Rattle.turn_client_api.specs.Effect.{allocate_denied, allocate_granted, allocated, allocation_mismatch, challenges_reset, channel_answered, closed, connect_answered, effect}
 use Rattle.turn_client_api.specs.Effect.{all_gone, fail_all, family_not_supported, has_code, in_phase, min_lifetime, permission_answered, permission_answered_for, prolonged, refreshed}
 use Rattle.turn_client_api.specs.Effect.{relayed_in, taken_addresses, transaction_ended, with_offer}
 use Rattle.turn_client_api.specs.Grants.{channel_at, find_allocation_to, first_in, is_connection_from, permission_state, purposes_of, unlisted, wait}
 use Rattle.turn_client_api.specs.Judgement.{Challenged, ConnectionAttempt, Fatal, Judgement, SignedError, SignedRequest, SignedSuccess, bind_judgement, connection_id_in, is_bind_of, judgement_of}
 use Rattle.turn_client_api.specs.Judgement.{lifetime_in, method_in, peer_in}
 use Rattle.turn_client_api.specs.Payloads.{Handled, Ignored, Outcome, answered_purposes, challenge_step, message_step, response_step, signed_step, wrong_step}
-use Rattle.turn_client_api.specs.Requests.{connection_attempt_method, connection_already_exists, bad_request, fresh_id, refused_reply, replied, request_for, requested}
+use Rattle.turn_client_api.specs.Requests.{connection_attempt_method, connection_already_exists, bad_request, fresh_id, refused_reply, replied, requested}
 use Rattle.turn_client_api.specs.Retry.{retried, state_after_retry, with_held}
 use Rattle.turn_client_laws.proofs.CaseLemmas.{bind-by, by_found, by_heeded, by_test, indicated-by}
 use Rattle.turn_client_laws.proofs.EditsOfMessages.{purposes-listed}
@@ -185,7 +183,8 @@ module _ (message : List ℕ) (now : ℕ) (s : State) where
 
   -- ---- over a connection that waits to be bound
 
-  bind-listed : (local : SocketAddr) (p : Purpose) → Has p (purposes_of (id_of message) s) → is_bind_of local p ≡ true → (u : State) → u.config ≡ s.config → u.transport ≡ s.transport → u.remote ≡ s.remote
+  bind-listed : (local : SocketAddr) (p : Purpose) → Has p (purposes_of (id_of message) s) → is_bind_of local p ≡ true
+      → (u : State) → u.config ≡ s.config → u.transport ≡ s.transport → u.remote ≡ s.remote
       → u.queue ≡ s.queue → After (requested (fresh_id s) p now u)
   bind-listed local (ForBind from peer id) there is u config transport to queue =
       let listed = purposes-listed (id_of message) s (ForBind from peer id) there in

@@ -1,6 +1,7 @@
 -- In a run all packets go to the server, from the control address or over the data connection that they bind, and
 -- data to the peer that was named.
-use Rattle.std.proofs.Common.{◌≡◌, ◌⊎◌, ◌∙◌, ◌++◌, ◌≤◌, ◌&&◌, ◌<◌, ℕ, Bool, true, false, cond, leb, ltb, List, [], ◌∷◌, drop, filter_map, flat_map, Option, Some, None, Result, Ok, refl, sym, subst, ap, inl, inr, arith}
+use Rattle.std.proofs.Common.{◌≡◌, ◌⊎◌, ◌∙◌, ◌++◌, ℕ, Bool, true, false, cond, leb, List, [], ◌∷◌, filter_map, flat_map}
+use Rattle.std.proofs.Common.{Option, Some, None, Result, Ok, refl, subst, ap, inl, inr, arith}
 use Rattle.std.specs.Prelude.{find, is_none, is_some, nat_le, slice_get, ⊤}
 use Rattle.std.specs.List.{Contains, list_any}
 use Rattle.std.specs.Net.Socket.{socket_ip}
@@ -17,7 +18,7 @@ use Rattle.turn_agent.specs.declared.transaction.Transaction.{Transaction}
 use Rattle.turn_client_api.specs.Config.{Config, timers_of}
 use Rattle.turn_client_api.specs.State.{State, agent_of, initial}
 use Rattle.turn_client_api.specs.declared.call.Call.{Call}
-use Rattle.turn_client_api.specs.declared.call.Call.TheVariants.{AllocatedTcpSocket, Recv, PollRecv}
+use Rattle.turn_client_api.specs.declared.call.Call.TheVariants.{Recv, PollRecv}
 use Rattle.turn_client_api.specs.declared.error.SendError.{SendError}
 use Rattle.turn_client_api.specs.declared.grant.DataConnection.{DataConnection}
 use Rattle.turn_client_api.specs.declared.grant.Grant.{Grant}
@@ -49,13 +50,13 @@ use Rattle.turn_client_laws.proofs.EditsOfCalls.{calls-walk}
 use Rattle.turn_client_laws.proofs.EditsOfMessages.{edits-IsKept, purposes-listed}
 use Rattle.turn_client_laws.proofs.HasLemmas.{Has, first-has, has-all, has-filter_map, has-found}
 use Rattle.turn_client_laws.proofs.MoveMessageLemmas.{bind-turns, message-turns}
-use Rattle.turn_client_laws.proofs.MoveLemmas.{Adds, on_test}
+use Rattle.turn_client_laws.proofs.MoveLemmas.{on_test}
 use Rattle.turn_client_laws.proofs.MoveSocketLemmas.{gone-settles}
 use Rattle.turn_client_laws.proofs.PhaseEdits.{all-phase-edits}
 use Rattle.turn_client_laws.proofs.RunKeepLemmas.{IsKept, poll_recv-kept, recv-kept}
 use Rattle.turn_client_laws.proofs.SentToServer.{initial-AsksServer, leaves-AsksServer}
 use Rattle.turn_client_laws.proofs.StandLemmas.{contains-has, has-contains}
-use Rattle.turn_client_runs.specs.Sent.{GoesToServer, IsBindOf, IsNoBind, IsOnChannel, IsOnConnection, IsSentTo, PacketsGoOut, SendsToPeers, SendsToServer, WasOpened, from_control}
+use Rattle.turn_client_runs.specs.Sent.{GoesToServer, IsBindOf, IsNoBind, IsOnConnection, IsSentTo, PacketsGoOut, SendsToPeers, SendsToServer, WasOpened, from_control}
 use Rattle.turn_client_runs.proofs.HoldLemmas.{holds-found}
 use Rattle.turn_client_runs.proofs.SentCalls.{OpensFor, call-queues, listed-opens, refreshes-else}
 use Rattle.turn_client_runs.proofs.SentQueues.{GoesOut, IsListedBind, Queues, bind-queues, message-queues}
@@ -157,7 +158,8 @@ module _ (Opened : SocketAddr → SocketAddr → ℕ → Type 0) (first : State)
   call-goes call s opens = other-goes call s (λ takes. takes) opens
 
   run-goes : (calls : List Call) (s : State)
-      → ((earlier : List Call) (call : Call) (later : List Call) → calls ≡ earlier ++ call ∷ later → (local peer : SocketAddr) (id : ℕ) → OpensFor call (state_after_all s earlier) local peer id → Opened local peer id)
+      → ((earlier : List Call) (call : Call) (later : List Call) → calls ≡ earlier ++ call ∷ later → (local peer : SocketAddr) (id : ℕ)
+      → OpensFor call (state_after_all s earlier) local peer id → Opened local peer id)
       → GoesWell s → GoesWell (state_after_all s calls)
   run-goes [] s opens well = well
   run-goes (call ∷ calls) s opens well =
@@ -263,7 +265,8 @@ module _ (first s : State) (stays : Stays first s) (peer : SocketAddr) (bytes : 
       none None e = refl
       none (Some n) e = cc
 
-  channel-there : (number expiry : ℕ) → Has (number, expiry) (filter_map (active_channel peer) s.grants) → (lease : Lease) × Contains s.grants (Channel number peer (Active lease)) × (lease.expiry ≡ expiry)
+  channel-there : (number expiry : ℕ) → Has (number, expiry) (filter_map (active_channel peer) s.grants)
+      → (lease : Lease) × Contains s.grants (Channel number peer (Active lease)) × (lease.expiry ≡ expiry)
   channel-there number expiry there = let (g, here, reads) = has-filter_map (active_channel peer) (number, expiry) s.grants there in of g here reads
     where
       of : (g : Grant) → Has g s.grants → active_channel peer g ≡ Some (number, expiry) → (lease : Lease) × Contains s.grants (Channel number peer (Active lease)) × (lease.expiry ≡ expiry)

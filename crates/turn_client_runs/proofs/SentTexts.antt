@@ -1,5 +1,5 @@
 -- Which messages bind no data connection, by their first two bytes.
-use Rattle.std.proofs.Common.{◌≡◌, ◌+◌, ◌*◌, ◌++◌, ℕ, Bool, true, List, [], ◌∷◌, Option, Some, None, refl}
+use Rattle.std.proofs.Common.{◌≡◌, ◌+◌, ◌*◌, ℕ, Bool, true, List, [], ◌∷◌, Option, Some, None, refl}
 use Rattle.std.specs.Prelude.{◌≢◌, find, ⊤}
 use Rattle.turn_auth.specs.Credentials.{Credentials}
 use Rattle.turn_auth.specs.LongTerm.{Challenge}
@@ -48,7 +48,8 @@ module _ (a b : ℕ) where
   no-bind text other (rest, e) = rw e other
 
 -- a message whose header begins so, signed or not
-module _ (method : ℕ) (class : MessageClass) (a b : ℕ) (other : method_of (a * 256 + b) ≢ connection_bind_method) (begins : (id : ℕ) → Leads a b (header_of (type_number method class) id)) (attributes : List Addition) (id : ℕ) where
+module _ (method : ℕ) (class : MessageClass) (a b : ℕ) (other : method_of (a * 256 + b) ≢ connection_bind_method)
+    (begins : (id : ℕ) → Leads a b (header_of (type_number method class) id)) (attributes : List Addition) (id : ℕ) where
   plain-else : IsNoBind (message_of method class attributes id)
   plain-else = no-bind a b (message_of method class attributes id) other (additions-leads a b attributes (header_of (type_number method class) id) (begins id))
 

@@ -1,6 +1,6 @@
 -- The inputs out of a stream are all that arrives for it, in order (RFC 8489, section 6.2.2; RFC 8656, section
 -- 12.5; RFC 6062, section 4.3).
-use Rattle.std.specs.Prelude.{◌≡◌, ◌≢◌, if◌then◌else◌, Bool, false, ℕ, List, [], ◌∷◌, ◌++◌, Option, Some, ⊤, Ok}
+use Rattle.std.specs.Prelude.{◌≡◌, ◌≢◌, if◌then◌else◌, Bool, false, ℕ, List, [], ◌∷◌, ◌++◌, Some, ⊤, Ok}
 use Rattle.std.specs.Option.{option_map_or}
 use Rattle.std.specs.declared.net.socket_addr.SocketAddr.{SocketAddr}
 use Rattle.turn_agent.specs.Agent.{same_address}

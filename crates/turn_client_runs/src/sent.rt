@@ -1,14 +1,11 @@
 //! What a run sends.
 
 ghost use Rattle.std.specs.Prelude.{◌≡◌, Ok, Some};
-ghost use Rattle.turn_stun.specs.declared.transport.TransportType.TheVariants.{Tcp, Udp};
-ghost use Rattle.turn_client_api.specs.State.{State, seconds};
-ghost use Rattle.turn_client_api.specs.Calls.{send_to_step};
-ghost use Rattle.turn_client_laws.specs.LawsPieces.{abc, abc_frame, client, data_end, server, with_channel};
-ghost use Rattle.turn_client_laws.specs.LawsRows.{peer};
+ghost use Rattle.turn_client_api.specs.State.{State};
+ghost use Rattle.turn_client_laws.specs.LawsPieces.{data_end};
 ghost use Rattle.turn_client_runs.specs.Holds.{HoldsOfRuns};
 ghost use Rattle.turn_client_runs.specs.Sent.{SendsToPeers, SendsToServer};
-ghost use Rattle.turn_client_runs.specs.SentRows.{sent_next_from, socket_named};
+ghost use Rattle.turn_client_runs.specs.SentRows.{abc_frame_sent, abc_sent, sent_next_from, socket_named};
 
 /// Whatever is called, each packet that `poll_transmit` gives goes to the server over the client's transport. A
 /// CONNECTION_BIND goes over the data connection that it is to bind: from the local address that an earlier
@@ -30,5 +27,5 @@ pub fn packets_go_out()
 /// the control address, as a ChannelData message.
 pub fn packets_are_worked()
     ensures bind { (s : State) → sent_next_from (socket_named s) ≡ Some data_end }
-    ensures channel { (s : State) → (send_to_step Udp peer abc (seconds 1) (with_channel s)).0 ≡ Ok (record { payload = abc_frame; transport = Tcp; from = client; to = server }) }
+    ensures channel { (s : State) → abc_sent s ≡ Ok abc_frame_sent }
 {}
