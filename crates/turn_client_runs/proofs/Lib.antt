@@ -13,6 +13,7 @@ pub mod EventInputs
 pub mod EventLemmas
 pub mod EventReplies
 pub mod EventTime
+pub mod ExpiryLemmas
 pub mod FedTurnLemmas
 pub mod FollowLemmas
 pub mod GrantTurns

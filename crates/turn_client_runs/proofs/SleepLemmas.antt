@@ -12,11 +12,13 @@ use Rattle.turn_client_laws.proofs.InAllocation.{GrantsHaveAllocations-AllHaveAl
 use Rattle.turn_client_laws.proofs.TimelyLemmas.{poll-timely}
 use Rattle.turn_client_runs.specs.Holds.{HoldsInAnyRun, HoldsOfRuns}
 use Rattle.turn_client_runs.specs.Sleeps.{IsPolledInTime, SleepsInTime, SleepsThroughNothing, TellsTimely, TellsTimelyNext}
+use Rattle.turn_client_runs.proofs.ExpiryLemmas.{poll-waits}
 use Rattle.turn_client_runs.proofs.HoldLemmas.{holds-any}
 
 -- what a call of a client whose state fits its phase returns is timely
 tells-timely : (s : State) (call : Call) → FitsPhase s → GrantsHaveAllocations s → IsPolledInTime call → TellsTimely s call
-tells-timely s (Poll now) steady housed c = poll-timely now s (steady-FitsPhaseForPoll s steady) (GrantsHaveAllocations-AllHaveAllocation s housed) c
+tells-timely s (Poll now) steady housed c =
+    (poll-timely now s (steady-FitsPhaseForPoll s steady) (GrantsHaveAllocations-AllHaveAllocation s housed) c, poll-waits now s)
 tells-timely s _ steady housed c = tt
 
 -- such a client misses no deadline, whatever is called

@@ -85,7 +85,8 @@ pub struct Replayed {
 ///   the server answers and the caller is on time, what is in force stays in force, and a permission or channel that is
 ///   requested is in force after the server's delay (RFC 8656, sections 8, 9 and 12). The premises are those of
 ///   `grants_last_while_the_server_answers`.
-/// - `alarm`: a caller that sleeps until the time that each `poll` returns misses no deadline.
+/// - `alarm`: a caller that sleeps until the time that each `poll` returns misses no deadline, and no expiry of an
+///   allocation, whether or not it is marked as expired.
 ///
 /// Times are at most 2^62 nanoseconds, and may go back from call to call. If the allocation relays over UDP,
 /// data for a peer is at most 65,504 bytes. A client over UDP requests such an allocation, since one over TCP
