@@ -294,7 +294,7 @@ none-challenged message s e = elim (cases_Option (challenge_in s message)) [
   | inr (c, f) ↦ let is = (challenge_of-sound (auth_of s) message c f).error in absurd (let no : Success ≡ Rattle.turn_stun.specs.declared.message.header.MessageClass.TheVariants.Error = sym e ∙ is in cc)
 ]
 
-second-judged : (message : List ℕ) (s : State) → s.phase ≡ Authenticating → answers_allocate s message ≡ true → class_in message ≡ Success → IsValidated (validation_of (auth_of s) message)
+pub second-judged : (message : List ℕ) (s : State) → s.phase ≡ Authenticating → answers_allocate s message ≡ true → class_in message ≡ Success → IsValidated (validation_of (auth_of s) message)
     → is_outstanding (id_of message) s.transactions ≡ true → judgement_of s message ≡ SignedSuccess
 second-judged message s p a c v o = by (validation_of (auth_of s) message) refl v
   where

@@ -41,13 +41,13 @@ use Rattle.turn_client_runs.specs.Server.{from_server, success_for}
 use Rattle.turn_client_runs.proofs.LastingRuns.{received}
 use Rattle.turn_client_runs.proofs.ServerLemmas.{IsReplyFor, requests-can-be-granted, success-read}
 
-eqb-self : (n : ℕ) → eqb n n ≡ true
+pub eqb-self : (n : ℕ) → eqb n n ≡ true
 eqb-self n = eq-eqb n n refl
 
-all-none : {X : Type 0} (P : X → Type 0) → All P []
+pub all-none : {X : Type 0} (P : X → Type 0) → All P []
 all-none P = all-has P [] (λ x h. absurd h)
 
-all-one : {X : Type 0} (P : X → Type 0) (a : X) → P a → All P (a ∷ [])
+pub all-one : {X : Type 0} (P : X → Type 0) (a : X) → P a → All P (a ∷ [])
 all-one P a p = all-has P (a ∷ []) by
   where
     by : (x : _) → Has x (a ∷ []) → P x
@@ -56,7 +56,7 @@ all-one P a p = all-has P (a ∷ []) by
 
 -- ---- a caller that polled is on time until the time that it was told
 
-on-time : (now time next : ℕ) (s : State) → FitsPhaseForPoll s → AllHaveAllocation s → poll_step now s ≡ (WaitUntil time, s) → now < time → now ≤ next → next ≤ time → next ≤ 2 ^ 62
+pub on-time : (now time next : ℕ) (s : State) → FitsPhaseForPoll s → AllHaveAllocation s → poll_step now s ≡ (WaitUntil time, s) → now < time → now ≤ next → next ≤ time → next ≤ 2 ^ 62
     → IsOnTime now next s
 on-time now time next s fits housed told later from until range = record {
   later = from;
@@ -71,7 +71,7 @@ on-time now time next s fits housed told later from until range = record {
     idle = (subst (λ (p : TurnPollRet × State). IsTimely p.0 now s p.1) told timely).0 later
 
 -- no time passes
-at-once : (now : ℕ) (s : State) → now ≤ 2 ^ 62 → IsOnTime now now s
+pub at-once : (now : ℕ) (s : State) → now ≤ 2 ^ 62 → IsOnTime now now s
 at-once now s range = record { later = omega arith; in_range = range; punctual = λ t after before. absurd (omega (arith, after, before)) }
 
 -- ---- one request, its reply and the events

@@ -18,6 +18,7 @@ pub mod FedTurnLemmas
 pub mod FollowLemmas
 pub mod GrantTurns
 pub mod HandshakeLemmas
+pub mod HandshakeRowLemmas
 pub mod HeldLemmas
 pub mod HoldLemmas
 pub mod InOrderRuns
@@ -60,6 +61,7 @@ pub mod SentRuns
 pub mod SentTexts
 pub mod ServerLemmas
 pub mod ShortLemmas
+pub mod SignedBytes
 pub mod SignedCalls
 pub mod SignedLemmas
 pub mod SilenceLemmas

@@ -1,24 +1,22 @@
 -- A signed success for each request.
-use Rattle.std.proofs.Common.{◌≡◌, ◌∙◌, ℕ, ◌+◌, ◌^◌, ◌<◌, ◌≤◌, true, false, List, [], ◌∷◌, length, Some, None, ap, arith, refl, subst, sym}
+use Rattle.std.proofs.Common.{◌≡◌, ◌∙◌, ℕ, ◌^◌, ◌<◌, true, false, List, [], ◌∷◌, length, Some, None, ap, arith, refl, subst, sym}
 use Rattle.std.specs.Prelude.{IsSome, IsSomeAnd, Option}
 use Rattle.std.specs.Cmp.Lexicographic.{nat_list_eq_equiv}
 use Rattle.turn_stun.specs.Attributes.{first_of, seen_after, seen_of}
-use Rattle.turn_stun.specs.Message.{Attribute, attributes_of, id_of, padded_len, type_of}
+use Rattle.turn_stun.specs.Message.{Attribute, attributes_of, id_of, type_of}
 use Rattle.turn_stun.specs.MessageType.{class_of, method_of, type_number}
 use Rattle.turn_stun.specs.Writer.{AddsAttribute, IsWritten, header_of, with_attribute}
 use Rattle.turn_stun.specs.declared.message.header.MessageClass.TheVariants.{Success}
 use Rattle.turn_stun.specs.declared.transport.TransportType.TheVariants.{Udp}
-use Rattle.turn_stun.proofs.FaultLemmas.{IsMessage-no_fault, attributes_of-is}
-use Rattle.turn_stun.proofs.WriteLemmas.{IsWritten-IsMessage, header_of-IsMessage, header_of-IsWritten, with_attribute-AddsAttribute, with_attribute-IsWritten}
+use Rattle.turn_stun.proofs.FaultLemmas.{attributes_of-is}
+use Rattle.turn_stun.proofs.WriteLemmas.{header_of-IsMessage, header_of-IsWritten, with_attribute-AddsAttribute, with_attribute-IsWritten}
 use Rattle.turn_types.specs.Values.{number_value}
 use Rattle.turn_auth.specs.LongTerm.{Challenge}
 use Rattle.turn_auth.specs.Integrity.{IntegrityHolds, covered_text, integrity_holds, integrity_kind, mac_of}
-use Rattle.turn_auth.specs.Signature.{with_integrity}
+use Rattle.turn_auth.specs.Signature.{is_unsigned, with_integrity}
 use Rattle.turn_auth.specs.Validation.{IsValidated, held_key, validation_of}
 use Rattle.turn_auth.specs.declared.integrity.IntegrityAlgorithm.{IntegrityAlgorithm}
-use Rattle.turn_auth.specs.declared.integrity.IntegrityAlgorithm.TheVariants.{Sha1, Sha256}
-use Rattle.turn_auth.proofs.DigestLemmas.{length-hmac_sha1, length-hmac_sha256}
-use Rattle.turn_auth.proofs.SignLemmas.{begun_is_unsigned, is_unsigned-push, signed_behind}
+use Rattle.turn_auth.proofs.SignLemmas.{begun_is_unsigned, is_unsigned-push}
 use Rattle.turn_agent.specs.Agent.{is_outstanding}
 use Rattle.turn_client_api.specs.State.{State, auth_of}
 use Rattle.turn_client_api.specs.declared.grant.Purpose.{Purpose}
@@ -31,18 +29,11 @@ use Rattle.turn_client_laws.proofs.AddressLemmas.{same_address-self}
 use Rattle.turn_client_runs.specs.Lasting.{Grants, IsSuccess}
 use Rattle.turn_client_runs.specs.Server.{RequestsCanBeGranted, from_server, success_for}
 use Rattle.turn_client_runs.proofs.LastingRuns.{datagram-message}
+use Rattle.turn_client_runs.proofs.SignedBytes.{mac-added, signed-holds, signed-message}
 
 -- the lifetime of 600 s
 abbrev seconds_600 : List ℕ
 seconds_600 = number_value 600
-
-mac-len : (algorithm : IntegrityAlgorithm) (key text : List ℕ) → length (mac_of algorithm key text) ≤ 32
-mac-len Sha1 key text = omega (arith, length-hmac_sha1 key text)
-mac-len Sha256 key text = omega (arith, length-hmac_sha256 key text)
-
-kind-in-range : (algorithm : IntegrityAlgorithm) → integrity_kind algorithm < 2 ^ 16
-kind-in-range Sha1 = omega arith
-kind-in-range Sha256 = omega arith
 
 -- ---- the bytes
 
@@ -52,9 +43,6 @@ module _ (type id : ℕ) (t : type < 2 ^ 14) (i : id < 2 ^ 96) (algorithm : Inte
 
   abbrev unsigned : List ℕ
   unsigned = with_attribute 0x000d seconds_600 begun
-
-  abbrev mac : List ℕ
-  mac = mac_of algorithm key (covered_text algorithm (length unsigned) unsigned)
 
   abbrev whole : List ℕ
   whole = with_integrity algorithm key unsigned
@@ -72,37 +60,36 @@ module _ (type id : ℕ) (t : type < 2 ^ 14) (i : id < 2 ^ 96) (algorithm : Inte
   unfolding with_attribute
   unsigned-len = refl
 
-  room : length unsigned + (4 + padded_len (length mac)) ≤ 65552
-  room = let short = mac-len algorithm key (covered_text algorithm (length unsigned) unsigned) in omega (arith, unsigned-len, short)
+  unsigned-plain : is_unsigned (attributes_of unsigned) ≡ true
+  unsigned-plain = is_unsigned-push begun unsigned 0x000d seconds_600 lifetime-added refl (begun_is_unsigned begun type id (header_of-IsMessage type id t i))
 
-  mac-added : AddsAttribute unsigned whole (integrity_kind algorithm) mac
-  mac-added = with_attribute-AddsAttribute (integrity_kind algorithm) mac unsigned unsigned-written (kind-in-range algorithm) room
-
-  whole-written : IsWritten whole
-  whole-written = with_attribute-IsWritten (integrity_kind algorithm) mac unsigned unsigned-written (kind-in-range algorithm) room
+  integrity-added : AddsAttribute unsigned whole (integrity_kind algorithm) (mac_of algorithm key (covered_text algorithm (length unsigned) unsigned))
+  integrity-added = mac-added unsigned unsigned-written unsigned-plain (omega (arith, unsigned-len)) (omega (arith, unsigned-len)) algorithm key
 
   whole-type : type_of whole ≡ type
-  whole-type = mac-added.type ∙ lifetime-added.type ∙ (header_of-IsMessage type id t i).has_type
+  whole-type = integrity-added.type ∙ lifetime-added.type ∙ (header_of-IsMessage type id t i).has_type
 
   whole-id : id_of whole ≡ id
-  whole-id = mac-added.id ∙ lifetime-added.id ∙ (header_of-IsMessage type id t i).has_id
+  whole-id = integrity-added.id ∙ lifetime-added.id ∙ (header_of-IsMessage type id t i).has_id
 
-  whole-attributes : attributes_of whole ≡ record { offset = length begun; kind = 0x000d; value = seconds_600 } ∷ record { offset = length unsigned; kind = integrity_kind algorithm; value = mac } ∷ []
-  whole-attributes = mac-added.attributes ∙ rw lifetime-added.attributes (rw (attributes_of-is begun type id [] (header_of-IsMessage type id t i)) refl)
+  whole-attributes : attributes_of whole
+      ≡ record { offset = length begun; kind = 0x000d; value = seconds_600 }
+      ∷ record { offset = length unsigned; kind = integrity_kind algorithm; value = mac_of algorithm key (covered_text algorithm (length unsigned) unsigned) }
+      ∷ []
+  whole-attributes = integrity-added.attributes ∙ rw lifetime-added.attributes (rw (attributes_of-is begun type id [] (header_of-IsMessage type id t i)) refl)
 
   whole-message : is_message whole ≡ true
-  whole-message = rw (IsMessage-no_fault whole _ _ _ (IsWritten-IsMessage whole whole-written)) refl
+  whole-message = signed-message unsigned unsigned-written unsigned-plain (omega (arith, unsigned-len)) (omega (arith, unsigned-len)) algorithm key
 
   whole-holds : IntegrityHolds whole algorithm key
-  whole-holds = signed_behind algorithm key unsigned mac whole refl refl mac-added
-      (is_unsigned-push begun unsigned 0x000d seconds_600 lifetime-added refl (begun_is_unsigned begun type id (header_of-IsMessage type id t i))) (omega (arith, unsigned-len))
+  whole-holds = signed-holds unsigned unsigned-written unsigned-plain (omega (arith, unsigned-len)) (omega (arith, unsigned-len)) algorithm key
 
   whole-lifetime : lifetime_in whole ≡ Some 600
   unfolding seen_after
   whole-lifetime = rw whole-attributes refl
 
 -- what holds is found to hold
-holds-true : (bytes : List ℕ) (algorithm : IntegrityAlgorithm) (key : List ℕ) → IntegrityHolds bytes algorithm key → integrity_holds bytes algorithm key ≡ true
+pub holds-true : (bytes : List ℕ) (algorithm : IntegrityAlgorithm) (key : List ℕ) → IntegrityHolds bytes algorithm key → integrity_holds bytes algorithm key ≡ true
 holds-true bytes algorithm key h = by (first_of (integrity_kind algorithm) (seen_of bytes)) refl h
   where
     by : (o : Option Attribute) → first_of (integrity_kind algorithm) (seen_of bytes) ≡ o

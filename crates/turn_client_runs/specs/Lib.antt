@@ -27,3 +27,4 @@ pub mod Handshake
 pub mod Offers
 pub mod Told
 pub mod ToldRows
+pub mod HandshakeRows

@@ -40,7 +40,7 @@ pub use cut::{
     streams_give_the_same_for_any_cut, wholes_are_frames,
 };
 pub use granted::grants_have_replies;
-pub use handshake::handshakes_succeed;
+pub use handshake::{a_handshake_succeeds, handshakes_succeed};
 pub use lasting::{a_relay_stays_up, grants_last_while_the_server_answers};
 pub use numbers::numbers_stay_distinct;
 pub use offers::bound_connections_have_their_offers;
