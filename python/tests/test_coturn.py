@@ -218,8 +218,9 @@ class Coturn(unittest.IsolatedAsyncioTestCase):
             with unittest.mock.patch.object(relay._server, "connect", open_late):
                 with self.assertRaises(asyncio.TimeoutError):
                     await asyncio.wait_for(relay.connect(peer), 0.3)
-                await asyncio.sleep(1)
-            self.assertEqual([link.is_over for link in opened], [True])
+                while not opened or not opened[0].is_over:
+                    await asyncio.sleep(0.05)
+            self.assertEqual(len(opened), 1)
             self.assertEqual(relay._session().streams._accepted.qsize(), 0)
             reader, writer = await asyncio.wait_for(relay.connect(peer), 10)
             writer.write(b"hello")

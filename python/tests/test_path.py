@@ -7,14 +7,13 @@ import socket
 import subprocess
 import sys
 import textwrap
-import time
 import unittest
 from typing import Any, List
 
 from yarrowdoor import Clock, Ended, TurnClient
 
 from . import coturn as coturn_server
-from .network import Endpoint, StreamEndpoint
+from .network import SECOND, Endpoint, StreamEndpoint
 from .server import Server
 
 PEER = ("10.1.0.1", 9000)
@@ -55,28 +54,25 @@ class Checks(unittest.IsolatedAsyncioTestCase):
 
     async def test_a_silent_server_that_is_probed(self) -> None:
         endpoint = await self.serve()
-        async with TurnClient(endpoint.uri, "user", "pass", probe=15, clock=Clock(rate=60)) as relay:
-            await asyncio.sleep(1)  # a minute
-            self.assertGreaterEqual(endpoint.server.bindings, 3)
+        async with TurnClient(endpoint.uri, "user", "pass", probe=15, clock=Clock(rate=20)) as relay:
+            while endpoint.server.bindings < 4:
+                self.assertFalse(relay.closed)
+                await asyncio.sleep(0.05)
             endpoint.server.is_dead = True
-            start = time.monotonic()
             why = "^the connection to the server has ended: no answer from .* to 3 checks in a row$"
             with self.assertRaisesRegex(Ended, why):
-                await asyncio.wait_for(relay.receive(), 10)
-            self.assertLess((time.monotonic() - start) * 60, 75)  # within a minute, on a machine that is late by a quarter of one
+                await asyncio.wait_for(relay.receive(), 30)
 
     async def test_a_server_that_answers_no_binding_and_sends_data(self) -> None:
         endpoint = await self.serve()
         endpoint.server.answers_bindings = False
-        async with TurnClient(endpoint.uri, "user", "pass", probe=15, clock=Clock(rate=60)) as relay:
+        async with TurnClient(endpoint.uri, "user", "pass", probe=15, clock=Clock(rate=20)) as relay:
             await relay.permit(PEER[0])
-            until = time.monotonic() + 2
-            while time.monotonic() < until:
+            while endpoint.server.bindings < 12:  # four checks
                 await relay.send(b"hello", PEER)
-                self.assertEqual(await asyncio.wait_for(relay.receive(), 5), (b"hello", PEER))
+                self.assertEqual(await asyncio.wait_for(relay.receive(), 20), (b"hello", PEER))
                 await asyncio.sleep(0.01)
             self.assertFalse(relay.closed)
-            self.assertGreater(endpoint.server.bindings, 9)
 
     @unittest.skipUnless(coturn_server.IS_HERE, coturn_server.WHY)
     async def test_coturn(self) -> None:
@@ -147,13 +143,13 @@ class Sockets(unittest.IsolatedAsyncioTestCase):
         """TCP repeats what is lost, so that is the end, and not only a lost permission."""
         endpoint = await StreamEndpoint.start(Server(lifetime=3600))
         self.addCleanup(endpoint.close)
-        async with TurnClient(endpoint.uri, "user", "pass", clock=Clock(rate=300)) as relay:
+        clock = Clock(rate=60)
+        async with TurnClient(endpoint.uri, "user", "pass", clock=clock) as relay:
             await relay.permit(PEER[0])
             endpoint.server.is_dead = True
-            start = time.monotonic()
             with self.assertRaisesRegex(Ended, "^the connection to the server has ended: no answer from .* to a refresh$"):
-                await asyncio.wait_for(relay.receive(), 10)
-            self.assertLess((time.monotonic() - start) * 300, 900)  # and not an hour
+                await asyncio.wait_for(relay.receive(), 30)
+            self.assertLess(clock.now() / SECOND, 1800)  # and not an hour
 
     async def test_options_of_a_connection(self) -> None:
         """The system gives up on a silent one after 30 s."""
@@ -262,7 +258,7 @@ class Interfaces(unittest.TestCase):
             with self.subTest(kind=kind):
                 said = self.run_in_namespace(SILENCE, kind)
                 self.assertRegex(said, f"^ended after [0-9.]+ s: the connection to the server has ended: {why}\n$")
-                self.assertLess(float(said.split()[2]), 9)
+                self.assertLess(float(said.split()[2]), 14)
 
 
 if __name__ == "__main__":

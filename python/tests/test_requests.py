@@ -2,7 +2,7 @@
 import asyncio
 import functools
 import unittest
-from typing import Any, Callable, List, Tuple
+from typing import Any, List, Tuple
 
 from yarrowdoor import Clock, Ended, PermissionFailed, Times, TurnClient
 
@@ -17,18 +17,21 @@ class CountingServer(Server):
 
     def __init__(self, silent: str = "none", **settings: Any) -> None:
         super().__init__(**settings)
-        self.silent, self.asked = silent, []  # type: str, List[str]
+        self.silent = silent
+        self.asked: List[str] = []
+        self.transactions: List[bytes] = []
 
     def receive(self, data: bytes, source: Where, now: float) -> List[Tuple[bytes, Where]]:
         if data[0] < 4 and parse(data).kind == CREATE_PERMISSION:
             self.asked.append(unxored(parse(data).attributes[0x0012])[0])
+            self.transactions.append(parse(data).transaction)
             if self.asked[-1].startswith(self.silent):
                 return []
         return super().receive(data, source, now)
 
 
-def later_by(now: Callable[[], int], more: int) -> int:
-    return now() + more
+def later_by(stood: int, more: int) -> int:
+    return stood + more
 
 
 class Requests(unittest.IsolatedAsyncioTestCase):
@@ -92,16 +95,20 @@ class Requests(unittest.IsolatedAsyncioTestCase):
         clock: Any = Clock()
         now = clock.now
         async with TurnClient(endpoint.uri, "user", "pass", clock=clock) as relay:
+            stood = None
             for _ in range(50):
                 with self.assertRaises(PermissionFailed) as failed:
                     await relay.send(b"hello", ("10.1.0.2", 9000))
                 self.assertEqual(failed.exception.code, 403)
-            self.assertEqual(len(server.asked), 1)
+                stood = now() if stood is None else stood
+                clock.now = functools.partial(later_by, stood, 0)  # the clock stands, as slow as this machine may be
+            self.assertEqual(len(set(server.transactions)), 1)
             for later, asked in ((4, 1), (6, 2), (13, 2), (17, 3)):  # it rests for five seconds, and then for ten
-                clock.now = functools.partial(later_by, now, later * SECOND)
+                clock.now = functools.partial(later_by, stood, later * SECOND)
                 with self.assertRaises(PermissionFailed):
                     await relay.send(b"hello", ("10.1.0.2", 9000))
-                self.assertEqual((later, len(server.asked)), (later, asked))
+                self.assertEqual((later, len(set(server.transactions))), (later, asked))
+            clock.now = functools.partial(later_by, stood, 18 * SECOND)
             server.denied = ()
             await relay.permit("10.1.0.2")  # asks at once
             await relay.send(b"hello", ("10.1.0.2", 9000))

@@ -358,7 +358,7 @@ class ThroughASocket(unittest.IsolatedAsyncioTestCase):
         self.assertFalse(sending.done())
         await relay.close()
         with self.assertRaises(Ended):
-            await asyncio.wait_for(sending, 1)
+            await asyncio.wait_for(sending, 10)
         endpoint.end(resets=True)
         await asyncio.sleep(0.1)
 
