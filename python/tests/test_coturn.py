@@ -122,7 +122,7 @@ class Coturn(unittest.IsolatedAsyncioTestCase):
                 start = time.monotonic()
                 with self.assertRaises(WrongCredentials):
                     await TurnClient(self.server.uri(form), user, password).open()
-                self.assertLess(time.monotonic() - start, 2)
+                self.assertLess(time.monotonic() - start, 15)  # and not 39.5 s
 
     async def test_a_denied_peer(self) -> None:
         async with TurnClient(self.server.uri(), "user", "pass") as relay:

@@ -68,7 +68,7 @@ class Examples(unittest.TestCase):
 
     def test_two_relays(self) -> None:
         program = start(str(EXAMPLES / "two_relays.py"), self.server.uri(), "user", "pass", "hello")
-        said, _ = program.communicate(timeout=20)
+        said, _ = program.communicate(timeout=60)
         self.assertRegex(said.splitlines()[-1], r"^alice got hello from 127\.0\.0\.1:\d+$")
 
     def test_a_file(self) -> None:
@@ -80,9 +80,9 @@ class Examples(unittest.TestCase):
         server.wait_for(port, taker)  # a connection without data takes no file
         uri = self.server.uri("turns:localhost:{tls_port}")
         words = ["send", "--ca", self.server.certificate, uri, "user", "pass", f"127.0.0.1:{port}", str(sent)]
-        said, _ = start(str(EXAMPLES / "send_file.py"), *words).communicate(timeout=20)
+        said, _ = start(str(EXAMPLES / "send_file.py"), *words).communicate(timeout=60)
         self.assertRegex(said, r"^sent 1000001 bytes, SHA-256 [0-9a-f]{64}$")
-        taker.communicate(timeout=20)
+        taker.communicate(timeout=60)
         self.assertEqual(taken.read_bytes(), sent.read_bytes())
 
 

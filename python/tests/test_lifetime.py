@@ -19,6 +19,14 @@ from .server import Server
 
 
 class Opening(unittest.IsolatedAsyncioTestCase):
+    def setUp(self) -> None:
+        """A busy machine may take longer for an answer than the two seconds that a client waits for it."""
+        session = sys.modules.get("yarrowdoor.session")
+        if session is not None:
+            patient = unittest.mock.patch.object(session, "DELETE_WAIT", 20.0)
+            patient.start()
+            self.addCleanup(patient.stop)
+
     async def serve(self, delay: float = 0.0, **settings: Any) -> Any:
         """A server whose answers take their time."""
         endpoint: Any = await Endpoint.start(Server(**settings))
@@ -43,6 +51,19 @@ class Opening(unittest.IsolatedAsyncioTestCase):
         self.assertEqual(endpoint.server.allocations, {})
         self.assertTrue(relay.closed)
         await asyncio.wait_for(relay.close(), 1)
+
+    async def test_opening_that_is_cancelled_when_it_is_done(self) -> None:
+        endpoint = await self.serve()
+        relay = TurnClient(endpoint.uri, "user", "pass")
+        opening = asyncio.ensure_future(relay.open())
+        while not hasattr(relay._phase, "address"):
+            await asyncio.sleep(0)
+        self.assertFalse(opening.done())
+        opening.cancel()
+        with self.assertRaises(asyncio.CancelledError):
+            await opening
+        self.assertTrue(relay.closed)
+        self.assertEqual(endpoint.server.allocations, {})
 
     async def test_closing_while_it_opens(self) -> None:
         endpoint = await self.serve(delay=0.2)

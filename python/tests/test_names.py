@@ -104,6 +104,10 @@ class Names(unittest.IsolatedAsyncioTestCase):
         self.assertIsInstance(failed.exception.__cause__, ConnectionRefusedError)
         self.assertTrue(relay.closed)
 
+    async def test_a_wrong_argument_is_not_about_an_address(self) -> None:
+        with resolving("127.0.0.2", "127.0.0.1"), self.assertRaisesRegex(ValueError, "'never' is none of"):
+            await TurnClient("turn:turn.example.org", "user", "pass", anonymous="never").open()
+
     async def test_an_address_that_succeeds_beside_another(self) -> None:
         """Both addresses answer in one round of the loop: one is used, and the socket of the other one is closed."""
         endpoint = await self.serve()

@@ -277,7 +277,7 @@ class ThroughASocket(unittest.IsolatedAsyncioTestCase):
             async with TurnClient(endpoint.uri, "user", "other"):
                 self.fail("there is no relayed address")
         self.assertEqual(wrong.exception.code, 401)
-        self.assertLess(time.monotonic() - start, 2)
+        self.assertLess(time.monotonic() - start, 15)  # and not 39.5 s
 
     async def test_a_refused_allocation(self) -> None:
         for signs_errors in (True, False):
@@ -287,7 +287,7 @@ class ThroughASocket(unittest.IsolatedAsyncioTestCase):
                 await TurnClient(endpoint.uri, "user", "pass").open()
             self.assertNotIsInstance(failed.exception, WrongCredentials)
             self.assertEqual(failed.exception.code, 437)
-            self.assertLess(time.monotonic() - start, 2)
+            self.assertLess(time.monotonic() - start, 15)  # and not 39.5 s
 
     async def test_no_server(self) -> None:
         endpoint = await self.serve()

@@ -77,9 +77,13 @@ class Lifetime:
         try:
             await task
         except asyncio.CancelledError:
-            if not isinstance(self._phase, Connecting):
+            if task.cancelled() and isinstance(self._phase, Failed):
                 raise AllocationFailed("the client was closed") from None  # by `close`, and not who waits for this
-            self._phase = Failed(Ended("the client was closed"), None)
+            if isinstance(self._phase, Session):  # cancelled when it had just been opened
+                await self._phase.leave()
+            elif isinstance(self._phase, Connecting):
+                self._phase = Failed(Ended("the client was closed"), None)
+                self._inbox.end()
             raise
 
     async def _connect(self) -> None:

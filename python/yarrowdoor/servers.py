@@ -7,7 +7,7 @@ import socket
 import ssl as tls
 from typing import Awaitable, Callable, Dict, Iterable, List, Optional, Tuple, TypeVar
 
-from .errors import AllocationFailed, because
+from .errors import AllocationFailed, YarrowdoorError, because
 from .link import DatagramLink, Link, StreamLink
 from .uri import TurnUri
 
@@ -105,8 +105,8 @@ async def first_of(hosts: List[str], attempt: Callable[[str], Awaitable[_Found]]
                 error = task.exception()
                 if error is None:
                     return task.result()
-                if not isinstance(error, Exception):
-                    raise error
+                if not isinstance(error, (OSError, YarrowdoorError)):
+                    raise error  # which is not about this address
                 failures[host] = error
         raise NoneSucceeded(failures)
     finally:
