@@ -13,6 +13,7 @@ ghost use Rattle.turn_client_runs.specs.Offers.{BoundAreOffered};
 ghost use Rattle.turn_client_runs.specs.Sent.{PacketsGoOut};
 ghost use Rattle.turn_client_runs.specs.Short.{StreamsAreShort};
 ghost use Rattle.turn_client_runs.specs.Sleeps.{SleepsThroughNothing};
+ghost use Rattle.turn_client_runs.specs.Told.{CausesAreToldOnce};
 ghost use Rattle.turn_client_proto.specs.Delivered.{AnswersOnlyPermitted};
 ghost use Rattle.turn_client_proto.specs.Run.{IsCallable, replies_of, run};
 ghost use Rattle.turn_client_api.specs.Steps.{state_after_all};
@@ -76,6 +77,10 @@ pub struct Replayed {
 ///   it reports as created was granted by a signed success to an own request for it. What it reports as failed
 ///   was refused by a signed reply, timed out or expired at a `poll`, or ended with the client; or a message of
 ///   its data connection did not bind it.
+/// - `once`: no cause is told twice. Of each requested address family at most one event tells that it was allocated
+///   or that it failed, as a configuration names each once. Between two events that tell that a permission or a
+///   channel was created, or two that tell that it failed, the caller requested it anew, and it did not exist then.
+///   Of data connections this does not speak (RFC 8656, sections 7.3, 9 and 12).
 /// - `short`: after a `poll_recv` that returns none, each stream holds fewer than 65,555 bytes, if the bytes
 ///   received for it are numbers below 256, as in any memory.
 /// - `cuts`: over TCP, if `poll_recv` returns none and changes nothing, pieces of a stream at one time, none of
@@ -122,6 +127,7 @@ pub fn replay(
     ensures order { InputsFollow (initial transport local remote config seed) calls.now }
     ensures sent { PacketsGoOut (initial transport local remote config seed) calls.now }
     ensures events { EventsHaveCauses (initial transport local remote config seed) calls.now }
+    ensures once { CausesAreToldOnce (initial transport local remote config seed) calls.now }
     ensures short { StreamsAreShort (initial transport local remote config seed) calls.now }
     ensures cuts { CutsAgree (initial transport local remote config seed) calls.now }
     ensures lasts { GrantsLastInRuns (initial transport local remote config seed) calls.now }
