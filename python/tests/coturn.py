@@ -43,28 +43,28 @@ def make_certificate(room: str) -> "list[str]":
 
 
 @contextlib.contextmanager
-def coturn(*options: str) -> Iterator[Coturn]:
-    """Starts a server with user `user` and password `pass`, and ends it."""
+def coturn(*options: str, host: str = "127.0.0.1") -> Iterator[Coturn]:
+    """Starts a server at this address with user `user` and password `pass`, and ends it."""
     with tempfile.TemporaryDirectory() as room:
         files = make_certificate(room)
         port, tls_port = free_port(), free_port()
         words = ["turnserver", "-n", "--no-cli", "--no-dtls", "--lt-cred-mech", "-u", "user:pass", "-r", "realm",
-                 "--allow-loopback-peers", "-L", "127.0.0.1", "-p", str(port), "--log-file", os.path.join(room, "log"),
+                 "--allow-loopback-peers", "-L", host, "-p", str(port), "--log-file", os.path.join(room, "log"),
                  "--pidfile", os.path.join(room, "pid"), "--relay-threads", "1", *options]
         words += ["--tls-listening-port", str(tls_port), "--cert", files[0], "--pkey", files[1]] if files else ["--no-tls"]
         server = subprocess.Popen(words, cwd=room, stdout=subprocess.DEVNULL, stderr=subprocess.DEVNULL)
         try:
-            wait_for(port, server)
+            wait_for(port, server, host)
             yield Coturn(port, tls_port, files[0] if files else "")
         finally:
             server.terminate()
             server.wait()
 
 
-def wait_for(port: int, server: "subprocess.Popen[Any]") -> None:
+def wait_for(port: int, server: "subprocess.Popen[Any]", host: str = "127.0.0.1") -> None:
     """Waits until the server accepts connections."""
     for _ in range(200):
-        with contextlib.suppress(OSError), socket.create_connection(("127.0.0.1", port), 1):
+        with contextlib.suppress(OSError), socket.create_connection((host, port), 1):
             return
         if server.poll() is not None:
             break

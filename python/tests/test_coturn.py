@@ -8,7 +8,7 @@ import unittest
 import unittest.mock
 from typing import Any, AsyncIterator, Awaitable, Callable, ClassVar
 
-from yarrowdoor import Address, Clock, ConnectFailed, PermissionFailed, TurnClient, WrongCredentials
+from yarrowdoor import Address, AllocationFailed, Clock, ConnectFailed, PermissionFailed, TurnClient, WrongCredentials
 from yarrowdoor.link import Link
 
 from . import coturn as server
@@ -111,6 +111,19 @@ class Coturn(unittest.IsolatedAsyncioTestCase):
         self.tls()
         with self.assertRaisesRegex(Exception, "certificate"):
             await TurnClient(self.server.uri("turns:localhost:{tls_port}"), "user", "pass").open()
+
+    async def test_a_certificate_for_another_name(self) -> None:
+        trusting = self.tls()
+        relay = TurnClient(self.server.uri("turns:127.0.0.2:{tls_port}"), "user", "pass", ssl=trusting)
+        connect, loop = asyncio.get_running_loop().create_connection, asyncio.get_running_loop()
+
+        async def connect_here(made: Any, host: str, port: int, **options: Any) -> Any:
+            return await connect(made, "127.0.0.1", port, **options)
+
+        with unittest.mock.patch.object(loop, "create_connection", connect_here):
+            with self.assertRaisesRegex(AllocationFailed, "certificate is not valid for '127.0.0.2'") as failed:
+                await relay.open()
+        self.assertIsInstance(failed.exception.__cause__, ssl.SSLCertVerificationError)
 
     async def test_a_hidden_user_name(self) -> None:
         with self.assertRaises(WrongCredentials):  # coturn does not know USERHASH
@@ -271,6 +284,31 @@ class Coturn(unittest.IsolatedAsyncioTestCase):
             self.assertEqual(await asyncio.wait_for(other.receive(), 5), (b"question", one.address))
             await other.send(b"answer", one.address)
             self.assertEqual(await asyncio.wait_for(one.receive(), 5), (b"answer", other.address))
+
+
+def has_ipv6() -> bool:
+    with contextlib.suppress(OSError), socket.socket(socket.AF_INET6, socket.SOCK_DGRAM) as sock:
+        sock.bind(("::1", 0))
+        return True
+    return False
+
+
+@unittest.skipUnless(server.IS_HERE, server.WHY)
+@unittest.skipUnless(has_ipv6(), "this host has no IPv6 address")
+class Ipv6(unittest.IsolatedAsyncioTestCase):
+    async def test_a_server_and_a_peer(self) -> None:
+        loop = asyncio.get_running_loop()
+        transport, _ = await loop.create_datagram_endpoint(Echo, local_addr=("::1", 0))
+        self.addCleanup(transport.close)
+        peer = transport.get_extra_info("sockname")[:2]
+        with server.coturn("-E", "::1", host="::1") as at:
+            for form in ("turn:[::1]:{port}", "turn:[::1]:{port}?transport=tcp"):
+                async with TurnClient(at.uri(form), "user", "pass", family=6) as relay:
+                    self.assertEqual((relay.address.host, relay.mapped_address), ("::1", relay.local_address))
+                    for way in (relay.permit(peer[0]), relay.bind(peer)):
+                        await way
+                        await relay.send(b"hello", peer)
+                        self.assertEqual(await asyncio.wait_for(relay.receive(), 10), (b"hello", peer))
 
 
 @unittest.skipUnless(server.IS_HERE, server.WHY)
