@@ -48,7 +48,10 @@ def try_one(edit: pathlib.Path) -> Tuple[bool, str]:
         words = [sys.executable, "-B", "-m", "unittest", seen]
         ends = []
         for at in (TOP, room):
-            ran = subprocess.run(words, cwd=at, stdout=subprocess.PIPE, stderr=subprocess.STDOUT, text=True, timeout=300)
+            try:
+                ran = subprocess.run(words, cwd=at, stdout=subprocess.PIPE, stderr=subprocess.STDOUT, text=True, timeout=300)
+            except subprocess.TimeoutExpired:
+                return False, f"NOT SEEN: {edit.stem}: {seen} takes over 300 s"
             # What a test leaves behind may be printed after its summary.
             summary = [it for it in ran.stdout.splitlines() if re.match(r"OK$|FAILED \(", it)]
             ends.append((ran.returncode, summary[-1] if summary else "no summary"))

@@ -98,7 +98,7 @@ class Requests(unittest.IsolatedAsyncioTestCase):
             stood = None
             for _ in range(50):
                 with self.assertRaises(PermissionFailed) as failed:
-                    await relay.send(b"hello", ("10.1.0.2", 9000))
+                    await asyncio.wait_for(relay.send(b"hello", ("10.1.0.2", 9000)), 20)
                 self.assertEqual(failed.exception.code, 403)
                 stood = now() if stood is None else stood
                 clock.now = functools.partial(later_by, stood, 0)  # the clock stands, as slow as this machine may be
@@ -106,7 +106,7 @@ class Requests(unittest.IsolatedAsyncioTestCase):
             for later, asked in ((4, 1), (6, 2), (13, 2), (17, 3)):  # it rests for five seconds, and then for ten
                 clock.now = functools.partial(later_by, stood, later * SECOND)
                 with self.assertRaises(PermissionFailed):
-                    await relay.send(b"hello", ("10.1.0.2", 9000))
+                    await asyncio.wait_for(relay.send(b"hello", ("10.1.0.2", 9000)), 20)
                 self.assertEqual((later, len(set(server.transactions))), (later, asked))
             clock.now = functools.partial(later_by, stood, 18 * SECOND)
             server.denied = ()
