@@ -26,5 +26,5 @@ mod response;
 
 pub use address::{AlternateServer, XorMappedAddress};
 pub use frame::{FirstFrame, first_frame};
-pub use place::{place_of, reason_place_of};
+pub use place::{len_of, place_of, reason_place_of};
 pub use response::{alternate_server_of, code_of, mapped_address_of};

@@ -1,6 +1,6 @@
 //! Where the value of an attribute lies in the bytes of its message.
 
-ghost use Rattle.std.specs.Prelude.{◌≡◌, ◌≤◌, ◌+◌, length, option_and_then, IfSome};
+ghost use Rattle.std.specs.Prelude.{◌≡◌, ◌≤◌, ◌<◌, ◌+◌, length, option_and_then, IfSome};
 ghost use Rattle.std.specs.Option.{option_map};
 ghost use Rattle.turn_stun.specs.Attributes.{first_of, seen_of};
 ghost use Rattle.turn_hints.specs.Hints.{place_of, reason_place};
@@ -25,9 +25,19 @@ pub fn place_of(message: &Message<'_>, attribute_type: AttributeType) -> Option<
 /// Where the reason of the first ERROR-CODE lies in the message, or `None` if there is none, or if it is malformed (RFC
 /// 8489, section 14.8).
 pub fn reason_place_of(message: &Message<'_>) -> Option<Range<usize>>
-    ensures { result ≡ option_and_then reason_place (first_of 0x0009 (seen_of message.now)) }
+    ensures place { result ≡ option_and_then reason_place (first_of 0x0009 (seen_of message.now)) }
+    ensures inside { IfSome result (λ place. (place.start ≤ place.end) × (place.end ≤ length message.now)) }
 {
     let place = place_of(message, AttributeType::ERROR_CODE)?;
     let _error: ErrorCode<'_> = message.attribute().ok()?;
     Some(place.start + 4..place.end)
+}
+
+/// How many bytes the message has, with its header: fewer than 65,556, since its length field has 16 bits.
+pub fn len_of(message: &Message<'_>) -> usize
+    ensures len { result ≡ length message.now }
+    ensures short { result < 65_556 }
+{
+    let bytes = message.as_bytes();
+    20 + usize::from(u16::from_be_bytes([bytes[2], bytes[3]]))
 }
