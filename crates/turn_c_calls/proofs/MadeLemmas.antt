@@ -68,6 +68,8 @@ plain_bare (Replies.Delete result) h = refl
 plain_bare (Replies.RelayedAddresses relayed) h = refl
 plain_bare (Replies.Permissions ips) h = refl
 plain_bare (Replies.HavePermission found) h = absurd h
+plain_bare (Replies.SetPermissionKept result) h = refl
+plain_bare (Replies.SetChannelKept result) h = refl
 plain_bare Replies.Done h = refl
 
 plain_reply_of : (call : Call) (s : State) → IsPlainCall call → IsPlain (reply_of call s)
@@ -87,6 +89,8 @@ plain_reply_of Calls.ProtocolError s h = tt
 plain_reply_of Calls.RelayedAddresses s h = absurd h
 plain_reply_of (Calls.Permissions transport relayed) s h = absurd h
 plain_reply_of (Calls.HavePermission transport to) s h = absurd h
+plain_reply_of (Calls.SetPermissionKept transport peer is_kept) s h = tt
+plain_reply_of (Calls.SetChannelKept transport peer is_kept) s h = tt
 
 pub plain_reply : (call : Call) (s t : State) (reply : Reply) → Answered reply s t call → IsPlainCall call → IsPlain reply
 plain_reply call s t reply e h = subst IsPlain (sym (ap (λ (p : Reply × State). p.0) e)) (plain_reply_of call s h)

@@ -1,5 +1,5 @@
 -- Addresses and transports as numbers.
-use Rattle.std.specs.Prelude.{ℕ, ◌==◌, if◌then◌else◌, [], ◌∷◌, ◌++◌, replicate, slice_index, Option, Some, None}
+use Rattle.std.specs.Prelude.{ℕ, not, ◌==◌, if◌then◌else◌, [], ◌∷◌, ◌++◌, replicate, slice_index, Option, Some, None}
 use Rattle.std.specs.Option.{option_map}
 use Rattle.std.specs.Net.Addr.{ipv4_octets, ipv6_octets, segments_of}
 use Rattle.std.specs.Net.Socket.{socket_ip, v4_ip, v4_port, v6_flowinfo, v6_ip, v6_port, v6_scope_id}
@@ -49,9 +49,11 @@ v4_at a = record {
 abbrev pub v6_at : Address → SocketAddrV6
 v6_at a = record { ip = record { segments = segments_of a.ip }; port = a.port; flowinfo = a.flow; scope_id = a.scope }
 
--- the address of these numbers: only what its family has is read
+-- the address of these numbers: only what its family has is read, and the reserved byte is 0
 abbrev pub socket_at : Address → Option SocketAddr
-socket_at a = if a.family == IPV4 then Some (V4 (v4_at a)) else if a.family == IPV6 then Some (V6 (v6_at a)) else None
+socket_at a =
+    if not (a.reserved == 0) then None
+    else if a.family == IPV4 then Some (V4 (v4_at a)) else if a.family == IPV6 then Some (V6 (v6_at a)) else None
 
 abbrev pub ip_at : Address → Option IpAddr
 ip_at a = option_map socket_ip (socket_at a)

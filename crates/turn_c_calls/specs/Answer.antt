@@ -13,7 +13,7 @@ use Rattle.turn_client_api.specs.declared.poll.TurnPollRet.{TurnPollRet}
 use Rattle.turn_client_api.specs.declared.poll.TurnPollRet.TheVariants.{WaitUntil, AllocateTcpSocket, TcpClose, Closed}
 use Rattle.turn_client_proto.specs.declared.runs.reply.Reply.{Reply}
 use Rattle.turn_client_proto.specs.declared.runs.reply.Reply.TheVariants as Replies
-use Rattle.turn_lines.specs.Refusal.{send_refusal, create_permission_refusal, bind_channel_refusal, tcp_connect_refusal, tcp_allocate_refusal, delete_refusal}
+use Rattle.turn_lines.specs.Refusal.{send_refusal, create_permission_refusal, bind_channel_refusal, tcp_connect_refusal, tcp_allocate_refusal, delete_refusal, keep_refusal}
 use Rattle.turn_lines.specs.declared.refusal.Refusal.{Refusal}
 use Rattle.turn_lines.specs.declared.refusal.Refusal.TheVariants as Refused
 use Rattle.turn_c_calls.specs.Address.{c_address, address_of_ip, transport_code}
@@ -23,7 +23,7 @@ use Rattle.turn_c_calls.specs.declared.code.TheConstants.{ADDRESS, ALLOCATION_CR
 use Rattle.turn_c_calls.specs.declared.code.TheConstants.{CHANNEL_CREATE_FAILED, CHANNEL_CREATED, TCP_CLOSE, TCP_CONNECT_FAILED, TCP_CONNECTED, PEER_DATA}
 use Rattle.turn_c_calls.specs.declared.code.TheConstants.{DONE, CLOSED, ERROR_EXPIRED, HANDLED, PEER_ICMP, IGNORED, IPV4, IPV6, NO, ERROR_NO_ALLOCATION}
 use Rattle.turn_c_calls.specs.declared.code.TheConstants.{ERROR_NO_PERMISSION, ERROR_NO_SOCKET, NOTHING, ALLOCATE_TCP_SOCKET, ERROR_OUT_OF_MEMORY, PACKET}
-use Rattle.turn_c_calls.specs.declared.code.TheConstants.{PERMISSION_CREATE_FAILED, PERMISSION_CREATED, REFUSED, WAIT_UNTIL, YES}
+use Rattle.turn_c_calls.specs.declared.code.TheConstants.{PERMISSION_CREATE_FAILED, PERMISSION_CREATED, REFUSED, WAIT_UNTIL, YES, ERROR_NOT_GRANTED}
 
 -- an answer of this kind
 abbrev pub of_kind : ℕ → Answer → Answer
@@ -87,6 +87,7 @@ refusal_answer Refused.NoAllocation a = record a { kind = REFUSED; error = ERROR
 refusal_answer Refused.NoPermission a = record a { kind = REFUSED; error = ERROR_NO_PERMISSION }
 refusal_answer Refused.NoSocket a = record a { kind = REFUSED; error = ERROR_NO_SOCKET }
 refusal_answer (Refused.Expired until) a = record a { kind = REFUSED; error = ERROR_EXPIRED; time = until }
+refusal_answer Refused.NotGranted a = record a { kind = REFUSED; error = ERROR_NOT_GRANTED }
 refusal_answer Refused.OutOfMemory a = record a { kind = REFUSED; error = ERROR_OUT_OF_MEMORY }
 
 -- the relayed address at an index, or that there is none
@@ -132,6 +133,10 @@ answer_to index (Replies.Delete (Err error)) a = refusal_answer (delete_refusal 
 answer_to index (Replies.RelayedAddresses relayed) a = relayed_answer (slice_get relayed index) a
 answer_to index (Replies.Permissions ips) a = permission_answer (slice_get ips index) a
 answer_to index (Replies.HavePermission found) a = found_answer found a
+answer_to index (Replies.SetPermissionKept (Ok done)) a = of_kind DONE a
+answer_to index (Replies.SetPermissionKept (Err error)) a = refusal_answer (keep_refusal error) a
+answer_to index (Replies.SetChannelKept (Ok done)) a = of_kind DONE a
+answer_to index (Replies.SetChannelKept (Err error)) a = refusal_answer (keep_refusal error) a
 answer_to index Replies.Done a = of_kind DONE a
 
 -- the bytes that a reply carries, if it is one that does
@@ -148,5 +153,7 @@ IsPlain (Replies.BindChannel result) = ⊤
 IsPlain (Replies.TcpConnect result) = ⊤
 IsPlain (Replies.AllocatedTcpSocket result) = ⊤
 IsPlain (Replies.Delete result) = ⊤
+IsPlain (Replies.SetPermissionKept result) = ⊤
+IsPlain (Replies.SetChannelKept result) = ⊤
 IsPlain Replies.Done = ⊤
 IsPlain _ = ⊥

@@ -6,7 +6,7 @@ use Rattle.turn_client_api.specs.declared.call.Call.{Call}
 use Rattle.turn_client_api.specs.declared.call.Call.TheVariants as Calls
 use Rattle.turn_client_proto.specs.Run.{IsCallable}
 use Rattle.turn_lines.specs.Fault.{needed}
-use Rattle.turn_c_calls.specs.Request.{kind_of, operation_with, time_of}
+use Rattle.turn_c_calls.specs.Request.{kind_in, operation_with, time_of}
 use Rattle.turn_c_calls.specs.declared.code.TheConstants.{BAD_CALL, BAD_TIME, BAD_PAYLOAD, OUT_OF_MEMORY, SMALL_BUFFER, UNREAD_BYTES}
 use Rattle.turn_c_calls.specs.declared.judge.Fault.{Fault}
 use Rattle.turn_c_calls.specs.declared.judge.Fault.TheVariants as Faults
@@ -22,7 +22,7 @@ is_udp Udp = true
 is_udp Tcp = false
 
 -- What an operation needs: of a client whose allocation is over `relays`, where bytes are left to be read or not, with data
--- and a buffer of these lengths. A packet adds at most 64 bytes to its data, and a message has less than 65,556.
+-- and a buffer of these lengths. A packet adds at most 64 bytes to its data.
 abbrev pub if_fits : TransportType → Bool → ℕ → ℕ → Operation → Result Operation Fault
 if_fits relays is_left len buffer (Operations.SendTo transport to now) =
     if is_udp relays && nat_lt 65504 len then Err Faults.Payload
@@ -31,9 +31,7 @@ if_fits relays is_left len buffer (Operations.SendTo transport to now) =
 if_fits relays is_left len buffer (Operations.Recv tuple now) = if is_left then Err Faults.Unread else Ok (Operations.Recv tuple now)
 if_fits relays is_left len buffer (Operations.PollRecv now) = if is_left then Err Faults.Unread else Ok (Operations.PollRecv now)
 if_fits relays is_left len buffer (Operations.PollTransmit now) =
-    if is_left then Err Faults.Unread
-    else if nat_lt buffer 65556 then Err Faults.Buffer
-    else Ok (Operations.PollTransmit now)
+    if is_left then Err Faults.Unread else Ok (Operations.PollTransmit now)
 if_fits relays is_left len buffer operation = Ok operation
 
 -- a request of this kind at this time
@@ -43,7 +41,7 @@ judged_as relays now r is_left len buffer kind = needed (operation_with now r ki
 -- What a request does, or why it is refused.
 abbrev pub request_judged : TransportType → Request → Bool → ℕ → ℕ → Result Operation Fault
 request_judged relays r is_left len buffer =
-    needed (time_of r.time) Faults.Time (λ now. needed (kind_of r.kind) Faults.Call (judged_as relays now r is_left len buffer))
+    needed (time_of r.time) Faults.Time (λ now. needed (kind_in r) Faults.Call (judged_as relays now r is_left len buffer))
 
 abbrev pub fault_code : Fault → ℕ
 fault_code Faults.Time = BAD_TIME
@@ -62,6 +60,8 @@ IsPlainCall (Calls.TcpConnect peer now) = ⊤
 IsPlainCall (Calls.AllocatedTcpSocket id tuple peer local now) = ⊤
 IsPlainCall (Calls.TcpClosed local remote now) = ⊤
 IsPlainCall Calls.ProtocolError = ⊤
+IsPlainCall (Calls.SetPermissionKept transport peer is_kept) = ⊤
+IsPlainCall (Calls.SetChannelKept transport peer is_kept) = ⊤
 IsPlainCall _ = ⊥
 
 -- which can be made on any client

@@ -3,7 +3,9 @@ pub mod Answer
 pub mod Arms
 pub mod Buffer
 pub mod Held
+pub mod Hints
 pub mod Judge
+pub mod Look
 pub mod Open
 pub mod Operation
 pub mod Request

@@ -1,7 +1,8 @@
 -- A new session.
-use Rattle.std.specs.Prelude.{◌≡◌, ℕ, ◌==◌, if◌then◌else◌, List, [], length, Option, Some, None, Result, Ok, Err, ⊤}
+use Rattle.std.specs.Prelude.{◌≡◌, ℕ, ◌==◌, if◌then◌else◌, max, unwrap_or, List, [], length, Option, Some, None, Result, Ok, Err, ⊤}
+use Rattle.std.specs.Option.{option_map}
 use Rattle.turn_auth.specs.Credentials.{Credentials}
-use Rattle.turn_client_api.specs.Config.{Config}
+use Rattle.turn_client_api.specs.Config.{Config, least_keepalive, least_refresh_ahead}
 use Rattle.turn_client_api.specs.State.{State, initial}
 use Rattle.turn_lines.specs.Configuration.{config_with}
 use Rattle.turn_lines.specs.Fault.{needed}
@@ -22,8 +23,16 @@ c_seed seed = if length seed == 32 then Some seed else None
 abbrev pub limited : ℕ → Config → Config
 limited limit config = record config { max_stale_nonces = if limit == 0 then config.max_stale_nonces else limit }
 
+-- the same with the times that a plan has, of which two are at least the least that a configuration takes
+abbrev pub paced : Plan → Config → Config
+paced plan config = record config {
+  request_cadence = unwrap_or plan.request_cadence config.request_cadence;
+  keepalive = option_map (max least_keepalive) plan.keepalive;
+  refresh_ahead = unwrap_or (option_map (max least_refresh_ahead) plan.refresh_ahead) config.refresh_ahead;
+}
+
 abbrev pub config_of : Plan → Credentials → Config
-config_of plan credentials = limited plan.max_stale_nonces (config_with plan.request credentials plan.waits)
+config_of plan credentials = paced plan (limited plan.max_stale_nonces (config_with plan.request credentials plan.waits))
 
 -- the new client of a plan
 abbrev pub new_client : Plan → Credentials → List ℕ → State

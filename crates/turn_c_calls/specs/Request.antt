@@ -1,5 +1,5 @@
 -- A request, and which call of a client it is.
-use Rattle.std.specs.Prelude.{ℕ, ◌==◌, ◌^◌, nat_le, if◌then◌else◌, List, [], ◌∷◌, Option, Some, None}
+use Rattle.std.specs.Prelude.{ℕ, Bool, true, false, not, ◌&&◌, ◌==◌, ◌^◌, nat_le, if◌then◌else◌, List, [], ◌∷◌, Option, Some, None}
 use Rattle.std.specs.List.{find}
 use Rattle.std.specs.Option.{option_map}
 use Rattle.std.specs.declared.net.ip_addr.IpAddr.{IpAddr}
@@ -13,7 +13,7 @@ use Rattle.turn_c_calls.specs.Address.{ip_at, socket_at, c_transport}
 use Rattle.turn_c_calls.specs.declared.address.Address.{Address}
 use Rattle.turn_c_calls.specs.declared.code.TheConstants.{BIND_CHANNEL, TCP_CLOSED, TCP_CONNECT, DELETE, POLL_EVENT, PROTOCOL_ERROR, HAVE_PERMISSION}
 use Rattle.turn_c_calls.specs.declared.code.TheConstants.{NO_FAMILY, PERMISSIONS, CREATE_PERMISSION, POLL, POLL_RECV, READ, RECV, RELAYED_ADDRESSES}
-use Rattle.turn_c_calls.specs.declared.code.TheConstants.{SEND_TO, ALLOCATED_TCP_SOCKET, POLL_TRANSMIT}
+use Rattle.turn_c_calls.specs.declared.code.TheConstants.{SEND_TO, ALLOCATED_TCP_SOCKET, POLL_TRANSMIT, SET_CHANNEL_KEPT, SET_PERMISSION_KEPT}
 use Rattle.turn_c_calls.specs.Operation.{Operation}
 use Rattle.turn_c_calls.specs.Operation as Operations
 use Rattle.turn_c_calls.specs.declared.request.Kind.{Kind}
@@ -33,14 +33,19 @@ kinds =
     ∷ (SEND_TO, Kinds.SendTo) ∷ (RECV, Kinds.Recv) ∷ (POLL_RECV, Kinds.PollRecv)
     ∷ (POLL, Kinds.Poll) ∷ (POLL_TRANSMIT, Kinds.PollTransmit) ∷ (POLL_EVENT, Kinds.PollEvent)
     ∷ (PROTOCOL_ERROR, Kinds.ProtocolError) ∷ (RELAYED_ADDRESSES, Kinds.RelayedAddresses) ∷ (PERMISSIONS, Kinds.Permissions)
-    ∷ (HAVE_PERMISSION, Kinds.HavePermission) ∷ (READ, Kinds.Read) ∷ []
+    ∷ (HAVE_PERMISSION, Kinds.HavePermission) ∷ (READ, Kinds.Read) ∷ (SET_PERMISSION_KEPT, Kinds.SetPermissionKept)
+    ∷ (SET_CHANNEL_KEPT, Kinds.SetChannelKept) ∷ []
 
 abbrev pub kind_of : ℕ → Option Kind
 kind_of code = option_map (λ k. k.1) (find (λ k. code == k.0) kinds)
 
+-- the kind of a request whose reserved place is 0
+abbrev pub kind_in : Request → Option Kind
+kind_in r = if not (r.reserved == 0) then None else kind_of r.kind
+
 -- the local address of a data connection, or none if it could not be opened
 abbrev pub local_at : Address → Option (Option SocketAddr)
-local_at a = if a.family == NO_FAMILY then Some None else option_map Some (socket_at a)
+local_at a = if a.family == NO_FAMILY && a.reserved == 0 then Some None else option_map Some (socket_at a)
 
 -- a peer and the transport to it
 abbrev pub peer_of : Request → Option (TransportType × SocketAddr)
@@ -78,6 +83,22 @@ socket_operation now r = do
   local ← local_at r.local
   Some (Operations.Plain (Calls.AllocatedTcpSocket r.id tuple peer local now))
 
+-- whether something is kept
+abbrev pub is_kept_of : ℕ → Option Bool
+is_kept_of id = if id == 0 then Some false else if id == 1 then Some true else None
+
+abbrev pub permission_kept_operation : Request → Option Operation
+permission_kept_operation r = do
+  peer ← peer_ip_of r
+  is_kept ← is_kept_of r.id
+  Some (Operations.Plain (Calls.SetPermissionKept peer.0 peer.1 is_kept))
+
+abbrev pub channel_kept_operation : Request → Option Operation
+channel_kept_operation r = do
+  peer ← peer_of r
+  is_kept ← is_kept_of r.id
+  Some (Operations.Plain (Calls.SetChannelKept peer.0 peer.1 is_kept))
+
 -- what a request of each kind does at a time
 abbrev pub operation_with : ℕ → Request → Kind → Option Operation
 operation_with now r Kinds.Delete = Some (Operations.Plain (Calls.Delete now))
@@ -100,6 +121,8 @@ operation_with now r Kinds.RelayedAddresses = Some (Operations.RelayedAddresses 
 operation_with now r Kinds.Permissions = option_map (λ p. Operations.Permissions p.0 p.1 r.id) (relayed_of r)
 operation_with now r Kinds.HavePermission = option_map (λ p. Operations.Plain (Calls.HavePermission p.0 p.1)) (peer_ip_of r)
 operation_with now r Kinds.Read = Some Operations.Read
+operation_with now r Kinds.SetPermissionKept = permission_kept_operation r
+operation_with now r Kinds.SetChannelKept = channel_kept_operation r
 
 -- the packet that has these bytes
 abbrev pub packet_over : Socket5Tuple → List ℕ → Transmit (List ℕ)

@@ -1,5 +1,5 @@
 -- The settings of a new client.
-use Rattle.std.specs.Prelude.{ℕ, ◌==◌, if◌then◌else◌, Option, Some, None}
+use Rattle.std.specs.Prelude.{ℕ, Bool, true, false, ◌&&◌, ◌==◌, if◌then◌else◌, slice_index, Option, Some, None}
 use Rattle.std.specs.Option.{option_map}
 use Rattle.turn_types.specs.declared.family.AddressFamily.{AddressFamily}
 use Rattle.turn_types.specs.declared.family.AddressFamily.TheVariants as Family
@@ -13,7 +13,7 @@ use Rattle.turn_lines.specs.declared.head.Ends.{Ends}
 use Rattle.turn_lines.specs.declared.head.Request.{Request}
 use Rattle.turn_lines.specs.declared.head.waits.Waits.{Waits}
 use Rattle.turn_c_calls.specs.Address.{socket_at, c_transport}
-use Rattle.turn_c_calls.specs.declared.code.TheConstants.{AUTO, DISABLED, NONE, REQUIRED, SHA1, SHA256, VERSION_4, VERSION_6}
+use Rattle.turn_c_calls.specs.declared.code.TheConstants.{AUTO, DISABLED, NO_PAUSE, NONE, REQUIRED, SHA1, SHA256, VERSION_4, VERSION_6}
 use Rattle.turn_c_calls.specs.declared.settings.Plan.{Plan}
 use Rattle.turn_c_calls.specs.declared.settings.Settings.{Settings}
 
@@ -68,10 +68,35 @@ c_waits s =
     if s.has_waits == NONE then None
     else Some (record { initial = s.wait_initial; max = s.wait_max; count = s.wait_count; last = s.wait_last })
 
+-- a time, unless it is 0
+abbrev pub unless_zero : ℕ → Option ℕ
+unless_zero nanos = if nanos == 0 then None else Some nanos
+
+-- the pause between two requests, if it is not the default one
+abbrev pub c_cadence : ℕ → Option ℕ
+c_cadence nanos = if nanos == NO_PAUSE then Some 0 else unless_zero nanos
+
+-- the reserved places are 0; an address looks at its own
+abbrev pub has_reserved_zero : Settings → Bool
+has_reserved_zero s = s.reserved == 0 && slice_index s.reserved_places 0 == 0 && slice_index s.reserved_places 1 == 0
+
+abbrev pub if_true : Bool → Option (Unit {0})
+if_true true = Some tt
+if_true false = None
+
 -- an allocation over TCP needs a client over TCP (RFC 6062, section 4.1)
 abbrev pub plan_of : Settings → Option Plan
 plan_of s = do
+  _ ← if_true (has_reserved_zero s)
   ends ← c_ends s
   request ← c_requested s
   _ ← relayed_for ends.transport request.allocation
-  Some (record { ends = ends; request = request; waits = c_waits s; max_stale_nonces = s.max_stale_nonces })
+  Some (record {
+    ends = ends;
+    request = request;
+    waits = c_waits s;
+    max_stale_nonces = s.max_stale_nonces;
+    request_cadence = c_cadence s.request_cadence;
+    keepalive = unless_zero s.keepalive;
+    refresh_ahead = unless_zero s.refresh_ahead;
+  })

@@ -23,7 +23,7 @@ pub struct Address {
     pub port: u16,
     /// 4 or 6, or 0 for no address.
     pub family: u8,
-    /// 0, and not read.
+    /// 0.
     pub reserved: u8,
 }
 
@@ -105,10 +105,13 @@ fn octets_of(ip: Ipv6Addr) -> [u8; 16]
     ip.octets()
 }
 
-/// The address of these numbers, or none if its family is neither 4 nor 6.
+/// The address of these numbers, or none if its family is neither 4 nor 6, or its reserved byte is not 0.
 pub fn socket_at(address: &Address) -> Option<SocketAddr>
     ensures { result ≡ socket_at address.now }
 {
+    if address.reserved != 0 {
+        return None;
+    }
     let ip = &address.ip;
     match address.family {
         IPV4 => {

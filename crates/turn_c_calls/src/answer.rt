@@ -4,9 +4,10 @@ use crate::address::{Address, transport_code};
 use crate::code::{
     ADDRESS, ALLOCATE_TCP_SOCKET, ALLOCATION_CREATE_FAILED, ALLOCATION_CREATED,
     CHANNEL_CREATE_FAILED, CHANNEL_CREATED, CLOSED, DONE, ERROR_ALREADY_EXISTS, ERROR_EXPIRED,
-    ERROR_NO_ALLOCATION, ERROR_NO_PERMISSION, ERROR_NO_SOCKET, ERROR_OUT_OF_MEMORY, IPV4, IPV6,
-    NOTHING, PACKET, PEER_DATA, PEER_DATA_RANGE, PEER_ICMP, PERMISSION_CREATE_FAILED,
-    PERMISSION_CREATED, REFUSED, TCP_CLOSE, TCP_CONNECT_FAILED, TCP_CONNECTED, WAIT_UNTIL,
+    ERROR_NO_ALLOCATION, ERROR_NO_PERMISSION, ERROR_NO_SOCKET, ERROR_NOT_GRANTED,
+    ERROR_OUT_OF_MEMORY, IPV4, IPV6, NOTHING, PACKET, PEER_DATA, PEER_DATA_RANGE, PEER_ICMP,
+    PERMISSION_CREATE_FAILED, PERMISSION_CREATED, REFUSED, TCP_CLOSE, TCP_CONNECT_FAILED,
+    TCP_CONNECTED, WAIT_UNTIL,
 };
 use std::net::{IpAddr, SocketAddr};
 use turn_client_api::{TurnEvent, TurnPollRet};
@@ -51,6 +52,8 @@ pub struct Answer {
     pub to: Address,
     /// A peer, or an address of a list.
     pub peer: Address,
+    /// 0, or as they were.
+    pub reserved_places: [u64; 2],
 }
 
 impl Answer {
@@ -70,11 +73,15 @@ impl Answer {
             Reply::TcpConnect(Err(error)) => self.set_refusal(Refusal::from(*error)),
             Reply::AllocatedTcpSocket(Err(error)) => self.set_refusal(Refusal::from(*error)),
             Reply::Delete(Err(error)) => self.set_refusal(Refusal::from(*error)),
+            Reply::SetPermissionKept(Err(error)) => self.set_refusal(Refusal::from(*error)),
+            Reply::SetChannelKept(Err(error)) => self.set_refusal(Refusal::from(*error)),
             Reply::CreatePermission(Ok(()))
             | Reply::BindChannel(Ok(()))
             | Reply::TcpConnect(Ok(()))
             | Reply::AllocatedTcpSocket(Ok(()))
             | Reply::Delete(Ok(()))
+            | Reply::SetPermissionKept(Ok(()))
+            | Reply::SetChannelKept(Ok(()))
             | Reply::Done => self.kind = DONE,
             _ => unreachable!(),
         }
@@ -221,6 +228,7 @@ impl Answer {
                 self.error = ERROR_EXPIRED;
                 self.time = until.as_nanos();
             }
+            Refusal::NotGranted => self.error = ERROR_NOT_GRANTED,
             Refusal::OutOfMemory => self.error = ERROR_OUT_OF_MEMORY,
         }
     }

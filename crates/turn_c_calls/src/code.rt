@@ -50,7 +50,7 @@ pub const POLL_RECV: u32 = 9;
 /// `poll`.
 pub const POLL: u32 = 10;
 
-/// `poll_transmit`. The packet is written to the buffer, which holds at least 65,556 bytes.
+/// `poll_transmit`. The packet is written to the buffer, and what does not fit is left to be read.
 pub const POLL_TRANSMIT: u32 = 11;
 
 /// `poll_event`.
@@ -72,6 +72,12 @@ pub const HAVE_PERMISSION: u32 = 16;
 /// No call: the next of the bytes that an earlier answer left.
 pub const READ: u32 = 17;
 
+/// `set_permission_kept` for the IP address of `peer`, over `transport`: kept if `id` is 1, and let go if it is 0.
+pub const SET_PERMISSION_KEPT: u32 = 18;
+
+/// `set_channel_kept` for the channel to `peer`, over `transport`: kept if `id` is 1, and let go if it is 0.
+pub const SET_CHANNEL_KEPT: u32 = 19;
+
 // ---- the kinds of answers: the call was not made, or failed
 
 /// A memory allocation failed. The client may have ended: the state is the one that the call leaves then.
@@ -80,7 +86,7 @@ pub const OUT_OF_MEMORY: u32 = 1;
 /// The time is over 2^62 nanoseconds. Nothing has changed.
 pub const BAD_TIME: u32 = 2;
 
-/// There is no such kind of request, or it lacks a transport or an address. Nothing has changed.
+/// There is no such kind of request, it lacks a transport or an address, or a reserved place is not 0. Nothing has changed.
 pub const BAD_CALL: u32 = 3;
 
 /// The data for a peer has over 65,504 bytes, and the allocation is over UDP. Nothing has changed.
@@ -89,7 +95,7 @@ pub const BAD_PAYLOAD: u32 = 4;
 /// Bytes of an earlier answer are left, and are to be read first. Nothing has changed.
 pub const UNREAD_BYTES: u32 = 5;
 
-/// The buffer is too small for a packet. Nothing has changed.
+/// The buffer is too small for the packet of a `send_to`. Nothing has changed.
 pub const SMALL_BUFFER: u32 = 6;
 
 /// The method returned the error `error`. For [`ERROR_EXPIRED`] the channel is reserved until `time`.
@@ -171,6 +177,29 @@ pub const TCP_CONNECT_FAILED: u32 = 30;
 /// not copied.
 pub const PEER_DATA_RANGE: u32 = 34;
 
+// ---- what a packet is
+
+/// A STUN message.
+pub const MESSAGE: u32 = 35;
+
+/// A ChannelData message.
+pub const CHANNEL_DATA: u32 = 36;
+
+/// Neither, or a malformed message. Over UDP also less than a whole one, or more.
+pub const NO_FRAME: u32 = 37;
+
+/// The class of a message: a request.
+pub const REQUEST: u16 = 0;
+
+/// The class of a message: an indication.
+pub const INDICATION: u16 = 1;
+
+/// The class of a message: a success response.
+pub const SUCCESS: u16 = 2;
+
+/// The class of a message: an error response.
+pub const ERROR: u16 = 3;
+
 // ---- the errors of methods
 
 /// What the call requests is active, offered, or requested already; no channel number is free; or the local address is
@@ -189,13 +218,19 @@ pub const ERROR_NO_SOCKET: u32 = 4;
 /// The peer had a channel, and no other may be bound to it until `time` has passed.
 pub const ERROR_EXPIRED: u32 = 5;
 
-/// A memory allocation failed. No answer has it: the answer is [`OUT_OF_MEMORY`] then.
-pub const ERROR_OUT_OF_MEMORY: u32 = 6;
+/// There is no such permission or channel, pending or active, over this transport.
+pub const ERROR_NOT_GRANTED: u32 = 6;
+
+/// A memory allocation failed. No answer has it, and no C program knows it: the answer is [`OUT_OF_MEMORY`] then.
+pub const ERROR_OUT_OF_MEMORY: u32 = 255;
 
 // ---- a new client
 
 /// There is no second family or algorithm, or there are no retransmission times.
 pub const NONE: u32 = 0;
+
+/// A pause between two requests: there is none.
+pub const NO_PAUSE: u64 = 0xffff_ffff_ffff_ffff;
 
 /// An address family that is requested: IPv4.
 pub const VERSION_4: u32 = 4;
@@ -220,7 +255,8 @@ pub const DISABLED: u32 = 2;
 
 // ---- why there is no new client; `OUT_OF_MEMORY` is one too
 
-/// The settings have a number or an address that is invalid, or a client over UDP requests an allocation over TCP.
+/// The settings have a number or an address that is invalid, or a reserved place that is not 0, or a client over UDP
+/// requests an allocation over TCP.
 pub const BAD_SETTINGS: u32 = 31;
 
 /// The user name does not have 1 to 508 bytes, or the password has over 65,535.

@@ -3,6 +3,7 @@
 ghost use Rattle.std.specs.Prelude.{◌≡◌, ◌≤◌, ◌^◌, ℕ, List, Bool, nat_lt, length, IfErr, IfSome, OnOk};
 ghost use Rattle.turn_c_calls.specs.Arms.{Ends, EndsLook, EndsPlain, Lacks, LacksLook, LacksPlain, have_permission_answer, permissions_answer};
 ghost use Rattle.turn_c_calls.specs.Judge.{IsPossible, if_fits, request_judged, judged_as};
+ghost use Rattle.turn_c_calls.specs.Look.{LacksSight, Looks, looked};
 ghost use Rattle.turn_c_calls.specs.Operation.{PollRecv, PollTransmit};
 ghost use Rattle.turn_c_calls.specs.Request.{peer_ip_of, relayed_of};
 
@@ -10,8 +11,9 @@ use crate::answer::Answer;
 use crate::judge::Fault;
 use crate::make;
 use crate::request::{
-    Kind, Request, allocated_tcp_socket, bind_channel, c_tuple, create_permission, kind_of,
-    peer_ip_of, peer_of, relayed_of, tcp_closed, tcp_connect, time_of,
+    Kind, Request, allocated_tcp_socket, bind_channel, c_tuple, create_permission, kind_in,
+    peer_ip_of, peer_of, relayed_of, set_channel_kept, set_permission_kept, tcp_closed,
+    tcp_connect, time_of,
 };
 use crate::unread::Unread;
 use std::alloc::Global;
@@ -24,9 +26,6 @@ const MAX_PAYLOAD: usize = 65_504;
 
 /// The most bytes that a packet adds to the data that it carries to a peer.
 const MAX_FRAME: usize = 64;
-
-/// What a buffer for any message with its header needs, in bytes.
-const MAX_MESSAGE: usize = 65_556;
 
 /// Answers a request with its data, for a client whose allocation is over `relays`.
 ///
@@ -54,7 +53,7 @@ pub fn handle<C: TurnClientApi>(
         (C.state client.old) (C.state client.new) unread.old unread.new buffer.old buffer.new answer.old answer.new) }
 {
     let now = time_of(request.time).ok_or(Fault::Time)?;
-    let kind = kind_of(request.kind).ok_or(Fault::Call)?;
+    let kind = kind_in(request).ok_or(Fault::Call)?;
     match kind {
         Kind::Delete => plain(client, Some(Call::Delete { now }), answer)?,
         Kind::CreatePermission => plain(client, create_permission(now, request), answer)?,
@@ -73,6 +72,8 @@ pub fn handle<C: TurnClientApi>(
         Kind::Permissions => permissions(client, request, answer)?,
         Kind::HavePermission => have_permission(client, request, answer)?,
         Kind::Read => make::read(unread, buffer, answer),
+        Kind::SetPermissionKept => plain(client, set_permission_kept(now, request), answer)?,
+        Kind::SetChannelKept => plain(client, set_channel_kept(now, request), answer)?,
     }
     Ok(())
 }
@@ -195,9 +196,6 @@ fn poll_transmit<C: TurnClientApi>(
     if unread.is_left() {
         return Err(Fault::Unread);
     }
-    if buffer.len() < MAX_MESSAGE {
-        return Err(Fault::Buffer);
-    }
     make::poll_transmit(client, now, unread, buffer, answer)?;
     Ok(())
 }
@@ -229,5 +227,29 @@ fn have_permission<C: TurnClientApi>(
         return Err(Fault::Call);
     };
     make::have_permission(client, transport, to, answer);
+    Ok(())
+}
+
+/// Answers a request that only looks at the client.
+///
+/// # Errors
+///
+/// `Time`, or `Call` if it is no such request. The answer has not changed then.
+pub fn look<C: TurnClientApi>(
+    client: &C,
+    request: &Request,
+    answer: &mut Answer,
+) -> Result<(), Fault>
+    ensures ok { OnOk result (Looks (looked request.now (C.state client.now)) answer.old answer.new) }
+    ensures err { IfErr result (λ fault. LacksSight (looked request.now (C.state client.now)) fault answer.old answer.new) }
+{
+    let _now = time_of(request.time).ok_or(Fault::Time)?;
+    let kind = kind_in(request).ok_or(Fault::Call)?;
+    match kind {
+        Kind::RelayedAddresses => make::relayed_addresses(client, request.id, answer),
+        Kind::Permissions => permissions(client, request, answer)?,
+        Kind::HavePermission => have_permission(client, request, answer)?,
+        _ => return Err(Fault::Call),
+    }
     Ok(())
 }

@@ -8,13 +8,13 @@ use std::alloc::AllocError;
 pub enum Fault {
     /// Its time is over 2^62 nanoseconds.
     Time,
-    /// There is no such kind, or it lacks a transport or an address.
+    /// There is no such kind, it lacks a transport or an address, or a reserved place is not 0.
     Call,
     /// It sends over 65,504 bytes to an allocation over UDP.
     Payload,
     /// Bytes of an earlier answer are to be read first.
     Unread,
-    /// The buffer is too small for a packet.
+    /// The buffer is too small for the packet of a `send_to`.
     Buffer,
     /// A memory allocation of its call failed.
     OutOfMemory,

@@ -17,6 +17,7 @@ mod buffer;
 pub mod code;
 mod give;
 mod handle;
+pub mod hints;
 mod judge;
 pub mod library;
 mod make;

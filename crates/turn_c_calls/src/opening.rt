@@ -4,13 +4,14 @@ ghost use Rattle.std.specs.Prelude.{◌≡◌, None, Ok, Some, IfOk, IfErr};
 ghost use Rattle.turn_client_proto.specs.Client.{state_of};
 ghost use Rattle.turn_stun.specs.declared.transport.TransportType.TheVariants.{Udp};
 ghost use Rattle.turn_lines.specs.Head.{credentials_with};
-ghost use Rattle.turn_c_calls.specs.Open.{IsNoUser, Refuses, config_of, limited, new_client, c_seed, session_of};
+ghost use Rattle.turn_c_calls.specs.Open.{IsNoUser, Refuses, config_of, limited, new_client, paced, c_seed, session_of};
 
 use crate::code::{BAD_CREDENTIALS, BAD_SEED, BAD_SETTINGS, OUT_OF_MEMORY};
 use crate::session::Session;
 use crate::settings::{Plan, Settings, plan_of};
 use std::alloc::{AllocError, Global};
 use std::num::NonZeroU16;
+use std::time::Duration;
 use turn_auth::credentials::{CredentialsError, TurnCredentials};
 use turn_client_api::TurnConfig;
 use turn_client_proto::client::TurnClient;
@@ -20,7 +21,8 @@ use turn_lines::configuration::configuration;
 /// Why there is no session: the first of these that holds. A memory allocation may also fail before the seed is tested.
 #[derive(Clone, Copy, Debug, PartialEq, Eq)]
 pub enum OpenError {
-    /// The settings have a number or an address that is invalid, or a client over UDP requests an allocation over TCP.
+    /// The settings have a number or an address that is invalid, or a reserved place that is not 0, or a client over UDP
+    /// requests an allocation over TCP.
     Settings,
     /// The user name does not have 1 to 508 bytes, or the password has over 65,535.
     Credentials,
@@ -106,6 +108,7 @@ fn config_of(alloc: Global, plan: Plan, credentials: TurnCredentials) -> TurnCon
 {
     let mut config = configuration(alloc, plan.request, credentials, plan.waits);
     limit(&mut config, plan.max_stale_nonces);
+    pace(&mut config, &plan);
     config
 }
 
@@ -115,6 +118,22 @@ fn limit(config: &mut TurnConfig, max_stale_nonces: u16)
 {
     if let Some(limit) = NonZeroU16::new(max_stale_nonces) {
         config.set_max_stale_nonces(limit);
+    }
+}
+
+/// Sets the times that a plan has.
+fn pace(config: &mut TurnConfig, plan: &Plan)
+    ensures { config.new ≡ paced plan.now config.old }
+{
+    if let Some(nanos) = plan.request_cadence {
+        config.set_request_cadence(Duration::from_nanos(nanos));
+    }
+    match plan.keepalive {
+        None => config.set_keepalive(None),
+        Some(nanos) => config.set_keepalive(Some(Duration::from_nanos(nanos))),
+    }
+    if let Some(nanos) = plan.refresh_ahead {
+        config.set_refresh_ahead(Duration::from_nanos(nanos));
     }
 }
 

@@ -54,6 +54,16 @@ pub fn reply_to<C: TurnClientApi>(client: &mut C, call: &Call) -> Result<Reply, 
             now,
         } => tcp_closed(client, *local_addr, *remote_addr, *now),
         Call::ProtocolError => protocol_error(client),
+        Call::SetPermissionKept {
+            transport,
+            peer_addr,
+            is_kept,
+        } => Ok(set_permission_kept(client, *transport, *peer_addr, *is_kept)),
+        Call::SetChannelKept {
+            transport,
+            peer_addr,
+            is_kept,
+        } => Ok(set_channel_kept(client, *transport, *peer_addr, *is_kept)),
         _ => unreachable!(),
     }
 }
@@ -154,4 +164,26 @@ fn protocol_error<C: TurnClientApi>(client: &mut C) -> Result<Reply, AllocError>
 {
     client.protocol_error()?;
     Ok(Reply::Done)
+}
+
+fn set_permission_kept<C: TurnClientApi>(
+    client: &mut C,
+    transport: TransportType,
+    peer: IpAddr,
+    is_kept: bool,
+) -> Reply
+    ensures { (result, C.state client.new) ≡ step (C.state client.old) (Call.SetPermissionKept transport peer is_kept) }
+{
+    Reply::SetPermissionKept(client.set_permission_kept(transport, peer, is_kept))
+}
+
+fn set_channel_kept<C: TurnClientApi>(
+    client: &mut C,
+    transport: TransportType,
+    peer: SocketAddr,
+    is_kept: bool,
+) -> Reply
+    ensures { (result, C.state client.new) ≡ step (C.state client.old) (Call.SetChannelKept transport peer is_kept) }
+{
+    Reply::SetChannelKept(client.set_channel_kept(transport, peer, is_kept))
 }

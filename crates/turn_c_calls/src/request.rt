@@ -4,13 +4,13 @@ ghost use Rattle.std.specs.Prelude.{◌≡◌, ◌^◌, ◌≤◌, IfSome};
 ghost use Rattle.std.specs.Option.{option_map};
 ghost use Rattle.turn_c_calls.specs.Judge.{IsPossible};
 ghost use Rattle.turn_c_calls.specs.Operation.{Plain};
-ghost use Rattle.turn_c_calls.specs.Request.{kind_of, local_at, operation_with, peer_ip_of, peer_of, relayed_of, time_of, c_tuple};
+ghost use Rattle.turn_c_calls.specs.Request.{is_kept_of, kind_in, kind_of, local_at, operation_with, peer_ip_of, peer_of, relayed_of, time_of, c_tuple};
 
 use crate::address::{Address, c_transport, ip_at, socket_at};
 use crate::code::{
     ALLOCATED_TCP_SOCKET, BIND_CHANNEL, CREATE_PERMISSION, DELETE, HAVE_PERMISSION, NO_FAMILY,
     PERMISSIONS, POLL, POLL_EVENT, POLL_RECV, POLL_TRANSMIT, PROTOCOL_ERROR, READ, RECV,
-    RELAYED_ADDRESSES, SEND_TO, TCP_CLOSED, TCP_CONNECT,
+    RELAYED_ADDRESSES, SEND_TO, SET_CHANNEL_KEPT, SET_PERMISSION_KEPT, TCP_CLOSED, TCP_CONNECT,
 };
 use std::net::{IpAddr, SocketAddr};
 use turn_client_api::{Call, Socket5Tuple};
@@ -29,11 +29,11 @@ pub struct Request {
     pub time: u64,
     /// The kind of the request.
     pub kind: u32,
-    /// The number of an offer, or an index.
+    /// The number of an offer, an index, or whether something is kept.
     pub id: u32,
     /// A transport.
     pub transport: u32,
-    /// 0, and not read.
+    /// 0.
     pub reserved: u32,
     /// A source, the local address of a connection, or a relayed address.
     pub from: Address,
@@ -82,6 +82,10 @@ pub enum Kind {
     HavePermission,
     /// No call: the next bytes.
     Read,
+    /// `set_permission_kept`.
+    SetPermissionKept,
+    /// `set_channel_kept`.
+    SetChannelKept,
 }
 
 /// The time, or none if it is over 2^62 nanoseconds.
@@ -96,8 +100,18 @@ pub fn time_of(nanos: u64) -> Option<Instant>
     }
 }
 
+/// The kind of a request, or none if there is no such kind, or if its reserved place is not 0.
+pub fn kind_in(request: &Request) -> Option<Kind>
+    ensures { result ≡ kind_in request.now }
+{
+    if request.reserved != 0 {
+        return None;
+    }
+    kind_of(request.kind)
+}
+
 /// The kind of this number.
-pub fn kind_of(code: u32) -> Option<Kind>
+fn kind_of(code: u32) -> Option<Kind>
     ensures { result ≡ kind_of code }
 {
     match code {
@@ -118,6 +132,8 @@ pub fn kind_of(code: u32) -> Option<Kind>
         PERMISSIONS => Some(Kind::Permissions),
         HAVE_PERMISSION => Some(Kind::HavePermission),
         READ => Some(Kind::Read),
+        SET_PERMISSION_KEPT => Some(Kind::SetPermissionKept),
+        SET_CHANNEL_KEPT => Some(Kind::SetChannelKept),
         _ => None,
     }
 }
@@ -214,7 +230,7 @@ pub fn allocated_tcp_socket(now: Instant, request: &Request) -> Option<Call>
 fn local_at(address: &Address) -> Option<Option<SocketAddr>>
     ensures { result ≡ local_at address.now }
 {
-    if address.family == NO_FAMILY {
+    if address.family == NO_FAMILY && address.reserved == 0 {
         return Some(None);
     }
     Some(Some(socket_at(address)?))
@@ -232,5 +248,44 @@ pub fn tcp_closed(now: Instant, request: &Request) -> Option<Call>
         local_addr,
         remote_addr,
         now,
+    })
+}
+
+/// Whether something is kept: 1 or 0.
+fn is_kept_of(id: u32) -> Option<bool>
+    ensures { result ≡ is_kept_of id }
+{
+    match id {
+        0 => Some(false),
+        1 => Some(true),
+        _ => None,
+    }
+}
+
+/// The `set_permission_kept` that a request is, or none if it lacks a transport or an address, or says neither 0 nor 1.
+pub fn set_permission_kept(now: Instant, request: &Request) -> Option<Call>
+    ensures value { option_map Plain result ≡ operation_with now request.now Kind.SetPermissionKept }
+    ensures possible { IfSome result (IsPossible) }
+{
+    let (transport, peer_addr) = peer_ip_of(request)?;
+    let is_kept = is_kept_of(request.id)?;
+    Some(Call::SetPermissionKept {
+        transport,
+        peer_addr,
+        is_kept,
+    })
+}
+
+/// The `set_channel_kept` that a request is, or none if it lacks a transport or an address, or says neither 0 nor 1.
+pub fn set_channel_kept(now: Instant, request: &Request) -> Option<Call>
+    ensures value { option_map Plain result ≡ operation_with now request.now Kind.SetChannelKept }
+    ensures possible { IfSome result (IsPossible) }
+{
+    let (transport, peer_addr) = peer_of(request)?;
+    let is_kept = is_kept_of(request.id)?;
+    Some(Call::SetChannelKept {
+        transport,
+        peer_addr,
+        is_kept,
     })
 }

@@ -1,7 +1,7 @@
 //! A client with the bytes that are to be read of it.
 
 use crate::answer::Answer;
-use crate::handle::handle;
+use crate::handle::{handle, look};
 use crate::request::Request;
 use crate::unread::Unread;
 use std::alloc::Global;
@@ -34,6 +34,7 @@ impl Session {
     ghost use Rattle.std.specs.Prelude.{◌≡◌, []};
     ghost use Rattle.turn_client_proto.specs.Client.{state_of};
     ghost use Rattle.turn_c_calls.specs.Held.{held};
+    ghost use Rattle.turn_c_calls.specs.Look.{look_answer, looked};
     ghost use Rattle.turn_c_calls.specs.Step.{Steps};
 
     /// This client, whose allocations relay over `relays`, with nothing to be read.
@@ -71,6 +72,17 @@ impl Session {
             buffer,
             answer,
         ) {
+            Ok(()) => {}
+            Err(fault) => answer.kind = fault.code(),
+        }
+    }
+
+    /// Answers a request that only looks at the client.
+    #[tactic(auto, using(crate::proofs::LookLemmas::looked_so, crate::proofs::LookLemmas::looked_not))]
+    pub fn look(&self, request: &Request, answer: &mut Answer)
+        ensures { answer.new ≡ look_answer (looked request.now self.now.client) answer.old }
+    {
+        match look(&self.client, request, answer) {
             Ok(()) => {}
             Err(fault) => answer.kind = fault.code(),
         }

@@ -2,11 +2,11 @@
 
 ghost use Rattle.std.specs.Prelude.{◌≡◌, IfSome};
 ghost use Rattle.turn_stun.specs.declared.transport.TransportType.TheVariants.{Udp};
-ghost use Rattle.turn_c_calls.specs.Settings.{c_algorithm, c_algorithms, c_families, c_family, c_feature};
+ghost use Rattle.turn_c_calls.specs.Settings.{c_algorithm, c_algorithms, c_cadence, c_families, c_family, c_feature, has_reserved_zero, unless_zero};
 ghost use Rattle.turn_c_calls.specs.Settings.{c_ends, other_algorithm, other_family, plan_of, c_requested, c_waits};
 
 use crate::address::{Address, c_transport, socket_at};
-use crate::code::{AUTO, DISABLED, NONE, REQUIRED, SHA1, SHA256, VERSION_4, VERSION_6};
+use crate::code::{AUTO, DISABLED, NO_PAUSE, NONE, REQUIRED, SHA1, SHA256, VERSION_4, VERSION_6};
 use turn_auth::feature::Feature;
 use turn_auth::integrity::IntegrityAlgorithm;
 use turn_lines::head::{Ends, Request, Waits};
@@ -43,12 +43,20 @@ pub struct Settings {
     pub anonymous: u32,
     /// How many challenges in a row are answered, or 0 for the default number.
     pub max_stale_nonces: u16,
-    /// 0, and not read.
+    /// 0.
     pub reserved: u16,
     /// The client's address.
     pub local: Address,
     /// The server's address.
     pub remote: Address,
+    /// The pause between two requests, in nanoseconds: 0 for the default, and [`NO_PAUSE`](crate::code::NO_PAUSE) for none.
+    pub request_cadence: u64,
+    /// After how long without a packet the path to the server is kept alive, in nanoseconds: 0 for never.
+    pub keepalive: u64,
+    /// How long before its expiry a grant is refreshed, in nanoseconds: 0 for the default.
+    pub refresh_ahead: u64,
+    /// 0.
+    pub reserved_places: [u64; 2],
 }
 
 /// What the settings say.
@@ -62,14 +70,23 @@ pub struct Plan {
     pub waits: Option<Waits>,
     /// How many challenges in a row are answered, or 0 for the default number.
     pub max_stale_nonces: u16,
+    /// The pause between two requests, in nanoseconds, or `None` for the default one.
+    pub request_cadence: Option<u64>,
+    /// After how long without a packet the path to the server is kept alive, in nanoseconds, or `None` for never.
+    pub keepalive: Option<u64>,
+    /// How long before its expiry a grant is refreshed, in nanoseconds, or `None` for the default.
+    pub refresh_ahead: Option<u64>,
 }
 
-/// What the settings say, or none if a number or an address is invalid, or if a client over UDP requests an allocation
-/// over TCP (RFC 6062, section 4.1).
+/// What the settings say, or none if a number or an address is invalid, a reserved place is not 0, or a client over UDP
+/// requests an allocation over TCP (RFC 6062, section 4.1).
 pub fn plan_of(settings: &Settings) -> Option<Plan>
     ensures value { result ≡ plan_of settings.now }
     ensures relays { IfSome result (λ plan. plan.ends.transport ≡ Udp → plan.request.allocation ≡ Udp) }
 {
+    if !has_reserved_zero(settings) {
+        return None;
+    }
     let ends = c_ends(settings)?;
     let request = c_requested(settings)?;
     match (ends.transport, request.allocation) {
@@ -79,8 +96,37 @@ pub fn plan_of(settings: &Settings) -> Option<Plan>
             request,
             waits: c_waits(settings),
             max_stale_nonces: settings.max_stale_nonces,
+            request_cadence: c_cadence(settings.request_cadence),
+            keepalive: unless_zero(settings.keepalive),
+            refresh_ahead: unless_zero(settings.refresh_ahead),
         }),
     }
+}
+
+/// Whether the reserved places are 0, but for those of the addresses.
+fn has_reserved_zero(settings: &Settings) -> bool
+    ensures { result ≡ has_reserved_zero settings.now }
+{
+    let places = settings.reserved_places;
+    settings.reserved == 0 && places[0] == 0 && places[1] == 0
+}
+
+/// The pause between two requests, or `None` for the default one.
+fn c_cadence(nanos: u64) -> Option<u64>
+    ensures { result ≡ c_cadence nanos }
+{
+    if nanos == NO_PAUSE {
+        Some(0)
+    } else {
+        unless_zero(nanos)
+    }
+}
+
+/// A time, or `None` if it is 0.
+fn unless_zero(nanos: u64) -> Option<u64>
+    ensures { result ≡ unless_zero nanos }
+{
+    if nanos == 0 { None } else { Some(nanos) }
 }
 
 fn c_ends(settings: &Settings) -> Option<Ends>

@@ -11,3 +11,9 @@ returns-in-CreatePermission-clause-err g c = rw c.in-CreatePermission.is c.creat
 
 pub returns-in-BindChannel-clause-err : goal.returns-in-BindChannel-clause-err
 returns-in-BindChannel-clause-err g c = rw c.in-BindChannel.is c.bind_channel.ensures.err
+
+pub returns-in-SetPermissionKept-clause-ok : goal.returns-in-SetPermissionKept-clause-ok
+returns-in-SetPermissionKept-clause-ok g c = rw c.in-SetPermissionKept.is c.set_permission_kept.ensures
+
+pub returns-in-SetChannelKept-clause-ok : goal.returns-in-SetChannelKept-clause-ok
+returns-in-SetChannelKept-clause-ok g c = rw c.in-SetChannelKept.is c.set_channel_kept.ensures
