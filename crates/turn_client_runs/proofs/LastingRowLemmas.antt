@@ -173,7 +173,7 @@ with_three time allocation permission channel ids s = granted_at time (
     ) (record s { ids = ids; challenges = 0 })
 
 -- and then a request for this was sent
-abbrev requesting : ℕ → ℕ → Purpose → List ℕ → State → State
+abbrev pub requesting : ℕ → ℕ → Purpose → List ℕ → State → State
 requesting now id purpose text s = record s {
   ids = behind_id s.ids;
   transactions = first_sent id s.remote now text ∷ [];

@@ -5,6 +5,7 @@ pub mod AskedFamilies
 pub mod AskedLemmas
 pub mod AskedPeers
 pub mod BoundLemmas
+pub mod BusyLemmas
 pub mod CallGrants
 pub mod ChallengeLemmas
 pub mod ComingLemmas

@@ -1,4 +1,5 @@
 pub mod Bound
+pub mod Busy
 pub mod Challenges
 pub mod Cut
 pub mod CutRows
