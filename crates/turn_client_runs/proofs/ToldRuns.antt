@@ -1,5 +1,7 @@
 -- In each part of a run no cause is told twice.
-use Rattle.std.proofs.Common.{◌≡◌, ℕ, ◌+◌, ◌≤◌, true, List, [], ◌∷◌, refl, sym, subst, arith, inl, inr}
+use Rattle.std.proofs.Common.{◌≡◌, ℕ, ◌+◌, ◌≤◌, true, List, [], ◌∷◌, refl, sym, subst, arith, inl, inr, ◌∙◌, false}
+use Rattle.std.specs.List.{list_any}
+use Rattle.std.proofs.lemmas.Bool.{false_from_ne_true}
 use Rattle.std.specs.List.{Contains}
 use Rattle.std.specs.declared.net.socket_addr.SocketAddr.{SocketAddr}
 use Rattle.turn_stun.specs.declared.transport.TransportType.{TransportType}
@@ -8,6 +10,10 @@ use Rattle.turn_client_api.specs.State.{State, initial}
 use Rattle.turn_client_api.specs.declared.call.Call.{Call}
 use Rattle.turn_client_api.specs.declared.call.Call.TheVariants.{BindChannel, CreatePermission, PollEvent, PollRecv, Recv}
 use Rattle.turn_client_api.specs.declared.event.TurnEvent.{TurnEvent}
+use Rattle.turn_client_api.specs.declared.event.TurnEvent.TheVariants.{PermissionCreated, PermissionCreateFailed, ChannelCreated, ChannelCreateFailed}
+use Rattle.turn_client_api.specs.declared.grant.Grant.{Grant}
+use Rattle.turn_types.specs.declared.family.AddressFamily.{AddressFamily}
+use Rattle.turn_client_laws.proofs.InAllocationLemmas.{has-any}
 use Rattle.turn_client_api.specs.Receive.{connection_gone}
 use Rattle.turn_client_api.specs.Steps.{state_after, state_after_all}
 use Rattle.turn_client_api.specs.Streams.{without_stream}
@@ -22,7 +28,8 @@ use Rattle.turn_client_laws.proofs.HasLemmas.{Has}
 use Rattle.turn_client_laws.proofs.StandLemmas.{has-contains}
 use Rattle.turn_client_laws.proofs.TurnChainLemmas.{calls-do}
 use Rattle.turn_client_laws.proofs.TurnKeepLemmas.{before-kept}
-use Rattle.turn_client_runs.specs.Told.{CausesAreToldOnce, due_of, in_calls, is_awaited_by, is_like, is_to_come, requested_by, told_by}
+use Rattle.turn_client_runs.specs.Told.{CausesAreToldOnce, IsOfGrant, IsToldOncePerRequest, is_about, due_of, in_calls, is_awaited_by, is_like, is_to_come, requested_by, told_by}
+use Rattle.turn_client_runs.proofs.LastingCounts.{passes, passes-none}
 use Rattle.turn_client_runs.proofs.QuietLemmas.{calls-keep}
 use Rattle.turn_client_runs.proofs.RunGrants.{Keeps, call-keeps, first-keeps, keeps-signed}
 use Rattle.turn_client_runs.proofs.ToldCalls.{quiet-spends}
@@ -48,6 +55,18 @@ input-settled : (call : Call) (s : State) → Keeps s → NamesOnce s → (one :
 input-settled call s keeps names one there =
     let among = has-contains one (handled call s) there in
     settled one.before (keeps-signed call s keeps one among).0 (rw (input-configured call s one among) names)
+
+-- the event may come only of such a grant
+comes-about : (e : TurnEvent) (g : Grant) → is_to_come e g ≡ true → is_about e g ≡ true
+comes-about e g is = grind arith
+
+-- of a grant no family is awaited
+none-awaited : (e : TurnEvent) → IsOfGrant e → (families : List AddressFamily) → passes (is_awaited_by e) families ≡ 0
+none-awaited (PermissionCreated over ip) of families = passes-none _ families (λ family there. refl)
+none-awaited (PermissionCreateFailed over ip) of families = passes-none _ families (λ family there. refl)
+none-awaited (ChannelCreated over peer) of families = passes-none _ families (λ family there. refl)
+none-awaited (ChannelCreateFailed over peer) of families = passes-none _ families (λ family there. refl)
+none-awaited e of families = absurd of
 
 module _ (e : TurnEvent) where
   inputs-spend : (call : Call) (s : State) → Keeps s → NamesOnce s → TakesInput call → Spends e s (state_after call s)
@@ -84,6 +103,26 @@ module _ (e : TurnEvent) where
   due-load : (s : State) → due_of e s ≡ load e s
   due-load s = omega (arith, count-passes (is_like e) s.events, count-passes (is_to_come e) s.grants, count-passes (is_awaited_by e) s.families)
 
+  -- ---- one request
+
+  -- of no such grant the event comes
+  none-to-come : (gs : List Grant) → list_any (is_about e) gs ≡ false → passes (is_to_come e) gs ≡ 0
+  none-to-come gs none = passes-none (is_to_come e) gs (λ g there. false_from_ne_true (is_to_come e g) (λ is.
+      let no : true ≡ false = sym (has-any (is_about e) g gs there (comes-about e g is)) ∙ none in cc))
+
+  once-requested : (calls : List Call) (s : State) → Keeps s → NamesOnce s → IsToldOncePerRequest e s calls
+  once-requested calls s keeps names of none few =
+      let t = state_after_all s calls in
+      omega (
+        arith,
+        few,
+        calls-tell calls s keeps names,
+        none-to-come s.grants none,
+        none-awaited e of s.families,
+        count-passes (is_like e) s.events,
+        count-passes (is_like e) t.events,
+      )
+
 pub causes-told-once : (transport : TransportType) (local remote : SocketAddr) (config : Config) (seed : List ℕ) (calls : List Call)
     → CausesAreToldOnce (initial transport local remote config seed) calls
 causes-told-once transport local remote config seed calls names earlier middle later split e =
@@ -91,4 +130,4 @@ causes-told-once transport local remote config seed calls names earlier middle l
     let s = state_after_all first earlier in
     let keeps = calls-keep Keeps call-keeps earlier first (first-keeps transport local remote config seed) in
     let still = calls-keep NamesOnce (call-names e) earlier first names in
-    omega (arith, calls-tell e middle s keeps still, due-load e s, due-load e (state_after_all s middle))
+    (omega (arith, calls-tell e middle s keeps still, due-load e s, due-load e (state_after_all s middle)), once-requested e middle s keeps still)

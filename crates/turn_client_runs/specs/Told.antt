@@ -1,6 +1,6 @@
 -- Each event is told once (RFC 8656, sections 7 to 12): it answers a request of the client, and no request
--- is answered by two events that say the same.
-use Rattle.std.specs.Prelude.{◌≡◌, ◌+◌, ◌≤◌, ℕ, Bool, true, false, not, ◌&&◌, if◌then◌else◌, List, [], ◌∷◌, length, filter}
+-- is answered by two events that say the same. The events of data connections are not counted.
+use Rattle.std.specs.Prelude.{◌≡◌, ◌+◌, ◌≤◌, ℕ, Bool, true, false, not, ◌&&◌, if◌then◌else◌, List, [], ◌∷◌, length, filter, ⊤}
 use Rattle.std.specs.List.{list_any}
 use Rattle.std.specs.Net.Socket.{socket_ip}
 use Rattle.std.specs.Option.{option_map_or}
@@ -101,14 +101,29 @@ in_calls number s (call ∷ calls) = number call s + in_calls number (state_afte
 
 -- The events like this one that these calls return, and those that wait or may still come after them, are
 -- not more than waited or might come before, and one for each new request among the calls. A new request
--- finds no such grant, of which the event might come. So at most one event tells that it was created from a
--- new request up to the next one, and there it had been lost.
+-- finds no such grant.
 abbrev pub IsToldOnce : TurnEvent → State → List Call → Type 0
 IsToldOnce event s calls =
     in_calls (told_by event) s calls + due_of event (state_after_all s calls) ≤ due_of event s + in_calls (requested_by event) s calls
+
+-- the event is of a permission or a channel
+abbrev pub IsOfGrant : TurnEvent → Type 0
+IsOfGrant (PermissionCreated over ip) = ⊤
+IsOfGrant (PermissionCreateFailed over ip) = ⊤
+IsOfGrant (ChannelCreated over peer) = ⊤
+IsOfGrant (ChannelCreateFailed over peer) = ⊤
+IsOfGrant _ = ⊥
+
+-- If no such grant exists before the first of these calls, and only one of them requests it anew, then at most
+-- one event more tells that it was created, and at most one that it failed. So between two that tell that it
+-- was created, it was lost.
+abbrev pub IsToldOncePerRequest : TurnEvent → State → List Call → Type 0
+IsToldOncePerRequest event s calls =
+    IsOfGrant event → list_any (is_about event) s.grants ≡ false → in_calls (requested_by event) s calls ≤ 1
+    → in_calls (told_by event) s calls + count (is_like event) (state_after_all s calls).events ≤ count (is_like event) s.events + 1
 
 -- so it is in each part of a run of a client that is configured with each family once at most
 abbrev pub CausesAreToldOnce : State → List Call → Type 0
 CausesAreToldOnce first calls =
     is_family_list first.config.address_families ≡ true
-    → InEachPart (λ s middle. (event : TurnEvent) → IsToldOnce event s middle) first calls
+    → InEachPart (λ s middle. (event : TurnEvent) → IsToldOnce event s middle × IsToldOncePerRequest event s middle) first calls
