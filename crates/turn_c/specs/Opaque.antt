@@ -9,6 +9,7 @@ use Rattle.std.specs.Box.Ownership.{box_owns}
 use Rattle.std.specs.declared.alloc.Global.{Global}
 use Rattle.std.specs.contracts.impls.GlobalAllocator.TheImpl.{ghosts}
 use Rattle.turn_c_calls.specs.Held.{Held}
+use Rattle.turn_c_calls.specs.Look.{LooksAt}
 use Rattle.turn_c_calls.specs.Step.{Steps}
 use Rattle.turn_c_calls.specs.declared.answer.Answer.{Answer}
 use Rattle.turn_c_calls.specs.declared.request.Request.{Request}
@@ -46,3 +47,12 @@ CallDoes request bytes was now buffer after a b kind = Steps request bytes was n
 abbrev pub kept_at : Ptr → Held → Request → List ℕ → List ℕ → List ℕ → Answer → Answer → ℕ → Fml
 kept_at p was request bytes buffer after a b kind =
     fex Held (λ now. fsep (holds_at p now) (fex (CallDoes request bytes was now buffer after a b kind) (λ _. ftrue)))
+
+-- what a request that only looks is answered, and the kind of its answer
+abbrev pub LookDoes : Request → Held → Held → Answer → Answer → ℕ → Type 0
+LookDoes request was now a b kind = LooksAt request was now a b × (kind ≡ b.kind)
+
+-- the same box, at the same value
+abbrev pub looked_at : Ptr → Held → Request → Answer → Answer → ℕ → Fml
+looked_at p was request a b kind =
+    fex Held (λ now. fsep (holds_at p now) (fex (LookDoes request was now a b kind) (λ _. ftrue)))

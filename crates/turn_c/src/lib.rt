@@ -1,5 +1,6 @@
-//! A client for C programs: an opaque pointer to a session in a box. One function makes it, one answers requests, and one
-//! frees it. All else is in `turn_c_calls`; `include/yarrowdoor.h` declares these functions.
+//! A client for C programs: an opaque pointer to a session in a box. One function makes it, one answers requests, one only
+//! looks at it, and one frees it. Two read packets without a client. All else is in `turn_c_calls`; `include/yarrowdoor.h`
+//! declares these functions.
 //!
 //! What nothing here can check is the C program's to keep: the pointer is one that [`yarrowdoor_new`] wrote and that was
 //! not freed, no two arguments overlap, nothing else touches the session's memory, and one call is made at a time.
@@ -8,12 +9,14 @@
 ghost use Rattle.std.specs.Prelude.{◌≡◌};
 ghost use types.Logic.{sem};
 ghost use Rattle.turn_c_calls.specs.Held.{Held};
-ghost use Rattle.turn_c.specs.Opaque.{holds_at, new_at, kept_at};
+ghost use Rattle.turn_c_calls.specs.Hints.{SaysFirst, SaysPlace};
+ghost use Rattle.turn_c.specs.Opaque.{holds_at, new_at, kept_at, looked_at};
 ghost use Rattle.turn_c.specs.Starts.{Starts};
 
 use std::alloc::Global;
 use turn_c_calls::answer::Answer;
-use turn_c_calls::library::{finish, start, step};
+use turn_c_calls::hints::{Hints, read_attribute, read_message};
+use turn_c_calls::library::{finish, look_at, start, step};
 use turn_c_calls::request::Request;
 use turn_c_calls::session::Session;
 use turn_c_calls::settings::Settings;
@@ -92,6 +95,52 @@ pub unsafe extern "C" fn yarrowdoor_call(
         buffer,
         answer,
     )
+}
+
+/// Answers a request that only looks at the client, and returns the kind of the answer. The session stays as it was.
+///
+/// # Errors
+///
+/// Returns `BAD_TIME`, or `BAD_CALL` if it is another request or lacks what it needs, and changes only the answer's kind.
+#[unsafe(no_mangle)]
+pub unsafe extern "C" fn yarrowdoor_look(
+    session: *mut u8,
+    request: &Request,
+    answer: &mut Answer,
+) -> u32
+    ghost was: { Held }
+    requires* { sem 𝓛 (holds_at session was) }
+    ensures* { sem 𝓛 (looked_at session was request.now answer.old answer.new result) }
+{
+    look_at(&mut *(session as *mut Session), request, answer)
+}
+
+/// Reads the first frame of bytes that came over this transport, and returns the kind of what it is.
+///
+/// # Errors
+///
+/// Returns `BAD_CALL` if there is no such transport, `NO_FRAME` if the bytes begin no frame, and over TCP `NOTHING` if more
+/// are needed.
+#[unsafe(no_mangle)]
+pub extern "C" fn yarrowdoor_read_message(transport: u32, bytes: &[u8], message: &mut Hints) -> u32
+    ensures says { SaysFirst transport bytes.now message.new }
+    ensures kind { result ≡ message.new.kind }
+{
+    read_message(transport, bytes, message)
+}
+
+/// Reads where the value of the first attribute of this type lies, of the message that the bytes are or begin with. Returns
+/// `YES`, or `NO` if there is none.
+#[unsafe(no_mangle)]
+pub extern "C" fn yarrowdoor_read_attribute(
+    bytes: &[u8],
+    attribute_type: u16,
+    start: &mut usize,
+    value_len: &mut usize,
+) -> u32
+    ensures { SaysPlace attribute_type bytes.now start.new value_len.new result }
+{
+    read_attribute(bytes, attribute_type, start, value_len)
 }
 
 /// Frees the session. Its pointer is not to be used again.
