@@ -17,19 +17,41 @@
    What the caller owes, since nothing checks it:
    - A client is a pointer that yarrowdoor_new has put there, and that was not passed to yarrowdoor_free.
    - One call of a client at a time, and the memory behind its pointer is neither read nor written.
-   - No pointer is null, except those to bytes and buffers of length 0, in the functions below. All behind a pointer is
-     readable, and what is not const is writable.
+   - No pointer is null, except those to bytes and buffers of length 0 of a function that makes a call, as yarrowdoor_recv
+     (not of yarrowdoor_new, yarrowdoor_call, yarrowdoor_read_message and yarrowdoor_read_attribute). All behind a pointer
+     is readable and initialised, and what is not const is writable.
    - What a call writes (its buffer, its answer) overlaps nothing else that is passed to it.
+
+   Reserved bytes are 0 on the way in, and a call with another one there is refused. On the way out they are 0.
 
    No pointer into memory of the library is given to the caller: bytes are copied to the caller's buffer, or named by
    their place in the bytes that the caller passed in. The library reads no clock, opens nothing and starts no thread.
-   Its memory is that of malloc, and it leaves errno as malloc does. */
+   Its memory is that of malloc, and it leaves errno as malloc does.
+
+   The functions that make a call are inline. With YARROWDOOR_NO_INLINE defined they are declared alone, and those of the
+   library are called, as other languages do. */
 #ifndef YARROWDOOR_H
 #define YARROWDOOR_H
 
 #include <stddef.h>
 #include <stdint.h>
 #include <string.h>
+
+/* The version of this header: that of the library is yarrowdoor_version(). */
+#define YARROWDOOR_VERSION_MAJOR 0
+#define YARROWDOOR_VERSION_MINOR 1
+#define YARROWDOOR_VERSION_PATCH 0
+#define YARROWDOOR_VERSION                                                                                             \
+    ((uint32_t)YARROWDOOR_VERSION_MAJOR << 16 | (uint32_t)YARROWDOOR_VERSION_MINOR << 8 |                               \
+     (uint32_t)YARROWDOOR_VERSION_PATCH)
+
+/* How the functions stand here that are inline: with YARROWDOOR_DEFINE, which the library's own source defines, they are
+   its symbols. */
+#if defined(YARROWDOOR_NO_INLINE) || defined(YARROWDOOR_DEFINE)
+#define YARROWDOOR_INLINE
+#else
+#define YARROWDOOR_INLINE static inline
+#endif
 
 #ifdef __cplusplus
 extern "C" {
@@ -66,7 +88,7 @@ enum yarrowdoor_anonymous {
     YARROWDOOR_DISABLED = 2  /* never */
 };
 
-/* What the buffer of yarrowdoor_poll_transmit needs, in bytes: every packet is shorter. */
+/* A buffer of so many bytes holds every packet of yarrowdoor_poll_transmit: each is shorter. */
 #define YARROWDOOR_MAX_PACKET ((size_t)65556)
 
 /* What the packet of yarrowdoor_send_to may have beyond its data, in bytes: its buffer needs as much more. */
@@ -78,17 +100,20 @@ enum yarrowdoor_anonymous {
 /* The greatest time, in nanoseconds: 146 years. */
 #define YARROWDOOR_MAX_TIME ((uint64_t)1 << 62)
 
+/* No pause between two requests, as request_cadence of the settings. */
+#define YARROWDOOR_NO_PAUSE (~(uint64_t)0)
+
 /* The bytes of a seed. */
 #define YARROWDOOR_SEED_LEN ((size_t)32)
 
-/* What a call answers. */
+/* What a call answers. A later version may have more kinds, so a switch over them needs a default. */
 enum yarrowdoor_kind {
     /* Nothing was done. Of the next five the first that holds is answered, and the client is as it was. */
     YARROWDOOR_BAD_TIME = 2,     /* the time is over 2^62 ns */
-    YARROWDOOR_BAD_CALL = 3,     /* there is no such call, or it lacks a transport or an address */
+    YARROWDOOR_BAD_CALL = 3,     /* there is no such call, it lacks a transport or an address, or a reserved byte is not 0 */
     YARROWDOOR_BAD_PAYLOAD = 4,  /* the data has over 65,504 bytes, and the allocation relays over UDP */
     YARROWDOOR_UNREAD_BYTES = 5, /* yarrowdoor_read has to read the rest of an earlier answer first */
-    YARROWDOOR_SMALL_BUFFER = 6, /* the buffer is too small */
+    YARROWDOOR_SMALL_BUFFER = 6, /* the buffer of yarrowdoor_send_to is too small */
 
     /* A memory allocation failed. The client is valid, and may have ended: poll it. */
     YARROWDOOR_OUT_OF_MEMORY = 1,
@@ -106,7 +131,7 @@ enum yarrowdoor_kind {
     YARROWDOOR_CLOSED = 13,              /* the client has ended: it makes no more requests */
 
     /* of yarrowdoor_poll_transmit and yarrowdoor_send_to */
-    YARROWDOOR_PACKET = 14, /* send the len bytes in the buffer over transport, from `from` to `to` */
+    YARROWDOOR_PACKET = 14, /* send the len bytes in the buffer over transport, from `from` to `to`; first read left more */
 
     /* of yarrowdoor_recv and yarrowdoor_poll_recv */
     YARROWDOOR_HANDLED = 15,         /* the bytes were for the client itself */
@@ -116,7 +141,7 @@ enum yarrowdoor_kind {
     YARROWDOOR_PEER_DATA_RANGE = 34, /* peer sent data over transport: len of the bytes passed in, from start on */
     YARROWDOOR_PEER_ICMP = 18, /* an ICMP packet came for data to peer: transport, icmp_type, icmp_code, icmp_data */
 
-    /* of yarrowdoor_read */
+    /* of yarrowdoor_read, for data of a peer and for packets */
     YARROWDOOR_BYTES = 19, /* len bytes in the buffer, and left more to read */
 
     /* of the calls that only look */
@@ -135,9 +160,18 @@ enum yarrowdoor_kind {
     YARROWDOOR_TCP_CONNECT_FAILED = 30,       /* a data connection to peer was refused, or not made in time */
 
     /* of yarrowdoor_new, beside 0 and YARROWDOOR_OUT_OF_MEMORY */
-    YARROWDOOR_BAD_SETTINGS = 31,    /* a number or an address is none, or it is UDP with an allocation over TCP */
+    YARROWDOOR_BAD_SETTINGS = 31,    /* a number or an address is none, a reserved byte is not 0, or it is UDP with an
+                                        allocation over TCP */
     YARROWDOOR_BAD_CREDENTIALS = 32, /* the user name has not 1 to 508 bytes, or the password over 65,535 */
-    YARROWDOOR_BAD_SEED = 33         /* the seed has not 32 bytes */
+    YARROWDOOR_BAD_SEED = 33,        /* the seed has not 32 bytes */
+
+    /* of yarrowdoor_read_message, beside YARROWDOOR_NOTHING and YARROWDOOR_BAD_CALL */
+    YARROWDOOR_MESSAGE = 35,      /* a STUN message (RFC 8489, section 5) */
+    YARROWDOOR_CHANNEL_DATA = 36, /* ChannelData (RFC 8656, section 12.4) */
+    YARROWDOOR_NO_FRAME = 37,     /* neither, or a malformed message; over UDP also what is cut short, no bytes, and bytes
+                                     behind a message */
+
+    YARROWDOOR_KIND_WIDTH = 0x7fffffff /* no kind: the type has 32 bits */
 };
 
 /* Why a client refuses a call, as the error of YARROWDOOR_REFUSED. The client is as it was, but that
@@ -147,7 +181,16 @@ enum yarrowdoor_error {
     YARROWDOOR_ERROR_NO_ALLOCATION = 2,  /* there is no allocation for it */
     YARROWDOOR_ERROR_NO_PERMISSION = 3,  /* the peer has no permission */
     YARROWDOOR_ERROR_NO_SOCKET = 4,      /* no data connection to the peer is bound */
-    YARROWDOOR_ERROR_EXPIRED = 5         /* the peer had a channel, and may have another only after time */
+    YARROWDOOR_ERROR_EXPIRED = 5,        /* the peer had a channel, and may have another only after time */
+    YARROWDOOR_ERROR_NOT_GRANTED = 6     /* there is no such permission or channel, pending or active */
+};
+
+/* The class of a STUN message (RFC 8489, section 5). */
+enum yarrowdoor_message_class {
+    YARROWDOOR_CLASS_REQUEST = 0,
+    YARROWDOOR_CLASS_INDICATION = 1,
+    YARROWDOOR_CLASS_SUCCESS = 2,
+    YARROWDOOR_CLASS_ERROR = 3
 };
 
 /* ---- structs */
@@ -165,7 +208,7 @@ typedef struct yarrowdoor_address {
 /* What a new client is and does. yarrowdoor_settings_of gives the usual ones. */
 typedef struct yarrowdoor_settings {
     uint64_t wait_initial; /* from when a request is made to its second transmission, in nanoseconds; then doubled. The
-                              first one may be held back by the 50 ms between requests, and these count */
+                              first one may be held back by the pause between requests, which counts */
     uint64_t wait_max;     /* the longest wait between two transmissions, in nanoseconds */
     uint64_t wait_last;    /* the wait after the last transmission, in nanoseconds */
     uint32_t wait_count;   /* how often a request is transmitted over UDP in all; once where wait_initial is at most 1 ms */
@@ -181,6 +224,12 @@ typedef struct yarrowdoor_settings {
     uint16_t reserved;             /* 0 */
     yarrowdoor_address local;      /* the client's address: that of the socket */
     yarrowdoor_address remote;     /* the server's address */
+    uint64_t request_cadence;      /* the pause between two requests, in nanoseconds. 0: 50 ms. YARROWDOOR_NO_PAUSE: none */
+    uint64_t keepalive;     /* after so long without a packet a Binding indication keeps the path to the server alive, in
+                               nanoseconds; less than 1 s is taken as 1 s. 0: never. For a NAT 15 s are usual */
+    uint64_t refresh_ahead; /* so long before its expiry a grant is refreshed, but not before half of its lifetime is over,
+                               in nanoseconds; less than 1 s is taken as 1 s. 0: 60 s */
+    uint64_t reserved_places[2]; /* 0 */
 } yarrowdoor_settings;
 
 /* A call: the functions below fill it in. */
@@ -214,7 +263,28 @@ typedef struct yarrowdoor_answer {
     yarrowdoor_address from;
     yarrowdoor_address to;
     yarrowdoor_address peer;
+    uint64_t reserved_places[2]; /* 0 */
 } yarrowdoor_answer;
+
+/* What the first frame of bytes says. Nothing of it was verified, so anyone who can send to the socket may have sent it. */
+typedef struct yarrowdoor_message {
+    uint64_t len;           /* bytes of the frame, over TCP with its padding */
+    uint32_t kind;          /* YARROWDOOR_MESSAGE, or what else yarrowdoor_read_message answers. Of ChannelData only len and
+                               channel are set beside it, and of what is no frame nothing */
+    uint16_t method;        /* RFC 8489, section 18.2, RFC 8656, section 17 and RFC 6062, section 6.1: Allocate is 3 */
+    uint16_t message_class; /* of enum yarrowdoor_message_class */
+    uint8_t id[12];         /* the transaction ID: that of the request, in a response */
+    uint16_t channel;       /* the channel number of ChannelData, from 0x4000 to 0x7fff */
+    uint16_t code;          /* of ERROR-CODE, from 300 to 699. 0: there is none, or it is malformed */
+    uint32_t reason_at;     /* where the text of ERROR-CODE begins in the bytes, not ended by a 0; 0 where there is none */
+    uint32_t reason_len;    /* bytes of that text */
+    uint32_t realm_at;      /* where the first REALM begins in the bytes; 0 where there is none */
+    uint32_t realm_len;     /* bytes of the realm */
+    yarrowdoor_address mapped;    /* XOR-MAPPED-ADDRESS: the address at which the server sees the client. Family 0: there is
+                                     none, or it is malformed */
+    yarrowdoor_address alternate; /* ALTERNATE-SERVER, likewise */
+    uint8_t reserved[8];          /* 0 */
+} yarrowdoor_message;
 
 /* ---- what the library exports */
 
@@ -233,9 +303,47 @@ uint32_t yarrowdoor_new(const yarrowdoor_settings *settings, const uint8_t *user
 uint32_t yarrowdoor_call(yarrowdoor *client, const yarrowdoor_request *request, const uint8_t *bytes, size_t bytes_len,
                          uint8_t *buffer, size_t buffer_len, yarrowdoor_answer *answer);
 
-/* Frees a client, which is not NULL. It sends nothing: yarrowdoor_delete gives the allocations back to the server
-   before. */
+/* Makes a call of kind YARROWDOOR_CALL_RELAYED_ADDRESSES, YARROWDOOR_CALL_PERMISSIONS or YARROWDOOR_CALL_HAVE_PERMISSION,
+   for which the client is not changed. Of another kind it is YARROWDOOR_BAD_CALL. The answer is written as by
+   yarrowdoor_call. It takes no memory. */
+uint32_t yarrowdoor_look(const yarrowdoor *client, const yarrowdoor_request *request, yarrowdoor_answer *answer);
+
+/* Frees a client, or does nothing where it is NULL. It sends nothing: yarrowdoor_delete gives the allocations back to the
+   server before. */
 void yarrowdoor_free(yarrowdoor *client);
+
+/* Reads the first frame of bytes that came from the server over `transport`: a datagram, or what a stream brought. The
+   client passes over an error response that is not signed, as the 401 to a wrong password, and no event has a code: this
+   says which it was. It verifies nothing, so what it says is a hint, and nothing that is acted on alone. It writes all of
+   *message, of which the kind is returned: YARROWDOOR_MESSAGE, YARROWDOOR_CHANNEL_DATA, YARROWDOOR_NO_FRAME,
+   YARROWDOOR_BAD_CALL where there is no such transport, or over TCP YARROWDOOR_NOTHING where more bytes are needed. It
+   takes no memory.
+
+       yarrowdoor_message said;
+       if (yarrowdoor_read_message(YARROWDOOR_UDP, packet, len, &said) == YARROWDOOR_MESSAGE) {
+           if (said.code == 401 && was_challenged && memcmp(challenge, said.id, 12) != 0) {
+               give_up("the user name or the password is wrong");   // a second request has got a 401, not a copy of the first
+           } else if (said.code == 401) {
+               was_challenged = memcpy(challenge, said.id, 12) != NULL;
+           } else if (said.code && said.method == 8) {
+               report(said.code, packet + said.reason_at, said.reason_len);   // why a permission failed
+           } else if (said.mapped.family) {
+               add_candidate(&said.mapped);   // the server-reflexive candidate of ICE
+           }
+       } */
+uint32_t yarrowdoor_read_message(uint32_t transport, const uint8_t *bytes, size_t len, yarrowdoor_message *message);
+
+/* Finds the first attribute of this type in the STUN message that these bytes are, or begin with. YARROWDOOR_YES: its
+   value is the *value_len bytes at bytes + *start. YARROWDOOR_NO: there is none, and both are 0; so also of ChannelData, of
+   a part of a message and of no bytes. Attributes that do not count, since they stand behind the message's integrity (RFC
+   8489, sections 14.5 and 14.6), are passed over. It verifies nothing, as yarrowdoor_read_message, and takes no memory. */
+uint32_t yarrowdoor_read_attribute(const uint8_t *bytes, size_t len, uint16_t type, size_t *start, size_t *value_len);
+
+/* The version of the library that is linked or loaded, as YARROWDOOR_VERSION is that of this header. */
+uint32_t yarrowdoor_version(void);
+
+/* 0. It is there so that a program is linked to a library of this layout alone. */
+extern const uint32_t yarrowdoor_abi_0;
 
 #ifdef __cplusplus
 }
@@ -256,9 +364,11 @@ void yarrowdoor_free(yarrowdoor *client);
 
 YARROWDOOR_ASSERT(size_is_64_bits, sizeof(size_t) == 8);
 YARROWDOOR_ASSERT(size_of_address, sizeof(yarrowdoor_address) == 28);
-YARROWDOOR_ASSERT(size_of_settings, sizeof(yarrowdoor_settings) == 120);
+YARROWDOOR_ASSERT(size_of_settings, sizeof(yarrowdoor_settings) == 160);
 YARROWDOOR_ASSERT(size_of_request, sizeof(yarrowdoor_request) == 136);
-YARROWDOOR_ASSERT(size_of_answer, sizeof(yarrowdoor_answer) == 144);
+YARROWDOOR_ASSERT(size_of_answer, sizeof(yarrowdoor_answer) == 160);
+YARROWDOOR_ASSERT(size_of_message, sizeof(yarrowdoor_message) == 112);
+YARROWDOOR_ASSERT(size_of_kind, sizeof(enum yarrowdoor_kind) == 4);
 YARROWDOOR_AT(address, ip, 0, 16);
 YARROWDOOR_AT(address, flow, 16, 4);
 YARROWDOOR_AT(address, scope, 20, 4);
@@ -281,6 +391,10 @@ YARROWDOOR_AT(settings, max_stale_nonces, 60, 2);
 YARROWDOOR_AT(settings, reserved, 62, 2);
 YARROWDOOR_AT(settings, local, 64, 28);
 YARROWDOOR_AT(settings, remote, 92, 28);
+YARROWDOOR_AT(settings, request_cadence, 120, 8);
+YARROWDOOR_AT(settings, keepalive, 128, 8);
+YARROWDOOR_AT(settings, refresh_ahead, 136, 8);
+YARROWDOOR_AT(settings, reserved_places, 144, 16);
 YARROWDOOR_AT(request, time, 0, 8);
 YARROWDOOR_AT(request, kind, 8, 4);
 YARROWDOOR_AT(request, id, 12, 4);
@@ -306,6 +420,21 @@ YARROWDOOR_AT(answer, reserved, 58, 2);
 YARROWDOOR_AT(answer, from, 60, 28);
 YARROWDOOR_AT(answer, to, 88, 28);
 YARROWDOOR_AT(answer, peer, 116, 28);
+YARROWDOOR_AT(answer, reserved_places, 144, 16);
+YARROWDOOR_AT(message, len, 0, 8);
+YARROWDOOR_AT(message, kind, 8, 4);
+YARROWDOOR_AT(message, method, 12, 2);
+YARROWDOOR_AT(message, message_class, 14, 2);
+YARROWDOOR_AT(message, id, 16, 12);
+YARROWDOOR_AT(message, channel, 28, 2);
+YARROWDOOR_AT(message, code, 30, 2);
+YARROWDOOR_AT(message, reason_at, 32, 4);
+YARROWDOOR_AT(message, reason_len, 36, 4);
+YARROWDOOR_AT(message, realm_at, 40, 4);
+YARROWDOOR_AT(message, realm_len, 44, 4);
+YARROWDOOR_AT(message, mapped, 48, 28);
+YARROWDOOR_AT(message, alternate, 76, 28);
+YARROWDOOR_AT(message, reserved, 104, 8);
 
 /* ---- calls
 
@@ -330,82 +459,29 @@ enum yarrowdoor_request_kind {
     YARROWDOOR_CALL_RELAYED_ADDRESSES = 14,
     YARROWDOOR_CALL_PERMISSIONS = 15,
     YARROWDOOR_CALL_HAVE_PERMISSION = 16,
-    YARROWDOOR_CALL_READ = 17
+    YARROWDOOR_CALL_READ = 17,
+    YARROWDOOR_CALL_SET_PERMISSION_KEPT = 18,
+    YARROWDOOR_CALL_SET_CHANNEL_KEPT = 19
 };
 
-/* A request of this kind at this time, with its other numbers 0 and no addresses: of these only the family is set. */
-static inline yarrowdoor_request yarrowdoor_request_of(uint32_t kind, uint64_t now)
-{
-    yarrowdoor_request request;
-    request.time = now;
-    request.kind = kind;
-    request.id = 0;
-    request.transport = 0;
-    request.reserved = 0;
-    request.from.family = request.to.family = request.peer.family = request.local.family = YARROWDOOR_NO_ADDRESS;
-    return request;
-}
+/* ---- the functions that make them */
 
-/* Sets an answer to 0, in parts: a memset of so many bytes at once is slower where it becomes a string
-   instruction. */
-static inline void yarrowdoor_clear(yarrowdoor_answer *answer)
-{
-    memset(answer, 0, offsetof(yarrowdoor_answer, from));
-    memset(&answer->from, 0, sizeof answer->from);
-    memset(&answer->to, 0, sizeof answer->to);
-    memset(&answer->peer, 0, sizeof answer->peer);
-}
-
-/* Makes a call that neither takes nor gives bytes. */
-static inline uint32_t yarrowdoor_call_plain(yarrowdoor *client, const yarrowdoor_request *request,
-                                             yarrowdoor_answer *answer)
-{
-    uint8_t bytes = 0, buffer = 0;
-    yarrowdoor_clear(answer);
-    return yarrowdoor_call(client, request, &bytes, 0, &buffer, 0, answer);
-}
-
-/* Makes a call with bytes and a buffer, each of which may be null where its length is 0. */
-static inline uint32_t yarrowdoor_call_bytes(yarrowdoor *client, const yarrowdoor_request *request,
-                                             const uint8_t *bytes, size_t bytes_len, uint8_t *buffer, size_t buffer_len,
-                                             yarrowdoor_answer *answer)
-{
-    uint8_t no_bytes = 0, no_buffer = 0;
-    yarrowdoor_clear(answer);
-    return yarrowdoor_call(client, request, bytes_len ? bytes : &no_bytes, bytes_len, buffer_len ? buffer : &no_buffer,
-                           buffer_len, answer);
-}
+#ifdef __cplusplus
+extern "C" {
+#endif
 
 /* The name of a kind of answer, without YARROWDOOR_, to print it: "PACKET" for YARROWDOOR_PACKET. Of a number that
    is no kind, as the 0 of yarrowdoor_new, it is "no kind". */
-static inline const char *yarrowdoor_kind_name(uint32_t kind)
-{
-    /* in the order of their numbers, from 0 */
-    static const char *const names[] = {
-        "no kind", "OUT_OF_MEMORY", "BAD_TIME", "BAD_CALL", "BAD_PAYLOAD", "UNREAD_BYTES", "SMALL_BUFFER", "REFUSED",
-        "DONE", "NOTHING", "WAIT_UNTIL", "ALLOCATE_TCP_SOCKET", "TCP_CLOSE", "CLOSED", "PACKET", "HANDLED", "IGNORED",
-        "PEER_DATA", "PEER_ICMP", "BYTES", "ADDRESS", "YES", "NO", "ALLOCATION_CREATED", "ALLOCATION_CREATE_FAILED",
-        "PERMISSION_CREATED", "PERMISSION_CREATE_FAILED", "CHANNEL_CREATED", "CHANNEL_CREATE_FAILED", "TCP_CONNECTED",
-        "TCP_CONNECT_FAILED", "BAD_SETTINGS", "BAD_CREDENTIALS", "BAD_SEED", "PEER_DATA_RANGE"
-    };
-    return names[kind < sizeof names / sizeof names[0] ? kind : 0];
-}
+YARROWDOOR_INLINE const char *yarrowdoor_kind_name(uint32_t kind);
 
-/* The usual settings: an IPv4 address relayed over UDP, SHA-1, and the waits of the RFC. */
-static inline yarrowdoor_settings yarrowdoor_settings_of(uint32_t transport, const yarrowdoor_address *local,
-                                                         const yarrowdoor_address *remote)
-{
-    yarrowdoor_settings settings;
-    memset(&settings, 0, sizeof settings);
-    settings.transport = transport;
-    settings.allocation_transport = YARROWDOOR_UDP;
-    settings.family = YARROWDOOR_IPV4;
-    settings.algorithm = YARROWDOOR_SHA1;
-    settings.anonymous = YARROWDOOR_AUTO;
-    settings.local = *local;
-    settings.remote = *remote;
-    return settings;
-}
+/* The name of an error, without YARROWDOOR_ERROR_: "NO_PERMISSION" for YARROWDOOR_ERROR_NO_PERMISSION. Of a number that is
+   no error it is "no error". */
+YARROWDOOR_INLINE const char *yarrowdoor_error_name(uint32_t error);
+
+/* The usual settings: an IPv4 address relayed over UDP, SHA-1, the waits of the RFC, and 256 stale nonces, since a server
+   answers each copy of a request with a challenge of its own (docs/REAL-SERVERS.md). */
+YARROWDOOR_INLINE yarrowdoor_settings yarrowdoor_settings_of(uint32_t transport, const yarrowdoor_address *local,
+                                                             const yarrowdoor_address *remote);
 
 /* What is to be done next. YARROWDOOR_WAIT_UNTIL: nothing before answer->time, when to poll again; any other call
    may make it earlier, so poll after it. While an event is to be polled, that time is `now`.
@@ -415,30 +491,18 @@ static inline yarrowdoor_settings yarrowdoor_settings_of(uint32_t transport, con
    ended; poll the events that are left, and close its data connections. By default that is 39.5 s after the start
    where nobody answers, with an event for each family, and 39.5 s after the challenge where the user name or the
    password is wrong, with none. */
-static inline uint32_t yarrowdoor_poll(yarrowdoor *client, uint64_t now, yarrowdoor_answer *answer)
-{
-    yarrowdoor_request request = yarrowdoor_request_of(YARROWDOOR_CALL_POLL, now);
-    return yarrowdoor_call_plain(client, &request, answer);
-}
+YARROWDOOR_INLINE enum yarrowdoor_kind yarrowdoor_poll(yarrowdoor *client, uint64_t now, yarrowdoor_answer *answer);
 
-/* The next packet that is due. Requests start at least 50 ms apart (our choice), so that an allocation with its
-   challenge and a permission take 100 ms or more; retransmissions do not wait. YARROWDOOR_PACKET: send the
-   answer->len bytes in the buffer. YARROWDOOR_NOTHING: none is due. YARROWDOOR_UNREAD_BYTES: read the rest of an
-   earlier answer first. YARROWDOOR_SMALL_BUFFER: the buffer has under YARROWDOOR_MAX_PACKET bytes, which is more
-   than any packet has. */
-static inline uint32_t yarrowdoor_poll_transmit(yarrowdoor *client, uint64_t now, uint8_t *buffer, size_t buffer_len,
-                                                yarrowdoor_answer *answer)
-{
-    yarrowdoor_request request = yarrowdoor_request_of(YARROWDOOR_CALL_POLL_TRANSMIT, now);
-    return yarrowdoor_call_bytes(client, &request, NULL, 0, buffer, buffer_len, answer);
-}
+/* The next packet that is due. Requests start at least 50 ms apart (our choice; request_cadence of the settings), so that
+   an allocation with its challenge and a permission take 100 ms or more; retransmissions do not wait. YARROWDOOR_PACKET:
+   send the answer->len bytes in the buffer, and the answer->left ones behind them that yarrowdoor_read gives, over UDP as
+   one datagram. 1,500 bytes hold the packets of usual servers, and YARROWDOOR_MAX_PACKET each packet. YARROWDOOR_NOTHING:
+   none is due. YARROWDOOR_UNREAD_BYTES: read the rest of an earlier answer first. */
+YARROWDOOR_INLINE enum yarrowdoor_kind yarrowdoor_poll_transmit(yarrowdoor *client, uint64_t now, uint8_t *buffer,
+                                                                size_t buffer_len, yarrowdoor_answer *answer);
 
 /* The next event: YARROWDOOR_ALLOCATION_CREATED and those behind it, or YARROWDOOR_NOTHING. It takes no memory. */
-static inline uint32_t yarrowdoor_poll_event(yarrowdoor *client, yarrowdoor_answer *answer)
-{
-    yarrowdoor_request request = yarrowdoor_request_of(YARROWDOOR_CALL_POLL_EVENT, 0);
-    return yarrowdoor_call_plain(client, &request, answer);
-}
+YARROWDOOR_INLINE enum yarrowdoor_kind yarrowdoor_poll_event(yarrowdoor *client, yarrowdoor_answer *answer);
 
 /* Passes in bytes that were received over `transport`, from the server at `from`, by the client's socket at `to`:
    one datagram, or what one read of a stream gave, or nothing where the stream has ended. YARROWDOOR_HANDLED,
@@ -451,9 +515,247 @@ static inline uint32_t yarrowdoor_poll_event(yarrowdoor *client, yarrowdoor_answ
    Over UDP the buffer is not used, and may be null. `from` and `to` are compared with the settings' remote and
    local addresses, so these are to be those of the socket (connect it, and ask getsockname); `to` may also be the
    local address of a data connection. */
-static inline uint32_t yarrowdoor_recv(yarrowdoor *client, uint32_t transport, const yarrowdoor_address *from,
-                                       const yarrowdoor_address *to, const uint8_t *bytes, size_t bytes_len,
-                                       uint64_t now, uint8_t *buffer, size_t buffer_len, yarrowdoor_answer *answer)
+YARROWDOOR_INLINE enum yarrowdoor_kind yarrowdoor_recv(yarrowdoor *client, uint32_t transport,
+                                                       const yarrowdoor_address *from, const yarrowdoor_address *to,
+                                                       const uint8_t *bytes, size_t bytes_len, uint64_t now,
+                                                       uint8_t *buffer, size_t buffer_len, yarrowdoor_answer *answer);
+
+/* The next data of peers in the streams that were passed in: call it after yarrowdoor_recv over TCP, until it
+   answers YARROWDOOR_NOTHING. YARROWDOOR_PEER_DATA: answer->len bytes in the buffer and answer->left more, for
+   yarrowdoor_read. YARROWDOOR_UNREAD_BYTES: read the rest of an earlier answer first. YARROWDOOR_OUT_OF_MEMORY: as
+   for yarrowdoor_recv. Where no stream holds anything it takes no memory. */
+YARROWDOOR_INLINE enum yarrowdoor_kind yarrowdoor_poll_recv(yarrowdoor *client, uint64_t now, uint8_t *buffer,
+                                                            size_t buffer_len, yarrowdoor_answer *answer);
+
+/* The next bytes of an answer whose answer->left was not 0. YARROWDOOR_BYTES: answer->len bytes in the buffer, and
+   answer->left more. Until none is left, yarrowdoor_recv, yarrowdoor_poll_recv and yarrowdoor_poll_transmit answer
+   YARROWDOOR_UNREAD_BYTES and do nothing. It takes no memory. */
+YARROWDOOR_INLINE enum yarrowdoor_kind yarrowdoor_read(yarrowdoor *client, uint8_t *buffer, size_t buffer_len,
+                                                       yarrowdoor_answer *answer);
+
+/* Makes the packet that carries data to `peer`, which needs a permission, over `transport`, that of the allocation.
+   YARROWDOOR_PACKET: send the answer->len bytes in the buffer. YARROWDOOR_REFUSED: YARROWDOOR_ERROR_NO_PERMISSION,
+   or over TCP YARROWDOOR_ERROR_NO_SOCKET. YARROWDOOR_BAD_PAYLOAD: over YARROWDOOR_MAX_PAYLOAD bytes, and the
+   allocation relays over UDP. YARROWDOOR_SMALL_BUFFER: the buffer has under data_len + YARROWDOOR_MAX_OVERHEAD
+   bytes. It takes no memory. */
+YARROWDOOR_INLINE enum yarrowdoor_kind yarrowdoor_send_to(yarrowdoor *client, uint32_t transport,
+                                                          const yarrowdoor_address *peer, const uint8_t *data,
+                                                          size_t data_len, uint64_t now, uint8_t *buffer,
+                                                          size_t buffer_len, yarrowdoor_answer *answer);
+
+/* Requests a permission for the IP address of `peer`, whatever its port (RFC 8656, section 9): data may be sent to
+   it and received from it. YARROWDOOR_DONE: an event YARROWDOOR_PERMISSION_CREATED or
+   YARROWDOOR_PERMISSION_CREATE_FAILED reports the outcome, unless the client or its allocation ends before.
+   YARROWDOOR_REFUSED: YARROWDOOR_ERROR_NO_ALLOCATION, or YARROWDOOR_ERROR_ALREADY_EXISTS. */
+YARROWDOOR_INLINE enum yarrowdoor_kind yarrowdoor_create_permission(yarrowdoor *client, uint32_t transport,
+                                                                    const yarrowdoor_address *peer, uint64_t now,
+                                                                    yarrowdoor_answer *answer);
+
+/* Whether the IP address of `peer` has an active permission: YARROWDOOR_YES or YARROWDOOR_NO. It takes no memory. */
+YARROWDOOR_INLINE enum yarrowdoor_kind yarrowdoor_have_permission(const yarrowdoor *client, uint32_t transport,
+                                                                  const yarrowdoor_address *peer,
+                                                                  yarrowdoor_answer *answer);
+
+/* Says whether the permission for the IP address of `peer`, whatever its port, is kept, as each is at first: refreshed until
+   the allocation ends. With is_kept 0 it is let go: used until it expires, with the event
+   YARROWDOOR_PERMISSION_CREATE_FAILED, which is then the expected end. With 1 it is kept again. YARROWDOOR_DONE.
+   YARROWDOOR_REFUSED: YARROWDOOR_ERROR_NOT_GRANTED. YARROWDOOR_BAD_CALL also where is_kept is another number. A channel to
+   a peer and the permission for it are two grants: let both go, or the channel alone. It takes no memory. */
+YARROWDOOR_INLINE enum yarrowdoor_kind yarrowdoor_set_permission_kept(yarrowdoor *client, uint32_t transport,
+                                                                      const yarrowdoor_address *peer,
+                                                                      uint32_t is_kept, yarrowdoor_answer *answer);
+
+/* Requests a channel to `peer`, and with it a permission (RFC 8656, section 12): its data then has four bytes of
+   header, and not 36 or 48. YARROWDOOR_DONE: an event YARROWDOOR_CHANNEL_CREATED or
+   YARROWDOOR_CHANNEL_CREATE_FAILED reports the outcome, unless the client or its allocation ends before, and
+   another that of a permission that it requested. YARROWDOOR_REFUSED: YARROWDOOR_ERROR_NO_ALLOCATION;
+   YARROWDOOR_ERROR_ALREADY_EXISTS, also where all 4,096 numbers are taken; YARROWDOOR_ERROR_EXPIRED, up to
+   answer->time. */
+YARROWDOOR_INLINE enum yarrowdoor_kind yarrowdoor_bind_channel(yarrowdoor *client, uint32_t transport,
+                                                               const yarrowdoor_address *peer, uint64_t now,
+                                                               yarrowdoor_answer *answer);
+
+/* Says whether the channel to `peer` is kept, as yarrowdoor_set_permission_kept does of a permission. One that is not kept
+   ends with the event YARROWDOOR_CHANNEL_CREATE_FAILED, and its number and its peer are reserved for a while, as always.
+   It takes no memory. */
+YARROWDOOR_INLINE enum yarrowdoor_kind yarrowdoor_set_channel_kept(yarrowdoor *client, uint32_t transport,
+                                                                   const yarrowdoor_address *peer, uint32_t is_kept,
+                                                                   yarrowdoor_answer *answer);
+
+/* Requests that the server connect to `peer`, which needs a permission, from an allocation over TCP (RFC 6062,
+   section 4.3). YARROWDOOR_DONE: unless the client or its allocation ends before, yarrowdoor_poll answers
+   YARROWDOOR_ALLOCATE_TCP_SOCKET, or an event YARROWDOOR_TCP_CONNECT_FAILED. YARROWDOOR_REFUSED:
+   YARROWDOOR_ERROR_NO_ALLOCATION, YARROWDOOR_ERROR_NO_PERMISSION or YARROWDOOR_ERROR_ALREADY_EXISTS. */
+YARROWDOOR_INLINE enum yarrowdoor_kind yarrowdoor_tcp_connect(yarrowdoor *client, const yarrowdoor_address *peer,
+                                                              uint64_t now, yarrowdoor_answer *answer);
+
+/* Passes in the data connection that YARROWDOOR_ALLOCATE_TCP_SOCKET asked for: its id, transport, from, to and
+   peer, and `local`, the address of the new socket, or null where no connection could be opened. YARROWDOOR_DONE:
+   an event reports YARROWDOOR_TCP_CONNECTED or YARROWDOOR_TCP_CONNECT_FAILED; there is none where `local` is null,
+   nor where the connection ends before it is bound: then YARROWDOOR_TCP_CLOSE alone tells it. YARROWDOOR_REFUSED:
+   YARROWDOOR_ERROR_NO_ALLOCATION where no such connection is offered, or YARROWDOOR_ERROR_ALREADY_EXISTS where
+   another has this local address. */
+YARROWDOOR_INLINE enum yarrowdoor_kind yarrowdoor_allocated_tcp_socket(yarrowdoor *client, uint32_t id,
+                                                                       uint32_t transport,
+                                                                       const yarrowdoor_address *from,
+                                                                       const yarrowdoor_address *to,
+                                                                       const yarrowdoor_address *peer,
+                                                                       const yarrowdoor_address *local, uint64_t now,
+                                                                       yarrowdoor_answer *answer);
+
+/* Reports that the data connection from `local` to `remote` was closed, or broke: YARROWDOOR_DONE, and
+   YARROWDOOR_TCP_CLOSE follows, unless the client has ended. The end of the control connection is a
+   yarrowdoor_recv of no bytes, and a yarrowdoor_protocol_error. */
+YARROWDOOR_INLINE enum yarrowdoor_kind yarrowdoor_tcp_closed(yarrowdoor *client, const yarrowdoor_address *local,
+                                                             const yarrowdoor_address *remote, uint64_t now,
+                                                             yarrowdoor_answer *answer);
+
+/* Requests that the server delete the allocations (RFC 8656, section 8). YARROWDOOR_DONE: poll and transmit until
+   YARROWDOOR_CLOSED, for as long as you care to wait: where the server answers with an error other than 437 it
+   does not come. YARROWDOOR_REFUSED: YARROWDOOR_ERROR_NO_ALLOCATION. To give up before there is one, free the
+   client: what the server may still grant ends there by its lifetime. */
+YARROWDOOR_INLINE enum yarrowdoor_kind yarrowdoor_delete(yarrowdoor *client, uint64_t now, yarrowdoor_answer *answer);
+
+/* Reports an error of a layer between client and server, as TLS, after which nothing can be sent: YARROWDOOR_DONE.
+   Each family that is still requested fails, by its event; what else is pending has none. The client has ended. */
+YARROWDOOR_INLINE enum yarrowdoor_kind yarrowdoor_protocol_error(yarrowdoor *client, yarrowdoor_answer *answer);
+
+/* The relayed address at `index`, from 0. YARROWDOOR_ADDRESS: answer->peer over answer->transport.
+   YARROWDOOR_NOTHING: there are no more. It takes no memory. */
+YARROWDOOR_INLINE enum yarrowdoor_kind yarrowdoor_relayed_address(const yarrowdoor *client, uint32_t index,
+                                                                  yarrowdoor_answer *answer);
+
+/* The IP address at `index`, from 0, of those that have an active permission in the allocation whose relayed
+   address is `relayed`, over `transport`. YARROWDOOR_ADDRESS: answer->peer, whose port is 0. YARROWDOOR_NOTHING:
+   there are no more. It takes no memory. */
+YARROWDOOR_INLINE enum yarrowdoor_kind yarrowdoor_permission(const yarrowdoor *client, uint32_t transport,
+                                                             const yarrowdoor_address *relayed, uint32_t index,
+                                                             yarrowdoor_answer *answer);
+
+/* ---- addresses */
+
+/* The IPv4 address a.b.c.d with this port. */
+YARROWDOOR_INLINE yarrowdoor_address yarrowdoor_ipv4(uint8_t a, uint8_t b, uint8_t c, uint8_t d, uint16_t port);
+
+/* Whether two addresses are the same, with port, flow and scope. */
+YARROWDOOR_INLINE int yarrowdoor_is_same_address(const yarrowdoor_address *a, const yarrowdoor_address *b);
+
+/* ---- how they do it */
+
+#if !defined(YARROWDOOR_NO_INLINE) || defined(YARROWDOOR_DEFINE)
+
+/* A request of this kind at this time, with its other numbers 0 and no addresses. */
+static inline yarrowdoor_request yarrowdoor_request_of(uint32_t kind, uint64_t now)
+{
+    yarrowdoor_request request;
+    memset(&request, 0, sizeof request);
+    request.time = now;
+    request.kind = kind;
+    return request;
+}
+
+/* Sets an answer to 0, in parts: a memset of so many bytes at once is slower where it becomes a string
+   instruction. */
+static inline void yarrowdoor_clear(yarrowdoor_answer *answer)
+{
+    memset(answer, 0, offsetof(yarrowdoor_answer, from));
+    memset(&answer->from, 0, sizeof answer->from);
+    memset(&answer->to, 0, sizeof answer->to);
+    memset(&answer->peer, 0, sizeof answer->peer);
+    memset(answer->reserved_places, 0, sizeof answer->reserved_places);
+}
+
+/* Makes a call that neither takes nor gives bytes. */
+static inline enum yarrowdoor_kind yarrowdoor_call_plain(yarrowdoor *client, const yarrowdoor_request *request,
+                                                         yarrowdoor_answer *answer)
+{
+    uint8_t bytes = 0, buffer = 0;
+    yarrowdoor_clear(answer);
+    return (enum yarrowdoor_kind)yarrowdoor_call(client, request, &bytes, 0, &buffer, 0, answer);
+}
+
+/* Makes a call with bytes and a buffer, each of which may be null where its length is 0. */
+static inline enum yarrowdoor_kind yarrowdoor_call_bytes(yarrowdoor *client, const yarrowdoor_request *request,
+                                                         const uint8_t *bytes, size_t bytes_len, uint8_t *buffer,
+                                                         size_t buffer_len, yarrowdoor_answer *answer)
+{
+    uint8_t no_bytes = 0, no_buffer = 0;
+    yarrowdoor_clear(answer);
+    return (enum yarrowdoor_kind)yarrowdoor_call(client, request, bytes_len ? bytes : &no_bytes, bytes_len,
+                                                 buffer_len ? buffer : &no_buffer, buffer_len, answer);
+}
+
+/* Makes a call that only looks. */
+static inline enum yarrowdoor_kind yarrowdoor_look_at(const yarrowdoor *client, const yarrowdoor_request *request,
+                                                      yarrowdoor_answer *answer)
+{
+    yarrowdoor_clear(answer);
+    return (enum yarrowdoor_kind)yarrowdoor_look(client, request, answer);
+}
+
+YARROWDOOR_INLINE const char *yarrowdoor_kind_name(uint32_t kind)
+{
+    /* in the order of their numbers, from 0, and not as pointers, which would be variables of the shared library */
+    static const char names[][25] = {
+        "no kind", "OUT_OF_MEMORY", "BAD_TIME", "BAD_CALL", "BAD_PAYLOAD", "UNREAD_BYTES", "SMALL_BUFFER", "REFUSED",
+        "DONE", "NOTHING", "WAIT_UNTIL", "ALLOCATE_TCP_SOCKET", "TCP_CLOSE", "CLOSED", "PACKET", "HANDLED", "IGNORED",
+        "PEER_DATA", "PEER_ICMP", "BYTES", "ADDRESS", "YES", "NO", "ALLOCATION_CREATED", "ALLOCATION_CREATE_FAILED",
+        "PERMISSION_CREATED", "PERMISSION_CREATE_FAILED", "CHANNEL_CREATED", "CHANNEL_CREATE_FAILED", "TCP_CONNECTED",
+        "TCP_CONNECT_FAILED", "BAD_SETTINGS", "BAD_CREDENTIALS", "BAD_SEED", "PEER_DATA_RANGE", "MESSAGE",
+        "CHANNEL_DATA", "NO_FRAME"
+    };
+    return names[kind < sizeof names / sizeof names[0] ? kind : 0];
+}
+
+YARROWDOOR_INLINE const char *yarrowdoor_error_name(uint32_t error)
+{
+    /* in the order of their numbers, from 0 */
+    static const char names[][16] = {
+        "no error", "ALREADY_EXISTS", "NO_ALLOCATION", "NO_PERMISSION", "NO_SOCKET", "EXPIRED", "NOT_GRANTED"
+    };
+    return names[error < sizeof names / sizeof names[0] ? error : 0];
+}
+
+YARROWDOOR_INLINE yarrowdoor_settings yarrowdoor_settings_of(uint32_t transport, const yarrowdoor_address *local,
+                                                             const yarrowdoor_address *remote)
+{
+    yarrowdoor_settings settings;
+    memset(&settings, 0, sizeof settings);
+    settings.transport = transport;
+    settings.allocation_transport = YARROWDOOR_UDP;
+    settings.family = YARROWDOOR_IPV4;
+    settings.algorithm = YARROWDOOR_SHA1;
+    settings.anonymous = YARROWDOOR_AUTO;
+    settings.max_stale_nonces = 256;
+    settings.reserved_places[0] = yarrowdoor_abi_0; /* 0, so that another library does not link */
+    settings.local = *local;
+    settings.remote = *remote;
+    return settings;
+}
+
+YARROWDOOR_INLINE enum yarrowdoor_kind yarrowdoor_poll(yarrowdoor *client, uint64_t now, yarrowdoor_answer *answer)
+{
+    yarrowdoor_request request = yarrowdoor_request_of(YARROWDOOR_CALL_POLL, now);
+    return yarrowdoor_call_plain(client, &request, answer);
+}
+
+YARROWDOOR_INLINE enum yarrowdoor_kind yarrowdoor_poll_transmit(yarrowdoor *client, uint64_t now, uint8_t *buffer,
+                                                                size_t buffer_len, yarrowdoor_answer *answer)
+{
+    yarrowdoor_request request = yarrowdoor_request_of(YARROWDOOR_CALL_POLL_TRANSMIT, now);
+    return yarrowdoor_call_bytes(client, &request, NULL, 0, buffer, buffer_len, answer);
+}
+
+YARROWDOOR_INLINE enum yarrowdoor_kind yarrowdoor_poll_event(yarrowdoor *client, yarrowdoor_answer *answer)
+{
+    yarrowdoor_request request = yarrowdoor_request_of(YARROWDOOR_CALL_POLL_EVENT, 0);
+    return yarrowdoor_call_plain(client, &request, answer);
+}
+
+YARROWDOOR_INLINE enum yarrowdoor_kind yarrowdoor_recv(yarrowdoor *client, uint32_t transport,
+                                                       const yarrowdoor_address *from, const yarrowdoor_address *to,
+                                                       const uint8_t *bytes, size_t bytes_len, uint64_t now,
+                                                       uint8_t *buffer, size_t buffer_len, yarrowdoor_answer *answer)
 {
     yarrowdoor_request request = yarrowdoor_request_of(YARROWDOOR_CALL_RECV, now);
     request.transport = transport;
@@ -462,35 +764,24 @@ static inline uint32_t yarrowdoor_recv(yarrowdoor *client, uint32_t transport, c
     return yarrowdoor_call_bytes(client, &request, bytes, bytes_len, buffer, buffer_len, answer);
 }
 
-/* The next data of peers in the streams that were passed in: call it after yarrowdoor_recv over TCP, until it
-   answers YARROWDOOR_NOTHING. YARROWDOOR_PEER_DATA: answer->len bytes in the buffer and answer->left more, for
-   yarrowdoor_read. YARROWDOOR_UNREAD_BYTES: read the rest of an earlier answer first. YARROWDOOR_OUT_OF_MEMORY: as
-   for yarrowdoor_recv. Where no stream holds anything it takes no memory. */
-static inline uint32_t yarrowdoor_poll_recv(yarrowdoor *client, uint64_t now, uint8_t *buffer, size_t buffer_len,
-                                            yarrowdoor_answer *answer)
+YARROWDOOR_INLINE enum yarrowdoor_kind yarrowdoor_poll_recv(yarrowdoor *client, uint64_t now, uint8_t *buffer,
+                                                            size_t buffer_len, yarrowdoor_answer *answer)
 {
     yarrowdoor_request request = yarrowdoor_request_of(YARROWDOOR_CALL_POLL_RECV, now);
     return yarrowdoor_call_bytes(client, &request, NULL, 0, buffer, buffer_len, answer);
 }
 
-/* The next bytes of an answer whose answer->left was not 0. YARROWDOOR_BYTES: answer->len bytes in the buffer, and
-   answer->left more. Until none is left, yarrowdoor_recv, yarrowdoor_poll_recv and yarrowdoor_poll_transmit answer
-   YARROWDOOR_UNREAD_BYTES and do nothing. It takes no memory. */
-static inline uint32_t yarrowdoor_read(yarrowdoor *client, uint8_t *buffer, size_t buffer_len,
-                                       yarrowdoor_answer *answer)
+YARROWDOOR_INLINE enum yarrowdoor_kind yarrowdoor_read(yarrowdoor *client, uint8_t *buffer, size_t buffer_len,
+                                                       yarrowdoor_answer *answer)
 {
     yarrowdoor_request request = yarrowdoor_request_of(YARROWDOOR_CALL_READ, 0);
     return yarrowdoor_call_bytes(client, &request, NULL, 0, buffer, buffer_len, answer);
 }
 
-/* Makes the packet that carries data to `peer`, which needs a permission, over `transport`, that of the allocation.
-   YARROWDOOR_PACKET: send the answer->len bytes in the buffer. YARROWDOOR_REFUSED: YARROWDOOR_ERROR_NO_PERMISSION,
-   or over TCP YARROWDOOR_ERROR_NO_SOCKET. YARROWDOOR_BAD_PAYLOAD: over YARROWDOOR_MAX_PAYLOAD bytes, and the
-   allocation relays over UDP. YARROWDOOR_SMALL_BUFFER: the buffer has under data_len + YARROWDOOR_MAX_OVERHEAD
-   bytes. It takes no memory. */
-static inline uint32_t yarrowdoor_send_to(yarrowdoor *client, uint32_t transport, const yarrowdoor_address *peer,
-                                          const uint8_t *data, size_t data_len, uint64_t now, uint8_t *buffer,
-                                          size_t buffer_len, yarrowdoor_answer *answer)
+YARROWDOOR_INLINE enum yarrowdoor_kind yarrowdoor_send_to(yarrowdoor *client, uint32_t transport,
+                                                          const yarrowdoor_address *peer, const uint8_t *data,
+                                                          size_t data_len, uint64_t now, uint8_t *buffer,
+                                                          size_t buffer_len, yarrowdoor_answer *answer)
 {
     yarrowdoor_request request = yarrowdoor_request_of(YARROWDOOR_CALL_SEND_TO, now);
     request.transport = transport;
@@ -498,13 +789,9 @@ static inline uint32_t yarrowdoor_send_to(yarrowdoor *client, uint32_t transport
     return yarrowdoor_call_bytes(client, &request, data, data_len, buffer, buffer_len, answer);
 }
 
-/* Requests a permission for the IP address of `peer`, whatever its port (RFC 8656, section 9): data may be sent to
-   it and received from it. YARROWDOOR_DONE: an event YARROWDOOR_PERMISSION_CREATED or
-   YARROWDOOR_PERMISSION_CREATE_FAILED reports the outcome, unless the client or its allocation ends before.
-   YARROWDOOR_REFUSED: YARROWDOOR_ERROR_NO_ALLOCATION, or YARROWDOOR_ERROR_ALREADY_EXISTS. */
-static inline uint32_t yarrowdoor_create_permission(yarrowdoor *client, uint32_t transport,
-                                                    const yarrowdoor_address *peer, uint64_t now,
-                                                    yarrowdoor_answer *answer)
+YARROWDOOR_INLINE enum yarrowdoor_kind yarrowdoor_create_permission(yarrowdoor *client, uint32_t transport,
+                                                                    const yarrowdoor_address *peer, uint64_t now,
+                                                                    yarrowdoor_answer *answer)
 {
     yarrowdoor_request request = yarrowdoor_request_of(YARROWDOOR_CALL_CREATE_PERMISSION, now);
     request.transport = transport;
@@ -512,24 +799,30 @@ static inline uint32_t yarrowdoor_create_permission(yarrowdoor *client, uint32_t
     return yarrowdoor_call_plain(client, &request, answer);
 }
 
-/* Whether the IP address of `peer` has an active permission: YARROWDOOR_YES or YARROWDOOR_NO. It takes no memory. */
-static inline uint32_t yarrowdoor_have_permission(yarrowdoor *client, uint32_t transport,
-                                                  const yarrowdoor_address *peer, yarrowdoor_answer *answer)
+YARROWDOOR_INLINE enum yarrowdoor_kind yarrowdoor_have_permission(const yarrowdoor *client, uint32_t transport,
+                                                                  const yarrowdoor_address *peer,
+                                                                  yarrowdoor_answer *answer)
 {
     yarrowdoor_request request = yarrowdoor_request_of(YARROWDOOR_CALL_HAVE_PERMISSION, 0);
     request.transport = transport;
     request.peer = *peer;
+    return yarrowdoor_look_at(client, &request, answer);
+}
+
+YARROWDOOR_INLINE enum yarrowdoor_kind yarrowdoor_set_permission_kept(yarrowdoor *client, uint32_t transport,
+                                                                      const yarrowdoor_address *peer,
+                                                                      uint32_t is_kept, yarrowdoor_answer *answer)
+{
+    yarrowdoor_request request = yarrowdoor_request_of(YARROWDOOR_CALL_SET_PERMISSION_KEPT, 0);
+    request.transport = transport;
+    request.peer = *peer;
+    request.id = is_kept;
     return yarrowdoor_call_plain(client, &request, answer);
 }
 
-/* Requests a channel to `peer`, and with it a permission (RFC 8656, section 12): its data then has four bytes of
-   header, and not 36 or 48. YARROWDOOR_DONE: an event YARROWDOOR_CHANNEL_CREATED or
-   YARROWDOOR_CHANNEL_CREATE_FAILED reports the outcome, unless the client or its allocation ends before, and
-   another that of a permission that it requested. YARROWDOOR_REFUSED: YARROWDOOR_ERROR_NO_ALLOCATION;
-   YARROWDOOR_ERROR_ALREADY_EXISTS, also where all 4,096 numbers are taken; YARROWDOOR_ERROR_EXPIRED, up to
-   answer->time. */
-static inline uint32_t yarrowdoor_bind_channel(yarrowdoor *client, uint32_t transport, const yarrowdoor_address *peer,
-                                               uint64_t now, yarrowdoor_answer *answer)
+YARROWDOOR_INLINE enum yarrowdoor_kind yarrowdoor_bind_channel(yarrowdoor *client, uint32_t transport,
+                                                               const yarrowdoor_address *peer, uint64_t now,
+                                                               yarrowdoor_answer *answer)
 {
     yarrowdoor_request request = yarrowdoor_request_of(YARROWDOOR_CALL_BIND_CHANNEL, now);
     request.transport = transport;
@@ -537,28 +830,32 @@ static inline uint32_t yarrowdoor_bind_channel(yarrowdoor *client, uint32_t tran
     return yarrowdoor_call_plain(client, &request, answer);
 }
 
-/* Requests that the server connect to `peer`, which needs a permission, from an allocation over TCP (RFC 6062,
-   section 4.3). YARROWDOOR_DONE: unless the client or its allocation ends before, yarrowdoor_poll answers
-   YARROWDOOR_ALLOCATE_TCP_SOCKET, or an event YARROWDOOR_TCP_CONNECT_FAILED. YARROWDOOR_REFUSED:
-   YARROWDOOR_ERROR_NO_ALLOCATION, YARROWDOOR_ERROR_NO_PERMISSION or YARROWDOOR_ERROR_ALREADY_EXISTS. */
-static inline uint32_t yarrowdoor_tcp_connect(yarrowdoor *client, const yarrowdoor_address *peer, uint64_t now,
-                                              yarrowdoor_answer *answer)
+YARROWDOOR_INLINE enum yarrowdoor_kind yarrowdoor_set_channel_kept(yarrowdoor *client, uint32_t transport,
+                                                                   const yarrowdoor_address *peer, uint32_t is_kept,
+                                                                   yarrowdoor_answer *answer)
+{
+    yarrowdoor_request request = yarrowdoor_request_of(YARROWDOOR_CALL_SET_CHANNEL_KEPT, 0);
+    request.transport = transport;
+    request.peer = *peer;
+    request.id = is_kept;
+    return yarrowdoor_call_plain(client, &request, answer);
+}
+
+YARROWDOOR_INLINE enum yarrowdoor_kind yarrowdoor_tcp_connect(yarrowdoor *client, const yarrowdoor_address *peer,
+                                                              uint64_t now, yarrowdoor_answer *answer)
 {
     yarrowdoor_request request = yarrowdoor_request_of(YARROWDOOR_CALL_TCP_CONNECT, now);
     request.peer = *peer;
     return yarrowdoor_call_plain(client, &request, answer);
 }
 
-/* Passes in the data connection that YARROWDOOR_ALLOCATE_TCP_SOCKET asked for: its id, transport, from, to and
-   peer, and `local`, the address of the new socket, or null where no connection could be opened. YARROWDOOR_DONE:
-   an event reports YARROWDOOR_TCP_CONNECTED or YARROWDOOR_TCP_CONNECT_FAILED; there is none where `local` is null,
-   nor where the connection ends before it is bound: then YARROWDOOR_TCP_CLOSE alone tells it. YARROWDOOR_REFUSED:
-   YARROWDOOR_ERROR_NO_ALLOCATION where no such connection is offered, or YARROWDOOR_ERROR_ALREADY_EXISTS where
-   another has this local address. */
-static inline uint32_t yarrowdoor_allocated_tcp_socket(yarrowdoor *client, uint32_t id, uint32_t transport,
-                                                       const yarrowdoor_address *from, const yarrowdoor_address *to,
-                                                       const yarrowdoor_address *peer, const yarrowdoor_address *local,
-                                                       uint64_t now, yarrowdoor_answer *answer)
+YARROWDOOR_INLINE enum yarrowdoor_kind yarrowdoor_allocated_tcp_socket(yarrowdoor *client, uint32_t id,
+                                                                       uint32_t transport,
+                                                                       const yarrowdoor_address *from,
+                                                                       const yarrowdoor_address *to,
+                                                                       const yarrowdoor_address *peer,
+                                                                       const yarrowdoor_address *local, uint64_t now,
+                                                                       yarrowdoor_answer *answer)
 {
     yarrowdoor_request request = yarrowdoor_request_of(YARROWDOOR_CALL_ALLOCATED_TCP_SOCKET, now);
     request.id = id;
@@ -572,11 +869,9 @@ static inline uint32_t yarrowdoor_allocated_tcp_socket(yarrowdoor *client, uint3
     return yarrowdoor_call_plain(client, &request, answer);
 }
 
-/* Reports that the data connection from `local` to `remote` was closed, or broke: YARROWDOOR_DONE, and
-   YARROWDOOR_TCP_CLOSE follows, unless the client has ended. The end of the control connection is a
-   yarrowdoor_recv of no bytes, and a yarrowdoor_protocol_error. */
-static inline uint32_t yarrowdoor_tcp_closed(yarrowdoor *client, const yarrowdoor_address *local,
-                                             const yarrowdoor_address *remote, uint64_t now, yarrowdoor_answer *answer)
+YARROWDOOR_INLINE enum yarrowdoor_kind yarrowdoor_tcp_closed(yarrowdoor *client, const yarrowdoor_address *local,
+                                                             const yarrowdoor_address *remote, uint64_t now,
+                                                             yarrowdoor_answer *answer)
 {
     yarrowdoor_request request = yarrowdoor_request_of(YARROWDOOR_CALL_TCP_CLOSED, now);
     request.from = *local;
@@ -584,50 +879,38 @@ static inline uint32_t yarrowdoor_tcp_closed(yarrowdoor *client, const yarrowdoo
     return yarrowdoor_call_plain(client, &request, answer);
 }
 
-/* Requests that the server delete the allocations (RFC 8656, section 8). YARROWDOOR_DONE: poll and transmit until
-   YARROWDOOR_CLOSED, for as long as you care to wait: where the server answers with an error other than 437 it
-   does not come. YARROWDOOR_REFUSED: YARROWDOOR_ERROR_NO_ALLOCATION. To give up before there is one, free the
-   client: what the server may still grant ends there by its lifetime. */
-static inline uint32_t yarrowdoor_delete(yarrowdoor *client, uint64_t now, yarrowdoor_answer *answer)
+YARROWDOOR_INLINE enum yarrowdoor_kind yarrowdoor_delete(yarrowdoor *client, uint64_t now, yarrowdoor_answer *answer)
 {
     yarrowdoor_request request = yarrowdoor_request_of(YARROWDOOR_CALL_DELETE, now);
     return yarrowdoor_call_plain(client, &request, answer);
 }
 
-/* Reports an error of a layer between client and server, as TLS, after which nothing can be sent: YARROWDOOR_DONE.
-   Each family that is still requested fails, by its event; what else is pending has none. The client has ended. */
-static inline uint32_t yarrowdoor_protocol_error(yarrowdoor *client, yarrowdoor_answer *answer)
+YARROWDOOR_INLINE enum yarrowdoor_kind yarrowdoor_protocol_error(yarrowdoor *client, yarrowdoor_answer *answer)
 {
     yarrowdoor_request request = yarrowdoor_request_of(YARROWDOOR_CALL_PROTOCOL_ERROR, 0);
     return yarrowdoor_call_plain(client, &request, answer);
 }
 
-/* The relayed address at `index`, from 0. YARROWDOOR_ADDRESS: answer->peer over answer->transport.
-   YARROWDOOR_NOTHING: there are no more. It takes no memory. */
-static inline uint32_t yarrowdoor_relayed_address(yarrowdoor *client, uint32_t index, yarrowdoor_answer *answer)
+YARROWDOOR_INLINE enum yarrowdoor_kind yarrowdoor_relayed_address(const yarrowdoor *client, uint32_t index,
+                                                                  yarrowdoor_answer *answer)
 {
     yarrowdoor_request request = yarrowdoor_request_of(YARROWDOOR_CALL_RELAYED_ADDRESSES, 0);
     request.id = index;
-    return yarrowdoor_call_plain(client, &request, answer);
+    return yarrowdoor_look_at(client, &request, answer);
 }
 
-/* The IP address at `index`, from 0, of those that have an active permission in the allocation whose relayed
-   address is `relayed`, over `transport`. YARROWDOOR_ADDRESS: answer->peer, whose port is 0. YARROWDOOR_NOTHING:
-   there are no more. It takes no memory. */
-static inline uint32_t yarrowdoor_permission(yarrowdoor *client, uint32_t transport, const yarrowdoor_address *relayed,
-                                             uint32_t index, yarrowdoor_answer *answer)
+YARROWDOOR_INLINE enum yarrowdoor_kind yarrowdoor_permission(const yarrowdoor *client, uint32_t transport,
+                                                             const yarrowdoor_address *relayed, uint32_t index,
+                                                             yarrowdoor_answer *answer)
 {
     yarrowdoor_request request = yarrowdoor_request_of(YARROWDOOR_CALL_PERMISSIONS, 0);
     request.transport = transport;
     request.from = *relayed;
     request.id = index;
-    return yarrowdoor_call_plain(client, &request, answer);
+    return yarrowdoor_look_at(client, &request, answer);
 }
 
-/* ---- addresses */
-
-/* The IPv4 address a.b.c.d with this port. */
-static inline yarrowdoor_address yarrowdoor_ipv4(uint8_t a, uint8_t b, uint8_t c, uint8_t d, uint16_t port)
+YARROWDOOR_INLINE yarrowdoor_address yarrowdoor_ipv4(uint8_t a, uint8_t b, uint8_t c, uint8_t d, uint16_t port)
 {
     yarrowdoor_address address;
     memset(&address, 0, sizeof address);
@@ -640,12 +923,19 @@ static inline yarrowdoor_address yarrowdoor_ipv4(uint8_t a, uint8_t b, uint8_t c
     return address;
 }
 
-/* Whether two addresses are the same, with port, flow and scope. */
-static inline int yarrowdoor_is_same_address(const yarrowdoor_address *a, const yarrowdoor_address *b)
+YARROWDOOR_INLINE int yarrowdoor_is_same_address(const yarrowdoor_address *a, const yarrowdoor_address *b)
 {
     return a->family == b->family && a->port == b->port && a->flow == b->flow && a->scope == b->scope &&
            memcmp(a->ip, b->ip, sizeof a->ip) == 0;
 }
+
+#endif
+
+#ifdef __cplusplus
+}
+#endif
+
+/* ---- addresses of sockets */
 
 #if defined(__unix__) || defined(__APPLE__)
 #include <netinet/in.h>

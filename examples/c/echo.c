@@ -158,6 +158,27 @@ static uint64_t drive(void)
     }
 }
 
+/* Names what the client passes over or tells without a reason: that a signed request was not authenticated, and the code of an
+   error. Nobody has verified it: a caller with more at stake than this one waits for the client. */
+static void name_error(const uint8_t *bytes, size_t len)
+{
+    static uint8_t challenge[12];
+    static int is_challenged;
+    yarrowdoor_message said;
+    if (yarrowdoor_read_message(YARROWDOOR_UDP, bytes, len, &said) != YARROWDOOR_MESSAGE || said.code == 0) {
+        return;
+    }
+    if (said.code != 401) {
+        fprintf(stderr, "echo: the server answers %d %.*s\n", said.code, (int)said.reason_len,
+                (const char *)bytes + said.reason_at);
+    } else if (!is_challenged) {
+        is_challenged = 1;
+        memcpy(challenge, said.id, sizeof challenge);
+    } else if (memcmp(challenge, said.id, sizeof challenge) != 0) {
+        stop("a wrong user name or password"); /* the 401 is to another request than the first */
+    }
+}
+
 /* Waits for a packet of the server, up to a time. */
 static void receive(uint64_t until)
 {
@@ -173,6 +194,7 @@ static void receive(uint64_t until)
         fprintf(stderr, "echo: no answer: %s\n", strerror(errno));
         return;
     }
+    name_error(bytes, (size_t)len);
     /* over UDP the data of a peer always lies in the bytes of one datagram */
     if (yarrowdoor_recv(client, YARROWDOOR_UDP, &server, &local, bytes, (size_t)len, now(), buffer, sizeof buffer,
                         &answer) == YARROWDOOR_PEER_DATA_RANGE) {

@@ -133,7 +133,7 @@ pub(crate) fn settings(
         max_stale_nonces: config.max_stale_nonces().get(),
         local: address(local),
         remote: address(remote),
-        ..sys::Settings::default()
+        ..sys::Settings::none()
     };
     if let Some(times) = config.retransmits {
         settings.has_waits = 1;

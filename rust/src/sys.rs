@@ -122,6 +122,10 @@ pub(crate) struct Settings {
     pub(crate) reserved: u16,
     pub(crate) local: Address,
     pub(crate) remote: Address,
+    pub(crate) request_cadence: u64,
+    pub(crate) keepalive: u64,
+    pub(crate) refresh_ahead: u64,
+    pub(crate) reserved_places: [u64; 2],
 }
 
 #[derive(Clone, Copy, Default)]
@@ -157,6 +161,7 @@ pub(crate) struct Answer {
     pub(crate) from: Address,
     pub(crate) to: Address,
     pub(crate) peer: Address,
+    pub(crate) reserved_places: [u64; 2],
 }
 
 const _: () = {
@@ -167,9 +172,11 @@ const _: () = {
             && offset_of!(Address, family) == 26
     );
     assert!(
-        size_of::<Settings>() == 120
+        size_of::<Settings>() == 160
             && offset_of!(Settings, transport) == 32
             && offset_of!(Settings, local) == 64
+            && offset_of!(Settings, request_cadence) == 120
+            && offset_of!(Settings, reserved_places) == 144
     );
     assert!(
         size_of::<Request>() == 136
@@ -177,12 +184,13 @@ const _: () = {
             && offset_of!(Request, local) == 108
     );
     assert!(
-        size_of::<Answer>() == 144 && offset_of!(Answer, len) == 16 && offset_of!(Answer, id) == 40
+        size_of::<Answer>() == 160 && offset_of!(Answer, len) == 16 && offset_of!(Answer, id) == 40
     );
     assert!(
         offset_of!(Answer, icmp_type) == 56
             && offset_of!(Answer, from) == 60
             && offset_of!(Answer, peer) == 116
+            && offset_of!(Answer, reserved_places) == 144
     );
 };
 
@@ -209,6 +217,21 @@ extern "C" {
     ) -> u32;
 
     pub(crate) fn yarrowdoor_free(client: *mut Client);
+}
+
+unsafe extern "C" {
+    /// 0. What refers to it is linked to a library of this layout alone.
+    safe static yarrowdoor_abi_0: u32;
+}
+
+impl Settings {
+    /// Settings that are all 0, as the symbol of the layout is, so that no library of another layout is linked.
+    pub(crate) fn none() -> Settings {
+        Settings {
+            reserved_places: [u64::from(yarrowdoor_abi_0), 0],
+            ..Settings::default()
+        }
+    }
 }
 
 #[cfg(test)]

@@ -74,6 +74,8 @@ static int needs(uint32_t kind, yarrowdoor_request *r, yarrowdoor_address *field
     case YARROWDOOR_CALL_TCP_CONNECT:
     case YARROWDOOR_CALL_SEND_TO:
     case YARROWDOOR_CALL_HAVE_PERMISSION:
+    case YARROWDOOR_CALL_SET_PERMISSION_KEPT:
+    case YARROWDOOR_CALL_SET_CHANNEL_KEPT:
         fields[count++] = &r->peer;
         break;
     case YARROWDOOR_CALL_ALLOCATED_TCP_SOCKET:
@@ -100,7 +102,8 @@ static int has_transport(uint32_t kind)
     return kind == YARROWDOOR_CALL_CREATE_PERMISSION || kind == YARROWDOOR_CALL_BIND_CHANNEL ||
            kind == YARROWDOOR_CALL_ALLOCATED_TCP_SOCKET || kind == YARROWDOOR_CALL_SEND_TO ||
            kind == YARROWDOOR_CALL_RECV || kind == YARROWDOOR_CALL_PERMISSIONS ||
-           kind == YARROWDOOR_CALL_HAVE_PERMISSION;
+           kind == YARROWDOOR_CALL_HAVE_PERMISSION || kind == YARROWDOOR_CALL_SET_PERMISSION_KEPT ||
+           kind == YARROWDOOR_CALL_SET_CHANNEL_KEPT;
 }
 
 static void bad_times_and_kinds(yarrowdoor *client)
@@ -115,10 +118,10 @@ static void bad_times_and_kinds(yarrowdoor *client)
     }
     for (int i = 0; i < DRAWS; i++) {
         uint32_t kind = (uint32_t)draw();
-        yarrowdoor_request r = whole(kind < 18 ? 0 : kind);
+        yarrowdoor_request r = whole(kind < 20 ? 0 : kind);
         refused(client, &r, 0, BUFFER, YARROWDOOR_BAD_CALL, "a kind of no call");
     }
-    for (uint32_t kind = 18; kind < 300; kind++) {
+    for (uint32_t kind = 20; kind < 300; kind++) {
         yarrowdoor_request r = whole(kind);
         refused(client, &r, 0, BUFFER, YARROWDOOR_BAD_CALL, "a kind of no call");
     }
@@ -126,7 +129,7 @@ static void bad_times_and_kinds(yarrowdoor *client)
 
 static void bad_addresses(yarrowdoor *client)
 {
-    for (uint32_t kind = 1; kind < 18; kind++) {
+    for (uint32_t kind = 1; kind < 20; kind++) {
         yarrowdoor_request r = whole(kind);
         yarrowdoor_address *fields[4];
         int count = needs(kind, &r, fields);
@@ -153,21 +156,68 @@ static void bad_addresses(yarrowdoor *client)
     }
 }
 
+/* Each reserved byte that a call reads, and no other number than 0 and 1 for what is kept. */
+static void bad_reserved(yarrowdoor *client)
+{
+    for (uint32_t kind = 1; kind < 20; kind++) {
+        yarrowdoor_request r = whole(kind);
+        yarrowdoor_address *fields[4];
+        int count = needs(kind, &r, fields);
+        for (int bit = 0; bit < 32; bit++) {
+            r.reserved = (uint32_t)1 << bit;
+            refused(client, &r, 0, BUFFER, YARROWDOOR_BAD_CALL, "a reserved field");
+        }
+        r.reserved = 0;
+        for (int field = 0; field < count; field++) {
+            for (int value = 1; value < 256; value++) {
+                fields[field]->reserved = (uint8_t)value;
+                refused(client, &r, 0, BUFFER, YARROWDOOR_BAD_CALL, "a reserved byte of an address");
+            }
+            fields[field]->reserved = 0;
+        }
+    }
+    yarrowdoor_request r = whole(YARROWDOOR_CALL_ALLOCATED_TCP_SOCKET);
+    r.local.reserved = 1;
+    refused(client, &r, 0, BUFFER, YARROWDOOR_BAD_CALL, "a reserved byte of no local address");
+    for (uint32_t id = 2; id < 300; id++) {
+        r = whole(id % 2 ? YARROWDOOR_CALL_SET_PERMISSION_KEPT : YARROWDOOR_CALL_SET_CHANNEL_KEPT);
+        r.id = id < 290 ? id : (uint32_t)1 << (id - 270);
+        refused(client, &r, 0, BUFFER, YARROWDOOR_BAD_CALL, "neither kept nor let go");
+    }
+}
+
+/* A call that only looks: kinds that do not are refused, and so is what a call refuses. */
+static void bad_looks(const yarrowdoor *client)
+{
+    for (uint32_t kind = 0; kind < 300; kind++) {
+        yarrowdoor_request r = whole(kind);
+        yarrowdoor_answer answer, bare;
+        memset(&answer, 0xee, sizeof answer);
+        memset(&bare, 0xee, sizeof bare);
+        if (kind >= YARROWDOOR_CALL_RELAYED_ADDRESSES && kind <= YARROWDOOR_CALL_HAVE_PERMISSION) {
+            r.reserved = 1;
+        }
+        bare.kind = YARROWDOOR_BAD_CALL;
+        check("a look that is none", yarrowdoor_look(client, &r, &answer), YARROWDOOR_BAD_CALL);
+        r.time = YARROWDOOR_MAX_TIME + 1;
+        if (memcmp(&answer, &bare, sizeof bare) != 0) {
+            fail("the other fields of a look that is none", answer.kind, YARROWDOOR_BAD_CALL);
+        }
+        check("a late look", yarrowdoor_look(client, &r, &answer), YARROWDOOR_BAD_TIME);
+    }
+}
+
 static void bad_sizes(yarrowdoor *client)
 {
     for (size_t size = 0; size <= 70; size++) {
-        yarrowdoor_request r = whole(YARROWDOOR_CALL_POLL_TRANSMIT);
-        refused(client, &r, 0, size, YARROWDOOR_SMALL_BUFFER, "a small buffer for a packet");
         for (size_t len = 0; len <= 70; len++) {
-            r = whole(YARROWDOOR_CALL_SEND_TO);
+            yarrowdoor_request r = whole(YARROWDOOR_CALL_SEND_TO);
             if (size < len + YARROWDOOR_MAX_OVERHEAD) {
                 refused(client, &r, len, size, YARROWDOOR_SMALL_BUFFER, "a small buffer for data");
             }
         }
     }
-    yarrowdoor_request r = whole(YARROWDOOR_CALL_POLL_TRANSMIT);
-    refused(client, &r, 0, BUFFER - 1, YARROWDOOR_SMALL_BUFFER, "a buffer of 65,555 bytes");
-    r = whole(YARROWDOOR_CALL_SEND_TO);
+    yarrowdoor_request r = whole(YARROWDOOR_CALL_SEND_TO);
     refused(client, &r, 65505, sizeof buffer, YARROWDOOR_BAD_PAYLOAD, "65,505 bytes for a peer");
     refused(client, &r, 65504, 65504 + YARROWDOOR_MAX_OVERHEAD - 1, YARROWDOOR_SMALL_BUFFER, "65,504 bytes");
 }
@@ -176,6 +226,8 @@ static void bad_requests(yarrowdoor *client)
 {
     bad_times_and_kinds(client);
     bad_addresses(client);
+    bad_reserved(client);
+    bad_looks(client);
     bad_sizes(client);
 }
 
@@ -211,6 +263,18 @@ static void bad_settings(const yarrowdoor_settings *good)
             yarrowdoor_settings s = *good;
             uint32_t value = n < 100 ? 7 + (uint32_t)n : 7 + (uint32_t)draw() % (UINT32_MAX - 7);
             memcpy((char *)&s + offsets[i], &value, sizeof value);
+            no_client(&s, 4, 4, 32, YARROWDOOR_BAD_SETTINGS);
+        }
+    }
+    /* each bit of each reserved byte */
+    for (size_t at = 0; at < sizeof(yarrowdoor_settings); at++) {
+        int is_reserved = at / 2 == offsetof(yarrowdoor_settings, reserved) / 2 ||
+                          at >= offsetof(yarrowdoor_settings, reserved_places) ||
+                          at == offsetof(yarrowdoor_settings, local) + offsetof(yarrowdoor_address, reserved) ||
+                          at == offsetof(yarrowdoor_settings, remote) + offsetof(yarrowdoor_address, reserved);
+        for (int bit = 0; is_reserved && bit < 8; bit++) {
+            yarrowdoor_settings s = *good;
+            ((uint8_t *)&s)[at] = (uint8_t)(1 << bit);
             no_client(&s, 4, 4, 32, YARROWDOOR_BAD_SETTINGS);
         }
     }
@@ -286,6 +350,20 @@ static uint32_t call_both(uint32_t kind, uint64_t now)
     return both(&r, (const uint8_t *)"hello", kind == YARROWDOOR_CALL_SEND_TO ? 5 : 0, BUFFER);
 }
 
+/* What looks says what the call says. */
+static void looks_alike(uint32_t kind)
+{
+    yarrowdoor_answer a, b;
+    yarrowdoor_request r = whole(kind);
+    r.from = yarrowdoor_ipv4(10, 0, 0, 4, 40000);
+    memset(&a, 0xee, sizeof a);
+    memset(&b, 0xee, sizeof b);
+    check("a look", yarrowdoor_look(plain, &r, &a), yarrowdoor_call(plain, &r, payload, 0, buffer, 0, &b));
+    if (memcmp(&a, &b, sizeof a) != 0 || a.kind < YARROWDOOR_ADDRESS || a.kind > YARROWDOOR_NO) {
+        fail("a look and a call", a.kind, b.kind);
+    }
+}
+
 static uint32_t receive_both(const yarrowdoor_settings *s, int packet, uint64_t now)
 {
     uint8_t bytes[256];
@@ -315,6 +393,11 @@ static void exchange(const yarrowdoor_settings *s)
     check("relayed", call_both(YARROWDOOR_CALL_RELAYED_ADDRESSES, now), YARROWDOOR_ADDRESS);
     check("permissions", call_both(YARROWDOOR_CALL_PERMISSIONS, now), YARROWDOOR_ADDRESS);
     check("have", call_both(YARROWDOOR_CALL_HAVE_PERMISSION, now), YARROWDOOR_YES);
+    looks_alike(YARROWDOOR_CALL_RELAYED_ADDRESSES);
+    looks_alike(YARROWDOOR_CALL_PERMISSIONS);
+    looks_alike(YARROWDOOR_CALL_HAVE_PERMISSION);
+    check("let go", call_both(YARROWDOOR_CALL_SET_PERMISSION_KEPT, now), YARROWDOOR_DONE);
+    check("no channel", call_both(YARROWDOOR_CALL_SET_CHANNEL_KEPT, now), YARROWDOOR_REFUSED);
     check("read", call_both(YARROWDOOR_CALL_READ, now), YARROWDOOR_BYTES);
     check("delete", call_both(YARROWDOOR_CALL_DELETE, now), YARROWDOOR_DONE);
     check("poll", call_both(YARROWDOOR_CALL_POLL, now), YARROWDOOR_WAIT_UNTIL);
@@ -344,6 +427,72 @@ static uint32_t challenged_twice(const yarrowdoor_settings *good, uint16_t limit
     return answer.kind;
 }
 
+/* The first packet of a client in a buffer of this size, and the rest: the same bytes as in a large one. */
+static void small_packets(const yarrowdoor_settings *s, size_t size)
+{
+    yarrowdoor_answer whole_answer, answer;
+    yarrowdoor *first, *second;
+    check("a new client", new_client((yarrowdoor_settings *)s, 4, 4, 32, &first), 0);
+    check("a new client", new_client((yarrowdoor_settings *)s, 4, 4, 32, &second), 0);
+    check("a packet", yarrowdoor_poll_transmit(first, 0, buffer, BUFFER, &whole_answer), YARROWDOOR_PACKET);
+    check("no rest of it", (uint32_t)whole_answer.left, 0);
+    check("a packet", yarrowdoor_poll_transmit(second, 0, other_buffer, size, &answer), YARROWDOOR_PACKET);
+    size_t len = answer.len;
+    while (answer.left > 0) {
+        check("before the rest", yarrowdoor_poll_transmit(second, 0, other_buffer + len, size, &answer),
+              YARROWDOOR_UNREAD_BYTES);
+        check("the rest", yarrowdoor_read(second, other_buffer + len, size ? size : 1, &answer), YARROWDOOR_BYTES);
+        len += answer.len;
+    }
+    check("the length", (uint32_t)len, (uint32_t)whole_answer.len);
+    check("the bytes", (uint32_t)(memcmp(buffer, other_buffer, len) != 0), 0);
+    yarrowdoor_free(first);
+    yarrowdoor_free(second);
+}
+
+/* When a client with these times asks to be called again, after its first packet. */
+static uint64_t second_time(const yarrowdoor_settings *good, uint64_t cadence)
+{
+    yarrowdoor_settings s = *good;
+    yarrowdoor_answer answer;
+    yarrowdoor *client;
+    uint8_t bytes[256];
+    size_t len = decode(RECEIVED[0], bytes);
+    s.request_cadence = cadence;
+    check("a new client", new_client(&s, 4, 4, 32, &client), 0);
+    check("ALLOCATE", yarrowdoor_poll_transmit(client, 0, buffer, BUFFER, &answer), YARROWDOOR_PACKET);
+    check("challenge", yarrowdoor_recv(client, YARROWDOOR_UDP, &s.remote, &s.local, bytes, len, 1000, buffer, BUFFER,
+                                       &answer), YARROWDOOR_HANDLED);
+    check("poll", yarrowdoor_poll(client, 1000, &answer), YARROWDOOR_WAIT_UNTIL);
+    uint64_t time = answer.time;
+    yarrowdoor_free(client);
+    return time;
+}
+
+/* When a client with these times sends a packet after its allocation, to keep the path or to refresh it: the seconds of it. */
+static uint64_t idle_until(const yarrowdoor_settings *good, uint64_t keepalive, uint64_t refresh_ahead)
+{
+    yarrowdoor_settings s = *good;
+    yarrowdoor_answer answer;
+    yarrowdoor *client;
+    uint8_t bytes[256];
+    s.keepalive = keepalive;
+    s.refresh_ahead = refresh_ahead;
+    check("a new client", new_client(&s, 4, 4, 32, &client), 0);
+    for (int packet = 0; packet < 2; packet++) {
+        uint64_t now = (uint64_t)packet * 50000000;
+        check("ALLOCATE", yarrowdoor_poll_transmit(client, now, buffer, BUFFER, &answer), YARROWDOOR_PACKET);
+        check("answer", yarrowdoor_recv(client, YARROWDOOR_UDP, &s.remote, &s.local, bytes, decode(RECEIVED[packet], bytes),
+                                        now, buffer, BUFFER, &answer), YARROWDOOR_HANDLED);
+    }
+    check("event", yarrowdoor_poll_event(client, &answer), YARROWDOOR_ALLOCATION_CREATED);
+    /* after the pause that follows the last packet, for which a client also asks to be called */
+    check("poll", yarrowdoor_poll(client, 100000000, &answer), YARROWDOOR_WAIT_UNTIL);
+    uint64_t time = answer.time;
+    yarrowdoor_free(client);
+    return time / 1000000000;
+}
+
 int main(void)
 {
     yarrowdoor_address local = yarrowdoor_ipv4(192, 168, 0, 1, 1000), remote = yarrowdoor_ipv4(10, 0, 0, 2, 2000);
@@ -354,6 +503,23 @@ int main(void)
     check("a challenge more than the limit", challenged_twice(&settings, 1), YARROWDOOR_ALLOCATION_CREATE_FAILED);
     check("as many challenges as the limit", challenged_twice(&settings, 2), YARROWDOOR_NOTHING);
     check("the default limit", challenged_twice(&settings, 0), YARROWDOOR_NOTHING);
+    check("the usual limit", challenged_twice(&settings, settings.max_stale_nonces), YARROWDOOR_NOTHING);
+    check("the usual limit", settings.max_stale_nonces, 256);
+    for (size_t size = 0; size < 200; size++) {
+        small_packets(&settings, size);
+    }
+    /* so long after the first packet, which was sent at 0 */
+    check("the usual pause", (uint32_t)second_time(&settings, 0), 50000000);
+    check("a pause of 7 ms", (uint32_t)second_time(&settings, 7000000), 7000000);
+    check("no pause", (uint32_t)second_time(&settings, YARROWDOOR_NO_PAUSE), 0);
+    /* the lifetime is 1,000 s, from 50 ms on, when the last packet was sent */
+    check("refreshed a minute before", (uint32_t)idle_until(&settings, 0, 0), 1000 - 60);
+    check("refreshed 100 s before", (uint32_t)idle_until(&settings, 0, (uint64_t)100000000000), 1000 - 100);
+    check("refreshed a second before", (uint32_t)idle_until(&settings, 0, 1), 1000 - 1);
+    check("kept alive", (uint32_t)idle_until(&settings, (uint64_t)15000000000, 0), 15);
+    check("kept alive each second", (uint32_t)idle_until(&settings, 1, 0), 1);
+    yarrowdoor_free(NULL);
+    check("the version", yarrowdoor_version(), YARROWDOOR_VERSION);
     exchange(&settings);
     yarrowdoor_free(teased);
     yarrowdoor_free(plain);

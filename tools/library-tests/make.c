@@ -62,6 +62,10 @@ uint32_t make_call(yarrowdoor *client, const struct call *call, uint8_t *buffer,
         return yarrowdoor_protocol_error(client, answer);
     case YARROWDOOR_CALL_HAVE_PERMISSION:
         return yarrowdoor_have_permission(client, r->transport, &r->peer, answer);
+    case YARROWDOOR_CALL_SET_PERMISSION_KEPT:
+        return yarrowdoor_set_permission_kept(client, r->transport, &r->peer, r->id, answer);
+    case YARROWDOOR_CALL_SET_CHANNEL_KEPT:
+        return yarrowdoor_set_channel_kept(client, r->transport, &r->peer, r->id, answer);
     case YARROWDOOR_CALL_PERMISSIONS:
     case YARROWDOOR_CALL_RELAYED_ADDRESSES:
         return make_look(client, r, 0, answer);

@@ -242,8 +242,24 @@ static const struct choice NAMES[] = {
     {"relayed", YARROWDOOR_CALL_RELAYED_ADDRESSES, 0},
     {"permissions", YARROWDOOR_CALL_PERMISSIONS, 0},
     {"have", YARROWDOOR_CALL_HAVE_PERMISSION, 0},
+    {"release", YARROWDOOR_CALL_SET_PERMISSION_KEPT, 0},
+    {"keep", YARROWDOOR_CALL_SET_PERMISSION_KEPT, 1},
     {NULL, 0, 0},
 };
+
+/* The grant that is kept or let go: a permission by its IP address, or a channel by its peer. */
+static int take_grant(struct text *fields, yarrowdoor_request *r)
+{
+    struct text field;
+    if (!next_part(fields, ' ', &field)) {
+        return 0;
+    }
+    if (parse_ip(field, &r->peer)) {
+        return 1;
+    }
+    r->kind = YARROWDOOR_CALL_SET_CHANNEL_KEPT;
+    return parse_address(field, &r->peer);
+}
 
 static int take_arguments(struct trace *trace, struct text *fields, struct call *call)
 {
@@ -258,6 +274,8 @@ static int take_arguments(struct trace *trace, struct text *fields, struct call 
     case YARROWDOOR_CALL_CREATE_PERMISSION:
     case YARROWDOOR_CALL_HAVE_PERMISSION:
         return take_transport(fields, &r->transport) && take_ip(fields, &r->peer);
+    case YARROWDOOR_CALL_SET_PERMISSION_KEPT:
+        return take_transport(fields, &r->transport) && take_grant(fields, r);
     case YARROWDOOR_CALL_BIND_CHANNEL:
         return take_transport(fields, &r->transport) && take_address(fields, &r->peer);
     case YARROWDOOR_CALL_TCP_CONNECT:
@@ -278,12 +296,11 @@ static int take_arguments(struct trace *trace, struct text *fields, struct call 
 static const char *parse_call(struct trace *trace, struct text line, struct call *call)
 {
     struct text field;
-    uint32_t none;
     memset(call, 0, sizeof *call);
     if (!next_part(&line, ' ', &field) || !parse_decimal(field, YARROWDOOR_MAX_TIME, &call->request.time)) {
         return "moment";
     }
-    if (!take_choice(&line, NAMES, &call->request.kind, &none)) {
+    if (!take_choice(&line, NAMES, &call->request.kind, &call->request.id)) {
         return "call";
     }
     if (!take_arguments(trace, &line, call) || line.at) {

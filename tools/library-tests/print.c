@@ -44,11 +44,11 @@ static void print_transport(FILE *out, uint32_t transport)
 
 static void print_refusal(FILE *out, const yarrowdoor_answer *a)
 {
-    static const char *const words[] = {"", "already-exists", "no-allocation", "no-permission", "no-socket"};
+    static const char *const words[] = {"", "already-exists", "no-allocation", "no-permission", "no-socket", "", "not-granted"};
     if (a->error == YARROWDOOR_ERROR_EXPIRED) {
         fprintf(out, "refused expired %" PRIu64, a->time);
     } else {
-        fprintf(out, "refused %s", a->error < 5 ? words[a->error] : "");
+        fprintf(out, "refused %s", a->error < 7 ? words[a->error] : "");
     }
 }
 

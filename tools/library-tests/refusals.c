@@ -46,7 +46,8 @@ static int takes_no_memory(uint32_t kind)
 {
     return kind == YARROWDOOR_CALL_SEND_TO || kind == YARROWDOOR_CALL_POLL_EVENT ||
            kind == YARROWDOOR_CALL_HAVE_PERMISSION || kind == YARROWDOOR_CALL_RELAYED_ADDRESSES ||
-           kind == YARROWDOOR_CALL_PERMISSIONS;
+           kind == YARROWDOOR_CALL_PERMISSIONS || kind == YARROWDOOR_CALL_SET_PERMISSION_KEPT ||
+           kind == YARROWDOOR_CALL_SET_CHANNEL_KEPT;
 }
 
 /* Makes a call, and looks at what it says of memory. Returns whether it was refused. */
@@ -56,7 +57,7 @@ static int call_is_refused(yarrowdoor *client, size_t i, int was_refused)
     const struct call *call = &trace.calls[i];
     uint32_t kind = make_call(client, call, buffer, sizeof buffer, sizeof buffer, &answer);
     int is_refused = kind == YARROWDOOR_OUT_OF_MEMORY;
-    if (kind == 0 || kind > YARROWDOOR_PEER_DATA_RANGE || kind != answer.kind) {
+    if (kind == 0 || kind > YARROWDOOR_NO_FRAME || kind != answer.kind) {
         fail("no such answer", i);
     }
     if (is_refused && (was_refused || takes_no_memory(call->request.kind))) {
