@@ -251,6 +251,8 @@ uint32_t yarrowdoor_new(void *s, void *u, size_t ul, void *p, size_t pl, void *d
 uint32_t yarrowdoor_call(void *c, void *q, void *b, size_t bl, void *r, size_t rl, uint32_t *answer)
 { memset(answer, 0, 152); answer[0] = 14; return 14; }
 void yarrowdoor_free(void *c) {}
+uint32_t yarrowdoor_read_message(uint32_t t, void *b, size_t n, void *m) { return 37; }
+uint32_t yarrowdoor_read_attribute(void *b, size_t n, uint16_t t, size_t *s, size_t *l) { return 22; }
 """
 
 

@@ -83,6 +83,87 @@ class Checks(unittest.IsolatedAsyncioTestCase):
                     self.assertEqual(checked, (is_answered, relay.local_address if is_answered else None))
 
 
+class Nat(asyncio.DatagramProtocol):
+    """A NAT between client and server: it forgets a mapping by which nothing was sent for `life` seconds (RFC 4787, section 4.3),
+    and a later packet of the client comes from another port."""
+
+    def __init__(self, server: Any, life: float) -> None:
+        self.server, self.life, self.last, self.mappings = server, life, 0.0, 0
+        self.out: Any = None
+
+    def connection_made(self, transport: Any) -> None:
+        self.inside = transport
+
+    def datagram_received(self, data: bytes, client: Any) -> None:
+        self.client = client
+        asyncio.ensure_future(self.send(data))
+
+    def has_mapping(self) -> bool:
+        return self.out is not None and asyncio.get_running_loop().time() - self.last <= self.life
+
+    async def send(self, data: bytes) -> None:
+        if not self.has_mapping():
+            back = NatBack(self)
+            self.close()
+            self.out, _ = await asyncio.get_running_loop().create_datagram_endpoint(lambda: back, remote_addr=self.server)
+            self.mappings += 1
+        self.last = asyncio.get_running_loop().time()
+        self.out.sendto(data)
+
+    def close(self) -> None:
+        if self.out is not None:
+            self.out.close()
+
+
+class NatBack(asyncio.DatagramProtocol):
+    def __init__(self, nat: Nat) -> None:
+        self.nat = nat
+
+    def datagram_received(self, data: bytes, server: Any) -> None:
+        if self.nat.has_mapping():
+            self.nat.inside.sendto(data, self.nat.client)
+
+
+class Nats(unittest.IsolatedAsyncioTestCase):
+    """An idle relay keeps the mapping of a NAT that forgets after two minutes."""
+
+    async def idle(self, minutes: float, **settings: Any) -> "tuple[int, int]":
+        """How many of a peer's packets came in the last ten minutes, of twenty, and how many mappings there were."""
+        rate, loop = 120, asyncio.get_running_loop()
+        endpoint = await Endpoint.start(Server())
+        self.addCleanup(endpoint.close)
+        server, peer = endpoint.transport.get_extra_info("sockname"), ("10.1.0.1", 9)
+        inside, nat = await loop.create_datagram_endpoint(lambda: Nat(server, 120 / rate), local_addr=("127.0.0.1", 0))
+        self.addCleanup(inside.close)
+        self.addCleanup(nat.close)
+        uri = "turn:%s:%d" % inside.get_extra_info("sockname")
+        relay = TurnClient(uri, "user", "pass", clock=Clock(rate), **settings)
+        await relay.open()
+        await relay.permit(peer[0])
+        (client, _), = endpoint.server.allocations.items()
+        await asyncio.sleep((minutes - 10) * 60 / rate)
+        for _ in range(20):
+            endpoint.send(endpoint.server.from_peer(b"x", peer, client, loop.time()), client, loop.time())
+            await asyncio.sleep(30 / rate)
+        came = 0
+        while came < 20 and not relay.closed:
+            try:
+                await asyncio.wait_for(relay.receive(), 0.1)
+            except asyncio.TimeoutError:
+                break
+            came += 1
+        await relay.close()
+        return came, nat.mappings
+
+    async def test_an_idle_relay(self) -> None:
+        self.assertEqual(await self.idle(20), (20, 1))
+
+    async def test_a_relay_without_keepalive(self) -> None:
+        came, mappings = await self.idle(20, keepalive=0)
+        self.assertLess(came, 20)
+        self.assertGreater(mappings, 1)
+
+
 class Sockets(unittest.IsolatedAsyncioTestCase):
     """Errors of a socket, and its end."""
 

@@ -45,7 +45,7 @@ __all__ = [
 _Item = TypeVar("_Item")
 _HANDLED, _IGNORED = Handled(), Ignored()
 _RANGE, _HANDLED_KIND, _PACKET = c.PEER_DATA_RANGE, c.HANDLED, c.PACKET
-_REASONS = {1: "already-exists", 2: "no-allocation", 3: "no-permission", 4: "no-socket", 5: "expired"}
+_REASONS = {1: "already-exists", 2: "no-allocation", 3: "no-permission", 4: "no-socket", 5: "expired", 6: "not-granted"}
 
 
 class Client:
@@ -60,6 +60,10 @@ class Client:
     `max_stale_nonces` challenges in a row, 1 to 65,535, and the next one ends it (`docs/REAL-SERVERS.md` in the repository).
     A client that nothing refers to any more is freed.
 
+    Between two requests lies a `pause`, in nanoseconds, or none where it is 0. With a `keepalive` above 0 the client sends
+    something when it has sent nothing for so long, in nanoseconds. A permission and a channel are refreshed `refresh_ahead`
+    before they expire, in nanoseconds, at least a second.
+
     `anonymous` is `"auto"` (as the client sees the server offer it: never, so far), `"required"` (always) or `"disabled"` (never).
     `TypeError` where user or password is neither text nor bytes, or `times` is not `Times`.
     """
@@ -67,11 +71,12 @@ class Client:
     def __init__(self, local: AddressLike, remote: AddressLike, user: Union[str, bytes], password: Union[str, bytes], *,
                  transport: str = "udp", allocation: str = "udp", families: Sequence[int] = (4,),
                  algorithms: Sequence[str] = ("sha256", "sha1"), anonymous: str = "auto", times: Optional[Times] = None,
-                 max_stale_nonces: int = 9, seed: Optional[bytes] = None, library: Optional[Library] = None) -> None:
+                 max_stale_nonces: int = 9, pause: int = 50_000_000, keepalive: int = 0, refresh_ahead: int = 60_000_000_000,
+                 seed: Optional[bytes] = None, library: Optional[Library] = None) -> None:
         self._way, self._relay_way = number(TRANSPORTS, transport), number(TRANSPORTS, allocation)
         self._local, self._remote = packed(of_socket(local)), packed(of_socket(remote))
         settings = packed_settings(self._local, self._remote, self._way, self._relay_way, families, algorithms, anonymous, times,
-                                   max_stale_nonces)
+                                   max_stale_nonces, pause, keepalive, refresh_ahead)
         names = credential("user", user), credential("password", password)
         self._handle = Handle(library or load(), settings, *names, os.urandom(32) if seed is None else seed)
         self._way_name, self._relay_name = transport, allocation
@@ -158,6 +163,16 @@ class Client:
         `Refused`: `no-allocation`; `already-exists`, also where all 4,096 numbers are taken; `expired`, up to `until`.
         """
         self._ask(now, c.BIND_CHANNEL, transport=self._relay(transport), peer=packed(peer))
+
+    def set_permission_kept(self, ip: str, is_kept: bool, *, transport: Optional[str] = None) -> None:
+        """Says whether the permission of an IP address is refreshed, as each is at first. One that is not ends by itself, with its
+        event. `Refused` (`not-granted`) where there is none."""
+        self._ask(0, c.SET_PERMISSION_KEPT, id=int(is_kept), transport=self._relay(transport), peer=packed_ip(ip))
+
+    def set_channel_kept(self, peer: AddressLike, is_kept: bool, *, transport: Optional[str] = None) -> None:
+        """Says whether the channel of a peer is refreshed, as each is at first. One that is not ends by itself, with its event; its
+        permission is another grant. `Refused` (`not-granted`) where there is none."""
+        self._ask(0, c.SET_CHANNEL_KEPT, id=int(is_kept), transport=self._relay(transport), peer=packed(peer))
 
     def tcp_connect(self, peer: AddressLike, now: int) -> None:
         """Requests that the server connect to `peer`, which needs a permission (RFC 6062, section 4.3).

@@ -45,6 +45,7 @@ class Grants:
         self._open_client, self._drive, self._clock = open_client, drive, clock
         self._requests, self._notices = requests, notices
         self._granted: Set[Key] = set()
+        self._released: Set[Key] = set()
         self._rests: Dict[str, _Rest] = {}
 
     async def permit(self, ip: str) -> None:
@@ -87,6 +88,18 @@ class Grants:
         if not self._open_client().have_permission(peer.host):
             await self.permit(peer.host)  # The channel is an older one, whose permission is gone: a refresh does not bring it back.
 
+    def set_kept(self, about: Union[str, Address], is_kept: bool) -> None:
+        """Says whether the permission of an IP address, or the channel of a peer, is refreshed."""
+        client, key = self._open_client(), permission(about) if isinstance(about, str) else channel(about)
+        if isinstance(about, str):
+            client.set_permission_kept(about, is_kept)
+        else:
+            client.set_channel_kept(about, is_kept)
+        if is_kept:
+            self._released.discard(key)
+        else:
+            self._released.add(key)
+
     def created(self, key: Key) -> None:
         """The client tells that something is granted."""
         self._granted.add(key)
@@ -96,16 +109,20 @@ class Grants:
     def failed(self, key: Key) -> bool:
         """The client tells that something is refused, or lost. Says whether it is lost since the server did not answer."""
         hint, was_granted = self._requests.error_of(key), key in self._granted
+        was_released = key in self._released
         self._granted.discard(key)
+        self._released.discard(key)
         error: Union[PermissionFailed, ChannelFailed]
         if isinstance(key.about, str):
             error = PermissionFailed(f"no permission for {key.about}", hint)
-            self._let_rest(key.about, hint)
+            if not was_released:
+                self._let_rest(key.about, hint)
         else:
             error = ChannelFailed(f"no channel to {key.about}", hint)
-        if not self._requests.settle(key, error) and was_granted and key.about is not None:
+        is_lost = was_granted and not was_released  # What was released was to end.
+        if not self._requests.settle(key, error) and is_lost and key.about is not None:
             self._notices.tell_lost(Lost("permission" if isinstance(key.about, str) else "channel", key.about))
-        return was_granted and hint is None
+        return is_lost and hint is None
 
     def _let_rest(self, ip: str, hint: Hint) -> None:
         before = self._rests.pop(ip, None)

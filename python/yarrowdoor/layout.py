@@ -18,15 +18,20 @@ MAX_TIME = 1 << 62
 ADDRESS = struct.Struct("=16sIIHBB")
 NO_ADDRESS = bytes(ADDRESS.size)
 # struct yarrowdoor_settings: three waits, their count, whether they are set, transport, that of the allocation, family, the
-# other family, algorithm, the other algorithm, anonymous, the limit of challenges, 0, local and remote address.
-SETTINGS = struct.Struct("=QQQIIIIIIIIIHH28s28s")
+# other family, algorithm, the other algorithm, anonymous, the limit of challenges, 0, local and remote address, the pause between
+# requests, how often something is sent, how long before its expiry a grant is refreshed, 0.
+SETTINGS = struct.Struct("=QQQIIIIIIIIIHH28s28sQQQ16x")
+NO_PAUSE = (1 << 64) - 1
 # struct yarrowdoor_request: time, kind, id, transport, 0, from, to, peer, local.
 REQUEST = struct.Struct("=QIIII28s28s28s28s")
 # What RECV and SEND_TO use of it; all else is 0.
 RECV_REQUEST = struct.Struct("=QIIII28s28s56x")
 SEND_REQUEST = struct.Struct("=QIIII56x28s28x")
 # struct yarrowdoor_answer: the fields of Answer.
-ANSWER = struct.Struct("=IIQQQQIIIIBBH28s28s28s")
+ANSWER = struct.Struct("=IIQQQQIIIIBBH28s28s28s16x")
+# struct yarrowdoor_message: length, kind, method, class, ID, channel, code, place and length of the reason, and of the realm, the
+# mapped address, the alternate one, 0.
+MESSAGE = struct.Struct("=QIHH12sHHIIII28s28s8x")
 # What an answer has of data in the bytes that were passed in: len, start, peer.
 RANGE = struct.Struct("=16xQQ84x28s")
 # The length of what is in the buffer, and how much more there is to read.
@@ -35,7 +40,7 @@ LENGTHS = struct.Struct("=16xQ8xQ")
 # enum yarrowdoor_request_kind
 DELETE, CREATE_PERMISSION, BIND_CHANNEL, TCP_CONNECT, ALLOCATED_TCP_SOCKET, TCP_CLOSED, SEND_TO, RECV = range(1, 9)
 POLL_RECV, POLL, POLL_TRANSMIT, POLL_EVENT, PROTOCOL_ERROR, RELAYED_ADDRESSES, PERMISSIONS = range(9, 16)
-HAVE_PERMISSION, READ = 16, 17
+HAVE_PERMISSION, READ, SET_PERMISSION_KEPT, SET_CHANNEL_KEPT = range(16, 20)
 
 # enum yarrowdoor_kind
 OUT_OF_MEMORY, BAD_TIME, BAD_CALL, BAD_PAYLOAD, UNREAD_BYTES, SMALL_BUFFER, REFUSED, DONE, NOTHING = range(1, 10)
@@ -44,6 +49,11 @@ BYTES, ADDRESS_IS, YES, NO = range(19, 23)
 ALLOCATION_CREATED, ALLOCATION_CREATE_FAILED, PERMISSION_CREATED, PERMISSION_CREATE_FAILED = range(23, 27)
 CHANNEL_CREATED, CHANNEL_CREATE_FAILED, TCP_CONNECTED, TCP_CONNECT_FAILED = range(27, 31)
 BAD_SETTINGS, BAD_CREDENTIALS, BAD_SEED, PEER_DATA_RANGE = range(31, 35)
+MESSAGE_IS, CHANNEL_DATA, NO_FRAME = range(35, 38)
+# enum yarrowdoor_transport
+UDP, TCP = 0, 1
+# Classes of messages.
+REQUEST_CLASS, INDICATION_CLASS, SUCCESS_CLASS, ERROR_CLASS = range(4)
 
 _BAD = {
     BAD_TIME: "a time is from 0 to 2^62 nanoseconds",
@@ -60,6 +70,24 @@ def fail(kind: int) -> NoReturn:
     if kind == OUT_OF_MEMORY:
         raise MemoryError("a memory allocation of the client failed")
     raise ValueError(_BAD.get(kind, f"the library answered {kind}"))
+
+
+class Message(NamedTuple):
+    """The first frame of some bytes: the fields of `struct yarrowdoor_message`. Places are in these bytes."""
+
+    len: int
+    kind: int
+    method: int
+    message_class: int
+    id: bytes
+    channel: int
+    code: int
+    reason_at: int
+    reason_len: int
+    realm_at: int
+    realm_len: int
+    mapped: bytes
+    alternate: bytes
 
 
 class Answer(NamedTuple):

@@ -14,13 +14,13 @@ import re
 import struct
 import threading
 import weakref
-from typing import Callable, NoReturn, Optional, Tuple, Union
+from typing import Callable, Iterator, NoReturn, Optional, Tuple, Union
 
 from .errors import Busy, LibraryError
 from .layout import (
-    ADDRESS, ANSWER, Answer, BAD_TIME, fail, LENGTHS, MAX_OVERHEAD, MAX_PACKET, NAME, NO_ADDRESS, PACKET, PEER_DATA,
-    PEER_DATA_RANGE, POLL, POLL_TRANSMIT, RANGE, READ, RECV, RECV_REQUEST, REQUEST, SEND_REQUEST, SEND_TO, SETTINGS, SMALL_BUFFER,
-    WAIT_UNTIL,
+    ADDRESS, ANSWER, Answer, BAD_TIME, CHANNEL_DATA, fail, LENGTHS, MAX_OVERHEAD, MAX_PACKET, MESSAGE, Message, MESSAGE_IS, NAME,
+    NO_ADDRESS, PACKET, PEER_DATA, PEER_DATA_RANGE, POLL, POLL_TRANSMIT, RANGE, READ, RECV, RECV_REQUEST, REQUEST, SEND_REQUEST,
+    SEND_TO, SETTINGS, SMALL_BUFFER, TCP, UDP, WAIT_UNTIL, YES,
 )
 
 __all__ = ["Buffer", "Handle", "Library", "find", "load"]
@@ -41,13 +41,41 @@ class Library:
         try:
             loaded = ctypes.PyDLL(self.path)
             self.new, self.call, self.free = loaded.yarrowdoor_new, loaded.yarrowdoor_call, loaded.yarrowdoor_free
+            self._read_message, self._read_attribute = loaded.yarrowdoor_read_message, loaded.yarrowdoor_read_attribute
         except (OSError, AttributeError) as error:
             why = f"the library for C is not loaded: {error}. A wheel has it; in the repository tools/library builds it"
             raise LibraryError(why) from None
         # No argtypes: values of ctypes are passed as they are, which takes half the time.
         self.new.restype = self.call.restype = ctypes.c_uint32
+        self._read_message.restype = self._read_attribute.restype = ctypes.c_uint32
         self.free.restype = None
         _check_layout(self)
+
+    def read_message(self, data: bytes) -> Message:
+        """What these bytes are, as a datagram. It is not verified."""
+        return self._frame(UDP, ctypes.c_char_p(data), len(data))
+
+    def read_frames(self, data: bytes) -> Iterator[Message]:
+        """The frames that a stream begins with. After one that is no frame, or is not whole, there is none."""
+        view = ctypes.create_string_buffer(data, len(data))
+        place, kind = 0, MESSAGE_IS
+        while place < len(data) and kind in (MESSAGE_IS, CHANNEL_DATA):
+            found = self._frame(TCP, ctypes.c_void_p(ctypes.addressof(view) + place), len(data) - place)
+            place, kind = place + found.len, found.kind
+            yield found
+
+    def _frame(self, transport: int, at: Union[ctypes.c_char_p, ctypes.c_void_p], size: int) -> Message:
+        found = bytearray(MESSAGE.size)
+        self._read_message(ctypes.c_uint32(transport), at, ctypes.c_size_t(size), _at(found))
+        return Message._make(MESSAGE.unpack(found))
+
+    def read_attribute(self, data: bytes, name: int) -> Optional[bytes]:
+        """The value of the first attribute of this type that counts in the message that these bytes begin with, or None."""
+        start, size = ctypes.c_size_t(), ctypes.c_size_t()
+        sizes = ctypes.byref(start), ctypes.byref(size)
+        if self._read_attribute(data, ctypes.c_size_t(len(data)), ctypes.c_uint16(name), *sizes) != YES:
+            return None
+        return data[start.value:start.value + size.value]
 
 
 def find() -> Optional[str]:
@@ -81,7 +109,7 @@ def _check_layout(library: Library) -> None:
     """Refuses a library that reads or writes other structs: makes a client, and looks for what it was given in its answers."""
     local = ADDRESS.pack(bytes(range(1, 17)), 0x01020304, 0x05060708, 0x090A, 6, 0)
     remote = ADDRESS.pack(bytes(range(17, 33)), 0x11121314, 0x15161718, 0x191A, 6, 0)
-    settings = SETTINGS.pack(1_000_000_000, 5_000_000_000, 3_000_000_000, 4, 1, 0, 0, 4, 0, 1, 0, 0, 0, 0, local, remote)
+    settings = SETTINGS.pack(1_000_000_000, 5_000_000_000, 3_000_000_000, 4, 1, 0, 0, 4, 0, 1, 0, 0, 0, 0, local, remote, 0, 0, 0)
     guard = b"\xa5" * 64
     handle = Handle(library, settings, b"u", b"p", bytes(32), guard)
     (packet, data), (wait, _) = handle.call(0, POLL_TRANSMIT), handle.call(7, POLL)

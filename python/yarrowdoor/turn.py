@@ -40,7 +40,9 @@ class TurnClient(Told, Lifetime):
     waits for its answer (`Times`). At most `queue` packets of peers wait to be taken; a further one is dropped and counted. With
     `receiver` there is no queue: it is called with data and peer, in the event loop, and must not block. What it raises goes to the
     event loop's exception handler. `probe` is how often the path to the server is checked, in seconds: three checks in a row
-    without an answer end the relay. By default none is made. `anonymous` hides the user name (RFC 8489, section 14.4):
+    without an answer end the relay. By default none is made. When nothing was sent for `keepalive` seconds, something is, so that
+    a NAT in between keeps its mapping; with 0 never. Between two requests lies a `pause` in seconds, and permissions and channels
+    are refreshed `refresh_ahead` seconds before they expire. `anonymous` hides the user name (RFC 8489, section 14.4):
     `"required"` always, `"disabled"` never, and `"auto"` never so far. `max_stale_nonces` is how many challenges in a row are
     answered. It should be greater than the number of permissions and channels: their refreshes may all be challenged at once, and
     that of the relayed address too.
@@ -70,8 +72,9 @@ class TurnClient(Told, Lifetime):
 
     def __init__(self, uri: Union[str, TurnUri], user: Union[str, bytes], password: Union[str, bytes], *, relay: str = "udp",
                  family: int = 4, ssl: Optional[tls.SSLContext] = None, times: Optional[Times] = None, queue: int = 1024,
-                 receiver: Optional[Receiver] = None, probe: Optional[float] = None, anonymous: str = "auto",
-                 max_stale_nonces: int = 256, clock: Optional[Clock] = None) -> None:
+                 receiver: Optional[Receiver] = None, probe: Optional[float] = None, keepalive: float = 15.0,
+                 pause: float = 0.005, refresh_ahead: float = 150.0, anonymous: str = "auto", max_stale_nonces: int = 256,
+                 clock: Optional[Clock] = None) -> None:
         self.uri = parse(uri) if isinstance(uri, str) else uri
         if relay not in ("udp", "tcp"):
             raise ValueError(f"relay is 'udp' or 'tcp', and not {relay!r}")
@@ -81,11 +84,15 @@ class TurnClient(Told, Lifetime):
             raise ValueError(f"family is 4 or 6, and not {family!r}")
         if probe is not None and not probe > 0:
             raise ValueError(f"probe is a number of seconds above 0, and not {probe!r}")
+        for name, seconds in (("keepalive", keepalive), ("pause", pause), ("refresh_ahead", refresh_ahead)):
+            if not 0 <= seconds < 1e9:
+                raise ValueError(f"{name} is a number of seconds from 0 on, and not {seconds!r}")
         check_times(times)
         Lifetime.__init__(self, Server(self.uri, ssl), Inbox(queue, receiver))
         Told.__init__(self, self._inbox, Notices())
         self._user, self._password = credential("user", user), credential("password", password)
         self._times, self._anonymous, self._max_stale_nonces = times, anonymous, max_stale_nonces
+        self._pause, self._keepalive, self._refresh_ahead = (int(it * 1e9) for it in (pause, keepalive, refresh_ahead))
         self._relay, self._family, self._probe = relay, family, probe
         self._clock = clock or Clock()
         # How much had come when `send` was called last.
@@ -95,7 +102,8 @@ class TurnClient(Told, Lifetime):
         try:
             client = Client(link.local, link.remote, self._user, self._password, families=(self._family,),
                             transport=self.uri.transport, allocation=self._relay, times=self._times, anonymous=self._anonymous,
-                            max_stale_nonces=self._max_stale_nonces)
+                            max_stale_nonces=self._max_stale_nonces, pause=self._pause, keepalive=self._keepalive,
+                            refresh_ahead=self._refresh_ahead)
         except BaseException:
             link.close()
             raise
@@ -150,6 +158,16 @@ class TurnClient(Told, Lifetime):
         where, session = checked_peer(peer), self._session()
         self._check_family(where.host)
         await session.grants.bind(where)
+
+    def release(self, peer: Union[str, AddressLike]) -> None:
+        """Lets go what a peer was granted: with an address its channel, with an IP address its permission. It is used as before,
+        and refreshed no more, so that it ends after 10 or 5 minutes, which neither `lost` nor `on_lost` tells. `Refused`
+        (`not-granted`) where there is none. Release both, or the channel alone where another port uses the permission."""
+        self._session().grants.set_kept(checked_ip(peer) if isinstance(peer, str) else checked_peer(peer), False)
+
+    def keep(self, peer: Union[str, AddressLike]) -> None:
+        """Takes `release` back, while the grant has not ended. `Refused` (`not-granted`) where there is none."""
+        self._session().grants.set_kept(checked_ip(peer) if isinstance(peer, str) else checked_peer(peer), True)
 
     async def check(self) -> Check:
         """Asks the server for a sign of life, and this client's address as it sees it now: a Binding request (RFC 8489, section 3),
