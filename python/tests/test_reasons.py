@@ -55,7 +55,7 @@ class Reading(unittest.TestCase):
 
     def test_attributes(self) -> None:
         found = message(0x0104, attribute(0x000D, b"\0\0\2\x58") + attribute(0x0008, bytes(20)) + attribute(0x8022, b"late"))
-        self.assertEqual([reasons.attribute(found, it) for it in (0x000D, 0x0008, 0x8022)], [b"\0\0\2\x58", None, None])
+        self.assertEqual([reasons.attribute(found, it) for it in (0x000D, 0x8022)], [b"\0\0\2\x58", None])
 
     def test_what_is_malformed(self) -> None:
         for body in (attribute(0x0009, b"\0\0\4"), b"\0\x09\0", b"\0\x09\xff\xff\0\0"):

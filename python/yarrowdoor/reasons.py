@@ -10,7 +10,9 @@ import socket
 import struct
 from typing import Iterator, NamedTuple, Optional, Tuple
 
-from .address import Address
+from . import layout as c
+from .address import Address, peer_of
+from .library import load
 
 __all__ = [
     "ALLOCATE", "BINDING", "CHANNEL_BIND", "CONNECT", "CONNECTION_BIND", "CREATE_PERMISSION", "Frames", "LIFETIME", "Message",
@@ -21,13 +23,9 @@ __all__ = [
 BINDING, ALLOCATE, REFRESH, CREATE_PERMISSION, CHANNEL_BIND = 0x001, 0x003, 0x004, 0x008, 0x009
 CONNECT, CONNECTION_BIND = 0x00A, 0x00B
 # Attributes (RFC 8489, section 18.3; RFC 8656, section 18).
-ERROR_CODE, LIFETIME, XOR_PEER_ADDRESS, XOR_MAPPED_ADDRESS = 0x0009, 0x000D, 0x0012, 0x0020
-_INTEGRITIES = (0x0008, 0x001C)
+LIFETIME, XOR_PEER_ADDRESS = 0x000D, 0x0012
 
-_HEADER = struct.Struct("!HHI12s")
-_ATTRIBUTE = struct.Struct("!HH")
 _COOKIE = 0x2112A442
-_REQUEST, _INDICATION, _SUCCESS, _ERROR, _CLASS = 0x0000, 0x0010, 0x0100, 0x0110, 0x0110
 
 Error = Tuple[int, str]
 
@@ -45,38 +43,24 @@ class Message(NamedTuple):
 
 
 def read(data: bytes) -> Optional[Message]:
-    """The STUN message that these bytes begin with, or None where they begin with something else. It is not verified."""
-    if len(data) < 20:
+    """The STUN message that these bytes are, or None where they are something else. It is not verified."""
+    found = load().read_message(data)
+    if found.kind != c.MESSAGE_IS:
         return None
-    kind, size, cookie, transaction = _HEADER.unpack_from(data)
-    if kind >> 14 or cookie != _COOKIE or len(data) < 20 + size:
-        return None
-    method, of_class = (kind & 0x000F) | (kind & 0x00E0) >> 1 | (kind & 0x3E00) >> 2, kind & _CLASS
-    error = mapped = None
-    if of_class == _ERROR:
-        value = attribute(data, ERROR_CODE)
-        error = (100 * (value[2] & 7) + value[3], _printable(value[4:])) if value is not None and len(value) >= 4 else None
-    elif of_class == _SUCCESS:
-        value = attribute(data, XOR_MAPPED_ADDRESS)
-        mapped = None if value is None else xored(value, transaction)
-    return Message(method, of_class == _REQUEST, of_class in (_SUCCESS, _ERROR), transaction, error, mapped)
+    is_error, is_success = found.message_class == c.ERROR_CLASS, found.message_class == c.SUCCESS_CLASS
+    phrase = data[found.reason_at:found.reason_at + found.reason_len]
+    error = (found.code, _printable(phrase)) if is_error and found.code else None
+    mapped = peer_of(found.mapped) if is_success and found.mapped != c.NO_ADDRESS else None
+    return Message(found.method, found.message_class == c.REQUEST_CLASS, is_error or is_success, found.id, error, mapped)
 
 
 def attribute(data: bytes, name: int) -> Optional[bytes]:
     """The value of the first attribute of this type that the message's integrity covers, or None."""
-    place, end = 20, min(len(data), 20 + int.from_bytes(data[2:4], "big"))
-    while place + 4 <= end:
-        found, size = _ATTRIBUTE.unpack_from(data, place)
-        if found in _INTEGRITIES:
-            return None
-        if found == name:
-            return data[place + 4:place + 4 + size] if place + 4 + size <= end else None
-        place += 4 + (size + 3) // 4 * 4
-    return None
+    return load().read_attribute(data, name)
 
 
 def xored(value: bytes, transaction: bytes) -> Optional[Address]:
-    """The address in the value of a XORed attribute (RFC 8489, section 14.2), or None where it is none."""
+    """The address in the value of a XORed attribute of the client's request (RFC 8489, section 14.2), or None where it is none."""
     family, key = value[1:2], _COOKIE.to_bytes(4, "big") + transaction
     if (family, len(value)) not in ((b"\1", 8), (b"\2", 20)):
         return None
@@ -87,7 +71,7 @@ def xored(value: bytes, transaction: bytes) -> Optional[Address]:
 
 def binding_request(transaction: bytes) -> bytes:
     """A Binding request without attributes (RFC 8489, section 3): 20 bytes, which a server answers with this client's address."""
-    return _HEADER.pack(BINDING, 0, _COOKIE, transaction)
+    return struct.pack("!HHI12s", BINDING, 0, _COOKIE, transaction)
 
 
 def is_about_credentials(code: int) -> bool:
@@ -106,34 +90,28 @@ def _printable(phrase: bytes) -> str:
 
 
 class Frames:
-    """The messages in a stream of the server. What else it has is skipped, and not kept.
+    """The messages in a stream of the server, cut by the library.
 
     `messages` takes a piece, and gives each whole message in it. A stream that is none of TURN gives nothing any more.
     """
 
     def __init__(self) -> None:
         self._front = b""
-        self._skip = 0
         self._is_broken = False
 
     def is_one(self, piece: bytes, size: int) -> bool:
         """Whether a piece is one ChannelData message with `size` bytes of data, and nothing else: `messages` need not see it."""
-        return not self._front and not self._skip and len(piece) == 4 + (size + 3) // 4 * 4
+        return not self._front and len(piece) == 4 + (size + 3) // 4 * 4
 
     def messages(self, piece: bytes) -> Iterator[bytes]:
-        data, place = self._front + piece if self._front else piece, self._skip
-        self._front, self._skip = b"", 0
-        while place + 4 <= len(data) and not self._is_broken:
-            kind, size = _ATTRIBUTE.unpack_from(data, place)
-            if kind >> 14 == 1:
-                place += 4 + (size + 3) // 4 * 4
-                continue
-            if kind >> 14 or data[place + 4:place + 8] != _COOKIE.to_bytes(4, "big")[: max(0, len(data) - place - 4)]:
-                self._is_broken = True
-                break
-            if place + 20 + size > len(data):
-                break
-            yield data[place:place + 20 + size]
-            place += 20 + size
+        data, place = self._front + piece if self._front else piece, 0
+        self._front = b""
+        if self._is_broken:
+            return
+        for found in load().read_frames(data):
+            self._is_broken = found.kind == c.NO_FRAME
+            if found.kind == c.MESSAGE_IS:
+                yield data[place:place + found.len]
+            place += found.len
         if not self._is_broken:
-            self._front, self._skip = data[place:], max(0, place - len(data))
+            self._front = data[place:]
