@@ -1,26 +1,78 @@
-//! Links the library that `tools/library` builds.
+//! Links the library that `tools/library` builds: that in the folder `YARROWDOOR_DIST`; else that in `dist`, at the top of the
+//! repository; else the one that pkg-config finds.
+//!
+//! Where there is none it only warns, since `cargo check`, `cargo doc` and `cargo clippy` link nothing. A program is not
+//! linked then.
 
 use std::env;
-use std::path::PathBuf;
+use std::path::{Path, PathBuf};
+use std::process::Command;
 
-/// The folder of the library: `YARROWDOOR_DIST`, or `dist` at the top of the repository.
-fn dist() -> PathBuf {
-    match env::var_os("YARROWDOOR_DIST") {
-        Some(folder) => PathBuf::from(folder),
-        None => PathBuf::from(env!("CARGO_MANIFEST_DIR")).join("../dist"),
+const ARCHIVE: &str = "libyarrowdoor.a";
+
+fn main() {
+    for name in ["YARROWDOOR_DIST", "PKG_CONFIG", "PKG_CONFIG_PATH"] {
+        println!("cargo:rerun-if-env-changed={name}");
+    }
+    let named = env::var_os("YARROWDOOR_DIST").map(PathBuf::from);
+    let package =
+        PathBuf::from(env::var_os("CARGO_MANIFEST_DIR").expect("cargo names the package"));
+    for line in instructions(named, &package.join("../dist"), ask_pkg_config) {
+        println!("cargo:{line}");
     }
 }
 
-fn main() {
-    let dist = dist();
-    let library = dist.join("libyarrowdoor.a");
-    println!("cargo:rerun-if-env-changed=YARROWDOOR_DIST");
-    println!("cargo:rerun-if-changed={}", library.display());
-    assert!(
-        library.exists(),
-        "{} does not exist: tools/library builds it",
-        library.display()
-    );
-    println!("cargo:rustc-link-search=native={}", dist.display());
-    println!("cargo:rustc-link-lib=static=yarrowdoor");
+/// What cargo is told. `ask` gives the linker's flags of an installed library, if there is one.
+pub(crate) fn instructions(
+    named: Option<PathBuf>,
+    built: &Path,
+    ask: impl FnOnce() -> Option<String>,
+) -> Vec<String> {
+    let is_named = named.is_some();
+    let folder = named.unwrap_or_else(|| built.to_owned());
+    // it is looked at again once there is one
+    let mut lines = vec![format!(
+        "rerun-if-changed={}",
+        folder.join(ARCHIVE).display()
+    )];
+    if folder.join(ARCHIVE).exists() {
+        lines.push(format!("rustc-link-search=native={}", folder.display()));
+        lines.push("rustc-link-lib=static=yarrowdoor".to_owned());
+    } else if is_named {
+        // no other library than the one that was asked for
+        let folder = folder.display();
+        lines.push(format!(
+            "warning=YARROWDOOR_DIST is {folder}, which has no {ARCHIVE}"
+        ));
+    } else if let Some(flags) = ask() {
+        lines.extend(flags.split_whitespace().filter_map(instruction));
+    } else {
+        let what =
+            "no library to link: tools/library builds it, or YARROWDOOR_DIST names its folder";
+        lines.push(format!("warning={what}"));
+    }
+    lines
+}
+
+/// What cargo is told for one flag of a linker. Others than folders and libraries are left out.
+fn instruction(flag: &str) -> Option<String> {
+    if let Some(folder) = flag.strip_prefix("-L") {
+        return Some(format!("rustc-link-search=native={folder}"));
+    }
+    let library = flag.strip_prefix("-l")?;
+    Some(format!("rustc-link-lib={library}"))
+}
+
+/// The flags with which pkg-config links the library. It knows the libraries of this machine alone.
+fn ask_pkg_config() -> Option<String> {
+    if env::var_os("TARGET") != env::var_os("HOST") {
+        return None;
+    }
+    let program = env::var_os("PKG_CONFIG").unwrap_or_else(|| "pkg-config".into());
+    let output = Command::new(program)
+        .args(["--libs", "yarrowdoor"])
+        .output()
+        .ok()?;
+    let flags = String::from_utf8(output.stdout).ok()?;
+    output.status.success().then_some(flags)
 }

@@ -168,12 +168,14 @@ pub trait TurnClientApi: Debug + Send {
     ) -> TurnRecvRet<T>;
 
     /// The next data of peers in the streams that were passed in. Call it until it returns `None`.
+    #[must_use = "it may have data of a peer"]
     fn poll_recv(&mut self, now: Instant) -> Option<TurnPeerData<Vec<u8>>>;
 
     /// What is to be done next, and when to call again.
     fn poll(&mut self, now: Instant) -> TurnPollRet;
 
     /// The next packet that is due. Call it until it returns `None`.
+    #[must_use = "the packet is to be sent"]
     fn poll_transmit(&mut self, now: Instant) -> Option<Transmit<Data<'static>>>;
 
     /// The next event. Call it until it returns `None`.

@@ -5,7 +5,7 @@ mod server;
 use server::{answer, at, challenge, next};
 use std::collections::HashSet;
 use std::num::NonZeroU16;
-use yarrowdoor::api::{TurnConfig, TurnEvent};
+use yarrowdoor::api::{TurnConfig, TurnEvent, TurnRecvRet};
 use yarrowdoor::prelude::*;
 use yarrowdoor::types::{AddressFamily, TurnCredentials};
 use yarrowdoor::udp::TurnClientUdp;
@@ -25,7 +25,8 @@ fn answered(config: TurnConfig) -> u64 {
         assert!(ids.insert(request.id), "the same request once more");
         let code = if challenges == 0 { 401 } else { 438 };
         let told = challenge(&request, code, &format!("nonce {challenges}"));
-        answer(&mut client, &request, told, now);
+        let returned = answer(&mut client, &request, told, now);
+        assert!(matches!(returned, TurnRecvRet::Handled));
         if let Some(event) = client.poll_event() {
             let failed = TurnEvent::AllocationCreateFailed(AddressFamily::IPV4);
             assert_eq!(event, failed);

@@ -8,6 +8,7 @@ use std::ops::Range;
 
 /// What [`recv`](crate::api::TurnClientApi::recv) returns.
 #[derive(Debug)]
+#[must_use = "it may have data of a peer"]
 pub enum TurnRecvRet<T: AsRef<[u8]> + Debug> {
     /// The bytes were for the client itself.
     Handled,
@@ -32,6 +33,7 @@ pub enum TurnRecvRet<T: AsRef<[u8]> + Debug> {
 
 /// Data that a peer sent.
 #[derive(Debug)]
+#[must_use = "it is data of a peer"]
 pub struct TurnPeerData<T: AsRef<[u8]> + Debug> {
     pub(crate) data: DataRangeOrOwned<T>,
     /// The transport between the server and the peer.
@@ -64,6 +66,7 @@ impl<T: AsRef<[u8]> + Debug> AsRef<[u8]> for TurnPeerData<T> {
 
 /// A range of the bytes of a caller, or bytes of its own.
 #[derive(Debug)]
+#[must_use = "it is data of a peer"]
 pub enum DataRangeOrOwned<T: AsRef<[u8]> + Debug> {
     /// A range of the bytes of a caller, which are not copied.
     Range {
@@ -93,3 +96,32 @@ impl<T: AsRef<[u8]> + Debug> AsRef<[u8]> for DataRangeOrOwned<T> {
         }
     }
 }
+
+/// A statement that drops data of a peer is warned of.
+///
+/// ```
+/// #![deny(unused_must_use)]
+/// use yarrowdoor::api::{Transmit, TurnClientApi, TurnRecvRet};
+/// fn keep(client: &mut impl TurnClientApi, packet: Transmit<Vec<u8>>, now: yarrowdoor::stun::Instant) {
+///     let _received = client.recv(packet, now);
+///     let _more = client.poll_recv(now);
+/// }
+/// ```
+///
+/// ```compile_fail
+/// #![deny(unused_must_use)]
+/// use yarrowdoor::api::{Transmit, TurnClientApi, TurnRecvRet};
+/// fn drop(client: &mut impl TurnClientApi, packet: Transmit<Vec<u8>>, now: yarrowdoor::stun::Instant) {
+///     client.recv(packet, now);
+/// }
+/// ```
+///
+/// ```compile_fail
+/// #![deny(unused_must_use)]
+/// use yarrowdoor::api::{Transmit, TurnClientApi, TurnRecvRet};
+/// fn drop(client: &mut impl TurnClientApi, packet: Transmit<Vec<u8>>, now: yarrowdoor::stun::Instant) {
+///     client.poll_recv(now);
+/// }
+/// ```
+#[cfg(doctest)]
+struct DroppedData;

@@ -1,0 +1,97 @@
+//! Which library the build script links.
+
+#[allow(dead_code)]
+#[path = "../build.rs"]
+mod build;
+
+use std::fs;
+use std::path::{Path, PathBuf};
+
+/// A folder of this test, with a library in it or without.
+fn folder(name: &str, has_library: bool) -> PathBuf {
+    let folder = Path::new(env!("CARGO_TARGET_TMPDIR")).join(name);
+    let _ = fs::remove_dir_all(&folder);
+    fs::create_dir_all(&folder).unwrap();
+    if has_library {
+        fs::write(folder.join("libyarrowdoor.a"), b"").unwrap();
+    }
+    folder
+}
+
+fn installed() -> Option<String> {
+    Some("-L/opt/lib -lyarrowdoor -pthread".to_owned())
+}
+
+/// What is linked or warned of.
+fn told(lines: &[String]) -> Vec<&str> {
+    let told = lines.iter().map(String::as_str);
+    told.filter(|line| !line.starts_with("rerun-if-changed="))
+        .collect()
+}
+
+#[test]
+fn the_folder_that_is_named_comes_first() {
+    let (named, built) = (folder("named_1", true), folder("built_1", true));
+    let lines = build::instructions(Some(named.clone()), &built, installed);
+    let search = format!("rustc-link-search=native={}", named.display());
+    assert_eq!(
+        told(&lines),
+        [search.as_str(), "rustc-link-lib=static=yarrowdoor"]
+    );
+}
+
+#[test]
+fn what_was_built_comes_before_what_is_installed() {
+    let built = folder("built_2", true);
+    let lines = build::instructions(None, &built, installed);
+    let search = format!("rustc-link-search=native={}", built.display());
+    assert_eq!(
+        told(&lines),
+        [search.as_str(), "rustc-link-lib=static=yarrowdoor"]
+    );
+}
+
+#[test]
+fn what_is_installed_comes_last() {
+    let lines = build::instructions(None, &folder("built_3", false), installed);
+    assert_eq!(
+        told(&lines),
+        [
+            "rustc-link-search=native=/opt/lib",
+            "rustc-link-lib=yarrowdoor"
+        ]
+    );
+}
+
+#[test]
+fn no_other_library_is_linked_than_the_one_that_is_named() {
+    let (named, built) = (folder("named_4", false), folder("built_4", true));
+    let lines = build::instructions(Some(named), &built, installed);
+    let told = told(&lines);
+    assert!(
+        told.len() == 1 && told[0].starts_with("warning=YARROWDOOR_DIST is "),
+        "{told:?}"
+    );
+}
+
+#[test]
+fn where_there_is_none_it_warns() {
+    let lines = build::instructions(None, &folder("built_5", false), || None);
+    let told = told(&lines);
+    assert!(
+        told.len() == 1 && told[0].starts_with("warning=no library"),
+        "{told:?}"
+    );
+}
+
+// A library that is built later is found: the script runs again once its file is there.
+#[test]
+fn the_file_is_watched() {
+    let built = folder("built_6", false);
+    let lines = build::instructions(None, &built, || None);
+    let watched = format!(
+        "rerun-if-changed={}",
+        built.join("libyarrowdoor.a").display()
+    );
+    assert!(lines.contains(&watched));
+}
