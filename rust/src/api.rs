@@ -40,7 +40,7 @@ pub use crate::stun::types::data::Data;
 pub use crate::types::transmit::TransmitBuild;
 pub use config::TurnConfig;
 pub use error::{
-    BindChannelError, CreatePermissionError, DeleteError, SendError, TcpAllocateError,
+    BindChannelError, CreatePermissionError, DeleteError, KeepError, SendError, TcpAllocateError,
     TcpConnectError,
 };
 pub use event::{Socket5Tuple, TurnEvent, TurnPollRet};

@@ -1,11 +1,58 @@
 //! Either client as one type, and the macro for further such types.
 
 pub use crate::api::{
-    BindChannelError, CreatePermissionError, DeleteError, SendError, TcpAllocateError, TurnEvent,
-    TurnPollRet, TurnRecvRet,
+    BindChannelError, CreatePermissionError, DeleteError, KeepError, SendError, TcpAllocateError,
+    TurnEvent, TurnPollRet, TurnRecvRet,
 };
 use crate::tcp::TurnClientTcp;
 use crate::udp::TurnClientUdp;
+
+/// Gives a client the calls that keep grants or let them go, which the original's trait has not, so that each other client
+/// of that trait still is one: `$call` is the macro that makes them, and `$each` says of which value.
+macro_rules! keep_calls {
+    ($name:ty, $self:ident, $call:ident => $each:tt) => {
+        impl $name {
+            /// Says whether the permission for this IP address is kept, as it is at first: refreshed until the allocation ends.
+            /// One that is let go is used until it expires, which the event `PermissionCreateFailed` reports, and it may be
+            /// kept again until then. A later permission for the address is a new one, and kept. It sends nothing.
+            ///
+            /// A channel to a peer and the permission for it are two grants: let both go, or the channel alone where other
+            /// ports use the permission.
+            ///
+            /// # Errors
+            ///
+            /// `NotGranted`: no permission for this address is pending or active, or the allocations do not relay over this
+            /// transport. Nothing changes then.
+            pub fn set_permission_kept(
+                &mut $self,
+                transport: $crate::types::TransportType,
+                peer_addr: ::core::net::IpAddr,
+                is_kept: bool,
+            ) -> Result<(), $crate::api::KeepError> {
+                $crate::$call!($each, $self, set_permission_kept(transport, peer_addr, is_kept))
+            }
+
+            /// Says whether the channel to this peer is kept, as `set_permission_kept` does of a permission. One that is let go
+            /// ends with the event `ChannelCreateFailed`, and its number and its peer are reserved for a while, as always (RFC
+            /// 8656, section 12).
+            ///
+            /// # Errors
+            ///
+            /// `NotGranted`: no channel to this peer is pending or active, or the allocations do not relay over this transport.
+            /// Nothing changes then.
+            pub fn set_channel_kept(
+                &mut $self,
+                transport: $crate::types::TransportType,
+                peer_addr: ::core::net::SocketAddr,
+                is_kept: bool,
+            ) -> Result<(), $crate::api::KeepError> {
+                $crate::$call!($each, $self, set_channel_kept(transport, peer_addr, is_kept))
+            }
+        }
+    };
+}
+
+pub(crate) use keep_calls;
 
 /// Implements [`TurnClientApi`](crate::api::TurnClientApi) for a type, by the same calls of other values: `$call` is the
 /// macro that makes them, and `$each` says of which.
@@ -214,3 +261,4 @@ macro_rules! impl_client {
 }
 
 impl_client!(pub TurnClient, (Udp, TurnClientUdp), (Tcp, TurnClientTcp));
+keep_calls!(TurnClient, self, __of_variant => (Udp, Tcp));

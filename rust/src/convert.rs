@@ -8,6 +8,7 @@ use crate::stun::Instant;
 use crate::sys;
 use crate::types::AddressFamily;
 use std::net::{IpAddr, Ipv4Addr, Ipv6Addr, SocketAddr, SocketAddrV6};
+use std::time::Duration;
 
 /// A time: one under 0 is over 2^62 there, and so refused.
 #[inline]
@@ -114,6 +115,19 @@ fn code_at<T: Copy>(list: &[T], place: usize, code: fn(T) -> u32) -> u32 {
     list.get(place).copied().map_or(0, code)
 }
 
+/// The nanoseconds of a time. A longer one is 2^64 - 1 ns.
+pub(crate) fn nanos_of(duration: Duration) -> u64 {
+    u64::try_from(duration.as_nanos()).unwrap_or(u64::MAX)
+}
+
+/// The pause between two requests. The library takes 0 for its default, and the greatest number for none.
+fn cadence_code(cadence: Duration) -> u64 {
+    match nanos_of(cadence) {
+        0 => sys::NO_PAUSE,
+        nanos => nanos.min(sys::NO_PAUSE - 1),
+    }
+}
+
 /// The settings of a client over this transport, with these ends.
 pub(crate) fn settings(
     transport: TransportType,
@@ -133,6 +147,10 @@ pub(crate) fn settings(
         max_stale_nonces: config.max_stale_nonces().get(),
         local: address(local),
         remote: address(remote),
+        request_cadence: cadence_code(config.request_cadence()),
+        // 0, for none, is no time that a configuration has
+        keepalive: config.keepalive().map_or(0, nanos_of),
+        refresh_ahead: nanos_of(config.refresh_ahead()),
         ..sys::Settings::none()
     };
     if let Some(times) = config.retransmits {

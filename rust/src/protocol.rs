@@ -5,7 +5,7 @@ mod lists;
 
 use crate::api::{
     BindChannelError, CreatePermissionError, Data, DataRangeOrOwned, DelayedMessageOrChannelSend,
-    DeleteError, SendError, Socket5Tuple, TcpAllocateError, TcpConnectError, Transmit,
+    DeleteError, KeepError, SendError, Socket5Tuple, TcpAllocateError, TcpConnectError, Transmit,
     TransmitBuild, TurnConfig, TurnEvent, TurnPeerData, TurnPollRet, TurnRecvRet,
 };
 use crate::convert::{
@@ -298,6 +298,46 @@ impl Protocol {
             }
             _ => None,
         })
+    }
+
+    /// Makes a call that keeps the grant of a peer, or lets it go.
+    fn set_kept(
+        &mut self,
+        kind: u32,
+        relayed: TransportType,
+        peer: sys::Address,
+        is_kept: bool,
+    ) -> Result<(), KeepError> {
+        let answer = self.call(&sys::Request {
+            id: u32::from(is_kept),
+            transport: transport_code(relayed),
+            peer,
+            ..timeless(kind)
+        });
+        answers::done(&answer, |error| match error {
+            sys::ERROR_NOT_GRANTED => Some(KeepError::NotGranted),
+            _ => None,
+        })
+    }
+
+    pub(crate) fn set_permission_kept(
+        &mut self,
+        relayed: TransportType,
+        peer_addr: IpAddr,
+        is_kept: bool,
+    ) -> Result<(), KeepError> {
+        let kind = sys::CALL_SET_PERMISSION_KEPT;
+        self.set_kept(kind, relayed, ip_address(peer_addr), is_kept)
+    }
+
+    pub(crate) fn set_channel_kept(
+        &mut self,
+        relayed: TransportType,
+        peer_addr: SocketAddr,
+        is_kept: bool,
+    ) -> Result<(), KeepError> {
+        let kind = sys::CALL_SET_CHANNEL_KEPT;
+        self.set_kept(kind, relayed, address(peer_addr), is_kept)
     }
 
     pub(crate) fn tcp_connect(

@@ -49,6 +49,8 @@ numbers! {
     CALL_PERMISSIONS: u32 = 15;
     CALL_HAVE_PERMISSION: u32 = 16;
     CALL_READ: u32 = 17;
+    CALL_SET_PERMISSION_KEPT: u32 = 18;
+    CALL_SET_CHANNEL_KEPT: u32 = 19;
 
     OUT_OF_MEMORY: u32 = 1;
     BAD_TIME: u32 = 2;
@@ -84,7 +86,11 @@ numbers! {
     ERROR_NO_PERMISSION: u32 = 3;
     ERROR_NO_SOCKET: u32 = 4;
     ERROR_EXPIRED: u32 = 5;
+    ERROR_NOT_GRANTED: u32 = 6;
 }
+
+/// No pause between two requests, as `request_cadence` of the settings.
+pub(crate) const NO_PAUSE: u64 = u64::MAX;
 
 /// A client: nothing of it is known here.
 #[repr(C)]

@@ -1,8 +1,8 @@
 //! The client over TCP.
 
 pub use crate::api::{
-    BindChannelError, CreatePermissionError, DeleteError, SendError, TcpAllocateError, TurnEvent,
-    TurnPollRet, TurnRecvRet,
+    BindChannelError, CreatePermissionError, DeleteError, KeepError, SendError, TcpAllocateError,
+    TurnEvent, TurnPollRet, TurnRecvRet,
 };
 
 use crate::api::TurnConfig;
@@ -68,3 +68,4 @@ impl TurnClientTcp {
 }
 
 crate::__delegate!(TurnClientTcp, self, __of_field => (protocol));
+crate::client::keep_calls!(TurnClientTcp, self, __of_field => (protocol));

@@ -1,8 +1,8 @@
 //! The client over UDP.
 
 pub use crate::api::{
-    BindChannelError, CreatePermissionError, DeleteError, SendError, TcpAllocateError, TurnEvent,
-    TurnPollRet, TurnRecvRet,
+    BindChannelError, CreatePermissionError, DeleteError, KeepError, SendError, TcpAllocateError,
+    TurnEvent, TurnPollRet, TurnRecvRet,
 };
 
 use crate::api::TurnConfig;
@@ -74,3 +74,4 @@ impl TurnClientUdp {
 }
 
 crate::__delegate!(TurnClientUdp, self, __of_field => (protocol));
+crate::client::keep_calls!(TurnClientUdp, self, __of_field => (protocol));

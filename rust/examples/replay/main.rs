@@ -121,6 +121,12 @@ fn answer(client: &mut TurnClient, call: &Call, now: Instant) -> String {
         Call::Socket(id, ends, peer, local) => {
             done(client.allocated_tcp_socket(*id, ends.tuple(), *peer, *local, now))
         }
+        Call::PermissionKept(transport, ip, is_kept) => {
+            done(client.set_permission_kept(*transport, *ip, *is_kept))
+        }
+        Call::ChannelKept(transport, peer, is_kept) => {
+            done(client.set_channel_kept(*transport, *peer, *is_kept))
+        }
         Call::Delete => done(client.delete(now)),
         Call::Closed(local, remote) => {
             client.tcp_closed(*local, *remote, now);

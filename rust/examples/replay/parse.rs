@@ -55,6 +55,8 @@ pub enum Call {
     Relayed,
     Permissions(TransportType, SocketAddr),
     Have(TransportType, IpAddr),
+    PermissionKept(TransportType, IpAddr, bool),
+    ChannelKept(TransportType, SocketAddr, bool),
 }
 
 /// The fields of a line.
@@ -235,12 +237,23 @@ fn parse_arguments(name: &str, fields: &mut Fields<'_>) -> Option<Call> {
         "relayed" => Call::Relayed,
         "permissions" => Call::Permissions(fields.transport()?, fields.address()?),
         "have" => Call::Have(fields.transport()?, fields.ip()?),
+        "release" => take_kept(fields, false)?,
+        "keep" => take_kept(fields, true)?,
         _ => return None,
     };
     fields.0.next().is_none().then_some(call)
 }
 
-const NAMES: [&str; 16] = [
+/// The permission, or with a port the channel, that is kept or let go.
+fn take_kept(fields: &mut Fields<'_>, is_kept: bool) -> Option<Call> {
+    let (transport, grantee) = (fields.transport()?, fields.0.next()?);
+    Some(match ip_of(grantee) {
+        Some(ip) => Call::PermissionKept(transport, ip, is_kept),
+        None => Call::ChannelKept(transport, address_of(grantee)?, is_kept),
+    })
+}
+
+const NAMES: [&str; 18] = [
     "poll",
     "transmit",
     "event",
@@ -257,6 +270,8 @@ const NAMES: [&str; 16] = [
     "relayed",
     "permissions",
     "have",
+    "release",
+    "keep",
 ];
 
 fn parse_call(allocation: TransportType, line: &str) -> Result<(Instant, Call), &'static str> {

@@ -3,7 +3,7 @@
 use crate::parse::Ends;
 use std::net::{IpAddr, SocketAddr};
 use yarrowdoor::api::{
-    BindChannelError, CreatePermissionError, DeleteError, SendError, TcpAllocateError,
+    BindChannelError, CreatePermissionError, DeleteError, KeepError, SendError, TcpAllocateError,
     TcpConnectError, TurnEvent, TurnPollRet,
 };
 use yarrowdoor::types::{AddressFamily, TransportType};
@@ -78,6 +78,7 @@ macro_rules! words {
 words! {
     CreatePermissionError { AlreadyExists => "already-exists", NoAllocation => "no-allocation" }
     DeleteError { NoAllocation => "no-allocation" }
+    KeepError { NotGranted => "not-granted" }
     SendError { NoAllocation => "no-allocation", NoPermission => "no-permission", NoTcpSocket => "no-socket" }
     TcpConnectError {
         AlreadyExists => "already-exists", NoAllocation => "no-allocation", NoPermission => "no-permission"

@@ -1,5 +1,6 @@
 //! The configuration of a client.
 
+use crate::convert::nanos_of;
 use crate::stun::auth::Feature;
 use crate::stun::types::message::IntegrityAlgorithm;
 use crate::stun::types::TransportType;
@@ -18,6 +19,10 @@ pub struct TurnConfig {
     anonymous_username: Feature,
     pub(crate) retransmits: Option<Retransmits>,
     max_stale_nonces: NonZeroU16,
+    request_cadence: Duration,
+    // Neither time is under a second.
+    keepalive: Option<Duration>,
+    refresh_ahead: Duration,
 }
 
 /// How many challenges in a row are answered unless `set_max_stale_nonces` says otherwise.
@@ -42,10 +47,8 @@ fn add<T: PartialEq>(list: &mut Vec<T>, element: T) {
     }
 }
 
-/// Longer waits are as long as the longest: 2^64 - 1 ns.
-fn nanos(duration: Duration) -> u64 {
-    u64::try_from(duration.as_nanos()).unwrap_or(u64::MAX)
-}
+/// The shortest time after which a path is kept alive, and before an expiry that a grant is refreshed.
+const LEAST: Duration = Duration::from_secs(1);
 
 impl TurnConfig {
     /// A client with these credentials, which requests an IPv4 address relayed over UDP, and signs with SHA-1.
@@ -70,6 +73,9 @@ impl TurnConfig {
             anonymous_username: Feature::Auto,
             retransmits: None,
             max_stale_nonces: DEFAULT_MAX_STALE_NONCES,
+            request_cadence: Duration::from_millis(50),
+            keepalive: None,
+            refresh_ahead: Duration::from_secs(60),
         }
     }
 
@@ -177,10 +183,10 @@ impl TurnConfig {
         final_retransmit_timeout: Duration,
     ) {
         self.retransmits = Some(Retransmits {
-            initial: nanos(initial),
-            max: nanos(max),
+            initial: nanos_of(initial),
+            max: nanos_of(max),
             count: retransmits,
-            last: nanos(final_retransmit_timeout),
+            last: nanos_of(final_retransmit_timeout),
         });
     }
 
@@ -197,5 +203,55 @@ impl TurnConfig {
     /// How many challenges in a row the client answers.
     pub fn max_stale_nonces(&self) -> NonZeroU16 {
         self.max_stale_nonces
+    }
+
+    /// Sets the pause between two requests (RFC 8656 names none): so long after a packet that
+    /// [`poll_transmit`](crate::api::TurnClientApi::poll_transmit) returned, no request is sent for the first time, so that a
+    /// server is not flooded. A reply to the server may leave within the pause, and a retransmission does not wait for it. With
+    /// 0 there is no pause. By default it is 50 ms. The original crate has no such setter.
+    ///
+    /// Set less for many permissions and channels: those that were granted together are refreshed together, one in each pause,
+    /// all of them within the minute before they expire. The shorter the pause is, the more answers may be under way at once,
+    /// and each may be a challenge: see [`set_max_stale_nonces`](Self::set_max_stale_nonces).
+    pub fn set_request_cadence(&mut self, request_cadence: Duration) {
+        self.request_cadence = request_cadence;
+    }
+
+    /// The pause between two requests.
+    pub fn request_cadence(&self) -> Duration {
+        self.request_cadence
+    }
+
+    /// Sets after how long without a packet the client keeps its path to the server alive, or with `None` that it never does,
+    /// as by default. A NAT forgets a path over UDP that nothing takes for a while, which may be as soon as two minutes (RFC
+    /// 4787, section 4.3). The original crate has no such setter.
+    ///
+    /// While there is an allocation, so long after [`poll_transmit`](crate::api::TurnClientApi::poll_transmit) last returned a
+    /// packet it returns a Binding indication (RFC 8489, section 5), to which no reply is awaited. A packet of `send_to` does
+    /// not count, since the client does not know whether it was sent. Less than a second is taken as a second. For a NAT, 15 s
+    /// are usual (RFC 8445, section 11).
+    pub fn set_keepalive(&mut self, keepalive: Option<Duration>) {
+        self.keepalive = keepalive.map(|wait| wait.max(LEAST));
+    }
+
+    /// After how long without a packet the client keeps its path to the server alive, or `None` where it never does.
+    pub fn keepalive(&self) -> Option<Duration> {
+        self.keepalive
+    }
+
+    /// Sets how long before its expiry a grant is refreshed (RFC 8656, section 8, suggests about a minute), but not before half
+    /// of its lifetime is over: a permission at most 150 s before, a channel at most 300 s, and an allocation at most half of
+    /// its first lifetime, and 300 s. Less than a second is taken as a second. By default it is a minute. The original crate
+    /// has no such setter.
+    ///
+    /// Set more for a link that loses answers for a minute or longer, or for more permissions and channels than leave in a
+    /// minute (see [`set_request_cadence`](Self::set_request_cadence)).
+    pub fn set_refresh_ahead(&mut self, refresh_ahead: Duration) {
+        self.refresh_ahead = refresh_ahead.max(LEAST);
+    }
+
+    /// How long before its expiry a grant is refreshed.
+    pub fn refresh_ahead(&self) -> Duration {
+        self.refresh_ahead
     }
 }

@@ -59,6 +59,15 @@ error! {
 }
 
 error! {
+    /// Why a permission or a channel is neither kept nor let go.
+    KeepError {
+        /// The peer has no permission, or no channel, that is pending or active, or the allocations do not relay over this
+        /// transport.
+        NotGranted => "There is no such permission or channel",
+    }
+}
+
+error! {
     /// Why data is not sent to a peer.
     SendError {
         /// There is no allocation. The clients of this package return `NoPermission` then.

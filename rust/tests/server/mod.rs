@@ -128,6 +128,9 @@ pub fn at(seconds: u64) -> Instant {
     Instant::ZERO + Duration::from_secs(seconds)
 }
 
+/// When the handshake sends its signed request: after the pause of 50 ms, and before its retransmission is due.
+pub const SIGNED: Duration = Duration::from_millis(400);
+
 /// Passes through the handshake: a challenge at 0 s, and at 1 s an allocation for 600 s at 10.0.0.2:50000.
 pub fn allocate(client: &mut impl TurnClientApi) {
     let first = next(client, at(0)).expect("an ALLOCATE");
@@ -136,7 +139,7 @@ pub fn allocate(client: &mut impl TurnClientApi) {
         answer(client, &first, told, at(0)),
         TurnRecvRet::Handled
     ));
-    let second = next(client, at(1)).expect("a signed ALLOCATE");
+    let second = next(client, at(0) + SIGNED).expect("a signed ALLOCATE");
     assert_eq!((first.kind, second.kind), (ALLOCATE, ALLOCATE));
     grant(client, &second, &allocation("10.0.0.2:50000", 600), at(1));
     client.poll_event().expect("an allocation");
