@@ -71,6 +71,7 @@ class Server:
         self.nonce, self.nonce_since = b"nonce-0", 0.0
         self.is_dead = False
         self.answers_bindings = True
+        self.stale = 0  # so many requests more are challenged, each with another nonce
         self.bindings = 0
         self.challenges = 0
         self.refreshes = 0
@@ -120,6 +121,9 @@ class Server:
         found = message.attributes
         if 0x0008 not in found or found.get(0x0006) != self.user or not self.is_signed(message):
             return self.error(message, 401, is_signed=False)
+        if self.stale:
+            self.nonce = b"stale-%d" % self.stale
+            self.stale -= 1
         if found[0x0015] != self.nonce:
             self.challenges += 1
             return self.error(message, 438, is_signed=False)

@@ -192,13 +192,12 @@ class ThroughASocket(unittest.IsolatedAsyncioTestCase):
             relay.sendto(b"too late", peer)
 
     async def test_many_requests_at_once(self) -> None:
-        endpoint = await self.serve(nonce_life=0.5)
+        endpoint = await self.serve()
         async with TurnClient(endpoint.uri, "user", "pass") as relay:
-            # The requests leave in 1.5 s, so each one that is made again may find another nonce, until the nonce stays.
-            asyncio.get_running_loop().call_later(2, setattr, endpoint.server, "nonce_life", None)
+            endpoint.server.stale = 40
             await asyncio.gather(*(relay.bind((f"10.1.0.{number}", 9000)) for number in range(30)))
             self.assertEqual(len(next(iter(endpoint.server.allocations.values())).channels), 30)
-            self.assertGreater(endpoint.server.challenges, 9)
+            self.assertGreaterEqual(endpoint.server.challenges, 40)
             self.assertFalse(relay.closed)
 
     async def test_who_asks_for_the_same_waits_for_the_same(self) -> None:
