@@ -16,6 +16,7 @@ class Coturn(NamedTuple):
     port: int
     tls_port: int
     certificate: str
+    pid: int
 
     def uri(self, form: str = "turn:127.0.0.1:{port}") -> str:
         return form.format(port=self.port, tls_port=self.tls_port)
@@ -55,7 +56,7 @@ def coturn(*options: str, host: str = "127.0.0.1") -> Iterator[Coturn]:
         server = subprocess.Popen(words, cwd=room, stdout=subprocess.DEVNULL, stderr=subprocess.DEVNULL)
         try:
             wait_for(port, server, host)
-            yield Coturn(port, tls_port, files[0] if files else "")
+            yield Coturn(port, tls_port, files[0] if files else "", server.pid)
         finally:
             server.terminate()
             server.wait()

@@ -4,11 +4,11 @@ import contextlib
 import os
 import signal
 import socket
+import ssl
 import struct
-import subprocess
 import unittest
 import unittest.mock
-from typing import Any, List
+from typing import Any, Iterator, List
 
 from yarrowdoor import PermissionFailed, TurnClient, reasons
 from yarrowdoor.aioice import create_turn_endpoint
@@ -144,8 +144,10 @@ class ToPeers(unittest.IsolatedAsyncioTestCase):
         async def give(reader: asyncio.StreamReader, writer: asyncio.StreamWriter) -> None:
             await reader.readexactly(1)
             writer.write(message * (size // len(message)))
+            # coturn drops what it has not passed on yet when a peer closes.
             with contextlib.suppress(ConnectionError):
-                await writer.drain()
+                await reader.read()
+            writer.close()
 
         with coturn_server.coturn() as at:
             peers = await asyncio.start_server(give, "127.0.0.1", 0)
@@ -159,35 +161,58 @@ class ToPeers(unittest.IsolatedAsyncioTestCase):
                 writer.close()
         self.assertLess(reads.call_count, 50)
 
+    async def connect(self, relay: TurnClient) -> asyncio.StreamWriter:
+        """Opens the relay, and a stream to a peer that says nothing."""
+        async def hold(reader: asyncio.StreamReader, writer: asyncio.StreamWriter) -> None:
+            await asyncio.sleep(60)
+            writer.close()
+
+        peers = await asyncio.start_server(hold, "127.0.0.1", 0)
+        self.addCleanup(peers.close)
+        await relay.open()
+        _, writer = await asyncio.wait_for(relay.connect(peers.sockets[0].getsockname()), 10)
+        return writer
+
     async def test_streams_end_with_the_relay(self) -> None:
         """What waits in a connection to a server that has stopped is dropped when the relay is closed."""
-        made: List["subprocess.Popen[bytes]"] = []
-        real = subprocess.Popen
-
-        def popen(*it: Any, **options: Any) -> "subprocess.Popen[bytes]":
-            made.append(real(*it, **options))
-            return made[-1]
-
-        with unittest.mock.patch("subprocess.Popen", popen), coturn_server.coturn() as at:
-            async def hold(reader: asyncio.StreamReader, writer: asyncio.StreamWriter) -> None:
-                await asyncio.sleep(60)
-                writer.close()
-
-            peers = await asyncio.start_server(hold, "127.0.0.1", 0)
-            self.addCleanup(peers.close)
+        with coturn_server.coturn() as at:
             relay = TurnClient(at.uri("turn:127.0.0.1:{port}?transport=tcp"), "user", "pass", relay="tcp")
-            await relay.open()
-            reader, writer = await asyncio.wait_for(relay.connect(peers.sockets[0].getsockname()), 10)
-            os.kill(made[-1].pid, signal.SIGSTOP)
-            try:
+            writer = await self.connect(relay)
+            with stopped(at.pid):
                 for _ in range(160):
                     writer.write(bytes(65_536))
                 self.assertGreater(writer.transport.get_write_buffer_size(), 0)
                 await asyncio.wait_for(relay.close(), 10)
                 await asyncio.sleep(0.1)
                 self.assertEqual(writer.transport.get_write_buffer_size(), 0)
-            finally:
-                os.kill(made[-1].pid, signal.SIGCONT)
+
+    async def test_a_stream_over_tls_that_is_closed_before_the_relay(self) -> None:
+        """A server that has stopped does not answer the end of its TLS, so that it is aborted with the relay."""
+        with coturn_server.coturn() as at:
+            if not at.certificate:
+                self.skipTest("openssl is not installed, which makes a certificate")
+            trusting = ssl.create_default_context(cafile=at.certificate)
+            relay = TurnClient(at.uri("turns:localhost:{tls_port}"), "user", "pass", relay="tcp", ssl=trusting)
+            writer: Any = await self.connect(relay)
+            link = writer.transport.link
+            with stopped(at.pid), unittest.mock.patch.object(link, "connection_lost", wraps=link.connection_lost) as lost:
+                writer.close()
+                await asyncio.wait_for(relay.close(), 10)
+                for _ in range(500):  # and not 30 s, after which TLS gives up by itself
+                    if lost.called:
+                        break
+                    await asyncio.sleep(0.01)
+                self.assertTrue(lost.called)
+
+
+@contextlib.contextmanager
+def stopped(pid: int) -> Iterator[None]:
+    """Stops a process meanwhile."""
+    os.kill(pid, signal.SIGSTOP)
+    try:
+        yield
+    finally:
+        os.kill(pid, signal.SIGCONT)
 
 
 if __name__ == "__main__":

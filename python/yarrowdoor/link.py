@@ -97,10 +97,12 @@ class Link(asyncio.BaseProtocol):
         raise NotImplementedError
 
     def close(self) -> None:
-        """Closes the socket, when what was sent has left it."""
+        """Closes the socket, when what was sent has left it. A second time it does nothing."""
         self.is_over = True
         self.writable.set()
-        self.transport.close()
+        # From Python 3.11 on a transport over TLS that is closed twice cannot be aborted any more.
+        if not self.transport.is_closing():
+            self.transport.close()
 
     def abort(self) -> None:
         """Closes the socket at once. What waits in it is dropped."""
