@@ -118,6 +118,19 @@ class Replay:
     def bind(self, now: int, way: str, peer: str) -> None:
         self.client.bind_channel(address(peer), now, transport=way)
 
+    def release(self, now: int, way: str, granted: str) -> None:
+        self.set_kept(way, granted, False)
+
+    def keep(self, now: int, way: str, granted: str) -> None:
+        self.set_kept(way, granted, True)
+
+    def set_kept(self, way: str, granted: str, is_kept: bool) -> None:
+        """With a port it is a channel, else a permission. An IPv6 address has its digits in brackets, without a colon."""
+        if ":" in granted:
+            self.client.set_channel_kept(address(granted), is_kept, transport=way)
+        else:
+            self.client.set_permission_kept(ip_of(granted), is_kept, transport=way)
+
     def connect(self, now: int, peer: str) -> None:
         self.client.tcp_connect(address(peer), now)
 

@@ -53,13 +53,19 @@ class Reading(unittest.TestCase):
         for data in (b"", REFUSAL[:19], REFUSAL[:-1], b"\x40\0\0\0" + REFUSAL, REFUSAL[:4] + b"\0\0\0\0" + REFUSAL[8:]):
             self.assertIsNone(read(data))
 
+    def test_what_has_no_attributes_to_read(self) -> None:
+        """The last two bits of a length are 0, and attributes fill the message (RFC 8489, sections 5 and 14)."""
+        for body in (b"\0\x09\0", b"\0\x09\xff\xff\0\0", b"\0\x09\xff\xff\0\0\4\1", b"\0\x09\0\5\0\0\4\1"):
+            self.assertIsNone(read(message(0x0113, body)))
+
     def test_attributes(self) -> None:
         found = message(0x0104, attribute(0x000D, b"\0\0\2\x58") + attribute(0x0008, bytes(20)) + attribute(0x8022, b"late"))
         self.assertEqual([reasons.attribute(found, it) for it in (0x000D, 0x8022)], [b"\0\0\2\x58", None])
 
     def test_what_is_malformed(self) -> None:
-        for body in (attribute(0x0009, b"\0\0\4"), b"\0\x09\0", b"\0\x09\xff\xff\0\0"):
-            self.assertEqual(read(message(0x0113, body)).error, None)
+        for value in (b"", b"\0\0\4", b"\0\0\2\1no", b"\0\0\7\1no", b"\0\0\4\x64no"):
+            self.assertEqual(read(message(0x0113, attribute(0x0009, value))),
+                             (reasons.ALLOCATE, False, True, TRANSACTION, None, None))
         for value in (b"", bytes(8), b"\0\1" + bytes(18)):
             self.assertEqual(read(message(0x0103, attribute(0x0020, value))).mapped, None)
 
