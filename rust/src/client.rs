@@ -7,8 +7,8 @@ pub use crate::api::{
 use crate::tcp::TurnClientTcp;
 use crate::udp::TurnClientUdp;
 
-/// Gives a client the calls that keep grants or let them go, which the original's trait has not, so that each other client
-/// of that trait still is one: `$call` is the macro that makes them, and `$each` says of which value.
+/// Gives a client the calls that keep grants or let them go. They stand beside the trait, which is the original's, so that
+/// nothing that implements it breaks: `$call` is the macro that makes them, and `$each` says of which value.
 macro_rules! keep_calls {
     ($name:ty, $self:ident, $call:ident => $each:tt) => {
         impl $name {

@@ -30,7 +30,7 @@
 //! - [`api::SendError`] has the variant `PayloadTooLong`: data of over 65,504 bytes fits into no datagram to the server.
 //! - A packet of `send_to` is built by the call: [`api::DelayedMessageOrChannelSend`] holds its bytes.
 //! - [`api::TurnConfig`] has four setters more: `set_max_stale_nonces`, `set_request_cadence`, `set_keepalive` and
-//!   `set_refresh_ahead`. Each client has the calls `set_permission_kept` and `set_channel_kept` beside the trait, with the error
+//!   `set_refresh_ahead`. Each client has `set_permission_kept` and `set_channel_kept` beside the trait, with the error
 //!   [`api::KeepError`].
 //! - `allocate_with_seed` takes the seed of the transaction IDs; `allocate` draws one from the system.
 //! - [`stun`] and [`types`] have only what a caller of a client uses. `DelayedTransmit`, and two variants of

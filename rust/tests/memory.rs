@@ -36,7 +36,7 @@ fn make_and_drop(count: usize) {
     }
 }
 
-// A client has over 500 bytes of the library's memory. This test stands alone, since others would take memory beside it.
+// A client has some kilobytes of the library's memory. This test stands alone, since others would take memory beside it.
 #[test]
 fn clients_that_are_dropped_keep_no_memory() {
     make_and_drop(100);
