@@ -55,6 +55,10 @@ class Allocation:
         self.relayed, self.until = relayed, until
         self.permissions: Dict[str, float] = {}
         self.channels: Dict[int, Where] = {}
+        self.channel_ends: Dict[int, float] = {}
+
+    def peer_of(self, number: int, now: float) -> Optional[Where]:
+        return self.channels[number] if self.channel_ends.get(number, 0) > now else None
 
 
 class Server:
@@ -82,10 +86,10 @@ class Server:
             return []
         if self.nonce_life is not None and now - self.nonce_since >= self.nonce_life:
             self.nonce, self.nonce_since = b"nonce-%d" % int(now * 1000), now
-        allocation = self.allocations.get(source)
+        allocation = self.allocation_of(source, now)
         if data[0] >> 6 == 1:
             number, size = struct.unpack_from("!HH", data)
-            peer = allocation.channels.get(number) if allocation else None
+            peer = allocation.peer_of(number, now) if allocation else None
             return [(data[4 : 4 + size], peer)] if peer else []
         message = parse(data)
         if message.kind == BINDING:
@@ -102,17 +106,24 @@ class Server:
                 self.answered[source, message.transaction] = answer
         return [(answer, source)]
 
+    def allocation_of(self, client: Where, now: float) -> Optional[Allocation]:
+        found = self.allocations.get(client)
+        if found is not None and found.until <= now:
+            del self.allocations[client]
+            return None
+        return found
+
     def mapped(self, message: Message, source: Where) -> bytes:
         body = attribute(0x0020, xored(source))
         return struct.pack("!HH", BINDING | 0x0100, len(body)) + COOKIE + message.transaction + body
 
     def from_peer(self, data: bytes, peer: Where, client: Where, now: float) -> List[Tuple[bytes, Where]]:
         """Takes data of a peer for the relayed address of a client."""
-        allocation = self.allocations.get(client)
+        allocation = self.allocation_of(client, now)
         if self.is_dead or allocation is None or allocation.permissions.get(peer[0], 0) <= now:
             return []
         for number, bound in allocation.channels.items():
-            if bound == peer:
+            if bound == peer == allocation.peer_of(number, now):
                 return [(struct.pack("!HH", number, len(data)) + data, client)]
         body = attribute(0x0012, xored(peer)) + attribute(0x0013, data)
         return [(struct.pack("!HH", DATA | 0x0010, len(body)) + COOKIE + os.urandom(12) + body, client)]
@@ -143,7 +154,8 @@ class Server:
         self.refreshes += peer[0] in allocation.permissions
         allocation.permissions[peer[0]] = now + 300
         if message.kind == CHANNEL_BIND:
-            allocation.channels[struct.unpack_from("!H", found[0x000C])[0]] = peer
+            (number,) = struct.unpack_from("!H", found[0x000C])
+            allocation.channels[number], allocation.channel_ends[number] = peer, now + 600
         return self.success(message, b"")
 
     def allocate(self, message: Message, source: Where, allocation: Optional[Allocation], now: float) -> bytes:
