@@ -28,6 +28,12 @@ def start(*words: str) -> "subprocess.Popen[str]":
     )
 
 
+def end(program: "subprocess.Popen[str]") -> None:
+    """Ends an example that a failed test has left behind."""
+    program.kill()
+    program.communicate()
+
+
 @unittest.skipUnless(EXAMPLES.exists(), "the sources are not here")
 @unittest.skipUnless(server.IS_HERE, server.WHY)
 class Examples(unittest.TestCase):
@@ -77,6 +83,7 @@ class Examples(unittest.TestCase):
         sent, taken, port = pathlib.Path(self.room, "sent"), pathlib.Path(self.room, "taken"), server.free_port()
         sent.write_bytes(os.urandom(1_000_001))
         taker = start(str(EXAMPLES / "send_file.py"), "take", str(port), str(taken))
+        self.addCleanup(end, taker)
         server.wait_for(port, taker)  # a connection without data takes no file
         uri = self.server.uri("turns:localhost:{tls_port}")
         words = ["send", "--ca", self.server.certificate, uri, "user", "pass", f"127.0.0.1:{port}", str(sent)]
