@@ -52,6 +52,42 @@ class Opening(unittest.IsolatedAsyncioTestCase):
         self.assertTrue(relay.closed)
         await asyncio.wait_for(relay.close(), 1)
 
+    async def test_calls_while_it_is_closed(self) -> None:
+        """Each says that the client was closed, also before the server has answered."""
+        endpoint = await self.serve(delay=0.2)
+        relay, peer = TurnClient(endpoint.uri, "user", "pass"), ("10.1.0.1", 9)
+        await relay.open()
+        await relay.permit(peer[0])
+        closing = asyncio.ensure_future(relay.close())
+        await asyncio.sleep(0)
+        calls: List[Any] = [lambda: relay.sendto(b"x", peer), lambda: relay.release(peer[0]), lambda: relay.keep(peer[0])]
+        for call in calls:
+            with self.assertRaisesRegex(Ended, "^the client was closed$"):
+                call()
+        for waiting in (relay.permit(peer[0]), relay.bind(peer), relay.send(b"x", peer), relay.check()):
+            with self.assertRaisesRegex(Ended, "^the client was closed$"):
+                await waiting
+        self.assertFalse(closing.done())
+        await closing
+        self.assertEqual(endpoint.server.allocations, {})
+
+    async def test_sending_while_it_is_closed(self) -> None:
+        """A `send` that is under way ends with the client."""
+        endpoint = await self.serve()
+        relay = TurnClient(endpoint.uri, "user", "pass")
+        await relay.open()
+
+        async def send() -> None:
+            while True:
+                await relay.send(b"x", ("10.1.0.1", 9))
+
+        sending = asyncio.ensure_future(send())
+        while relay._session().count < 9:
+            await asyncio.sleep(0)
+        await relay.close()
+        with self.assertRaisesRegex(Ended, "^the client was closed$"):
+            await asyncio.wait_for(sending, 10)
+
     async def test_opening_that_is_cancelled_when_it_is_done(self) -> None:
         endpoint = await self.serve()
         relay = TurnClient(endpoint.uri, "user", "pass")

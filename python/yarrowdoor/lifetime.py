@@ -11,7 +11,7 @@ from .errors import AllocationFailed, Ended, because
 from .inbox import Inbox
 from .link import Link
 from .servers import NoneSucceeded, Server, first_of
-from .session import Over, Session
+from .session import Leaving, Over, Session
 
 __all__ = ["Lifetime"]
 
@@ -176,9 +176,9 @@ class Lifetime:
         return not isinstance(state, Over) or state.why is not None
 
     def _session(self) -> Session:
-        """The session. `Ended` where the client has ended, or was not opened."""
+        """The session. `Ended` where the client has ended, is being closed, or was not opened."""
         phase = self._phase
-        if not isinstance(phase, Session) or isinstance(phase.state, Over):
+        if not isinstance(phase, Session) or isinstance(phase.state, (Leaving, Over)):
             raise self._ending()
         return phase
 

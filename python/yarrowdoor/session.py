@@ -85,7 +85,7 @@ class Session(LinkUser):
         self._is_driving = False
         self.requests = Requests()
         self.diagnosis = Diagnosis(str(server.uri), max_stale_nonces, clock, self.requests)
-        self.grants = Grants(self.open_client, self.drive, clock, self.requests, notices)
+        self.grants = Grants(self.usable_client, self.drive, clock, self.requests, notices)
         self.streams = Streams(self)
         self.path = Path(self)
         link.user = self
@@ -317,6 +317,12 @@ class Session(LinkUser):
     def open_client(self) -> Client:
         """The client. `Ended` where it has ended."""
         if isinstance(self.state, Over):
+            raise self.ending()
+        return self.client
+
+    def usable_client(self) -> Client:
+        """The client, for a call of the user. `Ended` where it has ended, or gives its relayed address back."""
+        if isinstance(self.state, (Leaving, Over)):
             raise self.ending()
         return self.client
 

@@ -213,6 +213,7 @@ class TurnClient(Told, Lifetime):
         try:
             packet = session.client.send_to(peer, data, self._clock.now()).data
         except Refused:
+            session.usable_client()
             self._check_family(peer[0])
             raise
         if len(packet) > MAX_MESSAGE:
