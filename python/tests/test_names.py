@@ -53,7 +53,7 @@ class Names(unittest.IsolatedAsyncioTestCase):
             async with TurnClient(f"turn:turn.example.org:{port}", "user", "pass") as relay:
                 self.assertEqual(relay.address, ("10.9.9.9", 40000))
                 self.assertEqual(relay.mapped_address, relay.local_address)
-        self.assertLess(time.monotonic() - start, 5)  # and not the 39.5 s of a request
+        self.assertLess(time.monotonic() - start, 20)  # and not the 39.5 s of a request
 
     async def test_no_address_answers(self) -> None:
         with socket.socket(type=socket.SOCK_DGRAM) as one:

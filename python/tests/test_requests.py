@@ -6,6 +6,7 @@ from typing import Any, List, Tuple
 
 from yarrowdoor import Clock, Ended, PermissionFailed, Times, TurnClient
 
+from .leaps import LoopClock, run
 from .network import SECOND, Endpoint
 from .server import CREATE_PERMISSION, Message, Server, Where, parse, unxored
 
@@ -123,25 +124,28 @@ class RestartedServer(Server):
         return answer.replace(b"\0\0\4\x25no", b"\0\0\4\0no") if allocation is None else answer
 
 
-class Ends(unittest.IsolatedAsyncioTestCase):
+class Ends(unittest.TestCase):
     """The text of an end says what has happened."""
 
     async def end(self, server: Server, clear: bool) -> str:
         endpoint = await Endpoint.start(server)
-        self.addCleanup(endpoint.close)
-        async with TurnClient(endpoint.uri, "user", "pass", clock=Clock(rate=60)) as relay:
+        async with TurnClient(endpoint.uri, "user", "pass", clock=LoopClock()) as relay:
             if clear:
                 server.allocations.clear()
             with self.assertRaises(Ended) as ended:
-                await asyncio.wait_for(relay.wait_closed(), 20)
+                await asyncio.wait_for(relay.wait_closed(), 1_200)
+        endpoint.close()
+        await asyncio.sleep(0)
         return str(ended.exception)
 
-    async def test_a_server_that_was_restarted(self) -> None:
+    def test_a_server_that_was_restarted(self) -> None:
         for server in (Server(lifetime=70), RestartedServer(lifetime=70)):
-            self.assertRegex(await self.end(server, clear=True), r"\((437|400) no\): it no longer knows it, as after a restart$")
+            said = run(self.end(server, clear=True))
+            self.assertRegex(said, r"\((437|400) no\): it no longer knows it, as after a restart$")
 
-    async def test_a_server_whose_lifetimes_are_short(self) -> None:
-        self.assertRegex(await self.end(Server(lifetime=70), clear=False), "^the server renews the relayed address for 70 s only")
+    def test_a_server_whose_lifetimes_are_short(self) -> None:
+        said = run(self.end(Server(lifetime=70), clear=False))
+        self.assertRegex(said, "^the server renews the relayed address for 70 s only")
 
 
 if __name__ == "__main__":
