@@ -114,7 +114,7 @@ class Lifetime:
                 if not link.is_stream:  # A stream has answered when it was connected.
                     await session.heard()
             except BaseException:
-                session.end(None)
+                await session.leave()  # The server may have granted an address already.
                 raise
             return session
 
@@ -192,5 +192,5 @@ class Lifetime:
         return Ended("the client was not opened" if isinstance(phase, NotOpened) else "there is no relayed address yet")
 
 
-def _discard(session: Session) -> None:
-    session.end(None)
+async def _discard(session: Session) -> None:
+    await session.leave()

@@ -87,7 +87,8 @@ class NoneSucceeded(Exception):
         self.failures = failures
 
 
-async def first_of(hosts: List[str], attempt: Callable[[str], Awaitable[_Found]], discard: Callable[[_Found], None]) -> _Found:
+async def first_of(
+        hosts: List[str], attempt: Callable[[str], Awaitable[_Found]], discard: Callable[[_Found], Awaitable[None]]) -> _Found:
     """Attempts one address after the other, each `STAGGER` after the last one began, or at once where that one has failed. Gives
     what the first one found that succeeds; the other attempts are cancelled, and what one of them finds meanwhile is discarded.
     `NoneSucceeded` where all fail."""
@@ -114,4 +115,4 @@ async def first_of(hosts: List[str], attempt: Callable[[str], Awaitable[_Found]]
             task.cancel()
         for found in await asyncio.gather(*running, return_exceptions=True):
             if not isinstance(found, BaseException):
-                discard(found)
+                await discard(found)
