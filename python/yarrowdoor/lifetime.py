@@ -114,7 +114,7 @@ class Lifetime:
                 if not link.is_stream:  # A stream has answered when it was connected.
                     await session.heard()
             except BaseException:
-                await session.leave()  # The server may have granted an address already.
+                await _discard(session)
                 raise
             return session
 
@@ -193,4 +193,5 @@ class Lifetime:
 
 
 async def _discard(session: Session) -> None:
+    """Ends a session that is not used. The server may have granted an address to it already, which is given back."""
     await session.leave()
