@@ -30,6 +30,8 @@ mod memory;
 #[cfg(test)]
 mod messages;
 #[cfg(test)]
+mod places;
+#[cfg(test)]
 mod server;
 #[cfg(test)]
 mod slow_link;
