@@ -2,6 +2,7 @@
 
 use crate::acts::{Act, act_of};
 use crate::looks::{first_expiry, is_idle};
+use crate::numbers::are_distinct;
 use crate::outcome::{Outcome, learn};
 use crate::session::Session;
 use crate::words::recv_words;
@@ -100,6 +101,8 @@ impl Drive {
             self.first_expiry(client) > 0,
             "something is active that was not granted",
         )?;
+        let (session, facts) = (&mut self.session, &self.model.facts);
+        are_distinct(self.alloc, client, session, facts, self.kind, self.now)?;
         Ok(outcome)
     }
 

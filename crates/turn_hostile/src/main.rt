@@ -7,9 +7,10 @@
 //! ```
 //!
 //! The calls are lines of a trace (`docs/LINES.md`). After each one, the relayed addresses and permissions in use have to
-//! be among what the model allows. In the end the trace is read again and its calls are made on a new client: they have the
-//! same answers. A run over TCP is repeated with its streams in other pieces. The program prints a line for each kind of
-//! run, and for the first run that goes wrong its seed and what went wrong, and ends with status 1.
+//! be among what the model allows, and no two peers may have one channel number. In the end the trace is read again and its
+//! calls are made on a new client: they have the same answers. A run over TCP is repeated with its streams in other pieces.
+//! The program prints a line for each kind of run, and for the first run that goes wrong its seed and what went wrong, and
+//! ends with status 1.
 //!
 //! The counts in the file `stdout` are the program's own: they say that the runs are still the same, so that a change
 //! which stops the network's hostility is seen. What is right is decided by the model alone. From the crate's folder
@@ -25,6 +26,7 @@ mod acts;
 mod cuts;
 mod drive;
 mod looks;
+mod numbers;
 mod outcome;
 mod session;
 mod whole;

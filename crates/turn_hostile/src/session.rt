@@ -4,6 +4,7 @@ ghost use Rattle.std.specs.Prelude.{◌≡◌, All, IfOk};
 ghost use Rattle.turn_client_proto.specs.Run.{IsCallable};
 ghost use Rattle.turn_stun.specs.declared.transport.TransportType.TheVariants.{Udp};
 
+use crate::numbers::number_in;
 use crate::outcome::{Outcome, outcome_of};
 use std::alloc::Global;
 use std::slice;
@@ -57,19 +58,43 @@ impl Session {
         now: u64,
         words: &str,
     ) -> Result<Outcome, Fault> {
+        self.calls = self.calls.saturating_add(1);
+        let reply = self.call(client, now, words)?;
+        outcome_of(&reply, &mut self.bytes)
+    }
+
+    /// Makes the call with these words, which sends data to a peer, and returns the number of the channel over which it
+    /// goes, if it goes over one. It is kept as any other, but not counted, and leaves `bytes` as they were.
+    ///
+    /// # Errors
+    ///
+    /// `Wrong` if these are not the words of a call, and `OutOfMemory` if memory allocation fails.
+    pub fn number_of<C: TurnClientApi>(
+        &mut self,
+        client: &mut C,
+        now: u64,
+        words: &str,
+    ) -> Result<Option<u16>, Fault> {
+        match self.call(client, now, words)? {
+            Reply::SendTo(Ok(packet)) => Ok(number_in(packet.payload.as_bytes())),
+            _ => Ok(None),
+        }
+    }
+
+    /// Makes a call, and keeps its line and its answer.
+    fn call<C: TurnClientApi>(
+        &mut self,
+        client: &mut C,
+        now: u64,
+        words: &str,
+    ) -> Result<Reply, Fault> {
         let line = format!(in self.alloc; "{now} {words}")?;
         self.trace.push_str(line.as_str())?;
         self.trace.push('\n')?;
-        self.calls = self.calls.saturating_add(1);
         let reply = made(self.alloc, client, line.as_bytes())?;
-        self.keep(&reply)
-    }
-
-    /// Keeps an answer.
-    fn keep(&mut self, reply: &Reply) -> Result<Outcome, Fault> {
-        let answer = answers_text(self.alloc, slice::from_ref(reply))?;
+        let answer = answers_text(self.alloc, slice::from_ref(&reply))?;
         self.answers.push_str(answer.as_str())?;
-        outcome_of(reply, &mut self.bytes)
+        Ok(reply)
     }
 }
 
