@@ -28,6 +28,7 @@ pub mod LastingCalls
 pub mod LastingCounts
 pub mod LastingEffects
 pub mod LastingListings
+pub mod LastingPeerLemmas
 pub mod LastingPolls
 pub mod LastingReplies
 pub mod LastingRowLemmas

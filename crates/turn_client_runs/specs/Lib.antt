@@ -19,6 +19,7 @@ pub mod Sleeps
 pub mod InOrder
 pub mod Inputs
 pub mod Lasting
+pub mod LastingPeers
 pub mod LastingRows
 pub mod LastingRuns
 pub mod Silence

@@ -1,5 +1,6 @@
 //! No grant is lost while the server answers and the caller sends what is due.
 
+ghost use Rattle.turn_client_runs.specs.LastingPeers.{HasRoomAt5Ms, PeersLast};
 ghost use Rattle.turn_client_runs.specs.LastingRows.{RelayStaysUp};
 ghost use Rattle.turn_client_runs.specs.Lasting.{DatagramsAreMessages, GrantsLast, RequestsSucceed, SuccessesEndRequests};
 
@@ -33,4 +34,14 @@ pub fn grants_last_while_the_server_answers()
 /// are refreshed. So these premises can be met, and no grant stands only because it has not expired yet.
 pub fn a_relay_stays_up()
     ensures lasts { RelayStaysUp }
+{}
+
+/// A cadence of 5 ms keeps 4,096 peers: with the default time ahead (`refresh_ahead`) a client over UDP that has a channel and a
+/// permission for each of them, and its allocation, meets the premises of `grants_last_while_the_server_answers` with 8,193 grants,
+/// 100 queued requests and a delay of 450 ms, also where all refreshes are due at one time. So each of the grants is in
+/// force after every run that keeps these premises. The room is there for any client with that cadence and so many grants, if it
+/// refreshes a minute ahead or more and its allocations were granted for two minutes or more.
+pub fn thousands_of_peers_stay_up()
+    ensures room { HasRoomAt5Ms }
+    ensures last { PeersLast }
 {}

@@ -1,0 +1,59 @@
+-- Thousands of peers, with a request every 5 ms.
+use Rattle.std.specs.Prelude.{◌≡◌, ℕ, ◌+◌, ◌≤◌, List, [], ◌∷◌, length, true, All, ⊤}
+use Rattle.std.specs.List.{Contains, IsDistinct}
+use Rattle.std.specs.Net.Socket.{socket_ip}
+use Rattle.std.specs.declared.net.socket_addr.SocketAddr.{SocketAddr}
+use Rattle.turn_types.specs.declared.family.AddressFamily.TheVariants.{IPV4}
+use Rattle.turn_client_api.specs.Effect.{granted_until, new_allocation}
+use Rattle.turn_client_api.specs.Grants.{family_of, same_ip}
+use Rattle.turn_client_api.specs.State.{State, seconds}
+use Rattle.turn_client_api.specs.Steps.{state_after_all}
+use Rattle.turn_client_api.specs.declared.call.Call.{Call}
+use Rattle.turn_client_api.specs.declared.grant.Grant.{Grant}
+use Rattle.turn_client_api.specs.declared.grant.Grant.TheVariants.{Allocation, Channel, Permission}
+use Rattle.turn_client_laws.specs.LawsRows.{granted_at, pausing, relayed_v4}
+use Rattle.turn_client_runs.specs.Lasting.{HasRoom, HasStill, IsSteady, RunsSteadily, ahead_of}
+use Rattle.turn_client_runs.specs.OnTime.{time_of_all}
+
+-- ---- the client
+
+-- a channel for each of these peers, and the permission that it brings, granted at time 0; numbers follow each other
+abbrev pub grants_for : ℕ → List SocketAddr → List Grant
+grants_for number [] = []
+grants_for number (peer ∷ others) =
+    Channel number peer (granted_until (seconds 600) true) ∷ Permission (socket_ip peer) (granted_until (seconds 300) true)
+    ∷ grants_for (number + 1) others
+
+-- a client over UDP with these, an allocation of 600 s from time 0 on, 5 ms between two requests, and the default time ahead
+abbrev pub with_peers : List SocketAddr → State → State
+with_peers peers s = pausing 5_000_000 (granted_at 0 (new_allocation 600 0 relayed_v4 ∷ grants_for 0x4000 peers) s)
+
+-- no two have one IP address
+abbrev pub HaveOwnIps : List SocketAddr → Type 0
+HaveOwnIps peers = IsDistinct (λ one other. same_ip (socket_ip one) (socket_ip other)) peers
+
+-- ---- what holds
+
+-- an allocation had a first lifetime of two minutes or more
+abbrev pub IsLong : Grant → Type 0
+IsLong (Allocation a) = seconds 120 ≤ a.first_lifetime
+IsLong _ = ⊤
+
+-- Whoever sends a request every 5 ms and refreshes a minute ahead or more has room for 8,193 grants, a hundred requests that
+-- are queued before them, and a delay of 450 ms: all of them may be due at one time.
+abbrev pub HasRoomAt5Ms : Type 0
+HasRoomAt5Ms =
+    (ahead : ℕ) (g : Grant) → seconds 60 ≤ ahead → IsLong g → HasRoom 8193 100 5_000_000 450_000_000 (ahead_of ahead g)
+
+-- The client has that many grants, and begins as no grant is lost. So each is in force after any run that keeps the premises.
+pub record LastsWithPeers (s : State) : Type 0 where
+  pub count : length s.grants ≡ 8193
+  pub begins : IsSteady 8193 100 450_000_000 0 s
+  pub lasts : (calls : List Call) → RunsSteadily 8193 100 450_000_000 0 s calls
+      → (g : Grant) → Contains s.grants g → HasStill g (time_of_all 0 calls) (state_after_all s calls)
+
+-- whatever its 4,096 peers over IPv4 are, and its addresses, credentials and IDs
+abbrev pub PeersLast : Type 0
+PeersLast =
+    (peers : List SocketAddr) (s : State) → length peers ≡ 4096 → All (λ peer. family_of peer ≡ IPV4) peers → HaveOwnIps peers
+    → LastsWithPeers (with_peers peers s)
