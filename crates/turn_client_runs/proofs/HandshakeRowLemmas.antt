@@ -22,7 +22,9 @@ use Rattle.turn_agent.specs.TransactionIds.{behind_id, next_id}
 use Rattle.turn_agent.specs.declared.transaction.Transaction.{Transaction}
 use Rattle.turn_client_api.specs.Config.{Config}
 use Rattle.turn_client_api.specs.State.{State, auth_of}
-use Rattle.turn_client_api.specs.declared.state.Phase.TheVariants.{Requesting, Authenticating}
+use Rattle.turn_stun.specs.declared.transport.TransportType.TheVariants.{Udp}
+use Rattle.turn_client_api.specs.declared.event.TurnEvent.TheVariants.{AllocationCreated}
+use Rattle.turn_client_api.specs.declared.state.Phase.TheVariants.{Requesting, Authenticating, Allocated}
 use Rattle.turn_client_api.specs.declared.call.Call.TheVariants.{PollTransmit, Recv}
 use Rattle.turn_client_api.specs.declared.grant.Purpose.TheVariants.{ForAllocation}
 use Rattle.turn_client_api.specs.declared.poll.TurnPollRet.TheVariants.{WaitUntil}
@@ -410,6 +412,26 @@ module _ (local remote : SocketAddr) (config : Config) (seed : List ℕ) where
 
   ends-last : Ends last (allocation_packet last)
   ends-last = subst (λ (x : State). Ends x (allocation_packet x)) (sym last-is) (subst (Ends h3) (sym packet-is) ends)
+
+  -- ---- the state after it
+
+  abbrev pub done : State
+  done = record h3 {
+    phase = Allocated;
+    families = [];
+    grants = new_allocation 600 200_000_000 relayed_v4 ∷ [];
+    listed = [];
+    transactions = [];
+    events = AllocationCreated Udp relayed_v4 ∷ [];
+  }
+
+  done-after : state_after (Recv (from_server h3 bytes) 200_000_000) h3 ≡ done
+  done-after = next-is ∙ rw (success-lifetime id2 second h3 refl, success-relayed id2 second h3 refl, success-id id2 second h3 refl, eqb-self id2) refl
+
+  pub done-is : state_after (Recv (allocation_packet last) 200_000_000) last ≡ done
+  done-is =
+      ap (λ (x : State). state_after (Recv (allocation_packet x) 200_000_000) x) last-is
+      ∙ (ap (λ (packet : Transmit (List ℕ)). state_after (Recv packet 200_000_000) h3) packet-is ∙ done-after)
 
 pub handshake-is-worked : HandshakeIsWorked
 handshake-is-worked local remote config seed =

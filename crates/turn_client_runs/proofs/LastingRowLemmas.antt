@@ -35,7 +35,7 @@ use Rattle.turn_client_laws.specs.LawsRows.{granted_at, ip_of_peer, peer, relaye
 use Rattle.turn_client_laws.proofs.HasLemmas.{Has, all-has}
 use Rattle.turn_client_laws.proofs.TimelyLemmas.{poll-timely}
 use Rattle.turn_client_runs.specs.Lasting.{HasRoom, IsInForce, IsSteady, IsSuccess, IsWithin, RunsSteadily, ahead_of, expiry_of}
-use Rattle.turn_client_runs.specs.LastingRows.{RelayStaysUp, allocated_at_0, calls_of_700_s, granted_call, refreshed_grants, served}
+use Rattle.turn_client_runs.specs.LastingRows.{RelayStaysUp, with_allocation, calls_of_700_s, granted_call, refreshed_grants, served}
 use Rattle.turn_client_runs.specs.OnTime.{IsOnTime}
 use Rattle.turn_client_runs.specs.Server.{from_server, success_for}
 use Rattle.turn_client_runs.proofs.LastingRuns.{received}
@@ -246,7 +246,7 @@ module _ (before now time a p c a' p' c' : ℕ) (ids : Source) (purpose : Purpos
 
 module _ (s : State) (some : IsSome s.held) where
   abbrev s0 : State
-  s0 = allocated_at_0 s
+  s0 = with_allocation s
 
   abbrev bound : State
   bound = state_after (BindChannel Udp peer 1_000_000_000) s0
@@ -255,19 +255,19 @@ module _ (s : State) (some : IsSome s.held) where
   ids1 = behind_id s.ids
 
   abbrev s1 : State
-  s1 = with_three 1_000_000_000 600_000_000_000 301_100_000_000 601_100_000_000 ids1 s
+  s1 = with_three 1_000_000_000 600_200_000_000 301_100_000_000 601_100_000_000 ids1 s
 
   abbrev s2 : State
-  s2 = with_three 241_100_000_000 600_000_000_000 541_200_000_000 601_100_000_000 (behind_id ids1) s
+  s2 = with_three 241_100_000_000 600_200_000_000 541_200_000_000 601_100_000_000 (behind_id ids1) s
 
   abbrev s3 : State
-  s3 = with_three 481_200_000_000 600_000_000_000 781_300_000_000 601_100_000_000 (behind_id (behind_id ids1)) s
+  s3 = with_three 481_200_000_000 600_200_000_000 781_300_000_000 601_100_000_000 (behind_id (behind_id ids1)) s
 
   abbrev s4 : State
-  s4 = with_three 540_000_000_000 1_140_100_000_000 781_300_000_000 601_100_000_000 (behind_id (behind_id (behind_id ids1))) s
+  s4 = with_three 540_200_000_000 1_140_300_000_000 781_300_000_000 601_100_000_000 (behind_id (behind_id (behind_id ids1))) s
 
   abbrev s5 : State
-  s5 = with_three 541_100_000_000 1_140_100_000_000 781_300_000_000 1_141_200_000_000 (behind_id (behind_id (behind_id (behind_id ids1)))) s
+  s5 = with_three 541_100_000_000 1_140_300_000_000 781_300_000_000 1_141_200_000_000 (behind_id (behind_id (behind_id (behind_id ids1)))) s
 
   told-1 : poll_step 1_100_000_000 s1 ≡ (WaitUntil 241_100_000_000, s1)
   unfolding refresh_time
@@ -277,11 +277,11 @@ module _ (s : State) (some : IsSome s.held) where
   unfolding refresh_time
   told-2 = refl
 
-  told-3 : poll_step 481_300_000_000 s3 ≡ (WaitUntil 540_000_000_000, s3)
+  told-3 : poll_step 481_300_000_000 s3 ≡ (WaitUntil 540_200_000_000, s3)
   unfolding refresh_time
   told-3 = refl
 
-  told-4 : poll_step 540_100_000_000 s4 ≡ (WaitUntil 541_100_000_000, s4)
+  told-4 : poll_step 540_300_000_000 s4 ≡ (WaitUntil 541_100_000_000, s4)
   unfolding refresh_time
   told-4 = refl
 
@@ -293,7 +293,7 @@ module _ (s : State) (some : IsSome s.held) where
   unfolding refresh_time
   told-6 = refl
 
-  told-0 : poll_step 0 s0 ≡ (WaitUntil 540_000_000_000, s0)
+  told-0 : poll_step 200_000_000 s0 ≡ (WaitUntil 540_200_000_000, s0)
   unfolding refresh_time
   told-0 = refl
 
@@ -303,13 +303,13 @@ module _ (s : State) (some : IsSome s.held) where
   id1 = fresh_id s0
 
   abbrev pending : List Grant
-  pending = new_allocation 600 0 relayed_v4 ∷ Channel 0x4000 peer (Pending true) ∷ Permission ip_of_peer (Pending true) ∷ []
+  pending = new_allocation 600 200_000_000 relayed_v4 ∷ Channel 0x4000 peer (Pending true) ∷ Permission ip_of_peer (Pending true) ∷ []
 
   abbrev text1 : List ℕ
-  text1 = request_for (granted_at 0 pending s) (ForChannel 0x4000 peer) id1
+  text1 = request_for (granted_at 100_000_000 pending s) (ForChannel 0x4000 peer) id1
 
   abbrev queued_bind : State
-  queued_bind = record (granted_at 0 pending s) {
+  queued_bind = record (granted_at 100_000_000 pending s) {
     ids = ids1;
     transactions = first_sent id1 s.remote 1_000_000_000 text1 ∷ [];
     listed = listings id1 (ForChannel 0x4000 peer ∷ ForPermission ip_of_peer ∷ []);
@@ -374,23 +374,23 @@ module _ (s : State) (some : IsSome s.held) where
   -- ---- the refreshes
 
   punctual-2 : IsOnTime 1_100_000_000 241_100_000_000 s1
-  punctual-2 = three-on-time 1_100_000_000 241_100_000_000 241_100_000_000 1_000_000_000 600_000_000_000 301_100_000_000 601_100_000_000
+  punctual-2 = three-on-time 1_100_000_000 241_100_000_000 241_100_000_000 1_000_000_000 600_200_000_000 301_100_000_000 601_100_000_000
       ids1 s told-1 (omega arith) (omega arith) (omega arith) (omega arith)
 
   punctual-3 : IsOnTime 241_200_000_000 481_200_000_000 s2
-  punctual-3 = three-on-time 241_200_000_000 481_200_000_000 481_200_000_000 241_100_000_000 600_000_000_000 541_200_000_000 601_100_000_000
+  punctual-3 = three-on-time 241_200_000_000 481_200_000_000 481_200_000_000 241_100_000_000 600_200_000_000 541_200_000_000 601_100_000_000
       (behind_id ids1) s told-2 (omega arith) (omega arith) (omega arith) (omega arith)
 
-  punctual-4 : IsOnTime 481_300_000_000 540_000_000_000 s3
-  punctual-4 = three-on-time 481_300_000_000 540_000_000_000 540_000_000_000 481_200_000_000 600_000_000_000 781_300_000_000 601_100_000_000
+  punctual-4 : IsOnTime 481_300_000_000 540_200_000_000 s3
+  punctual-4 = three-on-time 481_300_000_000 540_200_000_000 540_200_000_000 481_200_000_000 600_200_000_000 781_300_000_000 601_100_000_000
       (behind_id (behind_id ids1)) s told-3 (omega arith) (omega arith) (omega arith) (omega arith)
 
-  punctual-5 : IsOnTime 540_100_000_000 541_100_000_000 s4
-  punctual-5 = three-on-time 540_100_000_000 541_100_000_000 541_100_000_000 540_000_000_000 1_140_100_000_000 781_300_000_000 601_100_000_000
+  punctual-5 : IsOnTime 540_300_000_000 541_100_000_000 s4
+  punctual-5 = three-on-time 540_300_000_000 541_100_000_000 541_100_000_000 540_200_000_000 1_140_300_000_000 781_300_000_000 601_100_000_000
       (behind_id (behind_id (behind_id ids1))) s told-4 (omega arith) (omega arith) (omega arith) (omega arith)
 
   punctual-6 : IsOnTime 541_200_000_000 700_000_000_000 s5
-  punctual-6 = three-on-time 541_200_000_000 721_300_000_000 700_000_000_000 541_100_000_000 1_140_100_000_000 781_300_000_000 1_141_200_000_000
+  punctual-6 = three-on-time 541_200_000_000 721_300_000_000 700_000_000_000 541_100_000_000 1_140_300_000_000 781_300_000_000 1_141_200_000_000
       (behind_id (behind_id (behind_id (behind_id ids1)))) s told-5 (omega arith) (omega arith) (omega arith) (omega arith)
 
   abbrev asked-2 : State
@@ -400,7 +400,7 @@ module _ (s : State) (some : IsSome s.held) where
   asked-3 = requesting 481_200_000_000 (fresh_id s2) (ForPermission ip_of_peer) (request_for s2 (ForPermission ip_of_peer) (fresh_id s2)) s2
 
   abbrev asked-4 : State
-  asked-4 = requesting 540_000_000_000 (fresh_id s3) (ForRefresh IPV4 asked_lifetime) (request_for s3 (ForRefresh IPV4 asked_lifetime) (fresh_id s3)) s3
+  asked-4 = requesting 540_200_000_000 (fresh_id s3) (ForRefresh IPV4 asked_lifetime) (request_for s3 (ForRefresh IPV4 asked_lifetime) (fresh_id s3)) s3
 
   abbrev asked-5 : State
   asked-5 = requesting 541_100_000_000 (fresh_id s4) (ForChannel 0x4000 peer) (request_for s4 (ForChannel 0x4000 peer) (fresh_id s4)) s4
@@ -413,7 +413,7 @@ module _ (s : State) (some : IsSome s.held) where
   unfolding refresh_time is_refresh_due
   sent-3 = refl
 
-  sent-4 : state_after (PollTransmit 540_000_000_000) s3 ≡ asked-4
+  sent-4 : state_after (PollTransmit 540_200_000_000) s3 ≡ asked-4
   unfolding refresh_time is_refresh_due
   sent-4 = refl
 
@@ -429,7 +429,7 @@ module _ (s : State) (some : IsSome s.held) where
   unfolding refresh_time
   waits-3 = refl
 
-  waits-4 : poll_step 540_000_000_000 asked-4 ≡ (WaitUntil 540_500_000_000, asked-4)
+  waits-4 : poll_step 540_200_000_000 asked-4 ≡ (WaitUntil 540_700_000_000, asked-4)
   unfolding refresh_time
   waits-4 = refl
 
@@ -443,7 +443,7 @@ module _ (s : State) (some : IsSome s.held) where
   replied-3 : (message : List ℕ) → IsReplyFor (ForPermission ip_of_peer) (fresh_id s2) message → (response_step true message 481_300_000_000 asked-3).1 ≡ s3
   replied-3 message is = rw (is.named, is.of_method, eqb-self (fresh_id s2)) refl
 
-  replied-4 : (message : List ℕ) → IsReplyFor (ForRefresh IPV4 asked_lifetime) (fresh_id s3) message → (response_step true message 540_100_000_000 asked-4).1 ≡ s4
+  replied-4 : (message : List ℕ) → IsReplyFor (ForRefresh IPV4 asked_lifetime) (fresh_id s3) message → (response_step true message 540_300_000_000 asked-4).1 ≡ s4
   replied-4 message is = rw (is.named, is.of_method, eqb-self (fresh_id s3), is.lasts) refl
 
   replied-5 : (message : List ℕ) → IsReplyFor (ForChannel 0x4000 peer) (fresh_id s4) message → (response_step true message 541_200_000_000 asked-5).1 ≡ s5
@@ -462,31 +462,31 @@ module _ (s : State) (some : IsSome s.held) where
     ap (λ (q : TurnPollRet × State). q.1.grants) told-6,
   )
 
-  from-5 : Goes 540_100_000_000 s4 (served (seconds 700) (541_100_000_000 ∷ []) s4)
-  from-5 = round 540_100_000_000 541_100_000_000 (fresh_id s4) (seconds 700) [] (ForChannel 0x4000 peer) [] _ s4 asked-5 s5 s5
-      (refreshed 540_100_000_000 541_100_000_000 541_600_000_000 1_140_100_000_000 781_300_000_000 601_100_000_000 1_140_100_000_000 781_300_000_000 1_141_200_000_000
-      (behind_id (behind_id (behind_id ids1))) (ForChannel 0x4000 peer) s some 540_000_000_000 punctual-5 sent-5 waits-5 (omega arith) (omega arith) replied-5) last-poll
+  from-5 : Goes 540_300_000_000 s4 (served (seconds 700) (541_100_000_000 ∷ []) s4)
+  from-5 = round 540_300_000_000 541_100_000_000 (fresh_id s4) (seconds 700) [] (ForChannel 0x4000 peer) [] _ s4 asked-5 s5 s5
+      (refreshed 540_300_000_000 541_100_000_000 541_600_000_000 1_140_300_000_000 781_300_000_000 601_100_000_000 1_140_300_000_000 781_300_000_000 1_141_200_000_000
+      (behind_id (behind_id (behind_id ids1))) (ForChannel 0x4000 peer) s some 540_200_000_000 punctual-5 sent-5 waits-5 (omega arith) (omega arith) replied-5) last-poll
 
-  from-4 : Goes 481_300_000_000 s3 (served (seconds 700) (540_000_000_000 ∷ 541_100_000_000 ∷ []) s3)
-  from-4 = round 481_300_000_000 540_000_000_000 (fresh_id s3) (seconds 700) (541_100_000_000 ∷ []) (ForRefresh IPV4 asked_lifetime) [] _ s3 asked-4 s4 s4
-      (refreshed 481_300_000_000 540_000_000_000 540_500_000_000 600_000_000_000 781_300_000_000 601_100_000_000 1_140_100_000_000 781_300_000_000 601_100_000_000
+  from-4 : Goes 481_300_000_000 s3 (served (seconds 700) (540_200_000_000 ∷ 541_100_000_000 ∷ []) s3)
+  from-4 = round 481_300_000_000 540_200_000_000 (fresh_id s3) (seconds 700) (541_100_000_000 ∷ []) (ForRefresh IPV4 asked_lifetime) [] _ s3 asked-4 s4 s4
+      (refreshed 481_300_000_000 540_200_000_000 540_700_000_000 600_200_000_000 781_300_000_000 601_100_000_000 1_140_300_000_000 781_300_000_000 601_100_000_000
       (behind_id (behind_id ids1)) (ForRefresh IPV4 asked_lifetime) s some 481_200_000_000 punctual-4 sent-4 waits-4 (omega arith) (omega arith) replied-4) from-5
 
-  from-3 : Goes 241_200_000_000 s2 (served (seconds 700) (481_200_000_000 ∷ 540_000_000_000 ∷ 541_100_000_000 ∷ []) s2)
-  from-3 = round 241_200_000_000 481_200_000_000 (fresh_id s2) (seconds 700) (540_000_000_000 ∷ 541_100_000_000 ∷ []) (ForPermission ip_of_peer) [] _ s2 asked-3 s3 s3
-      (refreshed 241_200_000_000 481_200_000_000 481_700_000_000 600_000_000_000 541_200_000_000 601_100_000_000 600_000_000_000 781_300_000_000 601_100_000_000
+  from-3 : Goes 241_200_000_000 s2 (served (seconds 700) (481_200_000_000 ∷ 540_200_000_000 ∷ 541_100_000_000 ∷ []) s2)
+  from-3 = round 241_200_000_000 481_200_000_000 (fresh_id s2) (seconds 700) (540_200_000_000 ∷ 541_100_000_000 ∷ []) (ForPermission ip_of_peer) [] _ s2 asked-3 s3 s3
+      (refreshed 241_200_000_000 481_200_000_000 481_700_000_000 600_200_000_000 541_200_000_000 601_100_000_000 600_200_000_000 781_300_000_000 601_100_000_000
       (behind_id ids1) (ForPermission ip_of_peer) s some 241_100_000_000 punctual-3 sent-3 waits-3 (omega arith) (omega arith) replied-3) from-4
 
-  from-2 : Goes 1_100_000_000 s1 (served (seconds 700) (241_100_000_000 ∷ 481_200_000_000 ∷ 540_000_000_000 ∷ 541_100_000_000 ∷ []) s1)
-  from-2 = round 1_100_000_000 241_100_000_000 (fresh_id s1) (seconds 700) (481_200_000_000 ∷ 540_000_000_000 ∷ 541_100_000_000 ∷ []) (ForPermission ip_of_peer) [] _ s1 asked-2 s2 s2
-      (refreshed 1_100_000_000 241_100_000_000 241_600_000_000 600_000_000_000 301_100_000_000 601_100_000_000 600_000_000_000 541_200_000_000 601_100_000_000
+  from-2 : Goes 1_100_000_000 s1 (served (seconds 700) (241_100_000_000 ∷ 481_200_000_000 ∷ 540_200_000_000 ∷ 541_100_000_000 ∷ []) s1)
+  from-2 = round 1_100_000_000 241_100_000_000 (fresh_id s1) (seconds 700) (481_200_000_000 ∷ 540_200_000_000 ∷ 541_100_000_000 ∷ []) (ForPermission ip_of_peer) [] _ s1 asked-2 s2 s2
+      (refreshed 1_100_000_000 241_100_000_000 241_600_000_000 600_200_000_000 301_100_000_000 601_100_000_000 600_200_000_000 541_200_000_000 601_100_000_000
       ids1 (ForPermission ip_of_peer) s some 1_000_000_000 punctual-2 sent-2 waits-2 (omega arith) (omega arith) replied-2) from-3
 
-  from-1 : Goes 1_000_000_000 queued_bind (served (seconds 700) (1_000_000_000 ∷ 241_100_000_000 ∷ 481_200_000_000 ∷ 540_000_000_000 ∷ 541_100_000_000 ∷ []) queued_bind)
-  from-1 = round 1_000_000_000 1_000_000_000 id1 (seconds 700) (241_100_000_000 ∷ 481_200_000_000 ∷ 540_000_000_000 ∷ 541_100_000_000 ∷ [])
+  from-1 : Goes 1_000_000_000 queued_bind (served (seconds 700) (1_000_000_000 ∷ 241_100_000_000 ∷ 481_200_000_000 ∷ 540_200_000_000 ∷ 541_100_000_000 ∷ []) queued_bind)
+  from-1 = round 1_000_000_000 1_000_000_000 id1 (seconds 700) (241_100_000_000 ∷ 481_200_000_000 ∷ 540_200_000_000 ∷ 541_100_000_000 ∷ [])
       (ForChannel 0x4000 peer) (ForPermission ip_of_peer ∷ []) text1 queued_bind sent_bind granted_bind s1 round-1 from-2
 
-  begins : IsSteady 3 1 delay 0 s0
+  begins : IsSteady 3 1 delay 200_000_000 s0
   unfolding IsDistinct
   begins = record {
     allocated = refl;
@@ -494,24 +494,24 @@ module _ (s : State) (some : IsSome s.held) where
     none_outstanding = refl;
     none_listed = refl;
     sent_before = omega arith;
-    in_force = all-one (IsInForce 0) (new_allocation 600 0 relayed_v4) (refl, omega arith);
-    none_late = all-one (λ g. 0 + ahead_of 60_000_000_000 g ≤ expiry_of g) (new_allocation 600 0 relayed_v4) (omega arith);
-    room = all-one (λ g. HasRoom 3 1 50_000_000 delay (ahead_of 60_000_000_000 g)) (new_allocation 600 0 relayed_v4) (omega arith);
+    in_force = all-one (IsInForce 200_000_000) (new_allocation 600 200_000_000 relayed_v4) (refl, omega arith);
+    none_late = all-one (λ g. 200_000_000 + ahead_of 60_000_000_000 g ≤ expiry_of g) (new_allocation 600 200_000_000 relayed_v4) (omega arith);
+    room = all-one (λ g. HasRoom 3 1 50_000_000 delay (ahead_of 60_000_000_000 g)) (new_allocation 600 200_000_000 relayed_v4) (omega arith);
     room_for_more = omega arith;
     within = (omega arith, omega arith);
     distinct = (tt, tt);
-    housed = all-one (HasAllocation s0) (new_allocation 600 0 relayed_v4) refl;
+    housed = all-one (HasAllocation s0) (new_allocation 600 200_000_000 relayed_v4) refl;
     prompt = omega arith;
     in_range = omega arith;
   }
 
-  goes : Goes 0 s0 (calls_of_700_s s0)
+  goes : Goes 200_000_000 s0 (calls_of_700_s s0)
   goes =
-      let rest = subst (λ (x : State). Goes 1_000_000_000 x (served (seconds 700) (1_000_000_000 ∷ 241_100_000_000 ∷ 481_200_000_000 ∷ 540_000_000_000 ∷ 541_100_000_000 ∷ []) x)) (sym binds) from-1 in
+      let rest = subst (λ (x : State). Goes 1_000_000_000 x (served (seconds 700) (1_000_000_000 ∷ 241_100_000_000 ∷ 481_200_000_000 ∷ 540_200_000_000 ∷ 541_100_000_000 ∷ []) x)) (sym binds) from-1 in
       let within = subst (IsWithin 3 1) (sym binds) (omega arith, omega arith) in (
         (
           record {
-            on_time = on-time 0 540_000_000_000 1_000_000_000 s0 (fits s0 refl refl) (all-one (HasAllocation s0) (new_allocation 600 0 relayed_v4) refl) told-0
+            on_time = on-time 200_000_000 540_200_000_000 1_000_000_000 s0 (fits s0 refl refl) (all-one (HasAllocation s0) (new_allocation 600 200_000_000 relayed_v4) refl) told-0
                 (omega arith) (omega arith) (omega arith) (omega arith);
             answered = all-none (λ (x : Transaction). 1_000_000_000 ≤ x.last_send + delay);
           },

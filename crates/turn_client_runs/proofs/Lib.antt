@@ -51,6 +51,7 @@ pub mod QuietLemmas
 pub mod RealmLemmas
 pub mod ReceivedLemmas
 pub mod ReceivedRuns
+pub mod RelayRowLemmas
 pub mod RelistLemmas
 pub mod ReplyLemmas
 pub mod RunCutLemmas

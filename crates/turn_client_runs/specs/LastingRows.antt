@@ -39,21 +39,21 @@ served last (now ∷ later) s =
 
 -- ---- the run
 
--- a client over UDP with an allocation of 600 s from time 0 on, its first packet just sent
-abbrev pub allocated_at_0 : State → State
-allocated_at_0 s = granted_at 0 (new_allocation 600 0 relayed_v4 ∷ []) s
+-- a client over UDP with an allocation of 600 s from 200 ms on, its last packet sent at 100 ms
+abbrev pub with_allocation : State → State
+with_allocation s = granted_at 100_000_000 (new_allocation 600 200_000_000 relayed_v4 ∷ []) s
 
 -- It binds a channel at 1 s. What it refreshes later is due a minute before it expires: the permission twice, the
 -- allocation and the channel.
 abbrev pub calls_of_700_s : State → List Call
 calls_of_700_s s =
     let bind = BindChannel Udp peer 1_000_000_000 in
-    bind ∷ served (seconds 700) (1_000_000_000 ∷ 241_100_000_000 ∷ 481_200_000_000 ∷ 540_000_000_000 ∷ 541_100_000_000 ∷ []) (state_after bind s)
+    bind ∷ served (seconds 700) (1_000_000_000 ∷ 241_100_000_000 ∷ 481_200_000_000 ∷ 540_200_000_000 ∷ 541_100_000_000 ∷ []) (state_after bind s)
 
--- granted for 600 s at 540.1 s, for 300 s at 481.3 s, and for 600 s at 541.2 s
+-- granted for 600 s at 540.3 s, for 300 s at 481.3 s, and for 600 s at 541.2 s
 abbrev pub refreshed_grants : List Grant
 refreshed_grants =
-    Allocation (record { relayed = relayed_v4; first_lifetime = seconds 600; expiry = 1_140_100_000_000; is_expired = false })
+    Allocation (record { relayed = relayed_v4; first_lifetime = seconds 600; expiry = 1_140_300_000_000; is_expired = false })
     ∷ Permission ip_of_peer (granted_until 781_300_000_000 true)
     ∷ Channel 0x4000 peer (granted_until 1_141_200_000_000 true)
     ∷ []
@@ -61,10 +61,10 @@ refreshed_grants =
 -- With at most three grants, a queued packet and a delay of 100 ms, it begins and runs as no grant is lost, and each of the
 -- three is refreshed.
 pub record LastsFor700Seconds (s : State) : Type 0 where
-  pub begins : IsSteady 3 1 100_000_000 0 s
-  pub runs : RunsSteadily 3 1 100_000_000 0 s (calls_of_700_s s)
+  pub begins : IsSteady 3 1 100_000_000 200_000_000 s
+  pub runs : RunsSteadily 3 1 100_000_000 200_000_000 s (calls_of_700_s s)
   pub refreshes : (state_after_all s (calls_of_700_s s)).grants ≡ refreshed_grants
 
 -- whatever the client's addresses, credentials and IDs are
 abbrev pub RelayStaysUp : Type 0
-RelayStaysUp = (s : State) → IsSome s.held → LastsFor700Seconds (allocated_at_0 s)
+RelayStaysUp = (s : State) → IsSome s.held → LastsFor700Seconds (with_allocation s)

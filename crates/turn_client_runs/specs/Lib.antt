@@ -30,3 +30,4 @@ pub mod Offers
 pub mod Told
 pub mod ToldRows
 pub mod HandshakeRows
+pub mod RelayRows
