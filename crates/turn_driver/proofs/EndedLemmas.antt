@@ -70,7 +70,7 @@ paused-IsIdle : (paused : Bool) (now : ℕ) (s : State) → IsIdle s (cond pause
 paused-IsIdle true now s = reply-IsIdle s
 paused-IsIdle false now s = queue-IsIdle now s
 
-transmit-IsIdle : (now : ℕ) (s : State) → IsIdle s (transmit_step now s)
+pub transmit-IsIdle : (now : ℕ) (s : State) → IsIdle s (transmit_step now s)
 transmit-IsIdle now s = option-IsIdle s (due (agent_of s) now) _ _ (λ t. some-IsIdle s _ _) (paused-IsIdle (is_paused now s) now s)
 
 -- ---- what is left of a client that has ended

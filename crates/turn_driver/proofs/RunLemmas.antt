@@ -63,7 +63,7 @@ streams-run : (now : ℕ) (p : Option Payload × State) → GoesOn now (option_t
 streams-run now (Some payload, s) = ([], tt, (refl, refl))
 streams-run now (None, s) = first now (Poll now) s (by_time now (poll_step now s)) (inr (inl refl)) (time-run now (poll_step now s))
 
-next-run : (now : ℕ) (s : State) → GoesOn now [] s (next_step now s)
+pub next-run : (now : ℕ) (s : State) → GoesOn now [] s (next_step now s)
 next-run now s = first now (PollRecv now) s (next_step now s) (inl refl) (streams-run now (poll_recv_step now s))
 
 -- ---- sequences of calls joined

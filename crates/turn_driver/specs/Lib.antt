@@ -3,3 +3,4 @@ pub mod Next
 pub mod Run
 pub mod Driver
 pub mod OnTime
+pub mod Rests

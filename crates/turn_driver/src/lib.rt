@@ -31,9 +31,11 @@
 mod driver;
 mod next;
 mod on_time;
+mod rests;
 mod task;
 
 pub use driver::drive_client;
 pub use next::{Next, next_task};
 pub use on_time::loops_are_on_time;
+pub use rests::loops_come_to_rest;
 pub use task::{Rest, Task};

@@ -1,0 +1,327 @@
+-- `poll` leaves less to do, or as much.
+use Rattle.std.proofs.Common.{◌≡◌, ◌∙◌, ℕ, ◌+◌, ◌<◌, Bool, true, false, cond, eqb, not, ◌&&◌, ◌||◌, List, [], ◌∷◌, Option, Some, None, ◌⊎◌, ap, arith, filter, filter_map, inl, inr, length, refl}
+use Rattle.std.proofs.Common.{slice_get, subst, sym}
+use Rattle.std.specs.Prelude.{find, fold, reverse}
+use Rattle.std.specs.Option.{option_map_or}
+use Rattle.std.proofs.lemmas.Bool.{eq-eqb, not_from_true}
+use Rattle.std.proofs.lemmas.List.{append-nil}
+use Rattle.std.specs.declared.net.socket_addr.SocketAddr.{SocketAddr}
+use Rattle.turn_types.specs.declared.family.AddressFamily.{AddressFamily}
+use Rattle.turn_agent.specs.Agent.{timed_out_transaction}
+use Rattle.turn_agent.specs.declared.transaction.Transaction.{Transaction}
+use Rattle.turn_client_api.specs.Config.{timers_of}
+use Rattle.turn_client_api.specs.Due.{has_event, has_reply}
+use Rattle.turn_client_api.specs.Effect.{closed, reserved_time, transaction_ended}
+use Rattle.turn_client_api.specs.Grants.{allocations, family_of, is_channel_of, is_of, is_of_family, without_grants}
+use Rattle.turn_client_api.specs.Poll.{answer_by, answer_step, as_reported, channel_lapsed, failed, first_reported, first_unreported, is_lapsed_channel, is_listed_for_allocation, lapsed}
+use Rattle.turn_client_api.specs.Poll.{allocation_expires, lapsed_allocation, lapsed_in, next_offer, offer_step, poll_step, timed_out_purposes, timed_out_step}
+use Rattle.turn_client_api.specs.Poll.{timed_step, unbound, unreported_in}
+use Rattle.turn_client_api.specs.State.{State, agent_of, later_by}
+use Rattle.turn_client_api.specs.declared.grant.DataOffer.{DataOffer}
+use Rattle.turn_client_api.specs.declared.grant.Grant.{Grant}
+use Rattle.turn_client_api.specs.declared.grant.Grant.TheVariants.{Allocation, Channel, Connect, Connection, Offer, Permission}
+use Rattle.turn_client_api.specs.declared.grant.Progress.TheVariants.{Active, Reserved}
+use Rattle.turn_client_api.specs.declared.grant.Purpose.{Purpose}
+use Rattle.turn_client_api.specs.declared.grant.Relay.{Relay}
+use Rattle.turn_client_api.specs.declared.poll.TurnPollRet.{TurnPollRet}
+use Rattle.turn_client_api.specs.declared.poll.TurnPollRet.TheVariants as Poll
+use Rattle.turn_client_api.specs.declared.state.Phase.{Phase}
+use Rattle.turn_client_api.specs.declared.state.Phase.TheVariants.{New, Requesting, Authenticating, Allocated, Closed}
+use Rattle.turn_client_laws.proofs.CaseLemmas.{answer-by}
+use Rattle.turn_client_laws.proofs.HasLemmas.{Has, first-has, has-filter_map, has-found}
+use Rattle.turn_client_laws.proofs.InAllocationLemmas.{same_family-true}
+use Rattle.turn_client_laws.proofs.LapseLemmas.{has-unreversed}
+use Rattle.turn_client_laws.proofs.LapseSteps.{lapsed_in-does}
+use Rattle.turn_client_laws.proofs.StreamWeightLemmas.{weight}
+use Rattle.turn_driver.proofs.RestWeights.{GetsOn, IsParted, KeepsUp, fewer, five-same, gets-on-further, load, load-append, may_send, parted, removed-load, resends_left, steps_of}
+
+-- ---- what time changes in a client, apart from what timed out
+
+abbrev IsLighter : State → State → Type 0
+IsLighter s t = (load t.grants < load s.grants) ⊎ ((load t.grants ≡ load s.grants) × (length t.events + length t.closes ≡ length s.events + length s.closes))
+
+-- all but the grants, the events and the connections to close stays
+record Stands (s t : State) : Type 0 where
+  config : t.config ≡ s.config
+  transport : t.transport ≡ s.transport
+  last_send : t.last_send ≡ s.last_send
+  streams : t.streams ≡ s.streams
+  transactions : t.transactions ≡ s.transactions
+  queue : t.queue ≡ s.queue
+
+stands-self : (s : State) → Stands s s
+stands-self s = record { config = refl; transport = refl; last_send = refl; streams = refl; transactions = refl; queue = refl }
+
+stands-trans : (s t u : State) → Stands s t → Stands t u → Stands s u
+stands-trans s t u a b = record {
+  config = b.config ∙ a.config;
+  transport = b.transport ∙ a.transport;
+  last_send = b.last_send ∙ a.last_send;
+  streams = b.streams ∙ a.streams;
+  transactions = b.transactions ∙ a.transactions;
+  queue = b.queue ∙ a.queue;
+}
+
+record Ages (s t : State) : Type 0 where
+  stands : Stands s t
+  lighter : IsLighter s t
+
+lighter-trans : (s t u : State) → IsLighter s t → IsLighter t u → IsLighter s u
+lighter-trans s t u (inl a) (inl b) = inl (omega (arith, a, b))
+lighter-trans s t u (inl a) (inr b) = let e = b.0 in inl (omega (arith, a, e))
+lighter-trans s t u (inr a) (inl b) = let e = a.0 in inl (omega (arith, e, b))
+lighter-trans s t u (inr a) (inr b) = inr (b.0 ∙ a.0, b.1 ∙ a.1)
+
+ages-self : (s : State) → Ages s s
+ages-self s = record { stands = stands-self s; lighter = inr (refl, refl) }
+
+ages-trans : (s t u : State) → Ages s t → Ages t u → Ages s u
+ages-trans s t u a b = record { stands = stands-trans s t u a.stands b.stands; lighter = lighter-trans s t u a.lighter b.lighter }
+
+-- ---- what expires in one allocation
+
+failed-ages : (which : Grant → Bool) (s : State) → Ages s (failed which s)
+failed-ages which s = record {
+  stands = record { config = refl; transport = refl; last_send = refl; streams = refl; transactions = refl; queue = refl };
+  lighter = by (parted which s.grants);
+}
+  where
+    by : IsParted which s.grants → IsLighter s (failed which s)
+    by (inl (same, none)) = inr (ap load same, rw none refl)
+    by (inr less) = inl less
+
+unbound-ages : (which : Grant → Bool) (s : State) → Ages s (unbound which s)
+unbound-ages which s = record {
+  stands = record { config = refl; transport = refl; last_send = refl; streams = refl; transactions = refl; queue = refl };
+  lighter = by (parted which s.grants);
+}
+  where
+    by : IsParted which s.grants → IsLighter s (unbound which s)
+    by (inl (same, none)) = inr (ap load same, rw (none, append-nil s.closes) refl)
+    by (inr less) = inl less
+
+freed-ages : (which : Grant → Bool) (s : State) → Ages s (without_grants which s)
+freed-ages which s = record {
+  stands = record { config = refl; transport = refl; last_send = refl; streams = refl; transactions = refl; queue = refl };
+  lighter = by (parted which s.grants);
+}
+  where
+    by : IsParted which s.grants → IsLighter s (without_grants which s)
+    by (inl (same, none)) = inr (ap load same, refl)
+    by (inr less) = inl less
+
+channel-ages : (o : Option Grant) (s : State) → ((g : Grant) → o ≡ Some g → Has g s.grants) → Ages s (channel_lapsed o s)
+channel-ages (Some (Channel number peer (Active lease))) s there = record {
+  stands = record { config = refl; transport = refl; last_send = refl; streams = refl; transactions = refl; queue = refl };
+  lighter = inl (
+      let less = removed-load (is_channel_of number) (Channel number peer (Active lease)) s.grants (there (Channel number peer (Active lease)) refl) (eq-eqb number number refl) in
+      let more = load-append (filter (λ g. not (is_channel_of number g)) s.grants) (Channel number peer (Reserved (later_by reserved_time lease.expiry)) ∷ []) in
+      omega (arith, less, more));
+}
+channel-ages o s there = ages-self s
+
+lapsed_in-ages : (family : AddressFamily) (given : Option ℕ) (purposes : List Purpose) (now : ℕ) (s : State) → Ages s (lapsed_in family given purposes now s)
+lapsed_in-ages family given purposes now =
+    let lapses = λ (x : Grant). is_of family x && is_lapsed_channel now x in
+    lapsed_in-does Ages family given purposes now (record {
+      trans = ages-trans;
+      channels = λ t. failed-ages _ t;
+      permissions = λ t. failed-ages _ t;
+      last_channel = λ t. channel-ages (find lapses (reverse t.grants)) t (λ x found. has-unreversed x t.grants (has-found lapses x (reverse t.grants) found).0);
+      lapsed_permissions = λ t. failed-ages _ t;
+      connects = λ t. failed-ages _ t;
+      connections = λ t. unbound-ages _ t;
+      offers = λ t. failed-ages _ t;
+      refreshes = λ t. record {
+        stands = record { config = refl; transport = refl; last_send = refl; streams = refl; transactions = refl; queue = refl };
+        lighter = inr (refl, refl);
+      };
+      frees = λ t. freed-ages _ t;
+    })
+
+allocation-ages : (given : Option ℕ) (purposes : List Purpose) (now : ℕ) (s : State) (a : Relay) → Ages s (lapsed_allocation given purposes now s a)
+allocation-ages given purposes now s a = by (allocation_expires purposes now s a)
+  where
+    by : (b : Bool) → Ages s (cond b (without_grants (is_of (family_of a.relayed)) s) (lapsed_in (family_of a.relayed) given purposes now s))
+    by true = freed-ages (is_of (family_of a.relayed)) s
+    by false = lapsed_in-ages (family_of a.relayed) given purposes now s
+
+each-ages : (given : Option ℕ) (purposes : List Purpose) (now : ℕ) (relays : List Relay) (s : State) → Ages s (fold (lapsed_allocation given purposes now) s relays)
+each-ages given purposes now [] s = ages-self s
+each-ages given purposes now (a ∷ relays) s =
+    let t = lapsed_allocation given purposes now s a in
+    ages-trans s t (fold (lapsed_allocation given purposes now) t relays) (allocation-ages given purposes now s a) (each-ages given purposes now relays t)
+
+lapsed-ages : (given : Option ℕ) (now : ℕ) (s : State) → Ages s (lapsed given now s)
+lapsed-ages given now s = each-ages given (timed_out_purposes given s) now (allocations s) s
+
+-- ---- the five numbers
+
+may-same : (now : ℕ) (s t : State) → t.config ≡ s.config → t.last_send ≡ s.last_send → may_send now t ≡ may_send now s
+may-same now s t e f = rw (e, f) refl
+
+ages-KeepsUp : (now : ℕ) (s t : State) → Ages s t → KeepsUp now s t
+ages-KeepsUp now s t ages = by ages.lighter
+  where
+    stands : Stands s t
+    stands = ages.stands
+
+    bytes : weight t.streams ≡ weight s.streams
+    bytes = ap weight stands.streams
+
+    may : may_send now t ≡ may_send now s
+    may = may-same now s t stands.config stands.last_send
+
+    awaits : length t.transactions ≡ length s.transactions
+    awaits = ap (λ (xs : List Transaction). length xs) stands.transactions
+
+    resends : resends_left (timers_of t.config) t.transport t.transactions ≡ resends_left (timers_of s.config) s.transport s.transactions
+    resends = rw (stands.config, stands.transport, stands.transactions) refl
+
+    queue : length t.queue ≡ length s.queue
+    queue = rw stands.queue refl
+
+    by : IsLighter s t → KeepsUp now s t
+    by (inl less) = inl (inr (bytes, inr (may, inr (awaits, inl less))))
+    by (inr (same, told)) = inr (five-same _ _ _ _ _ _ _ _ _ _ bytes may awaits same (omega (arith, resends, queue, told)), stands.transactions)
+
+-- a request is no longer awaited, and the streams and the pause are as they were
+fewer-GetsOn : (now : ℕ) (s t u : State) → t.streams ≡ s.streams → t.config ≡ s.config → t.last_send ≡ s.last_send → Stands t u → length t.transactions < length s.transactions → GetsOn now s u
+fewer-GetsOn now s t u streams config last_send stands less =
+    inr (ap weight (stands.streams ∙ streams), inr (may-same now s u (stands.config ∙ config) (stands.last_send ∙ last_send), inl (rw stands.transactions less)))
+
+-- ---- what is returned
+
+-- what the caller is to do leaves less to do, and a time to wait for leaves as much at most
+abbrev pub IsTold : ℕ → State → TurnPollRet × State → Type 0
+IsTold now s (Poll.AllocateTcpSocket id socket peer, t) = GetsOn now s t
+IsTold now s (Poll.TcpClose local remote, t) = GetsOn now s t
+IsTold now s (Poll.WaitUntil time, t) = KeepsUp now s t
+IsTold now s (Poll.Closed, t) = KeepsUp now s t
+
+gets-on-IsTold : (now : ℕ) (s : State) (p : TurnPollRet × State) → GetsOn now s p.1 → IsTold now s p
+gets-on-IsTold now s (Poll.AllocateTcpSocket id socket peer, t) less = less
+gets-on-IsTold now s (Poll.TcpClose local remote, t) less = less
+gets-on-IsTold now s (Poll.WaitUntil time, t) less = inl less
+gets-on-IsTold now s (Poll.Closed, t) less = inl less
+
+answer-IsTold : (given : Option ℕ) (now : ℕ) (s t : State) → KeepsUp now s t → IsTold now s (answer_step given now t)
+answer-IsTold given now s t keeps = by t.closes t.phase (allocations t) refl
+  where
+    by : (closes : List SocketAddr) (p : Phase) (relays : List Relay) → t.closes ≡ closes → IsTold now s (answer_by closes p relays given now t)
+    by (local ∷ others) p relays e =
+        gets-on-further now s t (record t { closes = others }) keeps
+        (inr (refl, inr (refl, inr (refl, inr (refl, inl (let e' = ap (λ (xs : List SocketAddr). length xs) e in omega (arith, e')))))))
+    by [] Allocated [] e = keeps
+    by [] Allocated (a ∷ relays) e = keeps
+    by [] New relays e = keeps
+    by [] Requesting relays e = keeps
+    by [] Authenticating relays e = keeps
+    by [] Closed relays e = keeps
+
+-- nothing timed out
+none-IsTold : (p : Phase) (now : ℕ) (s : State) → IsTold now s (timed_step p None now s)
+none-IsTold New now s = inr (refl, refl)
+none-IsTold Requesting now s = answer-IsTold None now s s (inr (refl, refl))
+none-IsTold Authenticating now s = answer-IsTold None now s s (inr (refl, refl))
+none-IsTold Allocated now s = answer-IsTold None now s (lapsed None now s) (ages-KeepsUp now s (lapsed None now s) (lapsed-ages None now s))
+none-IsTold Closed now s = inr (refl, refl)
+
+-- a request timed out
+answer-stands : (given : Option ℕ) (now : ℕ) (s t : State) → Stands s t → Stands s (answer_step given now t).1
+answer-stands given now s t stands = answer-by (Stands s) given now t (λ closes. record {
+  config = stands.config;
+  transport = stands.transport;
+  last_send = stands.last_send;
+  streams = stands.streams;
+  transactions = stands.transactions;
+  queue = stands.queue;
+})
+
+timed-stands : (p : Phase) (id now : ℕ) (s : State) → Stands s (timed_step p (Some id) now s).1
+timed-stands New id now s = stands-self s
+timed-stands Requesting id now s = record { config = refl; transport = refl; last_send = refl; streams = refl; transactions = refl; queue = refl }
+timed-stands Authenticating id now s = answer-stands (Some id) now s _ (by (is_listed_for_allocation id s))
+  where
+    by : (b : Bool) → Stands s (cond b (closed s) s)
+    by true = record { config = refl; transport = refl; last_send = refl; streams = refl; transactions = refl; queue = refl }
+    by false = stands-self s
+timed-stands Allocated id now s = answer-stands (Some id) now s (lapsed (Some id) now s) (lapsed-ages (Some id) now s).stands
+timed-stands Closed id now s = stands-self s
+
+timed-IsTold : (now : ℕ) (s : State) (x : Transaction) → timed_out_transaction (agent_of s) now ≡ Some x → IsTold now s (timed_step s.phase (Some x.id) now (transaction_ended x.id s))
+timed-IsTold now s x found =
+    let t = transaction_ended x.id s in
+    let p = timed_step s.phase (Some x.id) now t in
+    let there = has-found _ x s.transactions found in
+    gets-on-IsTold now s p
+    (fewer-GetsOn now s t p.1 refl refl refl (timed-stands s.phase x.id now t)
+    (fewer (λ (y : Transaction). not (eqb y.id x.id)) x s.transactions there.0 (not_from_true (eqb x.id x.id) (eq-eqb x.id x.id refl))))
+
+-- ---- an offer is reported
+
+unreported-steps : (family : AddressFamily) (g : Grant) (offer : DataOffer) → unreported_in family g ≡ Some offer → (steps_of (as_reported g) < steps_of g) × (is_of_family family offer.peer ≡ true)
+unreported-steps family (Offer o) offer e = by (is_of_family family o.peer) o.is_reported refl refl e
+  where
+    by : (b c : Bool) → is_of_family family o.peer ≡ b → o.is_reported ≡ c → cond (b && not c) (Some o) None ≡ Some offer
+        → (steps_of (as_reported (Offer o)) < steps_of (Offer o)) × (is_of_family family offer.peer ≡ true)
+    by true false f g e = let same : o ≡ offer = cc in (rw g (omega arith), subst (λ (x : DataOffer). is_of_family family x.peer ≡ true) same f)
+    by true true f g e = cc
+    by false c f g e = cc
+unreported-steps family (Allocation a) offer e = cc
+unreported-steps family (Permission ip progress) offer e = cc
+unreported-steps family (Channel number peer progress) offer e = cc
+unreported-steps family (Connect peer) offer e = cc
+unreported-steps family (Connection c) offer e = cc
+
+reported-load : (family : AddressFamily) (gs : List Grant) (offer : DataOffer) → slice_get (filter_map (unreported_in family) gs) 0 ≡ Some offer
+    → (load (first_reported family gs) < load gs) × (is_of_family family offer.peer ≡ true)
+reported-load family [] offer e = cc
+reported-load family (g ∷ gs) offer e = by (unreported_in family g) refl (λ f. reported-load family gs offer f)
+  where
+    by : (o : Option DataOffer) → unreported_in family g ≡ o
+        → (slice_get (filter_map (unreported_in family) gs) 0 ≡ Some offer → (load (first_reported family gs) < load gs) × (is_of_family family offer.peer ≡ true))
+        → (load (first_reported family (g ∷ gs)) < load (g ∷ gs)) × (is_of_family family offer.peer ≡ true)
+    by None f later = let (less, is) = later (rw f at e) in rw f (omega (arith, less), is)
+    by (Some o) f later =
+        let same : o ≡ offer = let h : Some o ≡ Some offer = rw f at e in cc in
+        let (less, is) = unreported-steps family g o f in
+        (rw f (omega (arith, less)), subst (λ (x : DataOffer). is_of_family family x.peer ≡ true) same is)
+
+offer-IsTold : (now : ℕ) (s : State) (offer : DataOffer) → next_offer s ≡ Some offer → IsTold now s (offer_step offer s)
+offer-IsTold now s offer e = inr (refl, inr (refl, inr (refl, inl (by s.phase e))))
+  where
+    in_one : (a : Relay) → first_unreported (family_of a.relayed) s ≡ Some offer → load (first_reported (family_of offer.peer) s.grants) < load s.grants
+    in_one a f =
+        let (less, is) = reported-load (family_of a.relayed) s.grants offer f in
+        subst (λ (family : AddressFamily). load (first_reported family s.grants) < load s.grants) (sym (same_family-true (family_of offer.peer) (family_of a.relayed) is)) less
+
+    found : slice_get (filter_map (λ a. first_unreported (family_of a.relayed) s) (allocations s)) 0 ≡ Some offer → load (first_reported (family_of offer.peer) s.grants) < load s.grants
+    found f =
+        let (a, there, gives) = has-filter_map (λ (a : Relay). first_unreported (family_of a.relayed) s) offer (allocations s) (first-has offer _ f) in
+        in_one a gives
+
+    by : (p : Phase) → next_offer (record s { phase = p }) ≡ Some offer → load (first_reported (family_of offer.peer) s.grants) < load s.grants
+    by New f = cc
+    by Requesting f = cc
+    by Authenticating f = cc
+    by Allocated f = found f
+    by Closed f = cc
+
+-- ---- the call
+
+pub poll-IsTold : (now : ℕ) (s : State) → IsTold now s (poll_step now s)
+poll-IsTold now s = by (has_event s || has_reply s)
+  where
+    timed : (o : Option Transaction) → timed_out_transaction (agent_of s) now ≡ o
+        → IsTold now s (option_map_or (λ t. timed_step s.phase (Some t.id) now (transaction_ended t.id s)) o (timed_step s.phase None now s))
+    timed None e = none-IsTold s.phase now s
+    timed (Some x) e = timed-IsTold now s x e
+
+    offered : (o : Option DataOffer) → next_offer s ≡ o → IsTold now s (option_map_or (λ offer. offer_step offer s) o (timed_out_step now s))
+    offered None e = timed (timed_out_transaction (agent_of s) now) refl
+    offered (Some offer) e = offer-IsTold now s offer e
+
+    by : (b : Bool) → IsTold now s (cond b (Poll.WaitUntil now, s) (option_map_or (λ offer. offer_step offer s) (next_offer s) (timed_out_step now s)))
+    by true = inr (refl, refl)
+    by false = offered (next_offer s) refl

@@ -1,0 +1,33 @@
+-- How often a client is polled at one time: enough polls, and the loop waits, or the client has ended.
+use Rattle.std.specs.Prelude.{◌≡◌, ℕ, ◌^◌, ◌<◌, ◌≤◌, List, Option, ⊤}
+use Rattle.std.specs.declared.alloc.Global.{Global}
+use Rattle.std.specs.declared.net.socket_addr.SocketAddr.{SocketAddr}
+use Rattle.std.specs.declared.vec.Vec.{Vec}
+use Rattle.turn_stun.specs.declared.transport.TransportType.{TransportType}
+use Rattle.turn_stun.specs.declared.transport.Transmit.{Transmit}
+use Rattle.turn_client_api.specs.Config.{Config}
+use Rattle.turn_client_api.specs.State.{State, initial}
+use Rattle.turn_client_api.specs.Steps.{state_after_all}
+use Rattle.turn_client_api.specs.declared.call.Call.{Call}
+use Rattle.turn_driver.specs.Driver.{drive_step}
+use Rattle.turn_driver.specs.declared.task.Rest.{Rest}
+use Rattle.turn_driver.specs.declared.task.Rest.TheVariants.{Until, Now, Ended}
+use Rattle.turn_driver.specs.declared.task.Task.{Task}
+
+-- the loop waits until a later time, or the client has ended: no work is left
+abbrev pub IsAtRest : Rest → Type 0
+IsAtRest (Until time) = ⊤
+IsAtRest Now = ⊥
+IsAtRest Ended = ⊤
+
+-- For this client, time and packet there is a number of polls that leaves no work, and so does every greater number.
+abbrev pub ComesToRest : Option (Transmit (Vec ℕ Global)) → ℕ → State → Type 0
+ComesToRest came now s = (n : ℕ) × ((most : ℕ) (tasks : List Task) → n ≤ most → IsAtRest (drive_step most came now tasks s).rest)
+
+-- After any calls, at any time, and whatever packet is passed in: if the configuration has a pause between two requests.
+abbrev pub LoopsComeToRest : Type 0
+LoopsComeToRest =
+    (transport : TransportType) (local remote : SocketAddr) (config : Config) (seed : List ℕ) (calls : List Call)
+    (came : Option (Transmit (Vec ℕ Global))) (now : ℕ)
+    → 0 < config.request_cadence → now ≤ 2 ^ 62
+    → ComesToRest came now (state_after_all (initial transport local remote config seed) calls)
