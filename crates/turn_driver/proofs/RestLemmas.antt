@@ -1,5 +1,5 @@
 -- A loop that passes nothing in comes to rest.
-use Rattle.std.proofs.Common.{◌≡◌, ◌∙◌, ℕ, zero, suc, ◌+◌, ◌^◌, ◌<◌, ◌≤◌, Bool, true, false, cond, nat_lt, List, [], ◌∷◌, Option, Some, None, ◌⊎◌, ap, arith, inl, inr, length, refl, subst, sym}
+use Rattle.std.proofs.Common.{◌≡◌, ◌∙◌, ℕ, zero, suc, ◌+◌, ◌^◌, ◌<◌, ◌≤◌, Bool, true, false, cond, nat_lt, List, [], ◌∷◌, Option, Some, None, ◌⊎◌, ap, arith, inl, inr, length, refl, subst, suc-add, sym, zero-add}
 use Rattle.std.specs.Prelude.{find, ⊤}
 use Rattle.std.proofs.lemmas.Bool.{ltb-false}
 use Rattle.std.specs.declared.net.socket_addr.SocketAddr.{SocketAddr}
@@ -32,7 +32,7 @@ use Rattle.turn_client_laws.proofs.TimelyLemmas.{poll-timely}
 use Rattle.turn_driver.specs.Driver.{DriveState, begun, drive_state, drive_steps, going, once_more, with_answer}
 use Rattle.turn_driver.specs.Given.{Given, packet_in}
 use Rattle.turn_driver.specs.Next.{Answer, Does, Rests, by_streams, by_time, next_step, poll_answer, to_send, waiting}
-use Rattle.turn_driver.specs.Rests.{IsAtRest, LoopsComeToRest}
+use Rattle.turn_driver.specs.Rests.{IsAtRest, LoopsComeToRest, RestsWithin}
 use Rattle.turn_driver.specs.declared.task.Rest.{Rest}
 use Rattle.turn_driver.specs.declared.task.Rest.TheVariants.{Until, Now, Ended}
 use Rattle.turn_driver.specs.declared.task.Task.{Task}
@@ -209,6 +209,50 @@ settles now range s fit = descends 5 P step (left_to_do now s) refl s refl fit
     step xs five lesser t e is =
         settles-first now t is (next-goes-on now range t is) (λ u less fits. lesser (left_to_do now u) refl (subst (IsLess (left_to_do now u)) e less) u refl fits)
 
+-- ---- all iterations
+
+-- what was returned before changes nothing
+rest-same : (m now : ℕ) (given other : List Given) (s : State) → (drive_steps m now (going given s)).rest ≡ (drive_steps m now (going other s)).rest
+unfolding drive_steps
+rest-same zero now given other s = refl
+rest-same (suc m) now given other s =
+    let one = first-poll m now (going given s) in
+    let two = first-poll m now (going other s) in
+    rw (one, two) (by (next_step now s) (λ given other t. rest-same m now given other t))
+  where
+    by : (p : Answer × State) → ((given other : List Given) (t : State) → (drive_steps m now (going given t)).rest ≡ (drive_steps m now (going other t)).rest)
+        → (drive_steps m now (with_answer given p)).rest ≡ (drive_steps m now (with_answer other p)).rest
+    by (Does one, t) later = later _ _ t
+    by (Rests Now, t) later = later given other t
+    by (Rests (Until time), t) later =
+        rw (stays-at-rest m now (with_answer given (Rests (Until time), t)) tt, stays-at-rest m now (with_answer other (Rests (Until time), t)) tt) refl
+    by (Rests Ended, t) later = rw (stays-at-rest m now (with_answer given (Rests Ended, t)) tt, stays-at-rest m now (with_answer other (Rests Ended, t)) tt) refl
+
+more-polls : (m n now : ℕ) (t : DriveState) → drive_steps (m + n) now t ≡ drive_steps m now (drive_steps n now t)
+unfolding drive_steps
+more-polls zero n now t = rw (zero-add n) refl
+more-polls (suc m) n now t = rw (suc-add m n) (ap (once_more now) (more-polls m n now t))
+
+-- so many polls are enough
+abbrev IsEnough : ℕ → ℕ → State → Type 0
+IsEnough n now s = (most : ℕ) (given : List Given) → n ≤ most → IsAtRest (drive_steps most now (going given s)).rest
+
+iterates : (n most now : ℕ) (s : State) → 0 < most → IsEnough n now s → RestsWithin (suc n) most now s
+iterates zero most now s some enough = inl (enough most [] (omega arith))
+iterates (suc n) most now s some enough = by t.rest t.given t.client refl (λ u few. iterates n most now u some few)
+  where
+    t : DriveState
+    t = drive_steps most now (going [] s)
+
+    by : (rest : Rest) (given : List Given) (v : State) → t ≡ record { given = given; rest = rest; client = v } → ((u : State) → IsEnough n now u → RestsWithin (suc n) most now u)
+        → IsAtRest rest ⊎ RestsWithin (suc n) most now v
+    by (Until time) given v e later = inl tt
+    by Ended given v e later = inl tt
+    by Now given v e later = inr (later v (λ m other less.
+        let all : IsAtRest (drive_steps (m + most) now (going [] s)).rest = enough (m + most) [] (omega (arith, less, some)) in
+        let same : drive_steps (m + most) now (going [] s) ≡ drive_steps m now (going given v) = more-polls m most now (going [] s) ∙ ap (drive_steps m now) e in
+        rw (rest-same m now other given v) (rw same at all)))
+
 -- ---- a run
 
 first-fit : (transport : TransportType) (local remote : SocketAddr) (config : Config) (seed : List ℕ) → 0 < config.request_cadence → IsFit (initial transport local remote config seed)
@@ -219,7 +263,7 @@ first-fit transport local remote config seed pauses = record {
 }
 
 pub loops-come-to-rest : LoopsComeToRest
-loops-come-to-rest transport local remote config seed calls came now pauses range = by (packet_in came)
+loops-come-to-rest transport local remote config seed calls now pauses range = record { polls = λ came. polls (packet_in came); iterations = iterations }
   where
     s : State
     s = state_after_all (initial transport local remote config seed) calls
@@ -227,6 +271,9 @@ loops-come-to-rest transport local remote config seed calls came now pauses rang
     fit : IsFit s
     fit = calls-fit calls (initial transport local remote config seed) (first-fit transport local remote config seed pauses)
 
-    by : (o : Option (Transmit (List ℕ))) → (n : ℕ) × ((most : ℕ) (tasks : List Task) → n ≤ most → IsAtRest (drive_steps most now (begun o now (drive_state tasks s))).rest)
-    by None = let (n, enough) = settles now range s fit in (n, λ most tasks less. enough most _ less)
-    by (Some packet) = let (n, enough) = settles now range (state_after (Recv packet now) s) (call-fit (Recv packet now) s fit) in (n, λ most tasks less. enough most _ less)
+    polls : (o : Option (Transmit (List ℕ))) → (n : ℕ) × ((most : ℕ) (tasks : List Task) → n ≤ most → IsAtRest (drive_steps most now (begun o now (drive_state tasks s))).rest)
+    polls None = let (n, enough) = settles now range s fit in (n, λ most tasks less. enough most _ less)
+    polls (Some packet) = let (n, enough) = settles now range (state_after (Recv packet now) s) (call-fit (Recv packet now) s fit) in (n, λ most tasks less. enough most _ less)
+
+    iterations : (most : ℕ) → 0 < most → (n : ℕ) × RestsWithin n most now s
+    iterations most some = let (n, enough) = settles now range s fit in (suc n, iterates n most now s some enough)

@@ -1,5 +1,5 @@
 -- How often a client is polled at one time: enough polls, and the loop waits, or the client has ended.
-use Rattle.std.specs.Prelude.{◌≡◌, ℕ, ◌^◌, ◌<◌, ◌≤◌, List, Option, ⊤}
+use Rattle.std.specs.Prelude.{◌⊎◌, ℕ, zero, suc, ◌^◌, ◌<◌, ◌≤◌, List, [], Option, None, ⊤}
 use Rattle.std.specs.declared.alloc.Global.{Global}
 use Rattle.std.specs.declared.net.socket_addr.SocketAddr.{SocketAddr}
 use Rattle.std.specs.declared.vec.Vec.{Vec}
@@ -24,10 +24,19 @@ IsAtRest Ended = ⊤
 abbrev pub ComesToRest : Option (Transmit (Vec ℕ Global)) → ℕ → State → Type 0
 ComesToRest came now s = (n : ℕ) × ((most : ℕ) (tasks : List Task) → n ≤ most → IsAtRest (drive_step most came now tasks s).rest)
 
--- After any calls, at any time, and whatever packet is passed in: if the configuration has a pause between two requests.
+-- after so many iterations at this time at most, each with so many polls and nothing passed in, no work is left
+abbrev pub RestsWithin : ℕ → ℕ → ℕ → State → Type 0
+RestsWithin zero most now s = ⊥
+RestsWithin (suc n) most now s = let t = drive_step most None now [] s in IsAtRest t.rest ⊎ RestsWithin n most now t.client
+
+-- After any calls, at any time, whatever packet is passed in, and however few polls an iteration makes, but one.
+pub record LeavesNoWork (s : State) (now : ℕ) : Type 0 where
+  pub polls : (came : Option (Transmit (Vec ℕ Global))) → ComesToRest came now s
+  pub iterations : (most : ℕ) → 0 < most → (n : ℕ) × RestsWithin n most now s
+
+-- if the configuration has a pause between two requests
 abbrev pub LoopsComeToRest : Type 0
 LoopsComeToRest =
-    (transport : TransportType) (local remote : SocketAddr) (config : Config) (seed : List ℕ) (calls : List Call)
-    (came : Option (Transmit (Vec ℕ Global))) (now : ℕ)
+    (transport : TransportType) (local remote : SocketAddr) (config : Config) (seed : List ℕ) (calls : List Call) (now : ℕ)
     → 0 < config.request_cadence → now ≤ 2 ^ 62
-    → ComesToRest came now (state_after_all (initial transport local remote config seed) calls)
+    → LeavesNoWork (state_after_all (initial transport local remote config seed) calls) now
