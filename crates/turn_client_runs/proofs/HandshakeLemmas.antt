@@ -4,7 +4,7 @@ use Rattle.std.proofs.Common.{subst, ◌∙◌, arith}
 use Rattle.std.specs.Prelude.{IfSome, IsSome, filter, if◌then◌else◌, nat_le, slice_get}
 use Rattle.std.specs.List.{list_any}
 use Rattle.std.specs.Option.{option_map_or}
-use Rattle.std.proofs.lemmas.Bool.{and_parts, cases_Bool, eq-eqb, eqb-true, lt-ltb}
+use Rattle.std.proofs.lemmas.Bool.{and_parts, eq-eqb, eqb-true, lt-ltb}
 use Rattle.std.specs.declared.net.socket_addr.SocketAddr.{SocketAddr}
 use Rattle.turn_stun.specs.Message.{id_of}
 use Rattle.turn_stun.specs.declared.message.header.MessageClass.TheVariants.{Success}
@@ -34,8 +34,8 @@ use Rattle.turn_client_api.specs.Judgement.{Challenged, SignedSuccess, answers_o
 use Rattle.turn_client_api.specs.Effect.{allocate_granted, allocated, phase_with, relayed_in, taken_addresses, transaction_ended}
 use Rattle.turn_client_api.specs.Retry.{state_after_retry}
 use Rattle.turn_client_api.specs.Due.{has_event, has_reply, is_paused, keepalive_times}
-use Rattle.turn_client_api.specs.Payloads.{Outcome, Handled, challenge_step, message_step, signed_step}
-use Rattle.turn_client_api.specs.Transmit.{idle_step, keepalive_step, queue_step, refresh_step, reply_step, sent_at_once, transmit_step, without_first_reply}
+use Rattle.turn_client_api.specs.Payloads.{Outcome, Handled, message_step, signed_step}
+use Rattle.turn_client_api.specs.Transmit.{idle_step, keepalive_step, queue_step, reply_step, sent_at_once, transmit_step, without_first_reply}
 use Rattle.turn_client_api.specs.Poll.{answer_by, answer_step, lapsed, next_offer, offer_step, poll_step, timed_out_step, timed_step}
 use Rattle.turn_client_api.specs.Steps.{packet_step, state_after, state_after_all}
 use Rattle.turn_client_api.specs.declared.call.Call.{Call}
@@ -60,12 +60,11 @@ use Rattle.turn_client_laws.proofs.InAllocation.{GrantsHaveAllocations-AllHaveAl
 use Rattle.turn_client_laws.proofs.DistinctGrants.{initial-single, leaves-single}
 use Rattle.turn_client_runs.proofs.HoldLemmas.{kept-behind}
 use Rattle.turn_client_runs.specs.Lasting.{HasRoom, IsInForce, IsSteady, IsWithin, ahead_of, expiry_of}
-use Rattle.std.proofs.lemmas.Bool.{lt-leb}
 use Rattle.turn_client_runs.specs.OnTime.{IsInTime, time_of, time_of_all}
 use Rattle.turn_client_runs.specs.Handshake.{HandshakeEndsSteadily, HandshakeSucceeds, IsAllocating, IsFirstChallenge, IsStep, RunsHandshake}
 use Rattle.turn_client_runs.proofs.LastingSends.{none-due, none-over, transmits}
 use Rattle.turn_client_runs.proofs.LastingRuns.{arrives}
-use Rattle.turn_client_runs.proofs.SilenceLemmas.{IsUnsent, no-event, polls, unsent-polls, unsent-transmits, unsent-waits}
+use Rattle.turn_client_runs.proofs.SilenceLemmas.{IsUnsent, no-event, unsent-transmits, unsent-waits}
 
 -- the allocation that a grant is
 abbrev allocation_at : Grant → Relay
@@ -94,7 +93,8 @@ pub record IsAsked (delay now until : ℕ) (s : State) (x : Transaction) : Type 
 
 pub data IsStage (delay start now : ℕ) (s : State) : Type 0 where
   new : IsPlain delay now s → IsUnsent start now s → s.listed ≡ [] → s.challenges ≡ 0 → IsStage delay start now s
-  first : IsPlain delay now s → (x : Transaction) → IsAsked delay now start s x → s.phase ≡ Requesting → s.queue ≡ [] → purposes_of x.id s ≡ ForAllocation ∷ [] → s.challenges ≡ 0 → IsStage delay start now s
+  first : IsPlain delay now s → (x : Transaction) → IsAsked delay now start s x → s.phase ≡ Requesting → s.queue ≡ [] → purposes_of x.id s ≡ ForAllocation ∷ [] → s.challenges ≡ 0
+      → IsStage delay start now s
   second : IsPlain delay now s → (x : Transaction) → IsAsked delay now (start + delay) s x → s.phase ≡ Authenticating → IsStage delay start now s
   done : s.phase ≡ Allocated → IsStage delay start now s
 
@@ -109,10 +109,12 @@ module _ (delay now until : ℕ) (s : State) (x : Transaction) (p : IsPlain dela
       by (inr none) = absurd none
 
   pub no-due : due (agent_of s) now ≡ None
-  no-due = none-due delay now s p.prompt range (λ y h. ap (λ (z : Transaction). z.resends) (is-it y h) ∙ a.young) (λ y h. let e = ap (λ (z : Transaction). z.last_send) (is-it y h) in let w = a.heard in omega (arith, e, w))
+  no-due = none-due delay now s p.prompt range (λ y h. ap (λ (z : Transaction). z.resends) (is-it y h) ∙ a.young)
+      (λ y h. let e = ap (λ (z : Transaction). z.last_send) (is-it y h) in let w = a.heard in omega (arith, e, w))
 
   pub no-over : timed_out_transaction (agent_of s) now ≡ None
-  no-over = none-over delay now s p.prompt range (λ y h. ap (λ (z : Transaction). z.resends) (is-it y h) ∙ a.young) (λ y h. let e = ap (λ (z : Transaction). z.last_send) (is-it y h) in let w = a.heard in omega (arith, e, w))
+  no-over = none-over delay now s p.prompt range (λ y h. ap (λ (z : Transaction). z.resends) (is-it y h) ∙ a.young)
+      (λ y h. let e = ap (λ (z : Transaction). z.last_send) (is-it y h) in let w = a.heard in omega (arith, e, w))
 
 -- ---- a poll changes nothing
 
@@ -157,7 +159,8 @@ reply-same : (s : State) → has_reply s ≡ false → (reply_step s).1 ≡ s
 reply-same s none = ap (λ (q : List Queued). record s { queue = q }) (no-reply_kept s.queue none)
 
 -- while the first request awaits its reply, nothing more is sent
-first-transmit : (delay now until : ℕ) (s : State) (x : Transaction) → IsPlain delay now s → IsAsked delay now until s x → now ≤ 2 ^ 62 → s.phase ≡ Requesting → s.queue ≡ [] → (transmit_step now s).1 ≡ s
+first-transmit : (delay now until : ℕ) (s : State) (x : Transaction) → IsPlain delay now s → IsAsked delay now until s x → now ≤ 2 ^ 62 → s.phase ≡ Requesting → s.queue ≡ []
+    → (transmit_step now s).1 ≡ s
 first-transmit delay now until s x p a range e q = rw (transmits now s (no-due delay now until s x p a range)) (by (is_paused now s))
   where
     idle : (f : Phase) (qs : List Queued) → f ≡ Requesting → qs ≡ []
@@ -169,7 +172,8 @@ first-transmit delay now until s x p a range e q = rw (transmits now s (no-due d
     by false = idle s.phase s.queue e q
 
 -- the second request is sent, and nothing more
-second-transmit : (delay start now : ℕ) (s : State) (x : Transaction) → IsPlain delay now s → IsAsked delay now (start + delay) s x → now ≤ 2 ^ 62 → s.phase ≡ Authenticating → IsStage delay start now (transmit_step now s).1
+second-transmit : (delay start now : ℕ) (s : State) (x : Transaction) → IsPlain delay now s → IsAsked delay now (start + delay) s x → now ≤ 2 ^ 62 → s.phase ≡ Authenticating
+    → IsStage delay start now (transmit_step now s).1
 second-transmit delay start now s x p a range e = rw (transmits now s (no-due delay now (start + delay) s x p a range)) (by (is_paused now s))
   where
     Next : State → Type 0
@@ -180,7 +184,16 @@ second-transmit delay start now s x p a range e = rw (transmits now s (no-due de
 
     left : Next (record s { queue = drop 1 s.queue; last_send = Some now })
     left = second
-        (record { over_udp = p.over_udp; prompt = p.prompt; answers = p.answers; closes = p.closes; events = p.events; no_reply = no-reply_left s.queue p.no_reply; sent_before = omega arith; allocates = p.allocates })
+        (record {
+          over_udp = p.over_udp;
+          prompt = p.prompt;
+          answers = p.answers;
+          closes = p.closes;
+          events = p.events;
+          no_reply = no-reply_left s.queue p.no_reply;
+          sent_before = omega arith;
+          allocates = p.allocates;
+        })
         x (record { only = a.only; young = a.young; sent = a.sent; heard = a.heard }) e
 
     idle : (f : Phase) → f ≡ Authenticating → Next (idle_step f now s).1
@@ -231,14 +244,16 @@ first-judged message s c e a f = rw (e, a, f) refl
 -- the only request is answered
 answers-it : (message : List ℕ) (s : State) (x : Transaction) → s.transactions ≡ x ∷ [] → answers_one s message ≡ true → x.id ≡ id_of message
 answers-it message s x only a =
-    let o : is_outstanding (id_of message) (x ∷ []) ≡ true = subst (λ (xs : List Transaction). is_outstanding (id_of message) xs ≡ true) only (and_parts (is_response (class_in message)) (is_outstanding (id_of message) s.transactions) a).1 in
+    let o : is_outstanding (id_of message) (x ∷ []) ≡ true = subst (λ (xs : List Transaction). is_outstanding (id_of message) xs ≡ true) only
+    (and_parts (is_response (class_in message)) (is_outstanding (id_of message) s.transactions) a).1 in
     eqb-true x.id (id_of message) (or-none (eqb x.id (id_of message)) o)
   where
     or-none : (b : Bool) → (b || false) ≡ true → b ≡ true
     or-none true e = refl
     or-none false e = e
 
-challenged : (message : List ℕ) (now : ℕ) (s : State) (c : Challenge) → 1 ≤ s.config.max_stale_nonces → s.challenges ≡ 0 → purposes_of (id_of message) s ≡ ForAllocation ∷ [] → judgement_of s message ≡ Challenged c
+challenged : (message : List ℕ) (now : ℕ) (s : State) (c : Challenge) → 1 ≤ s.config.max_stale_nonces → s.challenges ≡ 0 → purposes_of (id_of message) s ≡ ForAllocation ∷ []
+    → judgement_of s message ≡ Challenged c
     → (message_step message now s).1 ≡ state_after_retry s (id_of message) ForAllocation c now
 challenged message now s c some zero purposes judged = rw judged (step (purposes_of (id_of message) s) purposes)
   where
@@ -254,7 +269,8 @@ one-purpose : (r : Purpose) → Has r (ForAllocation ∷ []) → is_for_allocati
 one-purpose r (inl e) = rw e refl
 one-purpose r (inr none) = absurd none
 
-first-answered : (delay start now : ℕ) (packet : Transmit (List ℕ)) (s : State) (x : Transaction) → IsPlain delay now s → IsAsked delay now start s x → s.queue ≡ [] → purposes_of x.id s ≡ ForAllocation ∷ []
+first-answered : (delay start now : ℕ) (packet : Transmit (List ℕ)) (s : State) (x : Transaction) → IsPlain delay now s → IsAsked delay now start s x → s.queue ≡ []
+    → purposes_of x.id s ≡ ForAllocation ∷ []
     → s.challenges ≡ 0 → IsFirstChallenge packet s → IsStage delay start now (packet_step packet now s).1
 first-answered delay start now packet s x p a q purposes zero is =
     let (c, e) = challenge-some (challenge_in s packet.payload) is.challenge in
@@ -291,7 +307,8 @@ first-answered delay start now packet s x p a q purposes zero is =
 none-challenged : (message : List ℕ) (s : State) → class_in message ≡ Success → challenge_in s message ≡ None
 none-challenged message s e = elim (cases_Option (challenge_in s message)) [
   | inl none ↦ none
-  | inr (c, f) ↦ let is = (challenge_of-sound (auth_of s) message c f).error in absurd (let no : Success ≡ Rattle.turn_stun.specs.declared.message.header.MessageClass.TheVariants.Error = sym e ∙ is in cc)
+  | inr (c, f) ↦ let is = (challenge_of-sound (auth_of s) message c f).error in absurd
+      (let no : Success ≡ Rattle.turn_stun.specs.declared.message.header.MessageClass.TheVariants.Error = sym e ∙ is in cc)
 ]
 
 pub second-judged : (message : List ℕ) (s : State) → s.phase ≡ Authenticating → answers_allocate s message ≡ true → class_in message ≡ Success → IsValidated (validation_of (auth_of s) message)
@@ -349,7 +366,11 @@ sent-allocated now s e = again (due (agent_of s) now)
     wait true = e
     wait false = front (slice_get s.queue 0)
 
-    again : (o : Option Transaction) → Is (option_map_or (λ t. (Some (record (Rattle.turn_client_api.specs.Requests.to_server s s.local t.request) { to = t.to }), Rattle.turn_client_api.specs.Transmit.sent now (record s { transactions = Rattle.turn_agent.specs.Agent.resent t.id now s.transactions }))) o
+    again : (o : Option Transaction) → Is (option_map_or (λ t. (
+      Some (record (Rattle.turn_client_api.specs.Requests.to_server s s.local t.request)
+          { to = t.to }),
+      Rattle.turn_client_api.specs.Transmit.sent now (record s { transactions = Rattle.turn_agent.specs.Agent.resent t.id now s.transactions }),
+    )) o
         (if is_paused now s then reply_step s else queue_step now s))
     again None = wait (is_paused now s)
     again (Some t) = e
@@ -374,7 +395,8 @@ polled-allocated now s e = event (has_event s || has_reply s)
     offers None = times (timed_out_transaction (agent_of s) now)
     offers (Some offer) = e
 
-    event : (b : Bool) → Is (if b then (Rattle.turn_client_api.specs.declared.poll.TurnPollRet.TheVariants.WaitUntil now, s) else option_map_or (λ offer. offer_step offer s) (next_offer s) (timed_out_step now s))
+    event : (b : Bool) → Is (if b then (Rattle.turn_client_api.specs.declared.poll.TurnPollRet.TheVariants.WaitUntil now, s) else option_map_or (λ offer. offer_step offer s) (next_offer s)
+        (timed_out_step now s))
     event true = e
     event false = offers (next_offer s)
 
@@ -403,13 +425,26 @@ passes : (delay start before now : ℕ) (s : State) → IsStage delay start befo
 passes delay start before now s (new p u none zero) t = new (plain-later delay before now s p t.on_time.later) (unsent-waits start before now s u t.on_time) none zero
 passes delay start before now s (first p x a e q ps zero) t =
     first (plain-later delay before now s p t.on_time.later) x
-    (record { only = a.only; young = a.young; sent = a.sent; heard = has-all (λ (y : Transaction). now ≤ y.last_send + delay) x s.transactions t.answered (subst (λ (xs : List Transaction). Has x xs) (sym a.only) (inl refl)) }) e q ps zero
+    (record {
+      only = a.only;
+      young = a.young;
+      sent = a.sent;
+      heard = has-all (λ (y : Transaction). now ≤ y.last_send + delay) x s.transactions t.answered
+          (subst (λ (xs : List Transaction). Has x xs) (sym a.only) (inl refl));
+    }) e q ps zero
 passes delay start before now s (second p x a e) t =
     second (plain-later delay before now s p t.on_time.later) x
-    (record { only = a.only; young = a.young; sent = a.sent; heard = has-all (λ (y : Transaction). now ≤ y.last_send + delay) x s.transactions t.answered (subst (λ (xs : List Transaction). Has x xs) (sym a.only) (inl refl)) }) e
+    (record {
+      only = a.only;
+      young = a.young;
+      sent = a.sent;
+      heard = has-all (λ (y : Transaction). now ≤ y.last_send + delay) x s.transactions t.answered
+          (subst (λ (xs : List Transaction). Has x xs) (sym a.only) (inl refl));
+    }) e
 passes delay start before now s (done e) t = done e
 
-steps-on : (delay start before : ℕ) (s : State) (call : Call) → IsStage delay start before s → IsInTime delay before (time_of before call) s → IsStep call s → IsStage delay start (time_of before call) (state_after call s)
+steps-on : (delay start before : ℕ) (s : State) (call : Call) → IsStage delay start before s → IsInTime delay before (time_of before call) s → IsStep call s
+    → IsStage delay start (time_of before call) (state_after call s)
 steps-on delay start before s call stage t step = by call (passes delay start before (time_of before call) s stage t) t.on_time.in_range step
   where
     by : (c : Call) → IsStage delay start (time_of before c) s → time_of before c ≤ 2 ^ 62 → IsStep c s → IsStage delay start (time_of before c) (state_after c s)
@@ -436,7 +471,8 @@ steps-on delay start before s call stage t step = by call (passes delay start be
     by (Recv packet now) (done e) r (inr (inl is)) = absurd (let no : Allocated ≡ Authenticating = sym e ∙ is.phase in cc)
     by c stage r same = subst (IsStage delay start (time_of before c)) (sym same) stage
 
-all-on : (delay start before : ℕ) (s : State) (calls : List Call) → IsStage delay start before s → RunsHandshake delay before s calls → IsStage delay start (time_of_all before calls) (state_after_all s calls)
+all-on : (delay start before : ℕ) (s : State) (calls : List Call) → IsStage delay start before s → RunsHandshake delay before s calls
+    → IsStage delay start (time_of_all before calls) (state_after_all s calls)
 all-on delay start before s [] stage run = stage
 all-on delay start before s (call ∷ calls) stage (t, step, run) =
     all-on delay start (time_of before call) (state_after call s) calls (steps-on delay start before s call stage t step) run
@@ -469,7 +505,8 @@ fit-stays : (call : Call) (s t : State) → Leaves call s t → AreFit s → Are
 fit-stays call s t leaves (fits, distinct, housed) =
     (leaves-steadies call s t leaves fits, leaves-single call s t leaves fits distinct, leaves-GrantsHaveAllocations call s t leaves housed)
 
-steady-next : (count slots delay start now lifetime : ℕ) (packet : Transmit (List ℕ)) (s : State) → AreFit s → IsPlain delay now s → (x : Transaction) → IsAsked delay now (start + delay) s x → now ≤ 2 ^ 62
+steady-next : (count slots delay start now lifetime : ℕ) (packet : Transmit (List ℕ)) (s : State) → AreFit s → IsPlain delay now s → (x : Transaction) → IsAsked delay now (start + delay) s x
+    → now ≤ 2 ^ 62
     → IsAllocating packet s → s.queue ≡ [] → lifetime_in packet.payload ≡ Some lifetime → min_lifetime ≤ lifetime
     → HasRoom count slots s.config.request_cadence delay (min s.config.refresh_ahead (seconds 150))
     → IsWithin count slots (state_after (Recv packet now) s) → IsSteady count slots delay now (state_after (Recv packet now) s)
@@ -527,7 +564,13 @@ steady-next count slots delay start now lifetime packet s (fits, distinct, house
     lasts : now + 300_000_000_000 ≤ later_by (seconds lifetime) now
     lasts = omega (arith, range, enough)
 
-    made : (g : Grant) → Has g t.grants → (g ≡ Allocation (record { relayed = (allocation_at g).relayed; first_lifetime = seconds lifetime; expiry = later_by (seconds lifetime) now; is_expired = false })) × (now < later_by (seconds lifetime) now)
+    made : (g : Grant) → Has g t.grants → (g ≡ Allocation (record {
+      relayed = (allocation_at g).relayed;
+      first_lifetime = seconds lifetime;
+      expiry = later_by
+          (seconds lifetime) now;
+      is_expired = false;
+    })) × (now < later_by (seconds lifetime) now)
     made g h = (by g (has-mapped (new_allocation lifetime now) g addresses (subst (λ (gs : List Grant). Has g gs) (rw none refl) h)), omega (arith, lasts))
       where
         by : (g : Grant) → (address : SocketAddr) × Has address addresses × (g ≡ new_allocation lifetime now address)
@@ -538,7 +581,11 @@ pub run-steadily : HandshakeEndsSteadily
 run-steadily local remote config seed delay start now calls packet count slots lifetime some prompt run t is empty said enough room within =
     let s = initial Udp local remote config seed in
     let last = state_after_all s calls in
-    let fit = kept-behind AreFit fit-stays s calls (initial-steady Udp local remote config seed, initial-single Udp local remote config seed, initial-GrantsHaveAllocations Udp local remote config seed) in
+    let fit = kept-behind AreFit fit-stays s calls (
+      initial-steady Udp local remote config seed,
+      initial-single Udp local remote config seed,
+      initial-GrantsHaveAllocations Udp local remote config seed,
+    ) in
     by (passes delay start (time_of_all start calls) now last (all-on delay start start s calls (begins local remote config seed delay start some prompt) run) t) fit
   where
     last : State

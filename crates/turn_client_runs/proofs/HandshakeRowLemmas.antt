@@ -113,16 +113,16 @@ module _ (id : ℕ) (i : id < 2 ^ 96) where
 -- ---- the success to an ALLOCATE
 
 module _ (id : ℕ) (i : id < 2 ^ 96) (s : State) (holds : s.held ≡ Some held) where
-  abbrev start : List ℕ
+  abbrev pub start : List ℕ
   start = header_of 0x0103 id
 
-  abbrev with_address : List ℕ
+  abbrev pub with_address : List ℕ
   with_address = with_attribute 0x0016 (xor_value relayed_v4 id) start
 
-  abbrev base : List ℕ
+  abbrev pub base : List ℕ
   base = with_attribute 0x000d (number_value 600) with_address
 
-  abbrev key : List ℕ
+  abbrev pub key : List ℕ
   key = held_key s.config.credentials held
 
   start-written : IsWritten start
@@ -158,7 +158,7 @@ module _ (id : ℕ) (i : id < 2 ^ 96) (s : State) (holds : s.held ≡ Some held)
   base-type : type_of base ≡ 0x0103
   base-type = base-added.type ∙ address-added.type ∙ (header_of-IsMessage 0x0103 id (omega arith) i).has_type
 
-  abbrev success-text : List ℕ
+  abbrev pub success-text : List ℕ
   success-text = with_integrity Sha1 key base
 
   success-is : allocated_text s id ≡ success-text
@@ -201,10 +201,10 @@ small taken id n only = elim (cases_Bool (taken ((n + 0) % 2 ^ 96))) [
 -- ---- the states
 
 module _ (local remote : SocketAddr) (config : Config) (seed : List ℕ) where
-  abbrev h0 : State
+  abbrev pub h0 : State
   h0 = new_client local remote config seed
 
-  abbrev requested : ℕ → List ℕ → State
+  abbrev pub requested : ℕ → List ℕ → State
   requested id text = record h0 {
     phase = Requesting;
     ids = behind_id h0.ids;
@@ -214,7 +214,7 @@ module _ (local remote : SocketAddr) (config : Config) (seed : List ℕ) where
   }
 
   -- the challenge was taken, and the second request is queued
-  abbrev challenged : ℕ → ℕ → List ℕ → State
+  abbrev pub challenged : ℕ → ℕ → List ℕ → State
   challenged id other text = record h0 {
     phase = Authenticating;
     ids = behind_id (behind_id h0.ids);
@@ -226,10 +226,10 @@ module _ (local remote : SocketAddr) (config : Config) (seed : List ℕ) where
     last_send = Some 0;
   }
 
-  abbrev asked : ℕ → ℕ → List ℕ → State
+  abbrev pub asked : ℕ → ℕ → List ℕ → State
   asked id other text = record (challenged id other text) { queue = []; last_send = Some 100_000_000 }
 
-  abbrev text-again : ℕ → List ℕ → List ℕ
+  abbrev pub text-again : ℕ → List ℕ → List ℕ
   text-again id text =
       request_for (record (requested id text) { transactions = []; phase = Authenticating; challenges = 1; held = Some held }) ForAllocation (fresh_id (requested id text))
 
@@ -272,25 +272,25 @@ module _ (local remote : SocketAddr) (config : Config) (seed : List ℕ) where
 
   -- ---- the run
 
-  abbrev id1 : ℕ
+  abbrev pub id1 : ℕ
   id1 = fresh_id h0
 
-  abbrev text1 : List ℕ
+  abbrev pub text1 : List ℕ
   text1 = first_allocate h0 id1
 
-  abbrev h1 : State
+  abbrev pub h1 : State
   h1 = requested id1 text1
 
-  abbrev id2 : ℕ
+  abbrev pub id2 : ℕ
   id2 = fresh_id h1
 
-  abbrev h2 : State
+  abbrev pub h2 : State
   h2 = challenged id1 id2 (text-again id1 text1)
 
-  abbrev h3 : State
+  abbrev pub h3 : State
   h3 = asked id1 id2 (text-again id1 text1)
 
-  abbrev challenge : Transmit (List ℕ)
+  abbrev pub challenge : Transmit (List ℕ)
   challenge = from_server h1 (challenge_text id1)
 
   sends : state_after (PollTransmit 0) h0 ≡ h1
@@ -308,7 +308,7 @@ module _ (local remote : SocketAddr) (config : Config) (seed : List ℕ) where
   arrives-first : IsFromServer challenge h1
   arrives-first = from-there h1 (challenge_text id1) refl (challenge-message id1 first-small)
 
-  reached : state_after (Recv challenge 100_000_000) h1 ≡ h2
+  pub reached : state_after (Recv challenge 100_000_000) h1 ≡ h2
   reached = ap (λ (z : Outcome × State). z.1) (arrives challenge 100_000_000 h1 refl arrives-first) ∙ answered (challenge_text id1) id1 text1 (challenge-id id1 first-small) first-judged
 
   is-challenge : IsFirstChallenge challenge h1
@@ -343,18 +343,18 @@ module _ (local remote : SocketAddr) (config : Config) (seed : List ℕ) where
     ),
   )
 
-  abbrev last : State
+  abbrev pub last : State
   last = state_after_all h0 (handshake_calls h0)
 
-  last-is : last ≡ h3
+  pub last-is : last ≡ h3
   last-is = ap (state_after (PollTransmit 100_000_000)) reached
 
   -- ---- the allocation
 
-  second : id2 < 2 ^ 96
+  pub second : id2 < 2 ^ 96
   second = second-small id1 text1
 
-  abbrev bytes : List ℕ
+  abbrev pub bytes : List ℕ
   bytes = success-text id2 second h3 refl
 
   purposes : answers_allocate h3 bytes ≡ true
@@ -387,7 +387,7 @@ module _ (local remote : SocketAddr) (config : Config) (seed : List ℕ) where
   next-queue : (state_after (Recv (from_server h3 bytes) 200_000_000) h3).queue ≡ []
   next-queue = ap (λ (x : State). x.queue) next-is ∙ rw (success-lifetime id2 second h3 refl) refl
 
-  packet-is : allocation_packet h3 ≡ from_server h3 bytes
+  pub packet-is : allocation_packet h3 ≡ from_server h3 bytes
   packet-is = ap (from_server h3) (success-is id2 second h3 refl)
 
   -- what is said of the last state
@@ -425,7 +425,7 @@ module _ (local remote : SocketAddr) (config : Config) (seed : List ℕ) where
     events = AllocationCreated Udp relayed_v4 ∷ [];
   }
 
-  done-after : state_after (Recv (from_server h3 bytes) 200_000_000) h3 ≡ done
+  pub done-after : state_after (Recv (from_server h3 bytes) 200_000_000) h3 ≡ done
   done-after = next-is ∙ rw (success-lifetime id2 second h3 refl, success-relayed id2 second h3 refl, success-id id2 second h3 refl, eqb-self id2) refl
 
   pub done-is : state_after (Recv (allocation_packet last) 200_000_000) last ≡ done
@@ -441,5 +441,6 @@ handshake-is-worked local remote config seed =
       allocates = allocates;
       granted = granted;
       steady = run-steadily local remote (h0 local remote config seed).config seed 100_000_000 0 200_000_000
-          (handshake_calls (h0 local remote config seed)) (allocation_packet (last local remote config seed)) 3 1 600 (omega arith) (omega arith) (runs local remote config seed) in_time allocates empty said (omega arith) (omega arith) within;
+          (handshake_calls (h0 local remote config seed)) (allocation_packet (last local remote config seed)) 3 1 600 (omega arith) (omega arith)
+          (runs local remote config seed) in_time allocates empty said (omega arith) (omega arith) within;
     }

@@ -196,7 +196,14 @@ module _ (count slots delay now : ℕ) (s : State) (k : IsKept count slots delay
       | inr new ↦ room-left (family_of_grant g) (are.house g new)
     ];
     each = λ g h. elim (has-append g s.grants news h) [
-      | inl old ↦ elim (k.each g old) [ inl (waits, pending) ↦ inl (waits, pending-more now s.transactions t.transactions s.listed t.listed g (λ x h. has-left x s.transactions _ h) (λ l h for. has-left l s.listed _ h) pending) | inr stands ↦ inr (stands-asked g old stands) ]
+      | inl old ↦ elim (k.each g old) [
+        | inl (waits, pending) ↦ inl (
+          waits,
+          pending-more now s.transactions t.transactions s.listed t.listed g (λ x h. has-left x s.transactions _ h)
+              (λ l h for. has-left l s.listed _ h) pending,
+        )
+        | inr stands ↦ inr (stands-asked g old stands)
+      ]
       | inr new ↦ inl (are.waits g new, new-pending g new)
     ];
   }
@@ -236,7 +243,8 @@ single-more gs p unique new for none-there single q other = by (is_for q new) re
 -- ---- the call
 
 -- what a look-up of an allocation finds has not expired
-found-early : (count slots delay now : ℕ) (s : State) → IsKept count slots delay now s.transactions s → (transport : TransportType) (ip : IpAddr) (a : Relay) → find_allocation_to transport ip s ≡ Some a → is_past now a ≡ false
+found-early : (count slots delay now : ℕ) (s : State) → IsKept count slots delay now s.transactions s → (transport : TransportType) (ip : IpAddr) (a : Relay)
+    → find_allocation_to transport ip s ≡ Some a → is_past now a ≡ false
 found-early count slots delay now s k transport ip a e = by (same_transport transport s.config.allocation_transport) e
   where
     by : (b : Bool) → cond b (find_allocation (family_of_ip ip) s) None ≡ Some a → is_past now a ≡ false
@@ -262,7 +270,8 @@ abbrev pub Asks : (State → Type 0) → ℕ → State → Type 0
 Asks P now s = (ps : List Purpose) (news : List Grant) (text : List ℕ) → AreNew s ps news → P (asks ps news now text s)
 
 -- one thing
-one-new : (s : State) (single : AreSingle s.grants) (p : Purpose) (unique : IsUnique p) (new : Grant) → is_for p new ≡ true → is_waiting new ≡ true → ((g : Grant) → Has g s.grants → is_for p g ≡ false)
+one-new : (s : State) (single : AreSingle s.grants) (p : Purpose) (unique : IsUnique p) (new : Grant) → is_for p new ≡ true → is_waiting new ≡ true
+    → ((g : Grant) → Has g s.grants → is_for p g ≡ false)
     → Room s.grants (family_of_grant new) → AreNew s (p ∷ []) (new ∷ [])
 one-new s single p unique new for waits none house = record {
   unique = λ q h. is-one q h;
@@ -383,7 +392,8 @@ module _ (P : State → Type 0) (count slots delay now : ℕ) (s : State) (k : I
       step_by [] f None e free room = rw e same
       step_by [] f (Some number) e free room = rw e (bound_made number free room)
 
-      step : (b : Bool) → Room s.grants (family_of peer) → Is (cond b (Err Bind.AlreadyExists, s) (bound_by peer now s (filter_map (reserved_from now) (channels_to peer s)) (is_allocated s.phase) (free_number s)))
+      step : (b : Bool) → Room s.grants (family_of peer) → Is (cond b (Err Bind.AlreadyExists, s)
+          (bound_by peer now s (filter_map (reserved_from now) (channels_to peer s)) (is_allocated s.phase) (free_number s)))
       step true room = same
       step false room = step_by (filter_map (reserved_from now) (channels_to peer s)) s.phase (free_number s) k.phase refl room
 

@@ -1,6 +1,6 @@
 -- What a success changes for one purpose of its request, while no grant is lost.
 use Rattle.std.proofs.Common.{◌≡◌, ◌⊎◌, ℕ, ◌+◌, ◌^◌, ◌≤◌, min, Bool, true, false, cond, not, ◌&&◌, eqb, List, [], ◌∷◌, ◌++◌, map, Option, Some, None, refl, inl, inr, ap, sym, subst, ◌∙◌, arith}
-use Rattle.std.specs.Prelude.{IsSomeAnd, filter, filter_map, slice_get, if◌then◌else◌}
+use Rattle.std.specs.Prelude.{IsSomeAnd, filter, filter_map, slice_get}
 use Rattle.std.specs.List.{list_any}
 use Rattle.std.specs.Option.{option_map_or}
 use Rattle.std.proofs.lemmas.Bool.{eq-eqb, le-leb, eqb-true, false_from_ne_true}
@@ -166,7 +166,8 @@ IsKnownPermission ip g z =
 progress-known : (ip : IpAddr) (g : Grant) (z : Progress) → (is_waiting g ≡ true) ⊎ IsGranted g → permission_progress ip g ≡ Some z → IsKnownPermission ip g z
 progress-known ip (Permission other progress) z h e = by (same_ip other ip) refl e
   where
-    kind : (x : Progress) → (is_waiting (Permission other x) ≡ true) ⊎ IsGranted (Permission other x) → progress ≡ x → progress ≡ z → same_ip other ip ≡ true → IsKnownPermission ip (Permission other progress) z
+    kind : (x : Progress) → (is_waiting (Permission other x) ≡ true) ⊎ IsGranted (Permission other x) → progress ≡ x → progress ≡ z → same_ip other ip ≡ true
+        → IsKnownPermission ip (Permission other progress) z
     kind (Active w) h f same b = inl (w, sym same ∙ f, rw f refl, b)
     kind (Pending true) h f same b = inr (sym same ∙ f, rw f refl, b)
     kind (Pending false) (inl waits) f same b = absurd (let never : false ≡ true = waits in cc)
@@ -263,7 +264,8 @@ IsKnownChannel number g z = ((w : Lease) × (z.1 ≡ Active w) × (is_channel_of
 channel-known : (number : ℕ) (g : Grant) (z : SocketAddr × Progress) → (is_waiting g ≡ true) ⊎ IsGranted g → channel_at number g ≡ Some z → IsKnownChannel number g z
 channel-known number (Channel other peer progress) z h e = by (eqb other number) refl e
   where
-    kind : (x : Progress) → (is_waiting (Channel other peer x) ≡ true) ⊎ IsGranted (Channel other peer x) → progress ≡ x → (peer, progress) ≡ z → other ≡ number → IsKnownChannel number (Channel other peer progress) z
+    kind : (x : Progress) → (is_waiting (Channel other peer x) ≡ true) ⊎ IsGranted (Channel other peer x) → progress ≡ x → (peer, progress) ≡ z → other ≡ number
+        → IsKnownChannel number (Channel other peer progress) z
     kind (Active w) h f same b = inl (w, ap (λ (y : SocketAddr × Progress). y.1) (sym same) ∙ f, eq-eqb other number b, rw f refl)
     kind (Pending true) h f same b =
         let one : z.1 ≡ Pending true = ap (λ (y : SocketAddr × Progress). y.1) (sym same) ∙ f in
@@ -346,7 +348,8 @@ channel-anew number peer to now v t range here events is = inr (record {
 })
 
 -- with one purpose, a channel is answered alone
-channel-does : (number : ℕ) (peer : SocketAddr) (id now : ℕ) (u : State) → now ≤ 2 ^ 62 → AllKnown u → purposes_of id u ≡ ForChannel number peer ∷ [] → (g : Grant) → Has g u.grants → is_channel_of number g ≡ true
+channel-does : (number : ℕ) (peer : SocketAddr) (id now : ℕ) (u : State) → now ≤ 2 ^ 62 → AllKnown u → purposes_of id u ≡ ForChannel number peer ∷ [] → (g : Grant) → Has g u.grants
+    → is_channel_of number g ≡ true
     → Does (ForChannel number peer) now u (channel_answered number id true now u)
 channel-does number peer id now u range all one g there is = elim (channel-state number u all g there is) [
   | inl (to, w, e, (x, here, of, granted)) ↦ rw e (inl (
@@ -363,7 +366,8 @@ channel-does number peer id now u range all one g there is = elim (channel-state
 -- a channel that waits stays when a permission is answered
 channel-stays : (ip : IpAddr) (now : ℕ) (u v : State) → Does (ForPermission ip) now u v → (g : Grant) → Has g u.grants → is_permission_of ip g ≡ false → Has g v.grants
 channel-stays ip now u v (inl (expiry, challenges, late, is, alone)) g there other =
-    subst (λ (x : State). Has g x.grants) (sym is) (subst (λ (h : Grant). Has h (map (renews (ForPermission ip) expiry) u.grants)) (rw other refl) (map-has (renews (ForPermission ip) expiry) g u.grants there))
+    subst (λ (x : State). Has g x.grants) (sym is) (subst (λ (h : Grant). Has h (map (renews (ForPermission ip) expiry) u.grants)) (rw other refl)
+    (map-has (renews (ForPermission ip) expiry) g u.grants there))
 channel-stays ip now u v (inr a) g there other = subst (λ (x : State). Has g x.grants) (sym a.is)
     (has-left g (filter (λ g. not (is_permission_of ip g)) u.grants) (a.new ∷ []) (filter-has (λ (g : Grant). not (is_permission_of ip g)) g u.grants there (rw other refl)))
 
@@ -394,13 +398,15 @@ channel-brings number peer ip id now u range all two g there is to e here =
 pub effect-does : (message : List ℕ) (id now : ℕ) (u : State) (p : Purpose) → now ≤ 2 ^ 62 → AllKnown u → IsRefreshing p → Grants message p → purposes_of id u ≡ p ∷ []
     → (g : Grant) → Has g u.grants → is_for p g ≡ true → Does p now u (effect id true message now u p)
 effect-does message id now u (ForRefresh family lifetime) range all asked grants one g there is = inl (refresh-renews family lifetime message now u range asked grants.1)
-effect-does message id now u (ForPermission ip) range all asked grants one g there is = does-reset (ForPermission ip) now u (permission_answered ip true now u) (permission-does ip now u range all g there is)
+effect-does message id now u (ForPermission ip) range all asked grants one g there is = does-reset (ForPermission ip) now u (permission_answered ip true now u)
+    (permission-does ip now u range all g there is)
 effect-does message id now u (ForChannel number peer) range all asked grants one g there is =
     does-reset (ForChannel number peer) now u (channel_answered number id true now u) (channel-does number peer id now u range all one g there is)
 effect-does message id now u p range all asked grants one g there is = absurd asked
 
 -- of a channel that waits, and brings a permission
-pub effect-brings : (message : List ℕ) (number : ℕ) (peer : SocketAddr) (ip : IpAddr) (id now : ℕ) (u : State) → now ≤ 2 ^ 62 → AllKnown u → purposes_of id u ≡ ForChannel number peer ∷ ForPermission ip ∷ []
+pub effect-brings : (message : List ℕ) (number : ℕ) (peer : SocketAddr) (ip : IpAddr) (id now : ℕ) (u : State) → now ≤ 2 ^ 62 → AllKnown u
+    → purposes_of id u ≡ ForChannel number peer ∷ ForPermission ip ∷ []
     → (g : Grant) → Has g u.grants → is_permission_of ip g ≡ true → (h : Grant) → Has h u.grants → is_channel_of number h ≡ true → is_waiting h ≡ true → passes (is_channel_of number) u.grants ≤ 1
     → DoesBoth (ForChannel number peer) (ForPermission ip) now u (effect id true message now u (ForChannel number peer))
 effect-brings message number peer ip id now u range all two g there is h here for waits single = elim (channel-state number u all h here for) [

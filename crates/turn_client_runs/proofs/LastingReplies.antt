@@ -394,7 +394,8 @@ module _ (count slots delay now : ℕ) (transactions : List Transaction) (u : St
 
 -- ---- what waited
 
-module _ (count slots delay now : ℕ) (transactions : List Transaction) (u : State) (k : IsKept count slots delay now transactions u) (p : Purpose) (made : State) (anew : IsGrantedAnew p now u made) where
+module _ (count slots delay now : ℕ) (transactions : List Transaction) (u : State) (k : IsKept count slots delay now transactions u) (p : Purpose) (made : State)
+    (anew : IsGrantedAnew p now u made) where
   abbrev new : Grant
   new = anew.new
 
@@ -545,10 +546,12 @@ one-listed p u l h (g, there, for) e =
     let no : false ≡ true = sym (not-true (is_shared p u.grants l) keeps) ∙ some in
     cc
 
-pub all-known : (count slots delay now : ℕ) (transactions : List Transaction) (u : State) → IsKept count slots delay now transactions u → (g : Grant) → Has g u.grants → (is_waiting g ≡ true) ⊎ IsGranted g
+pub all-known : (count slots delay now : ℕ) (transactions : List Transaction) (u : State) → IsKept count slots delay now transactions u → (g : Grant) → Has g u.grants
+    → (is_waiting g ≡ true) ⊎ IsGranted g
 all-known count slots delay now transactions u k g there = elim (k.each g there) [ inl (waits, pending) ↦ inl waits | inr stands ↦ inr stands.granted ]
 
-module _ (count slots delay now : ℕ) (transactions : List Transaction) (u : State) (k : IsKept count slots delay now transactions u) (p : Purpose) (refreshing : IsRefreshing p) (g : Grant) (there : Has g u.grants)
+module _ (count slots delay now : ℕ) (transactions : List Transaction) (u : State) (k : IsKept count slots delay now transactions u) (p : Purpose) (refreshing : IsRefreshing p) (g : Grant)
+    (there : Has g u.grants)
     (for : is_for p g ≡ true) where
   left-listed : (l : Listing) → Has l (left p u) → Has l u.listed × (Has l.purpose (p ∷ []) → ⊥)
   left-listed l h = (
@@ -609,7 +612,8 @@ all-answered message id count slots delay now transactions u k given answers = b
     one : (p : Purpose) → purposes_of id u ≡ p ∷ [] → IsGiven u.grants p → Grants message p → Done (p ∷ [])
     one p e (refreshing, (g, there, for)) grants =
         rw (of_method (method_in message) p refreshing grants.0)
-        (one-answered count slots delay now transactions u k p refreshing g there for (effect id true message now u p) (effect-does message id now u p k.in_range known refreshing grants e g there for))
+        (one-answered count slots delay now transactions u k p refreshing g there for (effect id true message now u p)
+        (effect-does message id now u p k.in_range known refreshing grants e g there for))
 
     two : (p q : Purpose) → purposes_of id u ≡ p ∷ q ∷ [] → Brings u.grants p q → IsGiven u.grants p → IsGiven u.grants q → Grants message p → Done (p ∷ q ∷ [])
     two (ForChannel number peer) (ForPermission ip) e (h, here, waits, is) gp (refreshing, (g, there, for)) grants =

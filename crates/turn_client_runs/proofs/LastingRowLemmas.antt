@@ -76,7 +76,7 @@ at-once now s range = record { later = omega arith; in_range = range; punctual =
 
 -- ---- one request, its reply and the events
 
-abbrev delay : ℕ
+abbrev pub delay : ℕ
 delay = 100_000_000
 
 -- the rest of the run is steady, and ends with these grants
@@ -105,7 +105,7 @@ pub record IsRound (before now id : ℕ) (purpose : Purpose) (others : List Purp
   within_v : IsWithin 3 1 v
 
 module _ (before now id last : ℕ) (later : List ℕ) (purpose : Purpose) (others : List Purpose) (text : List ℕ) (s u r v : State) (is : IsRound before now id purpose others text s u r v) where
-  abbrev reply : Call
+  abbrev pub reply : Call
   reply = Recv (from_server u (success_for u purpose id)) (now + delay)
 
   reply-is : granted_call (now + delay) u ≡ reply
@@ -114,7 +114,7 @@ module _ (before now id last : ℕ) (later : List ℕ) (purpose : Purpose) (othe
   success : IsSuccess (from_server u (success_for u purpose id)) (now + delay) u
   success = requests-can-be-granted (now + delay) id purpose others u is.over_udp is.held is.small (rw (is.transactions, eqb-self id) refl) is.purposes
 
-  after-reply : state_after reply u ≡ r
+  pub after-reply : state_after reply u ≡ r
   after-reply = received (from_server u (success_for u purpose id)) (now + delay) u is.phase success ∙ is.replied (success_for u purpose id) (success-read purpose id u is.small is.held)
 
   waits-u : All (λ x. now + delay ≤ x.last_send + delay) u.transactions
@@ -164,7 +164,7 @@ module _ (before now id last : ℕ) (later : List ℕ) (purpose : Purpose) (othe
 -- ---- the states of the run
 
 -- with all three, which expire then; the last packet was sent at this time
-abbrev with_three : ℕ → ℕ → ℕ → ℕ → Source → State → State
+abbrev pub with_three : ℕ → ℕ → ℕ → ℕ → Source → State → State
 with_three time allocation permission channel ids s = granted_at time (
     Allocation (record { relayed = relayed_v4; first_lifetime = seconds 600; expiry = allocation; is_expired = false })
     ∷ Permission ip_of_peer (granted_until permission true)
@@ -245,28 +245,28 @@ module _ (before now time a p c a' p' c' : ℕ) (ids : Source) (purpose : Purpos
 -- ---- the rounds
 
 module _ (s : State) (some : IsSome s.held) where
-  abbrev s0 : State
+  abbrev pub s0 : State
   s0 = with_allocation s
 
-  abbrev bound : State
+  abbrev pub bound : State
   bound = state_after (BindChannel Udp peer 1_000_000_000) s0
 
   abbrev ids1 : Source
   ids1 = behind_id s.ids
 
-  abbrev s1 : State
+  abbrev pub s1 : State
   s1 = with_three 1_000_000_000 600_200_000_000 301_100_000_000 601_100_000_000 ids1 s
 
-  abbrev s2 : State
+  abbrev pub s2 : State
   s2 = with_three 241_100_000_000 600_200_000_000 541_200_000_000 601_100_000_000 (behind_id ids1) s
 
-  abbrev s3 : State
+  abbrev pub s3 : State
   s3 = with_three 481_200_000_000 600_200_000_000 781_300_000_000 601_100_000_000 (behind_id (behind_id ids1)) s
 
-  abbrev s4 : State
+  abbrev pub s4 : State
   s4 = with_three 540_200_000_000 1_140_300_000_000 781_300_000_000 601_100_000_000 (behind_id (behind_id (behind_id ids1))) s
 
-  abbrev s5 : State
+  abbrev pub s5 : State
   s5 = with_three 541_100_000_000 1_140_300_000_000 781_300_000_000 1_141_200_000_000 (behind_id (behind_id (behind_id (behind_id ids1)))) s
 
   told-1 : poll_step 1_100_000_000 s1 ≡ (WaitUntil 241_100_000_000, s1)
@@ -299,16 +299,16 @@ module _ (s : State) (some : IsSome s.held) where
 
   -- ---- the channel is bound
 
-  abbrev id1 : ℕ
+  abbrev pub id1 : ℕ
   id1 = fresh_id s0
 
   abbrev pending : List Grant
   pending = new_allocation 600 200_000_000 relayed_v4 ∷ Channel 0x4000 peer (Pending true) ∷ Permission ip_of_peer (Pending true) ∷ []
 
-  abbrev text1 : List ℕ
+  abbrev pub text1 : List ℕ
   text1 = request_for (granted_at 100_000_000 pending s) (ForChannel 0x4000 peer) id1
 
-  abbrev queued_bind : State
+  abbrev pub queued_bind : State
   queued_bind = record (granted_at 100_000_000 pending s) {
     ids = ids1;
     transactions = first_sent id1 s.remote 1_000_000_000 text1 ∷ [];
@@ -316,13 +316,13 @@ module _ (s : State) (some : IsSome s.held) where
     queue = record { packet = to_server s0 s.local text1; is_request = true } ∷ [];
   }
 
-  abbrev sent_bind : State
+  abbrev pub sent_bind : State
   sent_bind = record queued_bind { queue = []; last_send = Some 1_000_000_000 }
 
-  abbrev granted_bind : State
+  abbrev pub granted_bind : State
   granted_bind = record s1 { events = PermissionCreated Udp ip_of_peer ∷ ChannelCreated Udp peer ∷ [] }
 
-  binds : bound ≡ queued_bind
+  pub binds : bound ≡ queued_bind
   unfolding channel_numbers
   binds = refl
 
@@ -346,10 +346,10 @@ module _ (s : State) (some : IsSome s.held) where
     listed = listings id (ForChannel 0x4000 peer ∷ ForPermission ip_of_peer ∷ []);
   }
 
-  replied-1 : (id : ℕ) (text message : List ℕ) → IsReplyFor (ForChannel 0x4000 peer) id message → (response_step true message 1_100_000_000 (bind_sent id text)).1 ≡ granted_bind
+  pub replied-1 : (id : ℕ) (text message : List ℕ) → IsReplyFor (ForChannel 0x4000 peer) id message → (response_step true message 1_100_000_000 (bind_sent id text)).1 ≡ granted_bind
   replied-1 id text message is = rw (is.named, is.of_method, eqb-self id, eqb-self id) refl
 
-  round-1 : IsRound 1_000_000_000 1_000_000_000 id1 (ForChannel 0x4000 peer) (ForPermission ip_of_peer ∷ []) text1 queued_bind sent_bind granted_bind s1
+  pub round-1 : IsRound 1_000_000_000 1_000_000_000 id1 (ForChannel 0x4000 peer) (ForPermission ip_of_peer ∷ []) text1 queued_bind sent_bind granted_bind s1
   round-1 = record {
     on_time = at-once 1_000_000_000 queued_bind (omega arith);
     waits = all-one (λ (x : Transaction). 1_000_000_000 ≤ x.last_send + delay) (first_sent id1 s.remote 1_000_000_000 text1) (omega arith);
@@ -393,16 +393,16 @@ module _ (s : State) (some : IsSome s.held) where
   punctual-6 = three-on-time 541_200_000_000 721_300_000_000 700_000_000_000 541_100_000_000 1_140_300_000_000 781_300_000_000 1_141_200_000_000
       (behind_id (behind_id (behind_id (behind_id ids1)))) s told-5 (omega arith) (omega arith) (omega arith) (omega arith)
 
-  abbrev asked-2 : State
+  abbrev pub asked-2 : State
   asked-2 = requesting 241_100_000_000 (fresh_id s1) (ForPermission ip_of_peer) (request_for s1 (ForPermission ip_of_peer) (fresh_id s1)) s1
 
-  abbrev asked-3 : State
+  abbrev pub asked-3 : State
   asked-3 = requesting 481_200_000_000 (fresh_id s2) (ForPermission ip_of_peer) (request_for s2 (ForPermission ip_of_peer) (fresh_id s2)) s2
 
-  abbrev asked-4 : State
+  abbrev pub asked-4 : State
   asked-4 = requesting 540_200_000_000 (fresh_id s3) (ForRefresh IPV4 asked_lifetime) (request_for s3 (ForRefresh IPV4 asked_lifetime) (fresh_id s3)) s3
 
-  abbrev asked-5 : State
+  abbrev pub asked-5 : State
   asked-5 = requesting 541_100_000_000 (fresh_id s4) (ForChannel 0x4000 peer) (request_for s4 (ForChannel 0x4000 peer) (fresh_id s4)) s4
 
   sent-2 : state_after (PollTransmit 241_100_000_000) s1 ≡ asked-2
@@ -437,17 +437,33 @@ module _ (s : State) (some : IsSome s.held) where
   unfolding refresh_time
   waits-5 = refl
 
-  replied-2 : (message : List ℕ) → IsReplyFor (ForPermission ip_of_peer) (fresh_id s1) message → (response_step true message 241_200_000_000 asked-2).1 ≡ s2
+  pub replied-2 : (message : List ℕ) → IsReplyFor (ForPermission ip_of_peer) (fresh_id s1) message → (response_step true message 241_200_000_000 asked-2).1 ≡ s2
   replied-2 message is = rw (is.named, is.of_method, eqb-self (fresh_id s1)) refl
 
-  replied-3 : (message : List ℕ) → IsReplyFor (ForPermission ip_of_peer) (fresh_id s2) message → (response_step true message 481_300_000_000 asked-3).1 ≡ s3
+  pub replied-3 : (message : List ℕ) → IsReplyFor (ForPermission ip_of_peer) (fresh_id s2) message → (response_step true message 481_300_000_000 asked-3).1 ≡ s3
   replied-3 message is = rw (is.named, is.of_method, eqb-self (fresh_id s2)) refl
 
-  replied-4 : (message : List ℕ) → IsReplyFor (ForRefresh IPV4 asked_lifetime) (fresh_id s3) message → (response_step true message 540_300_000_000 asked-4).1 ≡ s4
+  pub replied-4 : (message : List ℕ) → IsReplyFor (ForRefresh IPV4 asked_lifetime) (fresh_id s3) message → (response_step true message 540_300_000_000 asked-4).1 ≡ s4
   replied-4 message is = rw (is.named, is.of_method, eqb-self (fresh_id s3), is.lasts) refl
 
-  replied-5 : (message : List ℕ) → IsReplyFor (ForChannel 0x4000 peer) (fresh_id s4) message → (response_step true message 541_200_000_000 asked-5).1 ≡ s5
+  pub replied-5 : (message : List ℕ) → IsReplyFor (ForChannel 0x4000 peer) (fresh_id s4) message → (response_step true message 541_200_000_000 asked-5).1 ≡ s5
   replied-5 message is = rw (is.named, is.of_method, eqb-self (fresh_id s4)) refl
+
+  pub round-2 : IsRound 1_100_000_000 241_100_000_000 (fresh_id s1) (ForPermission ip_of_peer) [] (request_for s1 (ForPermission ip_of_peer) (fresh_id s1)) s1 asked-2 s2 s2
+  round-2 = refreshed 1_100_000_000 241_100_000_000 241_600_000_000 600_200_000_000 301_100_000_000 601_100_000_000 600_200_000_000 541_200_000_000 601_100_000_000 ids1
+      (ForPermission ip_of_peer) s some 1_000_000_000 punctual-2 sent-2 waits-2 (omega arith) (omega arith) replied-2
+
+  pub round-3 : IsRound 241_200_000_000 481_200_000_000 (fresh_id s2) (ForPermission ip_of_peer) [] (request_for s2 (ForPermission ip_of_peer) (fresh_id s2)) s2 asked-3 s3 s3
+  round-3 = refreshed 241_200_000_000 481_200_000_000 481_700_000_000 600_200_000_000 541_200_000_000 601_100_000_000 600_200_000_000 781_300_000_000 601_100_000_000
+      (behind_id ids1) (ForPermission ip_of_peer) s some 241_100_000_000 punctual-3 sent-3 waits-3 (omega arith) (omega arith) replied-3
+
+  pub round-4 : IsRound 481_300_000_000 540_200_000_000 (fresh_id s3) (ForRefresh IPV4 asked_lifetime) [] (request_for s3 (ForRefresh IPV4 asked_lifetime) (fresh_id s3)) s3 asked-4 s4 s4
+  round-4 = refreshed 481_300_000_000 540_200_000_000 540_700_000_000 600_200_000_000 781_300_000_000 601_100_000_000 1_140_300_000_000 781_300_000_000 601_100_000_000
+      (behind_id (behind_id ids1)) (ForRefresh IPV4 asked_lifetime) s some 481_200_000_000 punctual-4 sent-4 waits-4 (omega arith) (omega arith) replied-4
+
+  pub round-5 : IsRound 540_300_000_000 541_100_000_000 (fresh_id s4) (ForChannel 0x4000 peer) [] (request_for s4 (ForChannel 0x4000 peer) (fresh_id s4)) s4 asked-5 s5 s5
+  round-5 = refreshed 540_300_000_000 541_100_000_000 541_600_000_000 1_140_300_000_000 781_300_000_000 601_100_000_000 1_140_300_000_000 781_300_000_000 1_141_200_000_000
+      (behind_id (behind_id (behind_id ids1))) (ForChannel 0x4000 peer) s some 540_200_000_000 punctual-5 sent-5 waits-5 (omega arith) (omega arith) replied-5
 
   -- ---- all of the run
 
@@ -464,23 +480,19 @@ module _ (s : State) (some : IsSome s.held) where
 
   from-5 : Goes 540_300_000_000 s4 (served (seconds 700) (541_100_000_000 ∷ []) s4)
   from-5 = round 540_300_000_000 541_100_000_000 (fresh_id s4) (seconds 700) [] (ForChannel 0x4000 peer) [] _ s4 asked-5 s5 s5
-      (refreshed 540_300_000_000 541_100_000_000 541_600_000_000 1_140_300_000_000 781_300_000_000 601_100_000_000 1_140_300_000_000 781_300_000_000 1_141_200_000_000
-      (behind_id (behind_id (behind_id ids1))) (ForChannel 0x4000 peer) s some 540_200_000_000 punctual-5 sent-5 waits-5 (omega arith) (omega arith) replied-5) last-poll
+      round-5 last-poll
 
   from-4 : Goes 481_300_000_000 s3 (served (seconds 700) (540_200_000_000 ∷ 541_100_000_000 ∷ []) s3)
   from-4 = round 481_300_000_000 540_200_000_000 (fresh_id s3) (seconds 700) (541_100_000_000 ∷ []) (ForRefresh IPV4 asked_lifetime) [] _ s3 asked-4 s4 s4
-      (refreshed 481_300_000_000 540_200_000_000 540_700_000_000 600_200_000_000 781_300_000_000 601_100_000_000 1_140_300_000_000 781_300_000_000 601_100_000_000
-      (behind_id (behind_id ids1)) (ForRefresh IPV4 asked_lifetime) s some 481_200_000_000 punctual-4 sent-4 waits-4 (omega arith) (omega arith) replied-4) from-5
+      round-4 from-5
 
   from-3 : Goes 241_200_000_000 s2 (served (seconds 700) (481_200_000_000 ∷ 540_200_000_000 ∷ 541_100_000_000 ∷ []) s2)
   from-3 = round 241_200_000_000 481_200_000_000 (fresh_id s2) (seconds 700) (540_200_000_000 ∷ 541_100_000_000 ∷ []) (ForPermission ip_of_peer) [] _ s2 asked-3 s3 s3
-      (refreshed 241_200_000_000 481_200_000_000 481_700_000_000 600_200_000_000 541_200_000_000 601_100_000_000 600_200_000_000 781_300_000_000 601_100_000_000
-      (behind_id ids1) (ForPermission ip_of_peer) s some 241_100_000_000 punctual-3 sent-3 waits-3 (omega arith) (omega arith) replied-3) from-4
+      round-3 from-4
 
   from-2 : Goes 1_100_000_000 s1 (served (seconds 700) (241_100_000_000 ∷ 481_200_000_000 ∷ 540_200_000_000 ∷ 541_100_000_000 ∷ []) s1)
   from-2 = round 1_100_000_000 241_100_000_000 (fresh_id s1) (seconds 700) (481_200_000_000 ∷ 540_200_000_000 ∷ 541_100_000_000 ∷ []) (ForPermission ip_of_peer) [] _ s1 asked-2 s2 s2
-      (refreshed 1_100_000_000 241_100_000_000 241_600_000_000 600_200_000_000 301_100_000_000 601_100_000_000 600_200_000_000 541_200_000_000 601_100_000_000
-      ids1 (ForPermission ip_of_peer) s some 1_000_000_000 punctual-2 sent-2 waits-2 (omega arith) (omega arith) replied-2) from-3
+      round-2 from-3
 
   from-1 : Goes 1_000_000_000 queued_bind (served (seconds 700) (1_000_000_000 ∷ 241_100_000_000 ∷ 481_200_000_000 ∷ 540_200_000_000 ∷ 541_100_000_000 ∷ []) queued_bind)
   from-1 = round 1_000_000_000 1_000_000_000 id1 (seconds 700) (241_100_000_000 ∷ 481_200_000_000 ∷ 540_200_000_000 ∷ 541_100_000_000 ∷ [])

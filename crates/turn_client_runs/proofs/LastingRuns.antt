@@ -31,7 +31,7 @@ use Rattle.turn_client_api.specs.declared.grant.Progress.TheVariants.{Active, Pe
 use Rattle.turn_client_api.specs.declared.grant.Listing.{Listing}
 use Rattle.turn_client_api.specs.declared.grant.Purpose.{Purpose}
 use Rattle.turn_client_api.specs.declared.grant.Purpose.TheVariants.{ForPermission, ForChannel}
-use Rattle.turn_client_api.specs.Grants.{family_of_grant, has_request, is_for, purposes_of, same_ip}
+use Rattle.turn_client_api.specs.Grants.{family_of_grant, is_for, purposes_of, same_ip}
 use Rattle.turn_client_api.specs.Judgement.{SignedSuccess, class_in, judgement_of}
 use Rattle.turn_client_api.specs.Effect.{transaction_ended}
 use Rattle.turn_client_api.specs.Payloads.{Outcome, datagram_step, message_step, response_step, signed_step}
@@ -62,7 +62,8 @@ use Rattle.turn_client_runs.proofs.LastingReplies.{IsAnswered, IsGiven, all-answ
 
 -- ---- a success is processed
 
-success-judged : (message : List ℕ) (s : State) → s.phase ≡ Allocated → class_in message ≡ Success → IsValidated (validation_of (auth_of s) message) → is_outstanding (id_of message) s.transactions ≡ true
+success-judged : (message : List ℕ) (s : State) → s.phase ≡ Allocated → class_in message ≡ Success → IsValidated (validation_of (auth_of s) message)
+    → is_outstanding (id_of message) s.transactions ≡ true
     → judgement_of s message ≡ SignedSuccess
 success-judged message s p c v o = by (validation_of (auth_of s) message) refl v
   where
@@ -231,7 +232,8 @@ module _ (count slots delay now : ℕ) (s : State) (k : IsKept count slots delay
 -- ---- each call
 
 -- data for a peer uses an ID at most
-sends : (P : State → Type 0) (transport : TransportType) (peer : SocketAddr) (bytes : List ℕ) (now : ℕ) (s : State) → ((ids : Source) → P (record s { ids = ids })) → P (send_to_step transport peer bytes now s).1
+sends : (P : State → Type 0) (transport : TransportType) (peer : SocketAddr) (bytes : List ℕ) (now : ℕ) (s : State) → ((ids : Source) → P (record s { ids = ids }))
+    → P (send_to_step transport peer bytes now s).1
 sends P transport peer bytes now s each = by (can_send_to transport (socket_ip peer) s) transport
   where
     channel : (xs : List (ℕ × ℕ)) → P (on_channel xs peer bytes now s).1
@@ -266,7 +268,8 @@ call-kept count slots delay before s call k in_time quiet within = by call (time
     asks-kept : (now : ℕ) → IsKept count slots delay now s.transactions s → Asks (λ t. IsWithin count slots t → KeepsAll count slots delay now s t) now s
     asks-kept now k ps news text are w = (asked-kept count slots delay now s k ps news are text w.0 w.1, asked-goes count slots delay now s k ps news are text)
 
-    by : (c : Call) → IsKept count slots delay (time_of before c) s.transactions s → IsQuiet c s → IsWithin count slots (state_after c s) → KeepsAll count slots delay (time_of before c) s (state_after c s)
+    by : (c : Call) → IsKept count slots delay (time_of before c) s.transactions s → IsQuiet c s → IsWithin count slots (state_after c s)
+        → KeepsAll count slots delay (time_of before c) s (state_after c s)
     by (Poll now) k quiet within =
         polls (KeepsAll count slots delay now s) now s k.phase (all-early count slots delay now s k)
         (none-over delay now s k.prompt k.in_range k.young k.heard)
@@ -276,7 +279,8 @@ call-kept count slots delay before s call k in_time quiet within = by call (time
         (kept, goes)
     by PollEvent k quiet within = (kept-aside count slots delay before s.transactions s s.ids (drop 1 s.events) s.closes k, goes-same s (record s { events = drop 1 s.events }) refl refl refl)
     by (SendTo transport peer bytes now) k quiet within =
-        sends (KeepsAll count slots delay now s) transport peer bytes now s (λ ids. (kept-aside count slots delay now s.transactions s ids s.events s.closes k, goes-same s (record s { ids = ids }) refl refl refl))
+        sends (KeepsAll count slots delay now s) transport peer bytes now s
+        (λ ids. (kept-aside count slots delay now s.transactions s ids s.events s.closes k, goes-same s (record s { ids = ids }) refl refl refl))
     by (CreatePermission transport ip now) k quiet within =
         creates (λ t. IsWithin count slots t → KeepsAll count slots delay now s t) count slots delay now s k (λ w. (k, goes-same s s refl refl refl)) (asks-kept now k) transport ip within
     by (BindChannel transport peer now) k quiet within =
@@ -291,8 +295,11 @@ all-kept : (count slots delay before : ℕ) (s : State) (calls : List Call) → 
 all-kept count slots delay before s [] k run = (k, goes-same s s refl refl refl)
 all-kept count slots delay before s (call ∷ calls) k (in_time, quiet, within, run) =
     let (kept, goes) = call-kept count slots delay before s call k in_time quiet within in
-    let (last, as_well) = all-kept count slots delay (time_of before call) (state_after call s) calls kept run in
-    (last, goes-trans s.transactions (state_after call s).transactions (state_after_all (state_after call s) calls).transactions s (state_after call s) (state_after_all (state_after call s) calls) goes as_well)
+    let (last, as_well) = all-kept count slots delay (time_of before call) (state_after call s) calls kept run in (
+      last,
+      goes-trans s.transactions (state_after call s).transactions (state_after_all (state_after call s) calls).transactions s (state_after call s)
+          (state_after_all (state_after call s) calls) goes as_well,
+    )
 
 -- a run is that of its first calls, and then that of the others
 first-part : (count slots delay before : ℕ) (s : State) (earlier later : List Call) → RunsSteadily count slots delay before s (earlier ++ later) → RunsSteadily count slots delay before s earlier

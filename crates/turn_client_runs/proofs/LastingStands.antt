@@ -93,7 +93,8 @@ pending-later first until xs ls g later p = record {
   sent = let sent = p.sent in omega (arith, sent, later);
 }
 
-pub pending-more : (until : ℕ) (xs ys : List Transaction) (ls ms : List Listing) (g : Grant) → ((x : Transaction) → Has x xs → Has x ys) → ((l : Listing) → Has l ls → is_for l.purpose g ≡ true → Has l ms)
+pub pending-more : (until : ℕ) (xs ys : List Transaction) (ls ms : List Listing) (g : Grant) → ((x : Transaction) → Has x xs → Has x ys)
+    → ((l : Listing) → Has l ls → is_for l.purpose g ≡ true → Has l ms)
     → IsPending until xs ls g → IsPending until ys ms g
 pending-more until xs ys ls ms g transactions listed p = record {
   transaction = p.transaction;
@@ -276,7 +277,8 @@ pause-le now s h = by s.last_send h
     by (Some time) h = omega (arith, h)
 
 -- what is granted has not expired
-pub stands-early : (count slots delay now : ℕ) (s : State) → IsKept count slots delay now s.transactions s → (g : Grant) → Has g s.grants → Stands count slots delay now s.transactions s g → now < expiry_of g
+pub stands-early : (count slots delay now : ℕ) (s : State) → IsKept count slots delay now s.transactions s → (g : Grant) → Has g s.grants → Stands count slots delay now s.transactions s g
+    → now < expiry_of g
 stands-early count slots delay now s k g there stands = elim stands.either [
   | inl a ↦ let late = k.heard a.transaction a.there in let t = a.in_time in omega (arith, late, t)
   | inr idle ↦ omega (arith, idle.soon, bound-le count slots delay now s.transactions s g k there stands.granted idle, stands.room, stands.long)

@@ -25,7 +25,7 @@ use Rattle.turn_client_api.specs.declared.grant.Purpose.TheVariants.{ForRefresh,
 use Rattle.turn_client_api.specs.Grants.{allocations, as_allocation, family_of, family_of_grant, has_request, is_for, same_ip}
 use Rattle.turn_client_api.specs.Requests.{asked_lifetime, binding_indication, fresh_id, id_used, request_for, to_server}
 use Rattle.turn_client_api.specs.Due.{has_reply, is_paused, is_refreshable, keepalive_times, refresh_time}
-use Rattle.turn_client_api.specs.Transmit.{is_due_in, is_ranked, is_refresh_due, keepalive_step, next_refresh, queue_step, refresh_purpose, refresh_step, refreshes_in, refreshes_of_rank, reply_step}
+use Rattle.turn_client_api.specs.Transmit.{is_due_in, is_refresh_due, keepalive_step, next_refresh, queue_step, refresh_purpose, refreshes_in, refreshes_of_rank, reply_step}
 use Rattle.turn_client_api.specs.Transmit.{sent_at_once, transmit_step, without_first_reply}
 use Rattle.turn_client_laws.proofs.HasLemmas.{Has, filter_map-has, first-has, has-append, has-filter, has-filter_map, has-flat_map, has-left, has-right}
 use Rattle.turn_client_laws.proofs.InAllocationLemmas.{same_family-self}
@@ -234,7 +234,14 @@ module _ (count slots delay now : ℕ) (s : State) (k : IsKept count slots delay
     linked = requests-more s s.grants (listing ∷ []) (λ g h. h) (λ l h. one-id l h) tt k.linked;
     in_range = k.in_range;
     housed = k.housed;
-    each = λ g there. elim (k.each g there) [ inl (waits, p) ↦ inl (waits, pending-more now s.transactions t.transactions s.listed t.listed g (λ x h. has-left x s.transactions _ h) (λ l h for. has-left l s.listed _ h) p) | inr stands ↦ inr (stands-sent g there stands) ];
+    each = λ g there. elim (k.each g there) [
+      | inl (waits, p) ↦ inl (
+        waits,
+        pending-more now s.transactions t.transactions s.listed t.listed g (λ x h. has-left x s.transactions _ h)
+            (λ l h for. has-left l s.listed _ h) p,
+      )
+      | inr stands ↦ inr (stands-sent g there stands)
+    ];
   }
 
   pub goes-sent : Goes s.transactions t.transactions s t
@@ -388,10 +395,15 @@ transmit-kept count slots delay now s k none = rw (transmits now s none) (by (is
     queued [] e = rw (queue-idle now s e k.phase) (refreshes e (next_refresh now s) refl)
     queued (q ∷ qs) e =
         let is : (queue_step now s).1 ≡ record s { queue = drop 1 s.queue; last_send = Some now } = front s.queue e in
-        subst Keeps (sym is) (kept-queued count slots delay now s k q qs e, goes-more s.transactions s.transactions s (record s { queue = drop 1 s.queue; last_send = Some now }) refl (λ x h. h) (λ l h. h))
+        subst Keeps (sym is) (
+          kept-queued count slots delay now s k q qs e,
+          goes-more s.transactions s.transactions s (record s { queue = drop 1 s.queue; last_send = Some now }) refl
+              (λ x h. h) (λ l h. h),
+        )
       where
         front : (queue : List Queued) → queue ≡ q ∷ qs
-            → (option_map_or (λ q. (Some q.packet, Rattle.turn_client_api.specs.Transmit.sent now (record s { queue = drop 1 s.queue }))) (slice_get queue 0) (Rattle.turn_client_api.specs.Transmit.idle_step s.phase now s)).1
+            → (option_map_or (λ q. (Some q.packet, Rattle.turn_client_api.specs.Transmit.sent now (record s { queue = drop 1 s.queue }))) (slice_get queue 0)
+            (Rattle.turn_client_api.specs.Transmit.idle_step s.phase now s)).1
             ≡ record s { queue = drop 1 s.queue; last_send = Some now }
         front queue e = rw e refl
 

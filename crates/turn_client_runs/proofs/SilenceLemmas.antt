@@ -1,7 +1,7 @@
 -- A client whose server does not answer.
 use Rattle.std.proofs.Common.{◌≡◌, ◌⊎◌, ℕ, zero, suc, ◌+◌, ◌^◌, ◌<◌, ◌≤◌, max, Bool, true, false, ltb, List, [], ◌∷◌, drop, sum, Some, None, refl, inl, inr, ap, sym, subst, ◌∙◌, arith}
 use Rattle.std.specs.Prelude.{if◌then◌else◌, is_some}
-use Rattle.std.proofs.lemmas.Bool.{and_right, cases_Bool, cases_lt, eq-eqb, le-leb, le-ltb, leb-true, lt-leb, lt-ltb, ltb-true}
+use Rattle.std.proofs.lemmas.Bool.{cases_lt, eq-eqb, le-leb, le-ltb, leb-true, lt-ltb, ltb-true}
 use Rattle.std.specs.declared.net.socket_addr.SocketAddr.{SocketAddr}
 use Rattle.turn_stun.specs.declared.transport.TransportType.{TransportType}
 use Rattle.turn_stun.specs.declared.transport.TransportType.TheVariants.{Udp, Tcp}
@@ -63,7 +63,9 @@ waited-doubled timers (suc n) h =
     let inside : ltb n (udp_resends timers) ≡ true = lt-ltb n (udp_resends timers) (omega (arith, h)) in
     let others = waited-doubled timers n (omega (arith, h)) in
     let e : 0 + n ≡ n = omega arith in
-    let more : doubled_sum timers.initial timers.max 0 (suc n) ≡ doubled_sum timers.initial timers.max 0 n + doubled_wait timers.initial timers.max n = subst (λ (k : ℕ). doubled_sum timers.initial timers.max 0 (suc n) ≡ doubled_sum timers.initial timers.max 0 n + doubled_wait timers.initial timers.max k) e (doubled-last timers.initial timers.max 0 n) in
+    let more : doubled_sum timers.initial timers.max 0 (suc n) ≡ doubled_sum timers.initial timers.max 0 n + doubled_wait timers.initial timers.max n = subst
+    (λ (k : ℕ). doubled_sum timers.initial timers.max 0 (suc n) ≡ doubled_sum timers.initial timers.max 0 n + doubled_wait timers.initial timers.max k) e
+    (doubled-last timers.initial timers.max 0 n) in
     rw (inside, others) (sym more)
 
 waited-all : (timers : Timers) (transport : TransportType) → waited timers transport (suc (resends_of timers transport)) ≡ sum (schedule timers)
@@ -308,7 +310,8 @@ time-passes start before now s (unsent u) o = unsent (unsent-waits start before 
 time-passes start before now s (asking a) o = asking (asking-waits start before now s a o)
 time-passes start before now s (over e) o = over e
 
-call-silent : (start before : ℕ) (s : State) (call : Call) → IsSilent start before s → IsOnTime before (time_of before call) s → BringsNothing call s → IsSilent start (time_of before call) (state_after call s)
+call-silent : (start before : ℕ) (s : State) (call : Call) → IsSilent start before s → IsOnTime before (time_of before call) s → BringsNothing call s
+    → IsSilent start (time_of before call) (state_after call s)
 call-silent start before s call silent o brings = by call (time-passes start before (time_of before call) s silent o) o.in_range brings
   where
     by : (c : Call) → IsSilent start (time_of before c) s → time_of before c ≤ 2 ^ 62 → BringsNothing c s → IsSilent start (time_of before c) (state_after c s)
