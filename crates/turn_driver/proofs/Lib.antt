@@ -6,3 +6,4 @@ pub mod RestWeights
 pub mod RestPolls
 pub mod RestSends
 pub mod RestLemmas
+pub mod DrivenRowLemmas

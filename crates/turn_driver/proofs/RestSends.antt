@@ -34,7 +34,8 @@ silenced now s e pauses range =
 
 -- ---- a retransmission
 
-resent-one : (timers : Timers) (transport : TransportType) (id now : ℕ) (t : Transaction) → resends_of timers transport - (cond (eqb t.id id) (record t { resends = t.resends + 1; last_send = now }) t).resends
+resent-one : (timers : Timers) (transport : TransportType) (id now : ℕ) (t : Transaction)
+    → resends_of timers transport - (cond (eqb t.id id) (record t { resends = t.resends + 1; last_send = now }) t).resends
     ≤ resends_of timers transport - t.resends
 resent-one timers transport id now t = by (eqb t.id id)
   where

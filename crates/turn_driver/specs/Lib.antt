@@ -4,3 +4,4 @@ pub mod Run
 pub mod Driver
 pub mod OnTime
 pub mod Rests
+pub mod DrivenRows

@@ -28,12 +28,14 @@
 //! ```
 #![tactic(auto)]
 
+mod driven;
 mod driver;
 mod next;
 mod on_time;
 mod rests;
 mod task;
 
+pub use driven::a_relay_is_driven;
 pub use driver::drive_client;
 pub use next::{Next, next_task};
 pub use on_time::loops_are_on_time;

@@ -1,0 +1,91 @@
+-- A worked run of the loop: a new client and a server that grants what is requested, for 700 s.
+use Rattle.std.specs.Prelude.{◌≡◌, ℕ, List, [], ◌∷◌, Option, Some, None, ⊤}
+use Rattle.std.specs.declared.net.socket_addr.SocketAddr.{SocketAddr}
+use Rattle.turn_stun.specs.declared.transport.TransportType.TheVariants.{Udp}
+use Rattle.turn_stun.specs.declared.transport.Transmit.{Transmit}
+use Rattle.turn_client_api.specs.Config.{Config}
+use Rattle.turn_client_api.specs.State.{State, seconds}
+use Rattle.turn_client_api.specs.Steps.{state_after}
+use Rattle.turn_client_api.specs.declared.call.Call.TheVariants.{BindChannel}
+use Rattle.turn_client_laws.specs.LawsRows.{peer}
+use Rattle.turn_client_runs.specs.HandshakeRows.{allocation_packet, awaited, challenge_text, new_client}
+use Rattle.turn_client_runs.specs.LastingRows.{first_request, refreshed_grants}
+use Rattle.turn_client_runs.specs.Server.{from_server, success_for}
+use Rattle.turn_driver.specs.Driver.{DriveState, begun, drive_steps, going}
+use Rattle.turn_driver.specs.declared.task.Rest.TheVariants.{Until}
+
+-- ---- the server
+
+-- nothing, or its reply to the request that was made first: a challenge, an allocation, or the success for what it requests
+pub data Reply : Type 0 where
+  Nothing : Reply
+  Challenge : Reply
+  Allocation : Reply
+  Success : Reply
+
+abbrev pub received : Reply → State → Option (Transmit (List ℕ))
+received Nothing s = None
+received Challenge s = Some (from_server s (challenge_text (awaited s.transactions)))
+received Allocation s = Some (allocation_packet s)
+received Success s = let l = first_request s.listed in Some (from_server s (success_for s l.purpose l.id))
+
+-- ---- the loop
+
+-- an iteration at this time, to which this is passed in, and the deadline that it returns
+pub record Turn : Type 0 where
+  pub now : ℕ
+  pub reply : Reply
+  pub deadline : ℕ
+
+-- it makes at most eight polls
+abbrev pub after_turn : Turn → State → DriveState
+after_turn turn s = drive_steps 8 turn.now (begun (received turn.reply s) turn.now (going [] s))
+
+-- each iteration returns `Until` its deadline, and the next begins with the client that it left
+abbrev pub IsDriven : State → List Turn → Type 0
+IsDriven s [] = ⊤
+IsDriven s (turn ∷ later) = ((after_turn turn s).rest ≡ Until turn.deadline) × IsDriven (after_turn turn s).client later
+
+abbrev pub client_after : State → List Turn → State
+client_after s [] = s
+client_after s (turn ∷ later) = client_after (after_turn turn s).client later
+
+-- ---- the run
+
+-- each reply comes 100 ms after its request
+abbrev pub turns_of_handshake : List Turn
+turns_of_handshake =
+    record { now = 0; reply = Nothing; deadline = 500_000_000 }
+    ∷ record { now = 100_000_000; reply = Challenge; deadline = 600_000_000 }
+    ∷ record { now = 200_000_000; reply = Allocation; deadline = 540_200_000_000 }
+    ∷ []
+
+-- The caller binds a channel at 1 s. From then on it wakes up at each deadline, or before it where a reply comes; last of all
+-- at 700 s.
+abbrev pub bound : State → State
+bound s = state_after (BindChannel Udp peer 1_000_000_000) s
+
+abbrev pub turns_until_700_s : List Turn
+turns_until_700_s =
+    record { now = 1_000_000_000; reply = Nothing; deadline = 1_500_000_000 }
+    ∷ record { now = 1_100_000_000; reply = Success; deadline = 241_100_000_000 }
+    ∷ record { now = 241_100_000_000; reply = Nothing; deadline = 241_600_000_000 }
+    ∷ record { now = 241_200_000_000; reply = Success; deadline = 481_200_000_000 }
+    ∷ record { now = 481_200_000_000; reply = Nothing; deadline = 481_700_000_000 }
+    ∷ record { now = 481_300_000_000; reply = Success; deadline = 540_200_000_000 }
+    ∷ record { now = 540_200_000_000; reply = Nothing; deadline = 540_700_000_000 }
+    ∷ record { now = 540_300_000_000; reply = Success; deadline = 541_100_000_000 }
+    ∷ record { now = 541_100_000_000; reply = Nothing; deadline = 541_600_000_000 }
+    ∷ record { now = 541_200_000_000; reply = Success; deadline = 721_300_000_000 }
+    ∷ record { now = seconds 700; reply = Nothing; deadline = 721_300_000_000 }
+    ∷ []
+
+-- No iteration is called before its time, and at the end the allocation, the permission and the channel have been refreshed.
+pub record IsDrivenFor700Seconds (first : State) : Type 0 where
+  pub handshake : IsDriven first turns_of_handshake
+  pub later : IsDriven (bound (client_after first turns_of_handshake)) turns_until_700_s
+  pub refreshes : (client_after (bound (client_after first turns_of_handshake)) turns_until_700_s).grants ≡ refreshed_grants
+
+-- whatever the client's addresses, credentials and IDs are
+abbrev pub RelayIsDriven : Type 0
+RelayIsDriven = (local remote : SocketAddr) (config : Config) (seed : List ℕ) → IsDrivenFor700Seconds (new_client local remote config seed)
