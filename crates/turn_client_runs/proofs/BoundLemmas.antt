@@ -65,7 +65,7 @@ binds-ended local message now s b = by s.phase refl
     by p e = inl (rw e refl)
 
 -- no input is over both
-not_both : (local : SocketAddr) (one : Input) → IsOverControl one → IsOverWaiting local one → ⊥
+pub not_both : (local : SocketAddr) (one : Input) → IsOverControl one → IsOverWaiting local one → ⊥
 not_both local one control waiting = by one.stream refl
   where
     by : (o : Option Stream) → one.stream ≡ o → ⊥

@@ -73,6 +73,10 @@ pub mod StreamAtLemmas
 pub mod TogetherLemmas
 pub mod TurnsOfRuns
 pub mod WholeLemmas
+pub mod LoneConnects
+pub mod LoneCalls
+pub mod StreamWalk
+pub mod UnboundStreams
 pub mod ToldCounts
 pub mod ToldLemmas
 pub mod ToldReplies

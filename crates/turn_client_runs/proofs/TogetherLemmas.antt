@@ -87,7 +87,7 @@ listing-here call s = inr (λ l is. is)
 -- ---- one more request
 
 -- nothing is listed under the next ID
-fresh-unlisted : (s : State) → (l : Listing) → Has l s.listed → l.id ≡ fresh_id s → ⊥
+pub fresh-unlisted : (s : State) → (l : Listing) → Has l s.listed → l.id ≡ fresh_id s → ⊥
 fresh-unlisted s l there e =
     let free = or_parts (is_outstanding (fresh_id s) s.transactions) _ (fresh-free s) in
     let none : list_any (λ (l : Listing). eqb l.id (fresh_id s)) s.listed ≡ false =
