@@ -79,6 +79,7 @@ pub mod StreamWalk
 pub mod UnboundStreams
 pub mod ToldCounts
 pub mod ToldLemmas
+pub mod ToldAllocates
 pub mod ToldReplies
 pub mod ToldInputs
 pub mod ToldTime

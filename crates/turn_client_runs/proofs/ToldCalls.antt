@@ -1,9 +1,11 @@
 -- A call that takes no input tells nothing anew, but for what it requests.
-use Rattle.std.proofs.Common.{◌≡◌, ℕ, ◌≤◌, Bool, true, false, not, ◌&&◌, ◌||◌, leb, List, [], ◌∷◌, filter_map, find, flat_map, Option, Some, None, Result, refl, arith, inl, inr}
+use Rattle.std.proofs.Common.{◌≡◌, ◌∙◌, ℕ, ◌+◌, ◌≤◌, Bool, true, false, cond, ◌&&◌, eqb, leb, List, [], ◌∷◌, ◌++◌, filter, filter_map, find, flat_map, Option, Some, None, Result, refl, sym}
+use Rattle.std.proofs.Common.{arith, inl, inr}
 use Rattle.std.specs.Prelude.{nat_le, slice_get, ⊤}
 use Rattle.std.specs.List.{list_any}
 use Rattle.std.specs.Net.Socket.{socket_ip}
-use Rattle.std.proofs.lemmas.Bool.{cases_Bool}
+use Rattle.std.proofs.lemmas.Bool.{and_parts, cases_Bool, false_from_ne_true}
+use Rattle.std.proofs.lemmas.Option.{none-some}
 use Rattle.std.specs.declared.net.ip_addr.IpAddr.{IpAddr}
 use Rattle.std.specs.declared.net.socket_addr.SocketAddr.{SocketAddr}
 use Rattle.turn_stun.specs.declared.transport.TransportType.{TransportType}
@@ -16,48 +18,63 @@ use Rattle.turn_client_api.specs.declared.call.Call.TheVariants.{PollEvent, Rela
 use Rattle.turn_client_api.specs.declared.event.TurnEvent.{TurnEvent}
 use Rattle.turn_client_api.specs.declared.grant.DataConnection.{DataConnection}
 use Rattle.turn_client_api.specs.declared.grant.Grant.{Grant}
-use Rattle.turn_client_api.specs.declared.grant.Grant.TheVariants.{Connect, Connection}
+use Rattle.turn_client_api.specs.declared.grant.Grant.TheVariants.{Connection, Offer}
 use Rattle.turn_client_api.specs.declared.grant.Origin.{Origin}
 use Rattle.turn_client_api.specs.declared.grant.Origin.TheVariants.{ServerRequest}
-use Rattle.turn_client_api.specs.declared.grant.Purpose.TheVariants.{ForConnect}
 use Rattle.turn_client_api.specs.declared.grant.Relay.{Relay}
 use Rattle.turn_client_api.specs.declared.state.Phase.{Phase}
 use Rattle.turn_client_api.specs.declared.state.Phase.TheVariants.{New, Allocated}
-use Rattle.turn_client_api.specs.Calls.{active_channel, bound_to, can_send_to, connect_step, deleted, in_allocation, is_allocated, is_closed, is_control, is_granted_in, is_local_taken}
+use Rattle.turn_client_api.specs.Calls.{active_channel, bound_to, can_send_to, deleted, in_allocation, is_allocated, is_closed, is_control, is_granted_in, is_local_taken}
 use Rattle.turn_client_api.specs.Calls.{is_offer_of}
 use Rattle.turn_client_api.specs.Calls.{is_open_to, keep_step, marked, marked_if, offer_origin, offer_taken, on_channel, on_connection, send_over, socket_opened, socket_refused, socket_step}
 use Rattle.turn_client_api.specs.Calls.{with_marks, without_first}
-use Rattle.turn_client_api.specs.Connections.{is_connected, is_connecting}
 use Rattle.turn_client_api.specs.Due.{is_paused, keepalive_times}
 use Rattle.turn_client_api.specs.Effect.{closed, fail_all}
-use Rattle.turn_client_api.specs.Grants.{allocations, as_connection, changed_allocation, family_of_ip, find_allocation_to, has_active_permission, is_of_family, is_past, is_permission_of}
+use Rattle.turn_client_api.specs.Grants.{allocations, as_connection, changed_allocation, family_of_ip, is_of_family, is_past, is_permission_of}
 use Rattle.turn_client_api.specs.Grants.{same_transport}
-use Rattle.turn_client_api.specs.Grants.{with_expired, with_grant, without_grants}
+use Rattle.turn_client_api.specs.Grants.{with_expired, without_grants}
 use Rattle.turn_client_api.specs.Receive.{connection_gone}
-use Rattle.turn_client_api.specs.Requests.{fresh_id, requested}
 use Rattle.turn_client_api.specs.Retry.{bind_time}
 use Rattle.turn_client_api.specs.Steps.{state_after}
 use Rattle.turn_client_api.specs.Transmit.{idle_step, keepalive_step, queue_step, refreshes_in, reply_step, transmit_step}
+use Rattle.turn_client_laws.proofs.AddressLemmas.{same_address-true}
 use Rattle.turn_client_laws.proofs.CaseLemmas.{by_found, by_test}
+use Rattle.turn_client_laws.proofs.HasLemmas.{filter-none}
+use Rattle.turn_client_laws.proofs.InAllocationLemmas.{has-any}
 use Rattle.turn_client_runs.specs.Told.{is_to_come}
-use Rattle.turn_client_runs.proofs.LastingCounts.{passes}
-use Rattle.turn_client_runs.proofs.ToldLemmas.{Spends, spends-mapped, spends-more, spends-removed, spends-same, spends-trans}
+use Rattle.turn_client_runs.proofs.LastingCounts.{passes, passes-append}
+use Rattle.turn_client_runs.proofs.ToldLemmas.{Spends, connection-comes, is_of_connection, offer-comes, spends-mapped, spends-removed, spends-same, spends-trans}
 use Rattle.turn_client_runs.proofs.ToldInputs.{gone-spends}
-use Rattle.turn_client_runs.proofs.ToldReplies.{changed-comes, fail-spends}
+use Rattle.turn_client_runs.proofs.ToldAllocates.{fail-spends}
+use Rattle.turn_client_runs.proofs.ToldReplies.{changed-comes}
 use Rattle.turn_client_runs.proofs.ToldTime.{poll-spends}
 
 marked-comes : (e : TurnEvent) (is_kept : Bool) (g : Grant) → is_to_come e (marked is_kept g) ≡ is_to_come e g
 marked-comes e is_kept g = grind arith
 
-connect-comes : (e : TurnEvent) (peer : SocketAddr) → is_to_come e (Connect peer) ≡ false
-connect-comes e peer = grind arith
+-- one of these is taken, of each of which the event may come or not
+first-taken : (p which : Grant → Bool) (b : Bool) (gs : List Grant) → list_any which gs ≡ true → ((g : Grant) → which g ≡ true → p g ≡ b)
+    → passes p (without_first which gs) + cond b 1 0 ≤ passes p gs
+first-taken p which b [] some each = cc
+first-taken p which b (g ∷ gs) some each = elim (cases_Bool (which g)) [
+  | inl f ↦ rw (f, each g f) (omega arith)
+  | inr f ↦ rw f (omega (arith, first-taken p which b gs (rw f at some) each))
+]
 
-connection-comes : (e : TurnEvent) (c : DataConnection) → is_to_come e (Connection c) ≡ false
-connection-comes e c = grind arith
+offer-of : (e : TurnEvent) (id : ℕ) (peer : SocketAddr) (g : Grant) → is_offer_of id peer g ≡ true → is_to_come e g ≡ is_of_connection e peer
+offer-of e id peer (Offer offer) is =
+    let same = same_address-true offer.peer peer (and_parts (eqb offer.connection_id id) (same_address offer.peer peer) is).1 in
+    offer-comes e offer ∙ rw same refl
+offer-of e id peer g is = cc
 
-fewer-first : (p which : Grant → Bool) (gs : List Grant) → passes p (without_first which gs) ≤ passes p gs
-fewer-first p which [] = omega arith
-fewer-first p which (g ∷ gs) = elim (cases_Bool (which g)) [ inl f ↦ rw f (omega arith) | inr f ↦ rw f (omega (arith, fewer-first p which gs)) ]
+offer-there : (id : ℕ) (peer : SocketAddr) (origin : Origin) (s : State) → offer_origin id peer s ≡ Some origin → list_any (is_offer_of id peer) s.grants ≡ true
+offer-there id peer origin s found = elim (cases_Bool (list_any (is_offer_of id peer) s.grants)) [
+  | inl is ↦ is
+  | inr none ↦
+      let empty : filter (is_offer_of id peer) s.grants ≡ [] = filter-none (is_offer_of id peer) s.grants (λ g there. false_from_ne_true (is_offer_of id peer g) (λ is.
+      let no : true ≡ false = sym (has-any (is_offer_of id peer) g s.grants there is) ∙ none in cc)) in
+      absurd (none-some origin (rw empty at found))
+]
 
 module _ (e : TurnEvent) (s : State) where
   abbrev Leaves : {A : Type 0} → A × State → Type 0
@@ -87,39 +104,32 @@ module _ (e : TurnEvent) (s : State) where
   in-allocation P None ip now refusal otherwise refused h = refused _ same
   in-allocation P (Some a) ip now refusal otherwise refused h = by_test P (is_past now a) _ otherwise (λ f. refused _ (expired ip)) (λ f. h)
 
-  connect-leaves : (peer : SocketAddr) (now : ℕ) → Leaves (connect_step peer now s)
-  connect-leaves peer now =
-      by_test Leaves (not (is_allocated s.phase)) _ _ (λ f. same)
-      (λ f. by_test Leaves (not (has_active_permission (socket_ip peer) s)) _ _ (λ f. same)
-      (λ f. by_test Leaves (is_connected peer s || is_connecting peer s) _ _ (λ f. same)
-      (λ f. spends-more e (Connect peer) (connect-comes e peer) s (requested (fresh_id s) (ForConnect peer) now (with_grant (Connect peer) s)) refl refl refl)))
-
   -- ---- data connections
 
-  taken : (id : ℕ) (peer : SocketAddr) → Spends e s (offer_taken id peer s)
-  taken id peer = omega (arith, fewer-first (is_to_come e) (is_offer_of id peer) s.grants)
+  -- an offer, and the connection that is opened for it
+  taken : (id : ℕ) (peer : SocketAddr) (origin : Origin) → offer_origin id peer s ≡ Some origin
+      → passes (is_to_come e) (offer_taken id peer s).grants + cond (is_of_connection e peer) 1 0 ≤ passes (is_to_come e) s.grants
+  taken id peer origin found = first-taken (is_to_come e) (is_offer_of id peer) (is_of_connection e peer) s.grants (offer-there id peer origin s found) (offer-of e id peer)
 
-  opened-leaves : (id : ℕ) (peer local : SocketAddr) (origin : Origin) (now : ℕ) → Spends e s (socket_opened id peer local origin now s)
-  opened-leaves id peer local (ServerRequest request) now =
-      spends-trans e s (offer_taken id peer s) (socket_opened id peer local (ServerRequest request) now s) (taken id peer)
-      (spends-more e (Connection c) (connection-comes e c) (offer_taken id peer s) (socket_opened id peer local (ServerRequest request) now s) refl refl refl)
-    where
-      c : DataConnection
-      c = record { local = local; peer = peer; deadline = Some (later_by bind_time now) }
-  opened-leaves id peer local origin now =
-      spends-trans e s (offer_taken id peer s) (socket_opened id peer local origin now s) (taken id peer)
-      (spends-more e (Connection c) (connection-comes e c) (offer_taken id peer s) (socket_opened id peer local origin now s) refl refl refl)
-    where
-      c : DataConnection
-      c = record { local = local; peer = peer; deadline = Some (later_by bind_time now) }
+  opens : (id : ℕ) (peer local : SocketAddr) (origin : Origin) (time : ℕ) (t : State) → offer_origin id peer s ≡ Some origin → t.events ≡ s.events
+      → t.grants ≡ (offer_taken id peer s).grants ++ Connection (record { local = local; peer = peer; deadline = Some time }) ∷ [] → t.families ≡ s.families → Spends e s t
+  opens id peer local origin time t found events grants families =
+      let c : DataConnection = record { local = local; peer = peer; deadline = Some time } in
+      let fits : cond (is_to_come e (Connection c)) 1 0 ≤ cond (is_of_connection e peer) 1 0 = rw (connection-comes e c) (omega arith) in
+      rw (events, grants, families) (omega (arith, fits, taken id peer origin found, passes-append (is_to_come e) (offer_taken id peer s).grants (Connection c ∷ [])))
 
-  refused-leaves : (id : ℕ) (peer : SocketAddr) (origin : Origin) → Spends e s (socket_refused id peer origin s)
-  refused-leaves id peer (ServerRequest request) = taken id peer
-  refused-leaves id peer origin = taken id peer
+  opened-leaves : (id : ℕ) (peer local : SocketAddr) (origin : Origin) (now : ℕ) → offer_origin id peer s ≡ Some origin → Spends e s (socket_opened id peer local origin now s)
+  opened-leaves id peer local (ServerRequest request) now found =
+      opens id peer local (ServerRequest request) (later_by bind_time now) (socket_opened id peer local (ServerRequest request) now s) found refl refl refl
+  opened-leaves id peer local origin now found = opens id peer local origin (later_by bind_time now) (socket_opened id peer local origin now s) found refl refl refl
 
-  socket-leaves : (id : ℕ) (peer : SocketAddr) (local : Option SocketAddr) (origin : Origin) (now : ℕ) → Leaves (socket_step id peer local origin now s)
-  socket-leaves id peer None origin now = refused-leaves id peer origin
-  socket-leaves id peer (Some local) origin now = by_test Leaves (is_local_taken local s) _ _ (λ f. same) (λ f. opened-leaves id peer local origin now)
+  refused-leaves : (id : ℕ) (peer : SocketAddr) (origin : Origin) → offer_origin id peer s ≡ Some origin → Spends e s (socket_refused id peer origin s)
+  refused-leaves id peer (ServerRequest request) found = omega (arith, taken id peer (ServerRequest request) found)
+  refused-leaves id peer origin found = omega (arith, taken id peer origin found)
+
+  socket-leaves : (id : ℕ) (peer : SocketAddr) (local : Option SocketAddr) (origin : Origin) (now : ℕ) → offer_origin id peer s ≡ Some origin → Leaves (socket_step id peer local origin now s)
+  socket-leaves id peer None origin now found = refused-leaves id peer origin found
+  socket-leaves id peer (Some local) origin now found = by_test Leaves (is_local_taken local s) _ _ (λ f. same) (λ f. opened-leaves id peer local origin now found)
 
   -- ---- data for a peer
 
@@ -174,10 +184,11 @@ module _ (e : TurnEvent) (s : State) where
 
   -- ---- all of them
 
-  -- it requests no permission and no channel, takes no input and no event
+  -- it requests nothing of which an event tells, takes no input and no event
   abbrev pub IsQuiet : Call → Type 0
   IsQuiet (CreatePermission transport ip now) = ⊥
   IsQuiet (BindChannel transport peer now) = ⊥
+  IsQuiet (TcpConnect peer now) = ⊥
   IsQuiet (Recv packet now) = ⊥
   IsQuiet (PollRecv now) = ⊥
   IsQuiet PollEvent = ⊥
@@ -186,14 +197,14 @@ module _ (e : TurnEvent) (s : State) where
   pub quiet-spends : (call : Call) → IsQuiet call → Spends e s (state_after call s)
   quiet-spends (CreatePermission transport ip now) is = absurd is
   quiet-spends (BindChannel transport peer now) is = absurd is
+  quiet-spends (TcpConnect peer now) is = absurd is
   quiet-spends (Recv packet now) is = absurd is
   quiet-spends (PollRecv now) is = absurd is
   quiet-spends PollEvent is = absurd is
   quiet-spends (Delete now) is = by_test Leaves (is_allocated s.phase) _ _ (λ f. deleted-spends now) (λ f. same)
-  quiet-spends (TcpConnect peer now) is = in-allocation Leaves (find_allocation_to Tcp (socket_ip peer) s) (socket_ip peer) now _ (connect_step peer now s) (λ x h. h) (connect-leaves peer now)
   quiet-spends (AllocatedTcpSocket id tuple peer local now) is =
       by_test Leaves (same_transport s.config.allocation_transport Tcp && is_control tuple s && is_allocated s.phase) _ _
-      (λ f. by_found Leaves (λ origin. socket_step id peer local origin now s) (offer_origin id peer s) _ (λ origin g. socket-leaves id peer local origin now) same) (λ f. same)
+      (λ f. by_found Leaves (λ origin. socket_step id peer local origin now s) (offer_origin id peer s) _ (λ origin g. socket-leaves id peer local origin now g) same) (λ f. same)
   quiet-spends (TcpClosed local remote now) is =
       by_test (Spends e s) (same_transport s.transport Tcp && same_address remote s.remote) (connection_gone local s) s (λ f. gone-spends e local s) (λ f. same)
   quiet-spends (SendTo transport peer bytes now) is =

@@ -1,6 +1,7 @@
 -- How many events like one wait or may still come, as the parts of a step change the state.
-use Rattle.std.proofs.Common.{◌≡◌, ℕ, ◌+◌, ◌≤◌, Bool, true, false, cond, not, List, [], ◌∷◌, ◌++◌, map, filter, fold, reverse, Some, refl, arith, inl, inr}
-use Rattle.std.specs.Prelude.{⊤}
+use Rattle.std.proofs.Common.{◌≡◌, ℕ, ◌+◌, ◌≤◌, Bool, true, false, cond, not, ◌&&◌, List, [], ◌∷◌, ◌++◌, map, filter, fold, reverse, Some, refl, arith, inl, inr}
+use Rattle.std.specs.Prelude.{⊤, is_some}
+use Rattle.std.proofs.lemmas.Bool.{cases_Bool}
 use Rattle.std.specs.declared.net.ip_addr.IpAddr.{IpAddr}
 use Rattle.std.specs.declared.net.socket_addr.SocketAddr.{SocketAddr}
 use Rattle.turn_stun.specs.declared.transport.TransportType.{TransportType}
@@ -9,7 +10,9 @@ use Rattle.turn_client_api.specs.declared.event.TurnEvent.{TurnEvent}
 use Rattle.turn_client_api.specs.declared.event.TurnEvent.TheVariants.{PermissionCreated, PermissionCreateFailed, ChannelCreated, ChannelCreateFailed}
 use Rattle.turn_client_api.specs.declared.event.TurnEvent.TheVariants.{TcpConnected, TcpConnectFailed}
 use Rattle.turn_client_api.specs.declared.grant.Grant.{Grant}
-use Rattle.turn_client_api.specs.declared.grant.Grant.TheVariants.{Permission, Channel}
+use Rattle.turn_client_api.specs.declared.grant.DataConnection.{DataConnection}
+use Rattle.turn_client_api.specs.declared.grant.DataOffer.{DataOffer}
+use Rattle.turn_client_api.specs.declared.grant.Grant.TheVariants.{Permission, Channel, Connect, Offer, Connection}
 use Rattle.turn_client_api.specs.declared.grant.Lease.{Lease}
 use Rattle.turn_client_api.specs.declared.grant.Progress.{Progress}
 use Rattle.turn_client_api.specs.declared.grant.Progress.TheVariants.{Pending, Active, Reserved}
@@ -23,9 +26,10 @@ use Rattle.turn_client_runs.proofs.ToldCounts.{passes-both, passes-kept, passes-
 
 -- ---- a grant that fails
 
--- its failure tells that it is lost: not if the channel is reserved
+-- its failure tells that it is lost: not if the channel is reserved, or the connection is bound
 abbrev pub IsLosable : Grant → Type 0
 IsLosable (Channel number peer (Reserved until)) = ⊥
+IsLosable (Connection c) = is_some c.deadline ≡ true
 IsLosable g = ⊤
 
 -- it was to come of the grant
@@ -118,6 +122,12 @@ module _ (e : TurnEvent) where
       passes-append (is_to_come e) (filter (λ h. not (which h)) s.grants) (new ∷ []),
     ))
 
+    -- no event, but another grant in their place
+    pub spends-exchanged : (new : Grant) → cond (is_to_come e new) 1 0 ≤ cond (is_to_come e g) 1 0
+        → (t : State) → t.events ≡ s.events → t.grants ≡ filter (λ h. not (which h)) s.grants ++ new ∷ [] → t.families ≡ s.families → Spends s t
+    spends-exchanged new fits t events grants families =
+        rw (events, grants, families) (omega (arith, fits, left, passes-append (is_to_come e) (filter (λ h. not (which h)) s.grants) (new ∷ [])))
+
     pub spends-replaced-first : (new : Grant) → cond (is_like e x) 1 0 + cond (is_to_come e new) 1 0 ≤ cond (is_to_come e g) 1 0
         → (t : State) → t.events ≡ x ∷ s.events → t.grants ≡ filter (λ h. not (which h)) s.grants ++ new ∷ [] → t.families ≡ s.families → Spends s t
     spends-replaced-first new fits t events grants families =
@@ -158,10 +168,28 @@ pub channel-reserved : (e : TurnEvent) (transport : TransportType) (number : ℕ
 channel-reserved (ChannelCreateFailed over other) transport number peer was until = omega arith
 channel-reserved e transport number peer was until = omega arith
 
--- ---- of connections nothing is counted
+-- ---- what may come of a data connection
 
-pub untold-failure : (e : TurnEvent) (peer : SocketAddr) → is_like e (TcpConnectFailed peer) ≡ false
-untold-failure e peer = grind arith
+-- the event is of one to this peer
+abbrev pub is_of_connection : TurnEvent → SocketAddr → Bool
+is_of_connection e peer = is_like e (TcpConnectFailed peer)
 
-pub untold-connection : (e : TurnEvent) (peer : SocketAddr) → is_like e (TcpConnected peer) ≡ false
-untold-connection e peer = grind arith
+pub connected-like : (e : TurnEvent) (peer : SocketAddr) → is_like e (TcpConnected peer) ≡ is_of_connection e peer
+connected-like (TcpConnected to) peer = refl
+connected-like (TcpConnectFailed to) peer = refl
+connected-like e peer = refl
+
+pub connect-comes : (e : TurnEvent) (peer : SocketAddr) → is_to_come e (Connect peer) ≡ is_of_connection e peer
+connect-comes (TcpConnected to) peer = refl
+connect-comes (TcpConnectFailed to) peer = refl
+connect-comes e peer = refl
+
+pub offer-comes : (e : TurnEvent) (offer : DataOffer) → is_to_come e (Offer offer) ≡ is_of_connection e offer.peer
+offer-comes (TcpConnected to) offer = refl
+offer-comes (TcpConnectFailed to) offer = refl
+offer-comes e offer = refl
+
+pub connection-comes : (e : TurnEvent) (c : DataConnection) → is_to_come e (Connection c) ≡ (is_some c.deadline && is_of_connection e c.peer)
+connection-comes (TcpConnected to) c = refl
+connection-comes (TcpConnectFailed to) c = refl
+connection-comes e c = elim (cases_Bool (is_some c.deadline)) [ inl f ↦ rw f refl | inr f ↦ rw f refl ]

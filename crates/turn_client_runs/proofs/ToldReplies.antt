@@ -1,56 +1,59 @@
 -- A reply of the server tells of what may be told, once.
-use Rattle.std.proofs.Common.{◌≡◌, ◌∙◌, ℕ, ◌+◌, ◌≤◌, Bool, true, false, cond, not, ◌&&◌, ◌||◌, eqb, leb, List, [], ◌∷◌, ◌++◌, map, filter, filter_map, fold, length, Option, Some, None, refl}
+use Rattle.std.proofs.Common.{◌≡◌, ◌∙◌, ℕ, ◌≤◌, Bool, true, false, cond, not, ◌&&◌, ◌||◌, eqb, leb, List, [], ◌∷◌, map, filter, filter_map, fold, Option, Some, None, refl}
 use Rattle.std.proofs.Common.{sym, subst, arith, inl, inr}
 use Rattle.std.specs.Prelude.{is_some}
 use Rattle.std.specs.List.{list_any}
-use Rattle.std.proofs.lemmas.Bool.{and_parts, cases_Bool, eq-eqb, false_from_ne_true, not-true}
+use Rattle.std.proofs.lemmas.Bool.{and_parts, cases_Bool, eq-eqb, false_from_ne_true}
 use Rattle.std.specs.declared.net.ip_addr.IpAddr.{IpAddr}
 use Rattle.std.specs.declared.net.socket_addr.SocketAddr.{SocketAddr}
 use Rattle.turn_stun.specs.declared.transport.TransportType.{TransportType}
 use Rattle.turn_types.specs.declared.family.AddressFamily.{AddressFamily}
-use Rattle.turn_types.specs.declared.family.AddressFamily.TheVariants.{IPV4, IPV6}
-use Rattle.turn_client_api.specs.Config.{is_family_list, same_family}
 use Rattle.turn_client_api.specs.State.{State, later_by, seconds}
 use Rattle.turn_client_api.specs.declared.event.TurnEvent.{TurnEvent}
-use Rattle.turn_client_api.specs.declared.event.TurnEvent.TheVariants.{AllocationCreated, AllocationCreateFailed, PermissionCreated, PermissionCreateFailed, ChannelCreated}
+use Rattle.turn_client_api.specs.declared.event.TurnEvent.TheVariants.{PermissionCreated, PermissionCreateFailed, ChannelCreated}
 use Rattle.turn_client_api.specs.declared.event.TurnEvent.TheVariants.{ChannelCreateFailed}
 use Rattle.turn_client_api.specs.declared.event.TurnEvent.TheVariants.{TcpConnectFailed}
 use Rattle.turn_client_api.specs.declared.grant.Grant.{Grant}
-use Rattle.turn_client_api.specs.declared.grant.Grant.TheVariants.{Allocation, Permission, Channel, Offer}
+use Rattle.turn_client_api.specs.declared.grant.Grant.TheVariants.{Allocation, Permission, Channel, Connect, Offer, Connection}
 use Rattle.turn_client_api.specs.declared.grant.DataOffer.{DataOffer}
+use Rattle.turn_client_api.specs.declared.grant.Origin.TheVariants.{OwnConnect}
 use Rattle.turn_client_api.specs.declared.grant.Relay.{Relay}
 use Rattle.turn_client_api.specs.declared.grant.Progress.{Progress}
 use Rattle.turn_client_api.specs.declared.grant.Progress.TheVariants.{Pending, Active, Reserved}
 use Rattle.turn_client_api.specs.declared.grant.Purpose.{Purpose}
-use Rattle.turn_client_api.specs.declared.grant.Purpose.TheVariants.{ForAllocation, ForRefresh, ForPermission, ForChannel, ForConnect}
+use Rattle.turn_client_api.specs.declared.grant.Purpose.TheVariants.{ForRefresh, ForPermission, ForChannel, ForConnect}
 use Rattle.turn_client_api.specs.Grants.{channel_at, changed_allocation, first_in, is_channel_of, is_connect_to, is_of, is_of_family, is_permission_of, is_pending_permission}
 use Rattle.turn_client_api.specs.Grants.{permission_progress, permission_state}
-use Rattle.turn_client_api.specs.Grants.{as_allocation, family_of, purposes_of, same_ip, unlisted, wait, with_allocations, without_grants}
-use Rattle.turn_client_api.specs.Effect.{active_channel_answered, active_permission_answered, all_gone, allocate_denied, allocate_granted, allocated, allocation_mismatch, challenges_reset}
+use Rattle.turn_client_api.specs.Grants.{as_allocation, purposes_of, same_ip, unlisted, wait, with_allocations, without_grants}
+use Rattle.turn_client_api.specs.Effect.{active_channel_answered, active_permission_answered, all_gone, allocate_denied, allocate_granted, allocation_mismatch, challenges_reset}
 use Rattle.turn_client_api.specs.Effect.{channel_answered, channel_lifetime}
-use Rattle.turn_client_api.specs.Effect.{closed, connect_answered, delete_answered, effect, fail_all, family_not_supported, granted_until, has_code, in_phase, is_asked_permission, lasting}
+use Rattle.turn_client_api.specs.Effect.{connect_answered, delete_answered, effect, granted_until, has_code, is_asked_permission, lasting}
 use Rattle.turn_client_api.specs.Effect.{lasting_if, transaction_ended}
-use Rattle.turn_client_api.specs.Effect.{listed_permissions_answered, min_lifetime, missing_families, new_allocation, pending_channel_answered, pending_permission_answered}
+use Rattle.turn_client_api.specs.Effect.{listed_permissions_answered, min_lifetime, pending_channel_answered, pending_permission_answered}
 use Rattle.turn_client_api.specs.Effect.{permission_answered, permission_answered_for}
-use Rattle.turn_client_api.specs.Effect.{permission_lifetime, permission_refused_too, prolonged, refreshed, relayed_in, reserved_time, taken_addresses}
-use Rattle.turn_client_api.specs.Judgement.{connection_id_in, lifetime_in}
+use Rattle.turn_client_api.specs.Effect.{permission_lifetime, permission_refused_too, prolonged, refreshed, reserved_time}
+use Rattle.turn_client_api.specs.Judgement.{connection_id_in, lifetime_in, method_in}
 use Rattle.turn_client_api.specs.declared.state.Phase.{Phase}
 use Rattle.turn_client_api.specs.declared.state.Phase.TheVariants.{Authenticating}
-use Rattle.turn_client_api.specs.Payloads.{Handled, Outcome, answered_purposes, response_step, signed_step}
-use Rattle.turn_client_api.specs.Requests.{fresh_id, requested}
+use Rattle.turn_client_api.specs.Payloads.{Handled, Outcome, is_answered, response_step, signed_step}
+use Rattle.turn_client_api.specs.Requests.{fresh_id}
 use Rattle.turn_stun.specs.Message.{id_of}
-use Rattle.turn_client_laws.proofs.AddressLemmas.{same_ip-true}
+use Rattle.turn_client_laws.specs.LawsStates.{is_asked_by}
+use Rattle.turn_client_laws.proofs.AddressLemmas.{same_address-self, same_address-true, same_ip-true}
 use Rattle.turn_client_laws.proofs.CaseLemmas.{by_found, by_test}
+use Rattle.turn_client_laws.proofs.Edits.{listing}
 use Rattle.turn_client_laws.proofs.EditsOfReplies.{channel-there}
 use Rattle.turn_client_laws.proofs.GrantOriginEffectLemmas.{same_ip-same}
 use Rattle.turn_client_laws.proofs.HasLemmas.{Has, filter-has, first-has, has-filter, has-filter_map, has-left, map-has}
-use Rattle.turn_client_laws.proofs.InAllocationLemmas.{any-has, has-any, same_family-true}
-use Rattle.turn_client_runs.specs.Told.{is_awaited_by, is_like, is_to_come}
-use Rattle.turn_client_runs.proofs.LastingCounts.{passes, passes-append, passes-filter, passes-none}
-use Rattle.turn_client_runs.proofs.ToldCounts.{passes-over, passes-without}
-use Rattle.turn_client_runs.proofs.ToldLemmas.{IsLosable, Spends, channel-created, channel-failed, channel-reserved, permission-created, permission-failed, spends-failed-later, spends-fold}
-use Rattle.turn_client_runs.proofs.ToldLemmas.{spends-mapped, spends-more, spends-removed}
-use Rattle.turn_client_runs.proofs.ToldLemmas.{spends-replaced, spends-same, spends-told, spends-told-first, spends-trans, spends-untold, untold-failure}
+use Rattle.turn_client_laws.proofs.InAllocationLemmas.{any-has, has-any}
+use Rattle.turn_client_laws.proofs.ListedGrants.{AllHaveGrant, HasGrant}
+use Rattle.turn_client_laws.proofs.TwoPurposes.{purpose-with}
+use Rattle.turn_client_runs.specs.Told.{is_like, is_to_come}
+use Rattle.turn_client_runs.proofs.LoneConnects.{HasLoneConnects}
+use Rattle.turn_client_runs.proofs.ToldAllocates.{IsSettled, allocation-comes, denied-spends, granted-spends}
+use Rattle.turn_client_runs.proofs.ToldLemmas.{IsLosable, Spends, channel-created, channel-failed, channel-reserved, connect-comes, offer-comes, permission-created, permission-failed}
+use Rattle.turn_client_runs.proofs.ToldLemmas.{spends-exchanged, spends-failed-later, spends-fold, spends-mapped, spends-removed}
+use Rattle.turn_client_runs.proofs.ToldLemmas.{spends-replaced, spends-same, spends-told, spends-told-first, spends-trans}
 
 -- ---- what is found
 
@@ -76,12 +79,6 @@ lasting-comes e expiry g = grind arith
 
 renewed-comes : (e : TurnEvent) (which : Grant → Bool) (expiry : ℕ) (g : Grant) → is_to_come e (lasting_if which expiry g) ≡ is_to_come e g
 renewed-comes e which expiry g = by_test (λ (h : Grant). is_to_come e h ≡ is_to_come e g) (which g) (lasting expiry g) g (λ is. lasting-comes e expiry g) (λ other. refl)
-
-allocation-comes : (e : TurnEvent) (a : Relay) → is_to_come e (Allocation a) ≡ false
-allocation-comes e a = grind arith
-
-pub offer-comes : (e : TurnEvent) (offer : DataOffer) → is_to_come e (Offer offer) ≡ false
-offer-comes e offer = grind arith
 
 pub changed-comes : (e : TurnEvent) (which : Relay → Bool) (change : Relay → Relay) (g : Grant) → is_to_come e (changed_allocation which change g) ≡ is_to_come e g
 changed-comes e which change (Allocation a) =
@@ -128,6 +125,21 @@ module _ (e : TurnEvent) where
   permissions-spend : (is_granted : Bool) (now : ℕ) (purposes : List Purpose) (s : State) → Spends e s (fold (permission_answered_for is_granted now) s purposes)
   permissions-spend is_granted now purposes s = spends-fold e (permission_answered_for is_granted now) purposes (λ t p there. permission-for-spends is_granted now t p) s
 
+-- ---- CONNECTs
+
+abbrev is_for_connect : Purpose → Bool
+is_for_connect (ForConnect peer) = true
+is_for_connect p = false
+
+-- one that is listed is there
+connect-there : (peer : SocketAddr) (s : State) → HasGrant s.grants (ForConnect peer) → Has (Connect peer) s.grants
+connect-there peer s (inl e) = cc
+connect-there peer s (inr some) = of (any-has (is_asked_by (ForConnect peer)) s.grants some)
+  where
+    of : (g : Grant) × Has g s.grants × (is_asked_by (ForConnect peer) g ≡ true) → Has (Connect peer) s.grants
+    of (Connect other, there, is) = subst (λ (a : SocketAddr). Has (Connect a) s.grants) (same_address-true other peer is) there
+    of (g, there, is) = cc
+
 -- ---- permissions that are answered leave channels as they are
 
 module _ (g : Grant) (other : (ip : IpAddr) → is_permission_of ip g ≡ false) where
@@ -164,6 +176,7 @@ asked-permission purposes g is = by g (and_parts (is_pending_permission g) _ is)
   where
     by : (g : Grant) → is_pending_permission g ≡ true → IsLosable g
     by (Channel number peer (Reserved until)) is = cc
+    by (Connection c) is = cc
     by g is = tt
 
 its-number : (number : ℕ) → eqb number number ≡ true
@@ -204,17 +217,17 @@ module _ (e : TurnEvent) where
           (active_channel_answered number peer lease.expiry false now s) refl refl refl)
       by o f g = rw f (spends-same e s s refl refl refl)
 
-  -- ---- connections, of which no event is counted
+  -- ---- connections
 
-  connect-spends : (peer : SocketAddr) (o : Option ℕ) (s : State) → Spends e s (connect_answered peer o s)
-  connect-spends peer (Some id) s =
-      let t = without_grants (is_connect_to peer) s in
-      spends-trans e s t (connect_answered peer (Some id) s) (spends-removed e (is_connect_to peer) s t refl refl refl)
-      (spends-more e (Offer _) (offer-comes e _) t (connect_answered peer (Some id) s) refl refl refl)
-  connect-spends peer None s =
-      let t = without_grants (is_connect_to peer) s in
-      spends-trans e s t (connect_answered peer None s) (spends-removed e (is_connect_to peer) s t refl refl refl)
-      (spends-untold e (TcpConnectFailed peer) (untold-failure e peer) t (connect_answered peer None s) refl refl refl)
+  -- the CONNECT is there: an offer takes its place, or it fails
+  connect-spends : (peer : SocketAddr) (o : Option ℕ) (s : State) → Has (Connect peer) s.grants → Spends e s (connect_answered peer o s)
+  connect-spends peer (Some id) s there =
+      let offer : DataOffer = record { connection_id = id; peer = peer; is_reported = false; origin = OwnConnect } in
+      let fits : cond (is_to_come e (Offer offer)) 1 0 ≤ cond (is_to_come e (Connect peer)) 1 0 = rw (offer-comes e offer, connect-comes e peer) (omega arith) in
+      spends-exchanged e (is_connect_to peer) (TcpConnectFailed peer) (Connect peer) s there (same_address-self peer) (Offer offer) fits (connect_answered peer (Some id) s) refl refl refl
+  connect-spends peer None s there =
+      let fits : cond (is_like e (TcpConnectFailed peer)) 1 0 ≤ cond (is_to_come e (Connect peer)) 1 0 = rw (connect-comes e peer) (omega arith) in
+      spends-told e (is_connect_to peer) (TcpConnectFailed peer) (Connect peer) s there (same_address-self peer) fits (connect_answered peer None s) refl refl refl
 
   -- ---- refreshes, of which nothing is told
 
@@ -243,157 +256,54 @@ module _ (e : TurnEvent) where
 
   -- ---- all that the request was made for
 
-  effect-spends : (id : ℕ) (is_granted : Bool) (message : List ℕ) (now : ℕ) (s : State) (p : Purpose) → Spends e s (effect id is_granted message now s p)
-  effect-spends id is_granted message now s (ForRefresh family lifetime) = refreshed-spends family lifetime is_granted message now s
-  effect-spends id is_granted message now s (ForPermission ip) = permission-spends e ip is_granted now s
-  effect-spends id is_granted message now s (ForChannel number peer) = channel-spends number id is_granted now s
-  effect-spends id is_granted message now s (ForConnect peer) = connect-spends peer (cond is_granted (connection_id_in message) None) s
-  effect-spends id is_granted message now s p = spends-same e s s refl refl refl
+  effect-spends : (id : ℕ) (is_granted : Bool) (message : List ℕ) (now : ℕ) (s : State) (p : Purpose) → is_for_connect p ≡ false → Spends e s (effect id is_granted message now s p)
+  effect-spends id is_granted message now s (ForRefresh family lifetime) other = refreshed-spends family lifetime is_granted message now s
+  effect-spends id is_granted message now s (ForPermission ip) other = permission-spends e ip is_granted now s
+  effect-spends id is_granted message now s (ForChannel number peer) other = channel-spends number id is_granted now s
+  effect-spends id is_granted message now s (ForConnect peer) other = cc
+  effect-spends id is_granted message now s p other = spends-same e s s refl refl refl
 
-  pub response-spends : (is_granted : Bool) (message : List ℕ) (now : ℕ) (s : State) → Spends e s (response_step is_granted message now s).1
-  response-spends is_granted message now s =
-      spends-fold e (effect (id_of message) is_granted message now) (answered_purposes message s) (λ t p there. effect-spends (id_of message) is_granted message now t p)
-      (transaction_ended (id_of message) s)
+  module _ (is_granted : Bool) (message : List ℕ) (now : ℕ) (s : State) where
+    t : State
+    t = transaction_ended (id_of message) s
 
--- ---- an ALLOCATE: the requested families
+    Answers : List Purpose → Type 0
+    Answers purposes = Spends e s (fold (effect (id_of message) is_granted message now) t (filter (is_answered (method_in message)) purposes))
 
--- each family that is still requested fails
-failed-like : (e : TurnEvent) (family : AddressFamily) → is_like e (AllocationCreateFailed family) ≡ is_awaited_by e family
-failed-like (AllocationCreated over a) family = refl
-failed-like (AllocationCreateFailed other) family = refl
-failed-like e family = refl
+    -- a CONNECT, which is all that the request was made for
+    one-spends : (peer : SocketAddr) → Has (Connect peer) s.grants → Answers (ForConnect peer ∷ [])
+    unfolding Answers t
+    one-spends peer there =
+        by_test (λ (ps : List Purpose). Spends e s (fold (effect (id_of message) is_granted message now) t ps)) (is_answered (method_in message) (ForConnect peer)) (ForConnect peer ∷ []) []
+        (λ f. connect-spends peer (cond is_granted (connection_id_in message) None) t there) (λ f. spends-same e s t refl refl refl)
 
-passes-same : {X : Type 0} (p q : X → Bool) → ((x : X) → p x ≡ q x) → (xs : List X) → passes p xs ≡ passes q xs
-passes-same p q each [] = refl
-passes-same p q each (x ∷ xs) = rw (each x) (omega (arith, passes-same p q each xs))
+    others-spend : (purposes : List Purpose) → list_any is_for_connect purposes ≡ false → Answers purposes
+    unfolding Answers t
+    others-spend purposes none =
+        spends-fold e (effect (id_of message) is_granted message now) (filter (is_answered (method_in message)) purposes)
+        (λ u p there. effect-spends (id_of message) is_granted message now u p (no-connect p (has-filter (is_answered (method_in message)) p purposes there).0)) t
+      where
+        no-connect : (p : Purpose) → Has p purposes → is_for_connect p ≡ false
+        no-connect p among = false_from_ne_true (is_for_connect p) (λ is. let no : true ≡ false = sym (has-any is_for_connect p purposes among is) ∙ none in cc)
 
-pub all-failed : (e : TurnEvent) (families : List AddressFamily) → passes (is_like e) (map AllocationCreateFailed families) ≡ passes (is_awaited_by e) families
-all-failed e families = passes-over (is_like e) AllocationCreateFailed families ∙ passes-same (λ family. is_like e (AllocationCreateFailed family)) (is_awaited_by e) (failed-like e) families
+    pub response-spends : HasLoneConnects s → AllHaveGrant s → Spends e s (response_step is_granted message now s).1
+    unfolding Answers t
+    response-spends lone asked = elim (cases_Bool (list_any is_for_connect (purposes_of (id_of message) s))) [
+      | inl some ↦ of (any-has is_for_connect (purposes_of (id_of message) s) some)
+      | inr none ↦ others-spend (purposes_of (id_of message) s) none
+    ]
+      where
+        of : (p : Purpose) × Has p (purposes_of (id_of message) s) × (is_for_connect p ≡ true) → Answers (purposes_of (id_of message) s)
+        of (ForConnect peer, among, is) =
+            let listed = purpose-with (id_of message) (ForConnect peer) s among in
+            subst Answers (sym (lone (id_of message) peer listed)) (one-spends peer (connect-there peer s (asked (listing (id_of message) (ForConnect peer)) listed)))
+        of (p, among, is) = cc
 
-pub fail-spends : (e : TurnEvent) (s t : State) → t.events ≡ s.events ++ map AllocationCreateFailed s.families → t.grants ≡ s.grants → t.families ≡ [] → Spends e s t
-fail-spends e s t events grants families =
-    rw (events, grants, families) (omega (arith, passes-append (is_like e) s.events (map AllocationCreateFailed s.families), all-failed e s.families))
-
-module _ (family : AddressFamily) where
-  abbrev awaited : AddressFamily → Bool
-  awaited other = same_family family other
-
-  abbrev of : SocketAddr → Bool
-  of a = is_of_family family a
-
-  clash : (b : Bool) → b ≡ true → b ≡ false → ⊥
-  clash b h k = let both : true ≡ false = sym h ∙ k in cc
-
-  -- one address at most for each that is requested
-  taken-few : (families : List AddressFamily) (all : List SocketAddr) → passes of (taken_addresses families all) ≤ passes awaited families
-  taken-few families [] = omega arith
-  taken-few families (a ∷ later) = elim (cases_Bool (list_any (λ f. is_of_family f a) families)) [
-    | inl wanted ↦ rw wanted (by (of a) refl (taken-few left later) (any-has (λ f. is_of_family f a) families wanted))
-    | inr other ↦ rw other (taken-few families later)
-  ]
-    where
-      left : List AddressFamily
-      left = filter (λ f. not (is_of_family f a)) families
-
-      by : (b : Bool) → of a ≡ b → passes of (taken_addresses left later) ≤ passes awaited left → (f : AddressFamily) × Has f families × (is_of_family f a ≡ true)
-          → cond (of a) 1 0 + passes of (taken_addresses left later) ≤ passes awaited families
-      by true is few (f, there, its) =
-          let same : awaited f ≡ true = subst (λ (x : AddressFamily). same_family x f ≡ true) (same_family-true (family_of a) family is) its in
-          let gone : passes awaited left + cond (awaited f) 1 0 ≤ passes awaited families = passes-without awaited (λ x. is_of_family x a) f families there its in
-          let one : 1 ≤ cond (awaited f) 1 0 = rw same (omega arith) in
-          rw is (omega (arith, few, gone, one))
-      by false is few found = rw is (omega (arith, few, passes-filter awaited (λ f. not (is_of_family f a)) families))
-
-  -- and one answer at most, with those that get none
-  answers-few : (families : List AddressFamily) (all : List SocketAddr)
-      → passes of (taken_addresses families all) + passes awaited (filter (λ f. not (list_any (is_of_family f) (taken_addresses families all))) families) ≤ passes awaited families
-  answers-few families all = elim (cases_Bool (list_any of addresses)) [
-    | inl some ↦ omega (arith, taken-few families all, none-missing some)
-    | inr none ↦ omega (arith, none-taken none, passes-filter awaited (λ f. not (list_any (is_of_family f) addresses)) families)
-  ]
-    where
-      addresses : List SocketAddr
-      addresses = taken_addresses families all
-
-      none-missing : list_any of addresses ≡ true → passes awaited (filter (λ f. not (list_any (is_of_family f) addresses)) families) ≡ 0
-      none-missing some = passes-none awaited (filter (λ f. not (list_any (is_of_family f) addresses)) families) (λ f there. false_from_ne_true (awaited f) (λ is.
-          let same = same_family-true family f is in
-          let lacks = not-true (list_any (is_of_family f) addresses) (has-filter (λ x. not (list_any (is_of_family x) addresses)) f families there).1 in
-          clash (list_any (is_of_family f) addresses) (subst (λ (x : AddressFamily). list_any (is_of_family x) addresses ≡ true) same some) lacks))
-
-      none-taken : list_any of addresses ≡ false → passes of addresses ≡ 0
-      none-taken none = passes-none of addresses (λ a there. false_from_ne_true (of a) (λ is. clash (list_any of addresses) (has-any of a addresses there is) none))
-
--- the events of an allocation are no more than the families that were requested
-allocated-fits : (e : TurnEvent) (transport : TransportType) (families : List AddressFamily) (all : List SocketAddr)
-    → passes (is_like e) (map (AllocationCreated transport) (taken_addresses families all))
-    + passes (is_awaited_by e) (filter (λ f. not (list_any (is_of_family f) (taken_addresses families all))) families)
-    ≤ passes (is_awaited_by e) families
-allocated-fits (AllocationCreated over a) transport families all =
-    omega (arith, passes-over (is_like (AllocationCreated over a)) (AllocationCreated transport) (taken_addresses families all), answers-few (family_of a) families all)
-allocated-fits (AllocationCreateFailed family) transport families all =
-    omega (arith, passes-over (is_like (AllocationCreateFailed family)) (AllocationCreated transport) (taken_addresses families all), answers-few family families all)
-allocated-fits e transport families all = omega (
-  arith,
-  passes-over (is_like e) (AllocationCreated transport) (taken_addresses families all),
-  passes-none (λ a. is_like e (AllocationCreated transport a)) (taken_addresses families all) (λ a there. refl),
-  passes-filter (is_awaited_by e) (λ f. not (list_any (is_of_family f) (taken_addresses families all))) families,
-)
-
--- IPv4 of two families fails, and IPv6 is requested again
-denied-fits : (e : TurnEvent) (families : List AddressFamily) → is_family_list families ≡ true → leb 2 (length families) ≡ true
-    → cond (is_like e (AllocationCreateFailed IPV4)) 1 0 + passes (is_awaited_by e) (IPV6 ∷ []) ≤ passes (is_awaited_by e) families
-denied-fits e (IPV4 ∷ IPV6 ∷ []) list two = rw (failed-like e IPV4) (omega arith)
-denied-fits e (IPV6 ∷ IPV4 ∷ []) list two = rw (failed-like e IPV4) (omega arith)
-denied-fits e families list two = cc
-
--- while an ALLOCATE is answered, each family is requested once
-abbrev pub IsSettled : State → Type 0
-IsSettled s = s.phase ≡ Authenticating → is_family_list s.families ≡ true
+-- ---- a signed reply
 
 module _ (e : TurnEvent) where
-  allocated-spends : (lifetime : ℕ) (all : List SocketAddr) (now : ℕ) (s t : State)
-      → t.events ≡ (s.events ++ map (AllocationCreated s.config.allocation_transport) (taken_addresses s.families all))
-      ++ map AllocationCreateFailed (missing_families (taken_addresses s.families all) s)
-      → t.grants ≡ s.grants ++ map (new_allocation lifetime now) (taken_addresses s.families all) → t.families ≡ [] → Spends e s t
-  allocated-spends lifetime all now s t events grants families =
-      let addresses = taken_addresses s.families all in
-      let created = map (AllocationCreated s.config.allocation_transport) addresses in
-      let lost = missing_families addresses s in
-      rw (events, grants, families) (omega (
-        arith,
-        passes-append (is_like e) (s.events ++ created) (map AllocationCreateFailed lost),
-        passes-append (is_like e) s.events created,
-        all-failed e lost,
-        allocated-fits e s.config.allocation_transport s.families all,
-        passes-append (is_to_come e) s.grants (map (new_allocation lifetime now) addresses),
-        passes-over (is_to_come e) (new_allocation lifetime now) addresses,
-        passes-none (λ a. is_to_come e (new_allocation lifetime now a)) addresses (λ a there. allocation-comes e _),
-      ))
-
-  granted-spends : (message : List ℕ) (now : ℕ) (s : State) → Spends e s (allocate_granted message now s)
-  granted-spends message now s =
-      by_found (Spends e s) (λ lifetime. allocated lifetime (taken_addresses s.families (relayed_in message)) now s) (lifetime_in message) (closed (fail_all s))
-      (λ lifetime is. allocated-spends lifetime (relayed_in message) now s (allocated lifetime (taken_addresses s.families (relayed_in message)) now s) refl refl refl)
-      (fail-spends e s (closed (fail_all s)) refl refl refl)
-
-  denied-again : (s t : State) → is_family_list s.families ≡ true → leb 2 (length s.families) ≡ true
-      → t.events ≡ s.events ++ AllocationCreateFailed IPV4 ∷ [] → t.grants ≡ s.grants → t.families ≡ IPV6 ∷ []
-      → Spends e s t
-  denied-again s t list two events grants families =
-      rw (events, grants, families) (omega (arith, denied-fits e s.families list two, passes-append (is_like e) s.events (AllocationCreateFailed IPV4 ∷ [])))
-
-  denied-spends : (fresh : ℕ) (message : List ℕ) (now : ℕ) (s : State) → is_family_list s.families ≡ true → Spends e s (allocate_denied fresh message now s)
-  denied-spends fresh message now s list =
-      by_test (Spends e s) (has_code family_not_supported message && leb 2 (length s.families)) again (closed (fail_all s))
-      (λ f. denied-again s again list (and_parts (has_code family_not_supported message) (leb 2 (length s.families)) f).1 refl refl refl)
-      (λ f. fail-spends e s (closed (fail_all s)) refl refl refl)
-    where
-      again : State
-      again = requested fresh ForAllocation now (wait (AllocationCreateFailed IPV4 ∷ []) (record (in_phase s.phase s) { families = IPV6 ∷ [] }))
-
-  pub signed-spends : (is_granted : Bool) (message : List ℕ) (now : ℕ) (s : State) → IsSettled s → Spends e s (signed_step is_granted message now s).1
-  signed-spends is_granted message now s settled = by s.phase refl is_granted
+  pub signed-spends : (is_granted : Bool) (message : List ℕ) (now : ℕ) (s : State) → IsSettled s → HasLoneConnects s → AllHaveGrant s → Spends e s (signed_step is_granted message now s).1
+  signed-spends is_granted message now s settled lone asked = by s.phase refl is_granted
     where
       t : State
       t = transaction_ended (id_of message) s
@@ -401,10 +311,10 @@ module _ (e : TurnEvent) where
       by : (p : Phase) → s.phase ≡ p → (g : Bool) → Spends e s (signed_step g message now s).1
       by Authenticating f true =
           let is : signed_step true message now s ≡ (Handled, allocate_granted message now t) = rw f refl in
-          subst (λ (x : Outcome × State). Spends e s x.1) (sym is) (granted-spends message now t)
+          subst (λ (x : Outcome × State). Spends e s x.1) (sym is) (granted-spends e message now t)
       by Authenticating f false =
           let is : signed_step false message now s ≡ (Handled, allocate_denied (fresh_id s) message now t) = rw f refl in
-          subst (λ (x : Outcome × State). Spends e s x.1) (sym is) (denied-spends (fresh_id s) message now t (settled f))
+          subst (λ (x : Outcome × State). Spends e s x.1) (sym is) (denied-spends e (fresh_id s) message now t (settled f))
       by p f g =
           let is : signed_step g message now s ≡ response_step g message now s = rw f refl in
-          subst (λ (x : Outcome × State). Spends e s x.1) (sym is) (response-spends e g message now s)
+          subst (λ (x : Outcome × State). Spends e s x.1) (sym is) (response-spends e g message now s lone asked)

@@ -1,29 +1,34 @@
 -- What a call requests may be told once more.
-use Rattle.std.proofs.Common.{◌≡◌, ◌⊎◌, ◌∙◌, ℕ, ◌+◌, ◌≤◌, Bool, true, false, cond, not, ◌&&◌, List, [], ◌∷◌, map, filter_map, Option, Some, None, Result, refl, sym, subst, arith, inl, inr}
+use Rattle.std.proofs.Common.{◌≡◌, ◌⊎◌, ◌∙◌, ℕ, ◌+◌, ◌≤◌, Bool, true, false, cond, not, ◌&&◌, ◌||◌, List, [], ◌∷◌, map, filter_map, Option, Some, None, Result, refl, sym, subst, arith, inl, inr}
 use Rattle.std.specs.Prelude.{is_none, is_some}
 use Rattle.std.specs.List.{list_any}
 use Rattle.std.specs.Net.Socket.{socket_ip}
-use Rattle.std.proofs.lemmas.Bool.{and_parts, cases_Bool, false_from_ne_true}
+use Rattle.std.proofs.lemmas.Bool.{and_parts, cases_Bool, false_from_ne_true, or_parts}
 use Rattle.std.specs.declared.net.ip_addr.IpAddr.{IpAddr}
 use Rattle.std.specs.declared.net.socket_addr.SocketAddr.{SocketAddr}
 use Rattle.turn_stun.specs.declared.transport.TransportType.{TransportType}
+use Rattle.turn_stun.specs.declared.transport.TransportType.TheVariants.{Tcp}
 use Rattle.turn_agent.specs.Agent.{same_address}
 use Rattle.turn_client_api.specs.State.{State}
 use Rattle.turn_client_api.specs.declared.call.Call.{Call}
-use Rattle.turn_client_api.specs.declared.call.Call.TheVariants.{BindChannel, CreatePermission}
+use Rattle.turn_client_api.specs.declared.call.Call.TheVariants.{BindChannel, CreatePermission, TcpConnect}
 use Rattle.turn_client_api.specs.declared.error.BindChannelError.{BindChannelError}
 use Rattle.turn_client_api.specs.declared.error.CreatePermissionError.{CreatePermissionError}
+use Rattle.turn_client_api.specs.declared.error.TcpConnectError.{TcpConnectError}
 use Rattle.turn_client_api.specs.declared.event.TurnEvent.{TurnEvent}
 use Rattle.turn_client_api.specs.declared.event.TurnEvent.TheVariants.{PermissionCreated, PermissionCreateFailed, ChannelCreated, ChannelCreateFailed}
+use Rattle.turn_client_api.specs.declared.event.TurnEvent.TheVariants.{TcpConnected, TcpConnectFailed}
 use Rattle.turn_client_api.specs.declared.grant.Grant.{Grant}
-use Rattle.turn_client_api.specs.declared.grant.Grant.TheVariants.{Permission, Channel}
+use Rattle.turn_client_api.specs.declared.grant.Grant.TheVariants.{Permission, Channel, Connect, Offer, Connection}
 use Rattle.turn_client_api.specs.declared.grant.Progress.{Progress}
 use Rattle.turn_client_api.specs.declared.grant.Progress.TheVariants.{Pending}
-use Rattle.turn_client_api.specs.declared.grant.Purpose.TheVariants.{ForPermission}
-use Rattle.turn_client_api.specs.Calls.{bind_channel, bound_by, channel_step, channels_to, create_permission_step, free_number, is_allocated, is_in_progress, missing_permission}
+use Rattle.turn_client_api.specs.declared.grant.Purpose.TheVariants.{ForConnect, ForPermission}
+use Rattle.turn_client_api.specs.Connections.{is_connected, is_connecting, is_connection_to}
+use Rattle.turn_client_api.specs.Calls.{bind_channel, bound_by, channel_step, channels_to, connect_step, create_permission_step, free_number, is_allocated}
+use Rattle.turn_client_api.specs.Calls.{is_in_progress, missing_permission, tcp_connect_step}
 use Rattle.turn_client_api.specs.Calls.{permission_step, progress_to, reserved_from}
 use Rattle.turn_client_api.specs.Calls.{bind_channel_step}
-use Rattle.turn_client_api.specs.Grants.{find_allocation_to, is_permission_of, permission_state, same_ip, with_grant}
+use Rattle.turn_client_api.specs.Grants.{find_allocation_to, has_active_permission, is_connect_to, is_permission_of, permission_state, same_ip, with_grant}
 use Rattle.turn_client_api.specs.Requests.{fresh_id, requested}
 use Rattle.turn_client_api.specs.Steps.{state_after}
 use Rattle.turn_client_laws.proofs.AddressLemmas.{same_address-true, same_ip-true}
@@ -31,7 +36,7 @@ use Rattle.turn_client_laws.proofs.CaseLemmas.{by_test}
 use Rattle.turn_client_laws.proofs.DoubleLemmas.{no-permission}
 use Rattle.turn_client_laws.proofs.HasLemmas.{Has, filter_map-has, has-right}
 use Rattle.turn_client_laws.proofs.InAllocationLemmas.{any-has, has-any}
-use Rattle.turn_client_runs.specs.Told.{is_about, is_request_for, is_to_come, requested_by}
+use Rattle.turn_client_runs.specs.Told.{is_about, is_connection, is_request_for, is_to_come, requested_by}
 use Rattle.turn_client_runs.proofs.LastingCounts.{passes, passes-append}
 use Rattle.turn_client_runs.proofs.ToldCalls.{in-allocation}
 use Rattle.turn_client_runs.proofs.ToldLemmas.{Spends, load, spends-same}
@@ -62,6 +67,21 @@ about-channel : (e : TurnEvent) (number : ℕ) (peer : SocketAddr) (g : Grant) �
 about-channel (ChannelCreated over other) number peer (Channel n to progress) is about = open-channel n to peer other progress is about
 about-channel (ChannelCreateFailed over other) number peer (Channel n to progress) is about = open-channel n to peer other progress is about
 about-channel e number peer g is about = cc
+
+at-peer : (a peer to : SocketAddr) → same_address peer to ≡ true → same_address a to ≡ true → same_address a peer ≡ true
+at-peer a peer to same is = subst (λ (x : SocketAddr). same_address a x ≡ true) (sym (same_address-true peer to same)) is
+
+of-connection : (to peer : SocketAddr) (g : Grant) → same_address peer to ≡ true → is_connection to g ≡ true → (is_connect_to peer g ≡ true) ⊎ (is_connection_to peer g ≡ true)
+of-connection to peer (Connect other) same is = inl (at-peer other peer to same is)
+of-connection to peer (Offer offer) same is = inr (at-peer offer.peer peer to same is)
+of-connection to peer (Connection c) same is = inr (at-peer c.peer peer to same is)
+of-connection to peer g same is = cc
+
+-- a data connection to the peer is requested, or is there
+about-connection : (e : TurnEvent) (peer : SocketAddr) (g : Grant) → is_to_come e (Connect peer) ≡ true → is_about e g ≡ true → (is_connect_to peer g ≡ true) ⊎ (is_connection_to peer g ≡ true)
+about-connection (TcpConnected to) peer g is about = of-connection to peer g is about
+about-connection (TcpConnectFailed to) peer g is about = of-connection to peer g is about
+about-connection e peer g is about = cc
 
 module _ (e : TurnEvent) (s : State) where
   none-permission : (ip : IpAddr) → is_some (permission_state ip s) ≡ false → is_to_come e (Permission ip (Pending true)) ≡ true → list_any (is_about e) s.grants ≡ false
@@ -223,3 +243,53 @@ module _ (e : TurnEvent) (s : State) where
                 | inr has ↦ inl (rw has refl)
               ]),
             )
+
+  -- ---- a data connection
+
+  module _ (peer : SocketAddr) (now : ℕ) where
+    abbrev joined : State
+    joined = requested (fresh_id s) (ForConnect peer) now (with_grant (Connect peer) s)
+
+    abbrev Joins : Result Unit TcpConnectError × State → Type 0
+    Joins x = Spends e s x.1 ⊎ ((x.1 ≡ joined) × ((is_connected peer s || is_connecting peer s) ≡ false))
+
+    joins : Joins (tcp_connect_step peer now s)
+    joins = in-allocation e s Joins (find_allocation_to Tcp (socket_ip peer) s) (socket_ip peer) now _ (connect_step peer now s) (λ x spends. inl spends)
+        (by_test Joins (not (is_allocated s.phase)) _ _ (λ f. inl same)
+        (λ f. by_test Joins (not (has_active_permission (socket_ip peer) s)) _ _ (λ g. inl same)
+        (λ g. by_test Joins (is_connected peer s || is_connecting peer s) _ _ (λ h. inl same) (λ h. inr (refl, h)))))
+
+    joined-load : load e joined ≤ load e s + cond (is_to_come e (Connect peer)) 1 0
+    joined-load = omega (arith, passes-append (is_to_come e) s.grants (Connect peer ∷ []))
+
+    connect-request : is_to_come e (Connect peer) ≡ true → is_request_for e (TcpConnect peer now) ≡ true
+    connect-request is = by e is
+      where
+        by : (x : TurnEvent) → is_to_come x (Connect peer) ≡ true → is_request_for x (TcpConnect peer now) ≡ true
+        by (TcpConnected other) is = is
+        by (TcpConnectFailed other) is = is
+        by x is = cc
+
+    none-connection : (is_connected peer s || is_connecting peer s) ≡ false → is_to_come e (Connect peer) ≡ true → list_any (is_about e) s.grants ≡ false
+    none-connection free is = false_from_ne_true (list_any (is_about e) s.grants) (λ some.
+        let (g, there, about) = any-has (is_about e) s.grants some in
+        let (none, idle) = or_parts (is_connected peer s) (is_connecting peer s) free in
+        elim (about-connection e peer g is about) [
+          | inl connects ↦ clash (is_connecting peer s) (has-any (is_connect_to peer) g s.grants there connects) idle
+          | inr joined ↦ clash (is_connected peer s) (has-any (is_connection_to peer) g s.grants there joined) none
+        ])
+
+    pub connect-requests : load e (state_after (TcpConnect peer now) s) ≤ load e s + requested_by e (TcpConnect peer now) s
+    connect-requests = by joins
+      where
+        call : Call
+        call = TcpConnect peer now
+
+        by : Joins (tcp_connect_step peer now s) → load e (state_after call s) ≤ load e s + requested_by e call s
+        by (inl spends) = omega (arith, spends)
+        by (inr (is, free)) =
+            let there : Has (Connect peer) (state_after call s).grants =
+            subst (λ (u : State). Has (Connect peer) u.grants) (sym is) (has-right (Connect peer) s.grants (Connect peer ∷ []) (inl refl)) in
+            let more : load e (state_after call s) ≤ load e s + cond (is_to_come e (Connect peer)) 1 0 =
+            subst (λ (u : State). load e u ≤ load e s + cond (is_to_come e (Connect peer)) 1 0) (sym is) joined-load in
+            omega (arith, more, one-requested call (Connect peer) there connect-request (none-connection free))

@@ -8,9 +8,10 @@ use Rattle.turn_stun.specs.declared.transport.TransportType.{TransportType}
 use Rattle.turn_client_api.specs.Config.{Config, is_family_list}
 use Rattle.turn_client_api.specs.State.{State, initial}
 use Rattle.turn_client_api.specs.declared.call.Call.{Call}
-use Rattle.turn_client_api.specs.declared.call.Call.TheVariants.{BindChannel, CreatePermission, PollEvent, PollRecv, Recv}
+use Rattle.turn_client_api.specs.declared.call.Call.TheVariants.{BindChannel, CreatePermission, PollEvent, PollRecv, Recv, TcpConnect}
 use Rattle.turn_client_api.specs.declared.event.TurnEvent.{TurnEvent}
 use Rattle.turn_client_api.specs.declared.event.TurnEvent.TheVariants.{PermissionCreated, PermissionCreateFailed, ChannelCreated, ChannelCreateFailed}
+use Rattle.turn_client_api.specs.declared.event.TurnEvent.TheVariants.{TcpConnected, TcpConnectFailed}
 use Rattle.turn_client_api.specs.declared.grant.Grant.{Grant}
 use Rattle.turn_types.specs.declared.family.AddressFamily.{AddressFamily}
 use Rattle.turn_client_laws.proofs.InAllocationLemmas.{has-any}
@@ -21,23 +22,28 @@ use Rattle.turn_client_laws.specs.Handled.{Input, handled}
 use Rattle.turn_client_laws.specs.LawsAllocates.{AllocatesInOrder}
 use Rattle.turn_client_laws.specs.LawsHandled.{ProcessesInputs, TakesInput}
 use Rattle.turn_client_laws.specs.LawsOrder.{IsUngranted}
+use Rattle.turn_client_laws.specs.LawsStates.{HasGrantsAsked, HasItsGrant}
 use Rattle.turn_client_laws.proofs.ConfiguredLemmas.{call-configured}
 use Rattle.turn_client_laws.proofs.EditsOfMessages.{edits-IsKept}
 use Rattle.turn_client_laws.proofs.FixedFields.{fixed-all-edits}
-use Rattle.turn_client_laws.proofs.HasLemmas.{Has}
+use Rattle.turn_client_laws.proofs.HasLemmas.{Has, has-all}
+use Rattle.turn_client_laws.proofs.ListedGrants.{AllHaveGrant, StayFounded, StayFounded-KeepsAllEdits}
 use Rattle.turn_client_laws.proofs.StandLemmas.{has-contains}
 use Rattle.turn_client_laws.proofs.TurnChainLemmas.{calls-do}
 use Rattle.turn_client_laws.proofs.TurnKeepLemmas.{before-kept}
-use Rattle.turn_client_runs.specs.Told.{CausesAreToldOnce, IsOfGrant, IsToldOncePerRequest, is_about, due_of, in_calls, is_awaited_by, is_like, is_to_come, requested_by, told_by}
+use Rattle.turn_client_runs.specs.Told.{CausesAreToldOnce, IsOfGrant, IsToldOncePerRequest, attempts_in, caused_by, due_of, in_calls, is_about, is_awaited_by, is_like, is_to_come, told_by}
 use Rattle.turn_client_runs.proofs.LastingCounts.{passes, passes-none}
+use Rattle.turn_client_runs.proofs.LoneCalls.{call-lone, input-lone}
+use Rattle.turn_client_runs.proofs.LoneConnects.{HasLoneConnects}
 use Rattle.turn_client_runs.proofs.QuietLemmas.{calls-keep}
 use Rattle.turn_client_runs.proofs.RunGrants.{Keeps, call-keeps, first-keeps, keeps-signed}
 use Rattle.turn_client_runs.proofs.ToldCalls.{quiet-spends}
 use Rattle.turn_client_runs.proofs.ToldCounts.{count-passes, passes-first}
-use Rattle.turn_client_runs.proofs.ToldInputs.{gone-spends, lead-spends}
+use Rattle.turn_client_runs.proofs.ToldInputs.{Suits, gone-spends, lead-brings}
 use Rattle.turn_client_runs.proofs.ToldLemmas.{Spends, load, spends-same, spends-trans}
-use Rattle.turn_client_runs.proofs.ToldReplies.{IsSettled}
-use Rattle.turn_client_runs.proofs.ToldRequests.{channel-requests, permission-requests}
+use Rattle.turn_client_runs.proofs.ToldAllocates.{IsSettled}
+use Rattle.turn_client_runs.proofs.ToldRequests.{channel-requests, connect-requests, permission-requests}
+use Rattle.turn_client_runs.proofs.UnboundStreams.{AreUnbound, call-unbound, first-unbound, input-unbound-at}
 
 -- ---- the inputs of a call
 
@@ -51,10 +57,27 @@ input-configured = before-kept (λ s t. t.config ≡ s.config) (edits-IsKept (λ
 settled : (s : State) → AllocatesInOrder s → NamesOnce s → IsSettled s
 settled s (times, its, families) names phase = elim (families (subst IsUngranted (sym phase) tt)) [ inl same ↦ rw same names | inr (one, two) ↦ rw one refl ]
 
-input-settled : (call : Call) (s : State) → Keeps s → NamesOnce s → (one : Input) → Has one (handled call s) → IsSettled one.before
-input-settled call s keeps names one there =
+-- what every client keeps about the requests and the streams of its data connections
+abbrev KeepsConnections : State → Type 0
+KeepsConnections s = HasLoneConnects s × AreUnbound s
+
+call-connections : (call : Call) (s : State) → KeepsConnections s → KeepsConnections (state_after call s)
+call-connections call s (lone, unbound) = (call-lone call s lone, call-unbound call s unbound)
+
+-- a request is listed for what exists
+input-asked : (call : Call) (s : State) → HasGrantsAsked s → (one : Input) → Contains (handled call s) one → AllHaveGrant one.before
+input-asked call s asked one among =
+    before-kept StayFounded (edits-IsKept StayFounded StayFounded-KeepsAllEdits (λ s streams h. h)) call s one among (λ l there. has-all (HasItsGrant s) l s.listed asked there)
+
+input-suits : (call : Call) (s : State) → Keeps s → KeepsConnections s → NamesOnce s → (one : Input) → Has one (handled call s) → Suits one
+input-suits call s keeps (lone, unbound) names one there =
     let among = has-contains one (handled call s) there in
-    settled one.before (keeps-signed call s keeps one among).0 (rw (input-configured call s one among) names)
+    record {
+      settled = settled one.before (keeps-signed call s keeps one among).0 (rw (input-configured call s one among) names);
+      lone = input-lone call s one among lone;
+      asked = input-asked call s keeps.0 one among;
+      unbound = input-unbound-at call s one among unbound;
+    }
 
 -- the event may come only of such a grant
 comes-about : (e : TurnEvent) (g : Grant) → is_to_come e g ≡ true → is_about e g ≡ true
@@ -66,39 +89,46 @@ none-awaited (PermissionCreated over ip) of families = passes-none _ families (�
 none-awaited (PermissionCreateFailed over ip) of families = passes-none _ families (λ family there. refl)
 none-awaited (ChannelCreated over peer) of families = passes-none _ families (λ family there. refl)
 none-awaited (ChannelCreateFailed over peer) of families = passes-none _ families (λ family there. refl)
+none-awaited (TcpConnected peer) of families = passes-none _ families (λ family there. refl)
+none-awaited (TcpConnectFailed peer) of families = passes-none _ families (λ family there. refl)
 none-awaited e of families = absurd of
 
 module _ (e : TurnEvent) where
-  inputs-spend : (call : Call) (s : State) → Keeps s → NamesOnce s → TakesInput call → Spends e s (state_after call s)
-  inputs-spend call s keeps names takes = by (calls-do call s takes)
+  inputs-bring : (call : Call) (s : State) → Keeps s → KeepsConnections s → NamesOnce s → TakesInput call → load e (state_after call s) ≤ load e s + attempts_in e (handled call s)
+  inputs-bring call s keeps connections names takes = by (calls-do call s takes)
     where
-      by : ProcessesInputs call s → Spends e s (state_after call s)
-      by (inl lead) = lead-spends e (handled call s) s (state_after call s) (input-settled call s keeps names) lead
+      by : ProcessesInputs call s → load e (state_after call s) ≤ load e s + attempts_in e (handled call s)
+      by (inl lead) = lead-brings e (handled call s) s (state_after call s) (input-suits call s keeps connections names) lead
       by (inr end) =
           let t = connection_gone end.local s in
           let u = without_stream end.local t in
-          subst (Spends e s) (sym end.gone) (spends-trans e s t u (gone-spends e end.local s) (spends-same e t u refl refl refl))
+          let spends : Spends e s (state_after call s) = subst (Spends e s) (sym end.gone) (spends-trans e s t u (gone-spends e end.local s) (spends-same e t u refl refl refl)) in
+          omega (arith, spends)
 
   -- ---- a call
 
-  call-tells : (call : Call) (s : State) → Keeps s → NamesOnce s → told_by e call s + load e (state_after call s) ≤ load e s + requested_by e call s
-  call-tells PollEvent s keeps names = omega (arith, passes-first (is_like e) s.events)
-  call-tells (CreatePermission transport ip now) s keeps names = omega (arith, permission-requests e s transport ip now)
-  call-tells (BindChannel transport peer now) s keeps names = omega (arith, channel-requests e s transport peer now)
-  call-tells (Recv packet now) s keeps names = omega (arith, inputs-spend (Recv packet now) s keeps names tt)
-  call-tells (PollRecv now) s keeps names = omega (arith, inputs-spend (PollRecv now) s keeps names tt)
-  call-tells call s keeps names = omega (arith, quiet-spends e s call tt)
+  call-tells : (call : Call) (s : State) → Keeps s → KeepsConnections s → NamesOnce s → told_by e call s + load e (state_after call s) ≤ load e s + caused_by e call s
+  call-tells PollEvent s keeps connections names = omega (arith, passes-first (is_like e) s.events)
+  call-tells (CreatePermission transport ip now) s keeps connections names = omega (arith, permission-requests e s transport ip now)
+  call-tells (BindChannel transport peer now) s keeps connections names = omega (arith, channel-requests e s transport peer now)
+  call-tells (TcpConnect peer now) s keeps connections names = omega (arith, connect-requests e s peer now)
+  call-tells (Recv packet now) s keeps connections names = omega (arith, inputs-bring (Recv packet now) s keeps connections names tt)
+  call-tells (PollRecv now) s keeps connections names = omega (arith, inputs-bring (PollRecv now) s keeps connections names tt)
+  call-tells call s keeps connections names = omega (arith, quiet-spends e s call tt)
 
   -- ---- a run
 
   call-names : (call : Call) (s : State) → NamesOnce s → NamesOnce (state_after call s)
   call-names call s names = rw (call-configured call s) names
 
-  calls-tell : (calls : List Call) (s : State) → Keeps s → NamesOnce s
-      → in_calls (told_by e) s calls + load e (state_after_all s calls) ≤ load e s + in_calls (requested_by e) s calls
-  calls-tell [] s keeps names = omega arith
-  calls-tell (call ∷ calls) s keeps names =
-      omega (arith, call-tells call s keeps names, calls-tell calls (state_after call s) (call-keeps call s keeps) (call-names call s names))
+  calls-tell : (calls : List Call) (s : State) → Keeps s → KeepsConnections s → NamesOnce s
+      → in_calls (told_by e) s calls + load e (state_after_all s calls) ≤ load e s + in_calls (caused_by e) s calls
+  calls-tell [] s keeps connections names = omega arith
+  calls-tell (call ∷ calls) s keeps connections names = omega (
+    arith,
+    call-tells call s keeps connections names,
+    calls-tell calls (state_after call s) (call-keeps call s keeps) (call-connections call s connections) (call-names call s names),
+  )
 
   due-load : (s : State) → due_of e s ≡ load e s
   due-load s = omega (arith, count-passes (is_like e) s.events, count-passes (is_to_come e) s.grants, count-passes (is_awaited_by e) s.families)
@@ -110,13 +140,13 @@ module _ (e : TurnEvent) where
   none-to-come gs none = passes-none (is_to_come e) gs (λ g there. false_from_ne_true (is_to_come e g) (λ is.
       let no : true ≡ false = sym (has-any (is_about e) g gs there (comes-about e g is)) ∙ none in cc))
 
-  once-requested : (calls : List Call) (s : State) → Keeps s → NamesOnce s → IsToldOncePerRequest e s calls
-  once-requested calls s keeps names of none few =
+  once-requested : (calls : List Call) (s : State) → Keeps s → KeepsConnections s → NamesOnce s → IsToldOncePerRequest e s calls
+  once-requested calls s keeps connections names of none few =
       let t = state_after_all s calls in
       omega (
         arith,
         few,
-        calls-tell calls s keeps names,
+        calls-tell calls s keeps connections names,
         none-to-come s.grants none,
         none-awaited e of s.families,
         count-passes (is_like e) s.events,
@@ -129,5 +159,8 @@ causes-told-once transport local remote config seed calls names earlier middle l
     let first = initial transport local remote config seed in
     let s = state_after_all first earlier in
     let keeps = calls-keep Keeps call-keeps earlier first (first-keeps transport local remote config seed) in
-    let still = calls-keep NamesOnce (call-names e) earlier first names in
-    (omega (arith, calls-tell e middle s keeps still, due-load e s, due-load e (state_after_all s middle)), once-requested e middle s keeps still)
+    let connections = calls-keep KeepsConnections call-connections earlier first ((λ id peer none. absurd none), first-unbound transport local remote config seed) in
+    let still = calls-keep NamesOnce (call-names e) earlier first names in (
+      omega (arith, calls-tell e middle s keeps connections still, due-load e s, due-load e (state_after_all s middle)),
+      once-requested e middle s keeps connections still,
+    )

@@ -1,5 +1,5 @@
 -- A `poll` tells of what may be told, once.
-use Rattle.std.proofs.Common.{◌≡◌, ℕ, ◌+◌, Bool, true, ◌&&◌, ◌||◌, List, [], ◌∷◌, ◌++◌, map, find, fold, reverse, Option, Some, None, refl, arith, inl, inr}
+use Rattle.std.proofs.Common.{◌≡◌, ℕ, ◌+◌, Bool, true, false, ◌&&◌, ◌||◌, List, [], ◌∷◌, ◌++◌, map, find, fold, reverse, Option, Some, None, refl, arith, inl, inr}
 use Rattle.std.specs.Prelude.{is_some}
 use Rattle.std.proofs.lemmas.Bool.{and_parts, cases_Bool, eq-eqb}
 use Rattle.turn_types.specs.declared.family.AddressFamily.{AddressFamily}
@@ -8,7 +8,7 @@ use Rattle.turn_client_api.specs.State.{State, agent_of, later_by}
 use Rattle.turn_client_api.specs.declared.event.TurnEvent.{TurnEvent}
 use Rattle.turn_client_api.specs.declared.event.TurnEvent.TheVariants.{AllocationCreateFailed, ChannelCreateFailed}
 use Rattle.turn_client_api.specs.declared.grant.Grant.{Grant}
-use Rattle.turn_client_api.specs.declared.grant.Grant.TheVariants.{Channel}
+use Rattle.turn_client_api.specs.declared.grant.Grant.TheVariants.{Channel, Connection}
 use Rattle.turn_client_api.specs.declared.grant.Progress.TheVariants.{Active, Reserved}
 use Rattle.turn_client_api.specs.declared.grant.Purpose.{Purpose}
 use Rattle.turn_client_api.specs.declared.grant.Relay.{Relay}
@@ -23,41 +23,51 @@ use Rattle.turn_client_api.specs.Poll.{is_over, is_timed_out_offer, is_unbound, 
 use Rattle.turn_client_api.specs.Poll.{silent_step}
 use Rattle.turn_client_api.specs.Poll.{timed_out_purposes, timed_out_step, timed_step, unreported_in}
 use Rattle.turn_client_laws.proofs.CaseLemmas.{answer-by, by_found, by_test}
-use Rattle.turn_client_laws.proofs.HasLemmas.{Has, has-found}
+use Rattle.turn_client_laws.proofs.HasLemmas.{Has, cases_Option, has-found}
 use Rattle.turn_client_laws.proofs.LapseLemmas.{has-unreversed}
 use Rattle.turn_client_laws.proofs.LapseSteps.{lapsed_in-does}
 use Rattle.turn_client_runs.specs.Told.{is_like, is_to_come}
 use Rattle.turn_client_runs.proofs.LastingCounts.{passes, passes-append}
 use Rattle.turn_client_runs.proofs.ToldCounts.{passes-reverse}
 use Rattle.turn_client_runs.proofs.ToldLemmas.{IsLosable, Spends, channel-reserved, spends-failed, spends-fold, spends-removed, spends-replaced-first, spends-same, spends-trans}
-use Rattle.turn_client_runs.proofs.ToldReplies.{all-failed}
+use Rattle.turn_client_runs.proofs.ToldAllocates.{all-failed}
 
 -- ---- what fails is no reserved channel
 
 pending-channel : (g : Grant) → is_pending_channel g ≡ true → IsLosable g
 pending-channel (Channel number peer (Reserved until)) is = cc
+pending-channel (Connection c) is = cc
 pending-channel g is = tt
 
 pending-permission : (g : Grant) → is_pending_permission g ≡ true → IsLosable g
 pending-permission (Channel number peer (Reserved until)) is = cc
+pending-permission (Connection c) is = cc
 pending-permission g is = tt
 
 pending-connect : (g : Grant) → is_connect g ≡ true → IsLosable g
 pending-connect (Channel number peer (Reserved until)) is = cc
+pending-connect (Connection c) is = cc
 pending-connect g is = tt
 
 module _ (given : Option ℕ) (purposes : List Purpose) (now : ℕ) where
   lapsed-permission : (g : Grant) → is_lapsed_permission now g ≡ true → IsLosable g
   lapsed-permission (Channel number peer (Reserved until)) is = cc
+  lapsed-permission (Connection c) is = cc
   lapsed-permission g is = tt
 
   unbound-connection : (g : Grant) → is_unbound purposes now g ≡ true → IsLosable g
   unbound-connection (Channel number peer (Reserved until)) is = cc
+  unbound-connection (Connection c) is = elim (cases_Option c.deadline) [
+    | inl none ↦ let no : false ≡ true = rw none at is in cc
+    | inr (deadline, f) ↦ rw f refl
+  ]
   unbound-connection g is = tt
 
   timed_out-offer : (o : Option ℕ) (g : Grant) → is_timed_out_offer o g ≡ true → IsLosable g
   timed_out-offer None (Channel number peer (Reserved until)) is = cc
   timed_out-offer (Some id) (Channel number peer (Reserved until)) is = cc
+  timed_out-offer None (Connection c) is = cc
+  timed_out-offer (Some id) (Connection c) is = cc
   timed_out-offer o g is = tt
 
   asked-for : (family : AddressFamily) (which : Grant → Bool) → ((g : Grant) → which g ≡ true → IsLosable g) → (g : Grant) → (is_of family g && which g && is_for_any purposes g) ≡ true → IsLosable g
@@ -101,7 +111,7 @@ module _ (given : Option ℕ) (purposes : List Purpose) (now : ℕ) where
         by_test (Spends e t) (allocation_expires purposes now t a) (without_grants (is_of (family_of a.relayed)) t) (lapsed_in (family_of a.relayed) given purposes now t)
         (λ is. spends-removed e (is_of (family_of a.relayed)) t (without_grants (is_of (family_of a.relayed)) t) refl refl refl) (λ other. lapsed_in-spends (family_of a.relayed) t))
 
--- ---- offers are reported, of which nothing is counted
+-- ---- offers are reported, of which as much may come
 
 reported-comes : (e : TurnEvent) (g : Grant) → is_to_come e (as_reported g) ≡ is_to_come e g
 reported-comes e g = grind arith

@@ -80,7 +80,9 @@ pub struct Replayed {
 /// - `once`: no cause is told twice. Of each requested address family at most one event tells that it was allocated
 ///   or that it failed, as a configuration names each once. Between two events that tell that a permission or a
 ///   channel was created, or two that tell that it failed, the caller requested it anew, and it did not exist then.
-///   Of data connections this does not speak (RFC 8656, sections 7.3, 9 and 12).
+///   Of the data connections to a peer one event, that one is bound or that it failed, answers each `tcp_connect`
+///   that found none, and each attempt of the server that the client accepted (RFC 8656, sections 7.3, 9 and 12; RFC
+///   6062, sections 4.3 and 4.4).
 /// - `short`: after a `poll_recv` that returns none, each stream holds fewer than 65,555 bytes, if the bytes
 ///   received for it are numbers below 256, as in any memory.
 /// - `cuts`: over TCP, if `poll_recv` returns none and changes nothing, pieces of a stream at one time, none of

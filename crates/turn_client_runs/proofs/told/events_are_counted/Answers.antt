@@ -1,4 +1,8 @@
 use Rattle.std.proofs.Common.{refl}
+use Rattle.turn_stun.specs.Attributes.{seen_after}
+use Rattle.turn_stun.specs.Message.{attributes_from, fault_of}
+use Rattle.turn_client_api.specs.Streams.{steps_until_payload}
+use Rattle.turn_client_laws.specs.Handled.{inputs_taken}
 use Rattle.turn_client_runs.proofs.told.events_are_counted.Goals as goal
 
 pub returns-clause-ended : goal.returns-clause-ended
@@ -15,3 +19,23 @@ returns-clause-requested c = λ s. refl
 
 pub returns-clause-after : goal.returns-clause-after
 returns-clause-after c = λ s. refl
+
+pub returns-clause-joining : goal.returns-clause-joining
+returns-clause-joining c = λ s. refl
+
+pub returns-clause-failed : goal.returns-clause-failed
+returns-clause-failed c = λ s. refl
+
+pub returns-clause-over : goal.returns-clause-over
+returns-clause-over c = λ s. refl
+
+pub returns-clause-joined : goal.returns-clause-joined
+returns-clause-joined c = λ s. refl
+
+pub returns-clause-attempt : goal.returns-clause-attempt
+unfolding attributes_from fault_of seen_after steps_until_payload inputs_taken
+returns-clause-attempt c = λ s. refl
+
+pub returns-clause-offered : goal.returns-clause-offered
+unfolding attributes_from fault_of seen_after steps_until_payload
+returns-clause-offered c = λ s. refl
