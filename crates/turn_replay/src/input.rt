@@ -1,8 +1,8 @@
 //! The bytes of a trace, from a reader.
 
-ghost use Rattle.std.specs.Prelude.{◌≡◌, ◌+◌, ◌≤◌, ◌++◌, false, ℕ, List, [], IfOk, IfSome, Some, vec_len};
+ghost use Rattle.std.specs.Prelude.{◌≡◌, ◌+◌, ◌≤◌, ◌++◌, false, ℕ, List, [], IfSome, MatchResult, Some, vec_len};
 ghost use Rattle.std.specs.Io.KnownBytes.{Consumes, IsAtEnd};
-ghost use Rattle.turn_replay.specs.Answer.{IsRead, ReadsMore, trace_bytes};
+ghost use Rattle.turn_replay.specs.Answer.{IsRead, LosesMore, ReadsMore, ReadsSome, trace_bytes};
 
 use crate::trace::MAX_TRACE;
 use std::alloc::{AllocError, Global};
@@ -33,9 +33,10 @@ impl From<AllocError> for InputError {
 /// # Errors
 ///
 /// `ReadFailed` if the reader fails, except by an interruption, after which it reads again. `OutOfMemory` if memory
-/// allocation for the bytes failed.
+/// allocation for the bytes failed. Then too at most one byte more than a trace may have was read, and is lost.
 pub fn read_input<R: Read>(alloc: Global, reader: &mut R) -> Result<Vec<u8>, InputError>
-    ensures { IfOk result (λ input. IsRead (R.remaining reader.old) (R.remaining reader.new) input.items) }
+    ensures { MatchResult result (λ input. IsRead (R.remaining reader.old) (R.remaining reader.new) input.items)
+        (λ _. ReadsSome (R.remaining reader.old) (R.remaining reader.new)) }
 {
     let mut input = Vec::new(alloc);
     for _ in 0..u64::MAX {
@@ -52,7 +53,8 @@ pub fn read_input<R: Read>(alloc: Global, reader: &mut R) -> Result<Vec<u8>, Inp
 /// Reads once. Returns `false` if the end was reached.
 fn read_more<R: Read>(reader: &mut R, input: &mut Vec<u8>) -> Result<bool, InputError>
     requires { vec_len input.old ≤ 1048576 }
-    ensures { IfOk result (λ goes_on. ReadsMore (R.remaining reader.old) (R.remaining reader.new) input.old.items input.new.items goes_on) }
+    ensures { MatchResult result (λ goes_on. ReadsMore (R.remaining reader.old) (R.remaining reader.new) input.old.items input.new.items goes_on)
+        (λ error. LosesMore (R.remaining reader.old) (R.remaining reader.new) input.old.items error) }
 {
     let mut buffer = [0; 4096];
     let room = (MAX_TRACE + 1 - input.len()).min(buffer.len());

@@ -26,6 +26,7 @@ pub fn exit_code<R: Read, W: Write>(alloc: Global, reader: &mut R, writer: &mut 
 /// failed`. It writes nothing else.
 ///
 /// The whole trace is parsed before a client runs, and the whole text is made before a byte of it is written.
+#[tactic(auto, using(crate::proofs::InputLemmas::read_some))]
 pub fn run<R: Read, W: Write>(alloc: Global, reader: &mut R, writer: &mut W) -> Status
     ensures { Runs (R.remaining reader.old) (R.remaining reader.new) (W.contents writer.old) (W.contents writer.new) result }
 {
