@@ -5,12 +5,13 @@
 --     parts, joins         the tokens of a call's lifetimes are those of all but the last, and that of the last
 --     drop_glue            what a type's drop asks and gives is what a call of a generic function wants of it
 --     result_out           a `Result` by its two cases
+--     null_or              a pointer by its two cases
 use mathlib.Core.List.{List, [], ◌∷◌, ◌++◌}
 use Prim.Native.Nat.{ℕ, zero, suc}
 use seplogic.Ra.Ura.{Ura}
 use base.Fraction.{full_share}
 use base.Logic.{SProp, ent, sep, ex, emp, via, mono_l, comm∗, id⊢}
-use base.Fml.{Lft, GName, Share, ftrue, fsep, flent, flft}
+use base.Fml.{Fml, Lft, GName, Share, ftrue, fsep, flent, flft}
 use mir.Syntax.{Lifetime, Ty}
 use mir.Val.{Val, vptr, of_list}
 use types.Logic.{Logic, sem}
@@ -30,6 +31,7 @@ use denote.Exit.{Kept, left, yes, no}
 use denote.Lend.{lends_ref, left_lies}
 use denote.Memory.{part_at, part_of, mem}
 use denote.RattleType.{RattleType}
+use denote.RawPtr.{Ptr, block_ptr, null_ptr}
 use denote.Param.{arg}
 use denote.Param.Glue as glue
 use denote.Ref.{MutBor, MutRef}
@@ -161,3 +163,9 @@ module _ {M : Type 1} {𝓤 : Ura M} {𝓛 : Logic 𝓤} {K : Type 0} {Γ : List
   result_out t R S (Err x) v at_ok at_err =
       fpick t (λ us. fsplit t $ feq_l t (λ e. fpick t (λ vss. fsplit t $ feq_l t (λ e'. fsplit t $ move t (1 ∷ []) $ drop t $ at_err x vss.0 refl (ap only e
       ∙ ap (λ (ws : List Val). live 1 (of_list ws)) e')))))
+
+module _ {M : Type 1} {𝓤 : Ura M} {𝓛 : Logic 𝓤} {K : Type 0} {Γ : List (Item 𝓤)} {G : Goal 𝓤 𝓛.H} where
+  pub null_or : K → (p : Ptr) (F : Ptr → Fml) → (p ≡ null_ptr → Seq K 𝓛 (‵ (F null_ptr) ∷ Γ) G)
+      → ((b o : ℕ) → p ≡ block_ptr b o → Seq K 𝓛 (‵ (F (block_ptr b o)) ∷ Γ) G) → Seq K 𝓛 (‵ (F p) ∷ Γ) G
+  null_or t null_ptr F h k = h refl
+  null_or t (block_ptr b o) F h k = k b o refl

@@ -2,9 +2,10 @@
 use Rattle.std.specs.Prelude.{◌≡◌, ℕ, List}
 use Prim.Native.Nat.{zero, suc}
 use mir.Syntax.{Ty}
+use base.Fraction.{full_share}
 use base.Fml.{Fml, ftrue, fsep, fex}
 use denote.RattleType.{RattleType}
-use denote.RawPtr.{Ptr}
+use denote.RawPtr.{Ptr, block_ptr, null_ptr}
 use Rattle.std.specs.Box.Ownership.{box_owns}
 use Rattle.std.specs.declared.alloc.Global.{Global}
 use Rattle.std.specs.contracts.impls.GlobalAllocator.TheImpl.{ghosts}
@@ -15,6 +16,7 @@ use Rattle.turn_c_calls.specs.declared.answer.Answer.{Answer}
 use Rattle.turn_c_calls.specs.declared.request.Request.{Request}
 use Rattle.turn_c_calls.specs.declared.settings.Settings.{Settings}
 use Rattle.turn_c_calls.specs.contracts.session.Session.{the_row}
+use Rattle.turn_c.specs.Bytes.{Given, bytes_at}
 use Rattle.turn_c.specs.Starts.{IsStarted, NewIsRefused}
 
 -- `Global` takes no bytes, so there is one
@@ -39,6 +41,24 @@ new_at settings user password seed before after zero =
 new_at settings user password seed before after (suc n) =
     fex (NewIsRefused settings user password seed (suc n) × (after ≡ before)) (λ _. ftrue)
 
+-- what a new session is made of, beside its settings
+pub record Named : Type 0 where
+  pub user : Given
+  pub password : Given
+  pub seed : Given
+
+-- the bytes of the three, each at its pointer
+abbrev pub named_at : Ptr → ℕ → Ptr → ℕ → Ptr → ℕ → Named → Fml
+named_at user user_len password password_len seed seed_len given =
+    fsep (bytes_at given.user.share user user_len given.user.bytes)
+    (fsep (bytes_at given.password.share password password_len given.password.bytes) (bytes_at given.seed.share seed seed_len given.seed.bytes))
+
+-- what is passed to a call beside its request: the session, the bytes, and the buffer as it was
+pub record Passed : Type 0 where
+  pub session : Held
+  pub given : Given
+  pub buffer : List ℕ
+
 -- what a request does, and the kind of its answer
 abbrev pub CallDoes : Request → List ℕ → Held → Held → List ℕ → List ℕ → Answer → Answer → ℕ → Type 0
 CallDoes request bytes was now buffer after a b kind = Steps request bytes was now buffer after a b × (kind ≡ b.kind)
@@ -48,11 +68,22 @@ abbrev pub kept_at : Ptr → Held → Request → List ℕ → List ℕ → List
 kept_at p was request bytes buffer after a b kind =
     fex Held (λ now. fsep (holds_at p now) (fex (CallDoes request bytes was now buffer after a b kind) (λ _. ftrue)))
 
--- what a request that only looks is answered, and the kind of its answer
-abbrev pub LookDoes : Request → Held → Held → Answer → Answer → ℕ → Type 0
-LookDoes request was now a b kind = LooksAt request was now a b × (kind ≡ b.kind)
+-- the bytes and the buffer, each at its pointer
+abbrev pub passed_at : Ptr → ℕ → Ptr → ℕ → Passed → Fml
+passed_at bytes bytes_len buffer buffer_len was =
+    fsep (bytes_at was.given.share bytes bytes_len was.given.bytes) (bytes_at full_share buffer buffer_len was.buffer)
 
--- the same box, at the same value
-abbrev pub looked_at : Ptr → Held → Request → Answer → Answer → ℕ → Fml
-looked_at p was request a b kind =
-    fex Held (λ now. fsep (holds_at p now) (fex (LookDoes request was now a b kind) (λ _. ftrue)))
+-- the same box and the same bytes, and the buffer with what was written
+abbrev pub called_at : Ptr → Ptr → ℕ → Ptr → ℕ → Request → Passed → Answer → Answer → ℕ → Fml
+called_at p bytes bytes_len buffer buffer_len request was a b kind =
+    fex (List ℕ) (λ after. fsep (kept_at p was.session request was.given.bytes was.buffer after a b kind)
+    (passed_at bytes bytes_len buffer buffer_len (record was { buffer = after })))
+
+-- a session that may be freed, or at null none
+abbrev pub held_at : Ptr → Held → Fml
+held_at null_ptr session = ftrue
+held_at (block_ptr b o) session = holds_at (block_ptr b o) session
+
+-- what a request that only looks is answered, and the kind of its answer
+abbrev pub LookDoes : Request → Held → Answer → Answer → ℕ → Type 0
+LookDoes request was a b kind = LooksAt request was a b × (kind ≡ b.kind)

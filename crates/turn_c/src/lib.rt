@@ -2,24 +2,36 @@
 //! looks at it, and one frees it. Two read packets without a client. All else is in `turn_c_calls`; `include/yarrowdoor.h`
 //! declares these functions.
 //!
+//! Bytes and buffers are passed by a pointer and a length; where the length is 0, the pointer says nothing, and may be null.
+//!
 //! What nothing here can check is the C program's to keep: the pointer is one that [`yarrowdoor_new`] wrote and that was
-//! not freed, no two arguments overlap, nothing else touches the session's memory, and one call is made at a time.
+//! not freed, no two arguments overlap, nothing else touches the session's memory, or the bytes and the buffer of a call,
+//! and one call is made at a time.
 #![tactic(auto)]
 
 ghost use Rattle.std.specs.Prelude.{◌≡◌};
 ghost use types.Logic.{sem};
 ghost use Rattle.turn_c_calls.specs.Held.{Held};
 ghost use Rattle.turn_c_calls.specs.Hints.{SaysFirst, SaysPlace};
-ghost use Rattle.turn_c.specs.Opaque.{holds_at, new_at, kept_at, looked_at};
+ghost use Rattle.turn_c.specs.Bytes.{Given, bytes_at, place_of};
+ghost use Rattle.turn_c.specs.Opaque.{LookDoes, Named, Passed, called_at, held_at, holds_at, kept_at, named_at, new_at, passed_at};
 ghost use Rattle.turn_c.specs.Starts.{Starts};
 
 use std::alloc::Global;
+use std::slice;
 use turn_c_calls::answer::Answer;
 use turn_c_calls::hints::{Hints, read_attribute, read_message};
-use turn_c_calls::library::{finish, look_at, start, step};
+use turn_c_calls::library::{finish, look, start, step};
 use turn_c_calls::request::Request;
 use turn_c_calls::session::Session;
 use turn_c_calls::settings::Settings;
+
+/// The pointer, or where there are no bytes another, which is not null.
+fn place_of(at: *const u8, len: usize, other: *const u8) -> *const u8
+    ensures { result ≡ place_of at len other }
+{
+    if len == 0 { other } else { at }
+}
 
 /// Makes a session with a new client, and writes its pointer to `place`. Returns 0.
 ///
@@ -28,6 +40,30 @@ use turn_c_calls::settings::Settings;
 /// Returns `OUT_OF_MEMORY`, `BAD_SETTINGS`, `BAD_CREDENTIALS` or `BAD_SEED`, and leaves `place` as it was.
 #[unsafe(no_mangle)]
 pub unsafe extern "C" fn yarrowdoor_new(
+    alloc: Global,
+    settings: &Settings,
+    user: *const u8,
+    user_len: usize,
+    password: *const u8,
+    password_len: usize,
+    seed: *const u8,
+    seed_len: usize,
+    place: &mut *mut u8,
+) -> u32
+    ghost given: { Named }
+    requires* { sem 𝓛 (named_at user user_len password password_len seed seed_len given) }
+    ensures* { sem 𝓛 (new_at settings.now given.user.bytes given.password.bytes given.seed.bytes place.old place.new result)
+        ∗ sem 𝓛 (named_at user user_len password password_len seed seed_len given) }
+{
+    let other = &raw const *settings as *const u8;
+    let user = slice::from_raw_parts(place_of(user, user_len, other), user_len);
+    let password = slice::from_raw_parts(place_of(password, password_len, other), password_len);
+    let seed = slice::from_raw_parts(place_of(seed, seed_len, other), seed_len);
+    make_session(alloc, settings, user, password, seed, place)
+}
+
+/// The same, for bytes that are lent.
+fn make_session(
     alloc: Global,
     settings: &Settings,
     user: &[u8],
@@ -79,6 +115,30 @@ pub unsafe extern "C" fn yarrowdoor_call(
     session: *mut u8,
     alloc: Global,
     request: &Request,
+    bytes: *const u8,
+    bytes_len: usize,
+    buffer: *mut u8,
+    buffer_len: usize,
+    answer: &mut Answer,
+) -> u32
+    ghost was: { Passed }
+    requires* { sem 𝓛 (holds_at session was.session) ∗ sem 𝓛 (passed_at bytes bytes_len buffer buffer_len was) }
+    ensures* { sem 𝓛 (called_at session bytes bytes_len buffer buffer_len request.now was answer.old answer.new result) }
+{
+    let other = &raw const *request as *const u8;
+    let bytes = slice::from_raw_parts(place_of(bytes, bytes_len, other), bytes_len);
+    let buffer = slice::from_raw_parts_mut(
+        place_of(buffer, buffer_len, other) as *mut u8,
+        buffer_len,
+    );
+    answer_request(session, alloc, request, bytes, buffer, answer)
+}
+
+/// The same, for bytes and a buffer that are lent.
+unsafe fn answer_request(
+    session: *mut u8,
+    alloc: Global,
+    request: &Request,
     bytes: &[u8],
     buffer: &mut [u8],
     answer: &mut Answer,
@@ -97,22 +157,22 @@ pub unsafe extern "C" fn yarrowdoor_call(
     )
 }
 
-/// Answers a request that only looks at the client, and returns the kind of the answer. The session stays as it was.
+/// Answers a request that only looks at the client, and returns the kind of the answer. The session is only read.
 ///
 /// # Errors
 ///
 /// Returns `BAD_TIME`, or `BAD_CALL` if it is another request or lacks what it needs, and changes only the answer's kind.
 #[unsafe(no_mangle)]
 pub unsafe extern "C" fn yarrowdoor_look(
-    session: *mut u8,
+    session: *const u8,
     request: &Request,
     answer: &mut Answer,
 ) -> u32
     ghost was: { Held }
     requires* { sem 𝓛 (holds_at session was) }
-    ensures* { sem 𝓛 (looked_at session was request.now answer.old answer.new result) }
+    ensures* { sem 𝓛 (holds_at session was) ∗ ⌜ LookDoes request.now was answer.old answer.new result ⌝ }
 {
-    look_at(&mut *(session as *mut Session), request, answer)
+    look(&*(session as *const Session), request, answer)
 }
 
 /// Reads the first frame of bytes that came over this transport, and returns the kind of what it is.
@@ -122,32 +182,48 @@ pub unsafe extern "C" fn yarrowdoor_look(
 /// Returns `BAD_CALL` if there is no such transport, `NO_FRAME` if the bytes begin no frame, and over TCP `NOTHING` if more
 /// are needed.
 #[unsafe(no_mangle)]
-pub extern "C" fn yarrowdoor_read_message(transport: u32, bytes: &[u8], message: &mut Hints) -> u32
-    ensures says { SaysFirst transport bytes.now message.new }
-    ensures kind { result ≡ message.new.kind }
+pub unsafe extern "C" fn yarrowdoor_read_message(
+    transport: u32,
+    at: *const u8,
+    len: usize,
+    message: &mut Hints,
+) -> u32
+    ghost given: { Given }
+    requires* { sem 𝓛 (bytes_at given.share at len given.bytes) }
+    ensures* { sem 𝓛 (bytes_at given.share at len given.bytes) ∗ ⌜ SaysFirst transport given.bytes message.new × (result ≡ message.new.kind) ⌝ }
 {
+    let place = place_of(at, len, &raw const *message as *const u8);
+    let bytes = slice::from_raw_parts(place, len);
     read_message(transport, bytes, message)
 }
 
 /// Reads where the value of the first attribute of this type lies, of the message that the bytes are or begin with. Returns
 /// `YES`, or `NO` if there is none.
 #[unsafe(no_mangle)]
-pub extern "C" fn yarrowdoor_read_attribute(
-    bytes: &[u8],
+pub unsafe extern "C" fn yarrowdoor_read_attribute(
+    at: *const u8,
+    len: usize,
     attribute_type: u16,
     start: &mut usize,
     value_len: &mut usize,
 ) -> u32
-    ensures { SaysPlace attribute_type bytes.now start.new value_len.new result }
+    ghost given: { Given }
+    requires* { sem 𝓛 (bytes_at given.share at len given.bytes) }
+    ensures* { sem 𝓛 (bytes_at given.share at len given.bytes) ∗ ⌜ SaysPlace attribute_type given.bytes start.new value_len.new result ⌝ }
 {
+    let place = place_of(at, len, &raw const *start as *const u8);
+    let bytes = slice::from_raw_parts(place, len);
     read_attribute(bytes, attribute_type, start, value_len)
 }
 
-/// Frees the session. Its pointer is not to be used again.
+/// Frees the session, or does nothing where the pointer is null. The pointer is not to be used again.
 #[unsafe(no_mangle)]
 pub unsafe extern "C" fn yarrowdoor_free(alloc: Global, session: *mut u8)
     ghost was: { Held }
-    requires* { sem 𝓛 (holds_at session was) }
+    requires* { sem 𝓛 (held_at session was) }
 {
+    if session.is_null() {
+        return;
+    }
     finish(Box::from_raw(alloc, session as *mut Session))
 }

@@ -38,6 +38,6 @@ abbrev pub look_answer : Result (Answer → Answer) Fault → Answer → Answer
 look_answer (Ok says) a = says a
 look_answer (Err fault) a = of_kind (fault_code fault) a
 
--- what was looked at is as it was
-abbrev pub LooksAt : Request → Held → Held → Answer → Answer → Type 0
-LooksAt request was now a b = (now ≡ was) × (b ≡ look_answer (looked request was.client) a)
+-- what is answered by a session that is only read
+abbrev pub LooksAt : Request → Held → Answer → Answer → Type 0
+LooksAt request session a b = b ≡ look_answer (looked request session.client) a

@@ -1,7 +1,7 @@
 //! What the C library exports, but for the pointers.
 
 ghost use Rattle.std.specs.Prelude.{◌≡◌, Ok, IfErr, IfOk};
-ghost use Rattle.turn_c_calls.specs.Look.{LooksAt, look_answer, looked};
+ghost use Rattle.turn_c_calls.specs.Look.{LooksAt};
 ghost use Rattle.turn_c_calls.specs.Open.{Refuses, session_of};
 ghost use Rattle.turn_c_calls.specs.Step.{Steps};
 
@@ -52,19 +52,11 @@ pub fn step(
 
 /// Answers a request that only looks at the client, and returns the kind of the answer.
 pub fn look(session: &Session, request: &Request, answer: &mut Answer) -> u32
-    ensures look { answer.new ≡ look_answer (looked request.now session.now.client) answer.old }
+    ensures looks { LooksAt request.now session.now answer.old answer.new }
     ensures kind { result ≡ answer.new.kind }
 {
     session.look(request, answer);
     answer.kind
-}
-
-/// The same for a session that is lent as a whole, which stays as it was.
-pub fn look_at(session: &mut Session, request: &Request, answer: &mut Answer) -> u32
-    ensures looks { LooksAt request.now session.old session.new answer.old answer.new }
-    ensures kind { result ≡ answer.new.kind }
-{
-    look(session, request, answer)
 }
 
 /// Drops a session.

@@ -1,46 +1,52 @@
--- `yarrowdoor_call` lends the session to `step` for a lifetime that is made for the call, and passes the rest on.
-use Rattle.std.proofs.Common.{◌≡◌, ℕ, List, [], ◌∷◌, refl}
+-- `yarrowdoor_call` lends the bytes and the buffer to `answer_request`, each for a lifetime that is made for the call, and passes the rest on.
+use Rattle.std.proofs.Common.{◌≡◌, ◌*◌, ◌<◌, ◌^◌, ℕ, List, [], ◌∷◌, refl, length, arith, ap, ◌∙◌, Bor}
 use base.Fraction.{full_share}
-use base.Logic.{id⊢, fst∗, never}
-use base.Fml.{GName, ftrue, fsep, fex, flft}
-use mir.Syntax.{named, w32}
-use mir.Val.{Val, vptr}
-use prog.Wp.{WpFn}
-use types.Logic.{sem}
-use types.Kit.{‵, raw, ◌⊛◌, some, later, prop, ◌$◌, ◌∵◌, !, qed, by, move, drop, split, join, fsplit, fjoin, fpack, pick, use1, use2, await, regoal}
+use base.Logic.{id⊢}
+use base.Fml.{Fml, GName, Lft, Incl-refl, ftrue, fsep, feq, flft, flent}
+use mir.Syntax.{named, w8, w32, w64}
+use mir.Val.{Val, vint}
+use types.Kit.{‵, raw, ◌⊛◌, some, later, ◌$◌, ◌∵◌, !, qed, by, move, drop, split, join, fsplit, fjoin, pick, fpack, use1, use2, await, rewrite, feq_i, feq_l}
 use types.Run.{of_opd, addr, stop, from, fld, hop, no_more, and_then, returns, enter}
 use types.Part.{agg, sub, whole}
+use types.SemTy.{Arr, cells}
+use denote.Memory.{mem}
 use types.ByLocal.{alloc_all, pass_all, free_all, look_at, look_in_at, get, get_in, through, sets, lands_as}
-use types.Tokens.{lft_new}
+use types.Tokens.{lft_new, lft_end, lent_back}
 use contract.Monad.{fact}
 use contract.Running.{tables}
-use denote.Builtin.{u8, u32}
+use denote.Builtin.{u8, u32, usize}
+use denote.Copied.{uint_Copied}
 use denote.Laws.{Is, shows}
-use denote.Plain.{uint_Lawful}
-use denote.Memory.{part_at}
-use denote.RattleType.{flat, owns}
-use denote.RawPtr.{Ptr, block_ptr, null_ptr, rawptr_vals, rawptr_Tells, in_a_block}
-use denote.Ref.{MutBor, MutRef, shr_vals, shr_Tells, mut_vals, mut_Tells}
-use denote.Signature.{types_at}
-use denote.Slice.{shr_slice_vals, shr_slice_Tells, shr_slice_Lawful, mut_slice_vals, mut_slice_Tells, mut_slice_Lawful}
-use denote.Steps.{nothing, peeks, heard}
+use denote.Index.{whole_in, whole_out}
+use denote.Lend.{lends_shr_slice, lends_slice, left_slice_lies}
+use denote.Lend as lend
+use denote.Plain.{uint_vals, uint_Tells, uint_Makes, uint_Lawful}
+use denote.RawPtr.{Ptr, block_ptr, RawPtr, ptr_val, rawptr_vals, rawptr_Tells, rawptr_Lawful}
+use denote.RawPtr.Bytes.{bytes}
+use denote.Ref.{MutBor, shr_vals, shr_Tells, mut_vals, mut_Tells}
+use denote.Slice.{MutSlice, ShrSlice, slice_val}
+use denote.Steps.{nothing, owned, peeks, heard, only}
 use denote.Triple.Call.{calls_at}
 use denote.Triple.Clauses.{Lasts, lasts}
 use denote.Triple.Entry.{alive}
 use denote.Triple.Spec.{triple_of}
 use denote.Triple.Table.{framed}
 use denote.Triple.Walked.{Stays, walk_of}
+use denote.RattleType.{owns}
+use denote.Signature.{types_at}
+use Rattle.std.proofs.raw_atomic.Walks.{proved, leaves}
 use Rattle.std.specs.declared.alloc.Global.{Global}
 use Rattle.std.proofs.alloc.Global.TheLaws as heap
-use Rattle.std.proofs.raw_atomic.Walks.{proved, leaves}
-use Rattle.turn_c_calls.specs.contracts.session.Session.{the_row as R}
 use Rattle.turn_c_calls.specs.contracts.request.Request as Request
 use Rattle.turn_c_calls.specs.contracts.answer.Answer as Answer
-use Rattle.turn_c_calls.specs.Step.{Steps}
-use Rattle.turn_c_calls.specs.contracts.library.step as g
-use Rattle.turn_c_calls.proofs.library.step.Met.{met}
-use Rattle.turn_c.specs.Opaque.{CallDoes, freeable, holds_at}
-use Rattle.turn_c.proofs.Opaque.{gave_all, Goes-gave_all, lent_out, comes_in}
+use Rattle.turn_c.specs.contracts.answer_request as g
+use Rattle.turn_c.proofs.answer_request.Met.{met}
+use Rattle.turn_c.specs.Opaque.{holds_at, kept_at, passed_at}
+use Rattle.turn_c.specs.Bytes.{bytes_at, place_of}
+use Rattle.turn_c.proofs.Bytes.{bytes_in, bytes_back}
+use Rattle.turn_c.proofs.Opaque.{gave_all, Goes-gave_all}
+use Rattle.turn_c.specs.contracts.place_of as p
+use Rattle.turn_c.proofs.place_of.Met as placing
 use Rattle.turn_c.specs.contracts.yarrowdoor_call as f
 use Rattle.turn_c.proofs.yarrowdoor_call.Statement.{statement}
 use Rattle.turn_c.proofs.yarrowdoor_call.Code as code
@@ -51,57 +57,140 @@ stayed = gave_all f.ended.signature.params f.ended.kept
 pub yarrowdoor_call_spec : {M : Type 1} → statement M
 yarrowdoor_call_spec 𝓤 𝓛 𝓜 𝓡 wired =
     let c = f.clauses 𝓛 𝓜.mem 𝓡.returns in let W = walk_of 𝓛 f.ended stayed c in let 𝓣 = tables 𝓤 𝓛.H 𝓜 𝓡 𝓡.env in let fn = code.function in
-    let G = triple_of 𝓛 g.signature (g.spec 𝓛 𝓜.mem 𝓡.returns) in
-    proved 𝓛 f.ended stayed c 𝓜 𝓡 (Goes-gave_all 𝓛 4 f.ended.signature.params f.ended.kept) f.Key.name fn (code.unfolded 𝓤 𝓛.H 𝓜 𝓡 wired)
-    (λ κs. (rawptr_vals, ((λ (h : Global). heap.lowered h ∷ []), (shr_vals, (shr_slice_vals, (mut_slice_vals, (mut_vals, tt)))))))
+    let G = triple_of 𝓛 g.signature (g.spec 𝓛 𝓜.mem 𝓡.returns) in let P = triple_of 𝓛 p.signature (p.spec 𝓛 𝓜.mem 𝓡.returns) in
+    let placed = placing.met 𝓤 𝓛 𝓜 𝓡 (code.calls-turn_c::place_of 𝓡.env wired) in
+    proved 𝓛 f.ended stayed c 𝓜 𝓡 (Goes-gave_all 𝓛 2 f.ended.signature.params f.ended.kept) f.Key.name fn (code.unfolded 𝓤 𝓛.H 𝓜 𝓡 wired)
+    (λ κs. (rawptr_vals, ((λ (h : Global). heap.lowered h ∷ []), (shr_vals, (rawptr_vals, (uint_vals w64, (rawptr_vals, (uint_vals w64, (mut_vals, tt)))))))))
     (λ κs. (
       rawptr_Tells,
       (
         heap.lowers.val_is,
         (
           shr_Tells (named 0) κs.0 Request.the_row,
-          (shr_slice_Tells (named 1) κs.1.0 u8, (mut_slice_Tells (named 2) κs.1.1.0 u8, (mut_Tells (named 3) κs.1.1.1.0 Answer.the_row, tt))),
+          (rawptr_Tells, (uint_Tells w64, (rawptr_Tells, (uint_Tells w64, (mut_Tells (named 1) κs.1.0 Answer.the_row, tt))))),
         ),
       ),
     ))
     (λ κs qs bounds a was are.
-    let request = a.1.1.0 in let bytes = a.1.1.1.0 in let buffer = a.1.1.1.1.0 in let answer = a.1.1.1.1.1.0 in
-    let rest : List Val × (List Val × (List Val × (List Val × (List Val × Unit {0})))) =
-    (heap.lowered a.1.0 ∷ [], (shr_vals request, (shr_slice_vals bytes, (mut_slice_vals buffer, (mut_vals answer, tt))))) in
-    let y : Ptr → W.Ghost = λ p. ((κs, qs, bounds, (p, a.1), (rawptr_vals p, rest)), was) in
-    let bytes_fit = ((shr_slice_Lawful 𝓛 (named 1) κs.1.0 u8).typed bytes _ are.1.1.1.0).0 in let buffer_fits = ((mut_slice_Lawful 𝓛 (named 2) κs.1.1.0 u8).typed buffer _ are.1.1.1.1.0).0 in
-    let toks = raw (alive 𝓛 f.signature κs qs) in
-    qed 𝓛 ((toks ⊛ ‵ (owns (types_at f.signature.params κs) a (y a.0).0.4)) ∷ ‵ (holds_at a.0 was) ∷ []) ∵ move ! (1 ∷ []) $
-    in_a_block ! a.0 (λ p. holds_at p was) (fst∗ 𝓤 (never 𝓤) (sem 𝓛 (freeable _ null_ptr))) (λ b o e.
-    regoal ! (λ p. prop (WpFn 𝓤 𝓛.H 𝓣.C 𝓣.Λ fn (flat (types_at f.signature.params κs) (y p).0.4) (W.post (y p)))) e refl $
-    fsplit ! $ move ! (2 ∷ []) $ split ! $ move ! (1 ∷ []) $ fsplit ! $ drop ! $
-    enter ! _ _ _ _ _ $ alloc_all ! (λ l. pass_all ! refl ((tt, tt), ((tt, ((tt, tt), tt)), ((tt, tt), (bytes_fit, (buffer_fits, ((tt, tt), tt)))))) $
-    -- [what the others own; the tokens; the session; the right to free; the locals]
-    sets ! (of_opd ! (get ! refl)) refl (tt, tt) $ sets ! (addr ! (through ! refl (stop !))) refl (tt, tt) $
-    sets ! (addr ! (from ! (fld ! refl (hop ! (look_in_at ! 5 (sub ! 0 refl (whole !))) (stop !))))) refl (tt, tt) $
-    sets ! (agg ! (and_then ! (get ! refl) (and_then ! (get_in ! (fld ! refl (stop !)) (sub ! 1 refl (whole !))) (no_more !)))) refl buffer_fits $
+    let session = a.0 in let request = a.1.1.0 in let bytes_p = a.1.1.1.0 in let buffer = a.1.1.1.1.1.0 in let answer = a.1.1.1.1.1.1.1.0 in
+    let n1 = a.1.1.1.1.0 in let n2 = a.1.1.1.1.1.1.0 in let fits1 = are.1.1.1.1.0.1 in let fits2 = are.1.1.1.1.1.1.0.1 in
+    let q1 = was.given.share in let xs1 = was.given.bytes in let ys = was.buffer in
+    let b' = request.ref_ptr.0 in let o' = request.ref_ptr.1 in let other : Ptr = block_ptr b' o' in let hv : Val = heap.lowered a.1.0 in
+    let y : W.Ghost = (
+      (
+        κs,
+        qs,
+        bounds,
+        a,
+        (
+          rawptr_vals session,
+          (
+            hv ∷ [],
+            (
+              shr_vals request,
+              (rawptr_vals bytes_p, (uint_vals w64 n1, (rawptr_vals buffer, (uint_vals w64 n2, (mut_vals answer, tt))))),
+            ),
+          ),
+        ),
+      ),
+      was,
+    ) in
+    qed 𝓛 ((raw (alive 𝓛 f.signature κs qs) ⊛ ‵ (owns (types_at f.signature.params κs) a y.0.4))
+    ∷ (‵ (holds_at session was.session) ⊛ ‵ (passed_at bytes_p n1 buffer n2 was)) ∷ []) ∵ move ! (1 ∷ []) $ split ! $ move ! (1 ∷ []) $ fsplit ! $
+    bytes_in ! q1 bytes_p n1 xs1 b' o' (λ b1 o1 e1 l1 low1. move ! (1 ∷ []) $
+    bytes_in ! full_share buffer n2 ys b' o' (λ b2 o2 e2 l2 low2. move ! (3 ∷ []) $ split ! $
+    let typed = λ (at : Ptr). ((rawptr_Lawful 𝓛).typed at _ refl).0 in
+    enter ! _ _ _ _ _ $ alloc_all ! (λ l. pass_all ! refl (
+      typed session,
+      (
+        (tt, ((tt, tt), tt)),
+        (
+          (tt, tt),
+          (
+            typed bytes_p,
+            (
+              (tt, record { fits = fits1 }),
+              (typed buffer, ((tt, record { fits = fits2 }), ((tt, tt), tt))),
+            ),
+          ),
+        ),
+      ),
+    ) $
+    -- [the tokens; what the parameters own; the buffer's bytes; the bytes; the session; the locals]
     sets ! (addr ! (through ! refl (stop !))) refl (tt, tt) $
-    lft_new ! tt (λ α. move ! (3 ∷ []) $
-    use1 𝓛 (later (some (λ (γ : GName). ‵ ((MutRef (named 0) (α ∷ []) R).own_val (record { ref_ptr = (b, o); ghost_name = γ; now = was }) (vptr b o ∷ [])))))
-    (lent_out 𝓛 R (named 0) (α ∷ []) was b o) $ await ! tt $ pick ! (λ γ.
-    -- [the loan; the token of α; what the others own; the tokens; the right to free; the locals]
-    let x : MutBor R.Denot = record { ref_ptr = (b, o); ghost_name = γ; now = was } in
-    let z : G.Ghost = (((α ∷ [], κs), (full_share, qs), tt, (x, a.1), (vptr b o ∷ [], rest)), tt) in
-    nothing ! $ move ! (1 ∷ 3 ∷ []) $ fjoin ! $ move ! (2 ∷ 3 ∷ []) $ join ! $ join ! $ move ! (0 ∷ 1 ∷ []) $ join ! $ use1 𝓛 (raw (G.pre z)) (id⊢ 𝓤 _) $
-    calls_at ! (framed 𝓤 𝓛.H 𝓜 𝓣) G (met 𝓤 𝓛 𝓜 𝓡 (code.calls-turn_c_calls::library::step 𝓡.env wired)) z
+    -- the place of the bytes
+    let z1 : P.Ghost = ((tt, tt, tt, (bytes_p, (n1, (other, tt))), (rawptr_vals bytes_p, (uint_vals w64 n1, (rawptr_vals other, tt)))), tt) in
+    nothing ! $ feq_i ! (List Val) (rawptr_vals other) (rawptr_vals other) refl $ fjoin ! $ owned ! usize (Is usize) (uint_Makes 𝓛 w64) n1 (vint w64 n1 ∷ []) (refl, fits1) $ fjoin ! $
+    feq_i ! (List Val) (rawptr_vals bytes_p) (rawptr_vals bytes_p) refl $ fjoin ! $ nothing ! $ join ! $ nothing ! $ move ! (1 ∷ 0 ∷ []) $ join ! $ use1 𝓛 (raw (P.pre z1)) (id⊢ 𝓤 _) $
+    calls_at ! (framed 𝓤 𝓛.H 𝓜 𝓣) P placed z1 (and_then ! (get ! refl) (and_then ! (get ! refl) (and_then ! (get ! refl) (no_more !)))) (λ v1.
+    use1 𝓛 (later (some (λ (r : Ptr). (‵ ftrue ⊛ ‵ (RawPtr.own_val r (v1 ∷ []))) ⊛ some
+    (λ (ls : Lasts p.ended z1.0.0 z1.0.3). ‵ (lasts p.ended z1.0.0 z1.0.3 ls) ⊛ raw (fact 𝓤 (r ≡ place_of bytes_p n1 other)))))) (id⊢ 𝓤 _) $
+    await ! tt $ pick ! (λ r. split ! $ split ! $ drop ! $ feq_l ! (λ told. pick ! (λ _. split ! $ drop ! $ heard ! (r ≡ place_of bytes_p n1 other) (λ there.
+    lands_as ! (ap only told ∙ ap ptr_val (there ∙ e1)) refl (tt, tt) $
+    sets ! (agg ! (and_then ! (get ! refl) (and_then ! (get ! refl) (no_more !)))) refl (tt, (tt, (record { fits = fits1 }, tt))) $
+    -- the place of the buffer
+    let z2 : P.Ghost = ((tt, tt, tt, (buffer, (n2, (other, tt))), (rawptr_vals buffer, (uint_vals w64 n2, (rawptr_vals other, tt)))), tt) in
+    nothing ! $ feq_i ! (List Val) (rawptr_vals other) (rawptr_vals other) refl $ fjoin ! $ owned ! usize (Is usize) (uint_Makes 𝓛 w64) n2 (vint w64 n2 ∷ []) (refl, fits2) $ fjoin ! $
+    feq_i ! (List Val) (rawptr_vals buffer) (rawptr_vals buffer) refl $ fjoin ! $ nothing ! $ join ! $ nothing ! $ move ! (1 ∷ 0 ∷ []) $ join ! $ use1 𝓛 (raw (P.pre z2)) (id⊢ 𝓤 _) $
+    calls_at ! (framed 𝓤 𝓛.H 𝓜 𝓣) P placed z2 (and_then ! (get ! refl) (and_then ! (get ! refl) (and_then ! (get ! refl) (no_more !)))) (λ v2.
+    use1 𝓛 (later (some (λ (r : Ptr). (‵ ftrue ⊛ ‵ (RawPtr.own_val r (v2 ∷ []))) ⊛ some
+    (λ (ls : Lasts p.ended z2.0.0 z2.0.3). ‵ (lasts p.ended z2.0.0 z2.0.3 ls) ⊛ raw (fact 𝓤 (r ≡ place_of buffer n2 other)))))) (id⊢ 𝓤 _) $
+    await ! tt $ pick ! (λ r. split ! $ split ! $ drop ! $ feq_l ! (λ told. pick ! (λ _. split ! $ drop ! $ heard ! (r ≡ place_of buffer n2 other) (λ there.
+    lands_as ! (ap only told ∙ ap ptr_val (there ∙ e2)) refl (tt, tt) $
+    sets ! (of_opd ! (get ! refl)) refl (tt, tt) $
+    sets ! (agg ! (and_then ! (get ! refl) (and_then ! (get ! refl) (no_more !)))) refl (tt, (tt, (record { fits = fits2 }, tt))) $
+    sets ! (addr ! (from ! (fld ! refl (hop ! (look_in_at ! 11 (sub ! 0 refl (whole !))) (stop !))))) refl (tt, tt) $
+    sets ! (agg ! (and_then ! (get ! refl) (and_then ! (get_in ! (fld ! refl (stop !)) (sub ! 1 refl (whole !))) (no_more !)))) refl (tt, (tt, (record { fits = fits2 }, tt))) $
+    sets ! (addr ! (through ! refl (stop !))) refl (tt, tt) $
+    lft_new ! tt (λ α1. let κ1 : Lft = α1 ∷ [] in let s1 : Bor (List ℕ) = record { ref_ptr = (b1, o1); now = xs1 } in
+    let fits : length xs1 < 2 ^ 64 = omega (arith, l1, low1) in let room : length xs1 * 1 < 2 ^ 63 = omega (arith, l1, low1) in
+    move ! (4 ∷ []) $ feq_i ! ℕ (length xs1) (length xs1) refl $ fjoin ! $
+    use2 𝓛 (later ((‵ ((ShrSlice (named 1) κ1 u8).own_val s1 (slice_val (b1, o1) (length xs1) ∷ [])) ⊛ ‵ (flent κ1 (fsep (feq ℕ (length xs1) (length xs1)) (bytes q1 xs1 b1 o1)))) ⊛ ‵ (flft κ1 full_share)))
+    (lends_shr_slice 𝓛 u8 (named 1) κ1 q1 xs1 b1 o1 (fits, room) κ1 ((uint_Copied 𝓛 w8).shares q1 κ1) ((κ1, full_share) ∷ []) (Incl-refl κ1) (Incl-refl κ1)) $ await ! tt $ split ! $ split ! $
+    rewrite ! 0 (λ (m : ℕ). ‵ ((ShrSlice (named 1) κ1 u8).own_val s1 (slice_val (b1, o1) m ∷ []))) l1 refl $
+    lft_new ! tt (λ α2. let κ2 : Lft = α2 ∷ [] in
+    let fits : length ys < 2 ^ 64 = omega (arith, l2, low2) in let room : length ys * 1 < 2 ^ 63 = omega (arith, l2, low2) in
+    move ! (6 ∷ []) $ use1 𝓛 (‵ (cells (mem u8) ys b2 o2)) (whole_in 𝓛 u8 ys b2 o2) $
+    use1 𝓛 (later (some (λ (γ : GName). ‵ ((MutSlice (named 2) κ2 u8).own_val (record { ref_ptr = (b2, o2); ghost_name = γ; now = ys }) (slice_val (b2, o2) (length ys) ∷ []))
+    ⊛ ‵ (flent κ2 (lend.Held u8 (length ys) b2 o2 γ))))) (lends_slice 𝓛 u8 (named 2) κ2 ys b2 o2 (fits, room)) $ await ! tt $ pick ! (λ γ.
+    let s2 : MutBor (List ℕ) = record { ref_ptr = (b2, o2); ghost_name = γ; now = ys } in split ! $
+    rewrite ! 0 (λ (m : ℕ). ‵ ((MutSlice (named 2) κ2 u8).own_val s2 (slice_val (b2, o2) m ∷ []))) l2 refl $ move ! (1 ∷ []) $ drop ! $
+    -- [the buffer's slice and its token; the bytes' slice, the right to the bytes, its token; the tokens; what the parameters own; the session; the locals]
+    move ! (6 ∷ []) $ fsplit ! $ move ! (1 ∷ []) $ fsplit ! $ move ! (1 ∷ []) $ fsplit ! $ move ! (1 ∷ []) $ fsplit ! $ drop ! $ fsplit ! $ drop ! $ fsplit ! $ drop ! $ fsplit ! $ drop ! $
+    move ! (4 ∷ 0 ∷ []) $ fjoin ! $ move ! (5 ∷ 0 ∷ []) $ fjoin ! $ move ! (1 ∷ 0 ∷ []) $ fjoin ! $ move ! (1 ∷ 0 ∷ []) $ fjoin ! $ move ! (1 ∷ 0 ∷ []) $ fjoin ! $
+    move ! (4 ∷ []) $ use1 𝓛 (‵ (flft κs.0 qs.0) ⊛ (‵ (flft κs.1.0 qs.1.0) ⊛ ‵ ftrue)) (id⊢ 𝓤 _) $ split ! $
+    move ! (3 ∷ 1 ∷ []) $ join ! $ move ! (4 ∷ 0 ∷ []) $ join ! $ move ! (1 ∷ 0 ∷ []) $ join ! $ join ! $ move ! (0 ∷ 2 ∷ []) $ join ! $
+    let z : G.Ghost = (
+      (
+        (κs.0, (κ1, (κ2, κs.1))),
+        (qs.0, (full_share, (full_share, qs.1))),
+        tt,
+        (session, (a.1.0, (request, (s1, (s2, (answer, tt)))))),
+        (rawptr_vals session, (hv ∷ [], (shr_vals request, (slice_val (b1, o1) n1 ∷ [], (slice_val (b2, o2) n2 ∷ [], (mut_vals answer, tt)))))),
+      ),
+      was.session,
+    ) in
+    use1 𝓛 (raw (G.pre z)) (id⊢ 𝓤 _) $
+    calls_at ! (framed 𝓤 𝓛.H 𝓜 𝓣) G (met 𝓤 𝓛 𝓜 𝓡 (code.calls-turn_c::answer_request 𝓡.env wired)) z
     (and_then ! (get ! refl) (and_then ! (get ! refl) (and_then ! (get ! refl) (and_then ! (get ! refl) (and_then ! (get ! refl) (and_then ! (get ! refl) (no_more !))))))) (λ v.
-    let Says : Lasts g.ended z.0.0 z.0.3 → Type 0 = λ ws. Steps request.now bytes.now was ws.0 buffer.now ws.1.1.1.1.0 answer.now ws.1.1.1.1.1.0 in let IsKind : ℕ → Lasts g.ended z.0.0 z.0.3
-    → Type 0 = λ r ws. r ≡ ws.1.1.1.1.1.0.kind in
-    use1 𝓛 (later (some (λ (r : ℕ). ((‵ (flft (α ∷ []) full_share) ⊛ toks) ⊛ ‵ (u32.own_val r (v ∷ []))) ⊛ some
-    (λ (ws : Lasts g.ended z.0.0 z.0.3). ‵ (lasts g.ended z.0.0 z.0.3 ws) ⊛ (raw (fact 𝓤 (Says ws)) ⊛ raw (fact 𝓤 (IsKind r ws))))))) (id⊢ 𝓤 _) $
-    await ! tt $ pick ! (λ r. split ! $ split ! $ split ! $ move ! (3 ∷ []) $ pick ! (λ ws. split ! $ fsplit ! $ move ! (0 ∷ 3 ∷ []) $
-    use2 𝓛 (later (‵ (part_at R full_share ws.0 b o))) (comes_in 𝓛 R (named 0) (α ∷ []) full_share x ws.0) $ await ! tt $
-    -- [the session; what the callee says of the others; what it ensures; the tokens; the result; the right to free; the locals]
-    move ! (2 ∷ []) $ split ! $ heard ! (Says ws) (λ said. heard ! (IsKind r ws) (λ kind. move ! (3 ∷ []) $ peeks ! u32 (Is u32) (shows 𝓛 u32) r (v ∷ [])
-    (λ is. lands_as ! refl refl ((uint_Lawful 𝓛 w32).typed r _ is).0 $
-    returns ! (look_at ! 0 refl) $ free_all ! refl $
-    -- [the result; the session; the others; the tokens; the right to free]
-    move ! (1 ∷ 4 ∷ []) $ fjoin ! $ nothing ! $ fpack ! (Says ws × IsKind r ws) (λ _. ftrue) (said, kind) $ move ! (1 ∷ 0 ∷ []) $ fjoin ! $
-    fpack ! R.Denot (λ now. fsep (holds_at (block_ptr b o) now) (fex (CallDoes request.now bytes.now was now buffer.now ws.1.1.1.1.0 answer.now ws.1.1.1.1.1.0 r) (λ _. ftrue))) ws.0 $
-    move ! (2 ∷ []) $ nothing ! $ fjoin ! $ move ! (3 ∷ 0 ∷ 2 ∷ 1 ∷ []) $
-    by ! (leaves 𝓛 f.ended stayed c (y (block_ptr b o)) v r (tt, ws.1) (tt, (tt, (tt, (tt, (tt, (tt, tt))))))))))))))))))
+    let Says : ℕ → Lasts g.ended z.0.0 z.0.3 → Fml = λ r ws. kept_at session was.session request.now xs1 ys ws.1.1.1.1.0 answer.now ws.1.1.1.1.1.0 r in
+    use1 𝓛 (later (some (λ (r : ℕ).
+    ((‵ (flft κs.0 qs.0) ⊛ (‵ (flft κ1 full_share) ⊛ (‵ (flft κ2 full_share) ⊛ (‵ (flft κs.1.0 qs.1.0) ⊛ ‵ ftrue)))) ⊛ ‵ (u32.own_val r (v ∷ []))) ⊛ some
+    (λ (ws : Lasts g.ended z.0.0 z.0.3). ‵ (lasts g.ended z.0.0 z.0.3 ws) ⊛ ‵ (Says r ws))))) (id⊢ 𝓤 _) $
+    await ! tt $ pick ! (λ r. split ! $ split ! $ split ! $
+    -- [the token of the request; the other tokens; the result; what the callee says; the right to the bytes; the locals]
+    move ! (1 ∷ []) $ split ! $ lft_end ! tt $ move ! (0 ∷ 5 ∷ []) $ lent_back ! tt $ fsplit ! $ drop ! $
+    use1 𝓛 (‵ (bytes_at q1 bytes_p n1 xs1)) (bytes_back 𝓛 q1 bytes_p n1 xs1 b' o' b1 o1 e1 l1 low1) $
+    move ! (1 ∷ []) $ split ! $ move ! (5 ∷ []) $ pick ! (λ ws. split ! $ let after : List ℕ = ws.1.1.1.1.0 in
+    -- [what the callee says of its parameters, and of the session; the buffer's token; that of the answer; the bytes; that of the request; the result; the locals]
+    fsplit ! $ drop ! $ fsplit ! $ move ! (1 ∷ []) $ fsplit ! $ move ! (1 ∷ []) $ fsplit ! $ drop ! $ fsplit ! $ move ! (0 ∷ 5 ∷ []) $
+    use2 𝓛 (later (‵ ((Arr (mem u8) (length ys)).own_at after b2 o2))) (left_slice_lies 𝓛 u8 (named 2) κ2 full_share s2 after) $ await ! tt $ fsplit ! $ feq_l ! (λ same.
+    use1 𝓛 (‵ (bytes full_share after b2 o2)) (whole_out 𝓛 u8 after b2 o2) $
+    use1 𝓛 (‵ (bytes_at full_share buffer n2 after)) (bytes_back 𝓛 full_share buffer n2 after b' o' b2 o2 e2 (same ∙ l2) low2) $
+    move ! (6 ∷ 0 ∷ []) $ fjoin ! $ move ! (4 ∷ 0 ∷ []) $ fjoin ! $
+    fpack ! (List ℕ) (λ ys'. fsep (kept_at session was.session request.now xs1 ys ys' answer.now ws.1.1.1.1.1.0 r) (passed_at bytes_p n1 buffer n2 (record was { buffer = ys' }))) after $
+    -- [what is ensured; what the callee says of the answer, of the request and of the heap; the tokens; the result; the locals]
+    move ! (1 ∷ []) $ nothing ! $ fjoin ! $ nothing ! $ fjoin ! $ nothing ! $ fjoin ! $ nothing ! $ fjoin ! $ move ! (2 ∷ 0 ∷ []) $ fjoin ! $ move ! (2 ∷ 0 ∷ []) $ fjoin ! $ nothing ! $ fjoin ! $
+    move ! (3 ∷ 2 ∷ []) $ join ! $ move ! (3 ∷ []) $ peeks ! u32 (Is u32) (shows 𝓛 u32) r (v ∷ []) (λ is. lands_as ! refl refl ((uint_Lawful 𝓛 w32).typed r _ is).0 $
+    returns ! (look_at ! 0 refl) $ free_all ! refl $ move ! (1 ∷ 2 ∷ 0 ∷ 3 ∷ []) $
+    by ! (leaves 𝓛 f.ended stayed c y v r (tt, (tt, (tt, (tt, (tt, (tt, (tt, (ws.1.1.1.1.1.0, tt)))))))) (tt, (tt, (tt, (tt, (tt, (tt, (tt, (tt, tt)))))))))))))))))))))))))))))))

@@ -1,28 +1,26 @@
--- `yarrowdoor_look` lends the session to `look_at` for a lifetime that is made for the call, and passes the rest on.
+-- `yarrowdoor_look` lends the session as a `&` to `look` for a lifetime that is made for the call, and passes the rest on.
 use Rattle.std.proofs.Common.{◌≡◌, ℕ, List, [], ◌∷◌, refl}
 use base.Fraction.{full_share}
-use base.Logic.{id⊢, fst∗, never}
-use base.Fml.{GName, ftrue, fsep, fex, flft}
+use base.Logic.{emp, id⊢, fst∗, never}
+use base.Fml.{Lft, Incl-refl, flent, flft}
 use mir.Syntax.{named, w32}
 use mir.Val.{Val, vptr}
 use prog.Wp.{WpFn}
 use types.Logic.{sem}
-use types.Kit.{‵, raw, ◌⊛◌, some, later, prop, ◌$◌, ◌∵◌, !, qed, by, move, drop, split, join, fsplit, fjoin, fpack, pick, use1, use2, await, regoal}
-use types.Run.{of_opd, addr, stop, from, fld, hop, no_more, and_then, returns, enter}
-use types.Part.{agg, sub, whole}
-use types.ByLocal.{alloc_all, pass_all, free_all, look_at, look_in_at, get, get_in, through, sets, lands_as}
-use types.Tokens.{lft_new}
-use contract.Monad.{fact}
+use types.Kit.{‵, raw, ◌⊛◌, some, later, prop, ◌$◌, ◌∵◌, !, qed, by, move, drop, split, join, fsplit, fjoin, pick, use0, use1, use2, await, regoal}
+use types.Run.{of_opd, addr, stop, no_more, and_then, returns, enter}
+use types.ByLocal.{alloc_all, pass_all, free_all, look_at, get, through, sets, lands_as}
+use types.Tokens.{lft_new, lft_end, lent_back}
+use contract.Monad.{fact, fact_i}
 use contract.Running.{tables}
-use denote.Builtin.{u8, u32}
+use denote.Builtin.{u32}
 use denote.Laws.{Is, shows}
 use denote.Plain.{uint_Lawful}
 use denote.Memory.{part_at}
 use denote.RattleType.{flat, owns}
 use denote.RawPtr.{Ptr, block_ptr, null_ptr, rawptr_vals, rawptr_Tells, in_a_block}
-use denote.Ref.{MutBor, MutRef, shr_vals, shr_Tells, mut_vals, mut_Tells}
+use denote.Ref.{Bor, ShrRef, shr_vals, shr_Tells, mut_vals, mut_Tells}
 use denote.Signature.{types_at}
-use denote.Slice.{shr_slice_vals, shr_slice_Tells, shr_slice_Lawful, mut_slice_vals, mut_slice_Tells, mut_slice_Lawful}
 use denote.Steps.{nothing, peeks, heard}
 use denote.Triple.Call.{calls_at}
 use denote.Triple.Clauses.{Lasts, lasts}
@@ -30,17 +28,17 @@ use denote.Triple.Entry.{alive}
 use denote.Triple.Spec.{triple_of}
 use denote.Triple.Table.{framed}
 use denote.Triple.Walked.{Stays, walk_of}
-use Rattle.std.specs.declared.alloc.Global.{Global}
-use Rattle.std.proofs.alloc.Global.TheLaws as heap
 use Rattle.std.proofs.raw_atomic.Walks.{proved, leaves}
 use Rattle.turn_c_calls.specs.contracts.session.Session.{the_row as R}
+use denote.Lend.{lends_shr}
+use Rattle.turn_c_calls.proofs.session.Session.TheLaws as session
 use Rattle.turn_c_calls.specs.contracts.request.Request as Request
 use Rattle.turn_c_calls.specs.contracts.answer.Answer as Answer
 use Rattle.turn_c_calls.specs.Look.{LooksAt}
-use Rattle.turn_c_calls.specs.contracts.library.look_at as g
-use Rattle.turn_c_calls.proofs.library.look_at.Met.{met}
-use Rattle.turn_c.specs.Opaque.{LookDoes, freeable, holds_at}
-use Rattle.turn_c.proofs.Opaque.{gave_all, Goes-gave_all, lent_out, comes_in}
+use Rattle.turn_c_calls.specs.contracts.library.look as g
+use Rattle.turn_c_calls.proofs.library.look.Met.{met}
+use Rattle.turn_c.specs.Opaque.{freeable, holds_at}
+use Rattle.turn_c.proofs.Opaque.{gave_all, Goes-gave_all}
 use Rattle.turn_c.specs.contracts.yarrowdoor_look as f
 use Rattle.turn_c.proofs.yarrowdoor_look.Statement.{statement}
 use Rattle.turn_c.proofs.yarrowdoor_look.Code as code
@@ -68,27 +66,24 @@ yarrowdoor_look_spec 𝓤 𝓛 𝓜 𝓡 wired =
     -- [what the others own; the tokens; the session; the right to free; the locals]
     sets ! (of_opd ! (get ! refl)) refl (tt, tt) $ sets ! (addr ! (through ! refl (stop !))) refl (tt, tt) $
     sets ! (addr ! (through ! refl (stop !))) refl (tt, tt) $
-    lft_new ! tt (λ α. move ! (3 ∷ []) $
-    use1 𝓛 (later (some (λ (γ : GName). ‵ ((MutRef (named 0) (α ∷ []) R).own_val (record { ref_ptr = (b, o); ghost_name = γ; now = was }) (vptr b o ∷ [])))))
-    (lent_out 𝓛 R (named 0) (α ∷ []) was b o) $ await ! tt $ pick ! (λ γ.
-    -- [the loan; the token of α; what the others own; the tokens; the right to free; the locals]
-    let x : MutBor R.Denot = record { ref_ptr = (b, o); ghost_name = γ; now = was } in
-    let z : G.Ghost = (((α ∷ [], κs), (full_share, qs), tt, (x, a.1), (vptr b o ∷ [], rest)), tt) in
-    nothing ! $ move ! (1 ∷ 3 ∷ []) $ fjoin ! $ move ! (2 ∷ 3 ∷ []) $ join ! $ join ! $ move ! (0 ∷ 1 ∷ []) $ join ! $ use1 𝓛 (raw (G.pre z)) (id⊢ 𝓤 _) $
-    calls_at ! (framed 𝓤 𝓛.H 𝓜 𝓣) G (met 𝓤 𝓛 𝓜 𝓡 (code.calls-turn_c_calls::library::look_at 𝓡.env wired)) z
+    lft_new ! tt (λ α. let κ : Lft = α ∷ [] in let x : Bor R.Denot = record { ref_ptr = (b, o); now = was } in
+    move ! (3 ∷ 0 ∷ []) $
+    use2 𝓛 (later ((‵ ((ShrRef (named 0) κ R).own_val x (vptr b o ∷ [])) ⊛ ‵ (flent κ (part_at R full_share was b o))) ⊛ ‵ (flft κ full_share)))
+    (lends_shr 𝓛 R (named 0) κ full_share was b o R.lives (session.the_row_laws.shares 𝓛 was) ((κ, full_share) ∷ []) (session.the_within κ) (Incl-refl κ)) $ await ! tt $ split ! $ split ! $
+    -- [the loan; the right to the session; the token of κ; what the others own; the tokens; the right to free; the locals]
+    let z : G.Ghost = (((κ, κs), (full_share, qs), tt, (x, a.1), (vptr b o ∷ [], rest)), tt) in
+    move ! (0 ∷ 3 ∷ []) $ fjoin ! $ move ! (2 ∷ 3 ∷ []) $ join ! $ join ! $ nothing ! $ move ! (1 ∷ 0 ∷ []) $ join ! $ use1 𝓛 (raw (G.pre z)) (id⊢ 𝓤 _) $
+    calls_at ! (framed 𝓤 𝓛.H 𝓜 𝓣) G (met 𝓤 𝓛 𝓜 𝓡 (code.calls-turn_c_calls::library::look 𝓡.env wired)) z
     (and_then ! (get ! refl) (and_then ! (get ! refl) (and_then ! (get ! refl) (no_more !)))) (λ v.
-    let Says : Lasts g.ended z.0.0 z.0.3 → Type 0 = λ ws. LooksAt request.now was ws.0 answer.now ws.1.1.0 in let IsKind : ℕ → Lasts g.ended z.0.0 z.0.3
+    let Says : Lasts g.ended z.0.0 z.0.3 → Type 0 = λ ws. LooksAt request.now was answer.now ws.1.1.0 in let IsKind : ℕ → Lasts g.ended z.0.0 z.0.3
     → Type 0 = λ r ws. r ≡ ws.1.1.0.kind in
-    use1 𝓛 (later (some (λ (r : ℕ). ((‵ (flft (α ∷ []) full_share) ⊛ toks) ⊛ ‵ (u32.own_val r (v ∷ []))) ⊛ some
+    use1 𝓛 (later (some (λ (r : ℕ). ((‵ (flft κ full_share) ⊛ toks) ⊛ ‵ (u32.own_val r (v ∷ []))) ⊛ some
     (λ (ws : Lasts g.ended z.0.0 z.0.3). ‵ (lasts g.ended z.0.0 z.0.3 ws) ⊛ (raw (fact 𝓤 (Says ws)) ⊛ raw (fact 𝓤 (IsKind r ws))))))) (id⊢ 𝓤 _) $
-    await ! tt $ pick ! (λ r. split ! $ split ! $ split ! $ move ! (3 ∷ []) $ pick ! (λ ws. split ! $ fsplit ! $ move ! (0 ∷ 3 ∷ []) $
-    use2 𝓛 (later (‵ (part_at R full_share ws.0 b o))) (comes_in 𝓛 R (named 0) (α ∷ []) full_share x ws.0) $ await ! tt $
-    -- [the session; what the callee says of the others; what it ensures; the tokens; the result; the right to free; the locals]
-    move ! (2 ∷ []) $ split ! $ heard ! (Says ws) (λ said. heard ! (IsKind r ws) (λ kind. move ! (3 ∷ []) $ peeks ! u32 (Is u32) (shows 𝓛 u32) r (v ∷ [])
-    (λ is. lands_as ! refl refl ((uint_Lawful 𝓛 w32).typed r _ is).0 $
+    await ! tt $ pick ! (λ r. split ! $ split ! $ split ! $ move ! (3 ∷ []) $ pick ! (λ ws. split ! $ move ! (1 ∷ []) $ split ! $ heard ! (Says ws) (λ said. heard ! (IsKind r ws) (λ kind.
+    -- [what the callee says of its parameters; the token of κ; the tokens; the result; the right to the session; the right to free; the locals]
+    move ! (1 ∷ []) $ lft_end ! tt $ move ! (0 ∷ 4 ∷ []) $ lent_back ! tt $ move ! (0 ∷ 4 ∷ []) $ fjoin ! $
+    move ! (3 ∷ []) $ peeks ! u32 (Is u32) (shows 𝓛 u32) r (v ∷ []) (λ is. lands_as ! refl refl ((uint_Lawful 𝓛 w32).typed r _ is).0 $
     returns ! (look_at ! 0 refl) $ free_all ! refl $
-    -- [the result; the session; the others; the tokens; the right to free]
-    move ! (1 ∷ 4 ∷ []) $ fjoin ! $ nothing ! $ fpack ! (Says ws × IsKind r ws) (λ _. ftrue) (said, kind) $ move ! (1 ∷ 0 ∷ []) $ fjoin ! $
-    fpack ! R.Denot (λ now. fsep (holds_at (block_ptr b o) now) (fex (LookDoes request.now was now answer.now ws.1.1.0 r) (λ _. ftrue))) ws.0 $
-    move ! (2 ∷ []) $ nothing ! $ fjoin ! $ move ! (3 ∷ 0 ∷ 2 ∷ 1 ∷ []) $
-    by ! (leaves 𝓛 f.ended stayed c (y (block_ptr b o)) v r (tt, ws.1) (tt, (tt, (tt, tt)))))))))))))))
+    -- [the result; the session; what the callee says of its parameters; the tokens]
+    use0 𝓛 (raw (fact 𝓤 (Says ws × IsKind r ws))) (fact_i 𝓤 _ (emp 𝓤) (said, kind)) $ move ! (2 ∷ 0 ∷ []) $ join ! $ move ! (3 ∷ 2 ∷ 1 ∷ 0 ∷ []) $
+    by ! (leaves 𝓛 f.ended stayed c (y (block_ptr b o)) v r (tt, (tt, (ws.1.1.0, tt))) (tt, (tt, (tt, tt))))))))))))))
