@@ -17,10 +17,10 @@
    What the caller owes, since nothing checks it:
    - A client is a pointer that yarrowdoor_new has put there, and that was not passed to yarrowdoor_free.
    - One call of a client at a time, and the memory behind its pointer is neither read nor written.
-   - No pointer is null, except those to bytes and buffers of length 0 of a function that makes a call, as yarrowdoor_recv
-     (not of yarrowdoor_new, yarrowdoor_call, yarrowdoor_read_message and yarrowdoor_read_attribute). All behind a pointer
-     is readable and initialised, and what is not const is writable.
-   - What a call writes (its buffer, its answer) overlaps nothing else that is passed to it.
+   - No pointer is null, except those to bytes and buffers of length 0, and the client of yarrowdoor_free. All behind a
+     pointer is readable and initialised, and what is not const is writable.
+   - What a call writes (its buffer, its answer) overlaps nothing else that is passed to it, and until it returns nothing
+     else touches what it was passed. The calls that only look may share a client (yarrowdoor_look).
 
    Reserved bytes are 0 on the way in, and a call with another one there is refused. On the way out they are 0.
 
@@ -669,20 +669,17 @@ static inline void yarrowdoor_clear(yarrowdoor_answer *answer)
 static inline enum yarrowdoor_kind yarrowdoor_call_plain(yarrowdoor *client, const yarrowdoor_request *request,
                                                          yarrowdoor_answer *answer)
 {
-    uint8_t bytes = 0, buffer = 0;
     yarrowdoor_clear(answer);
-    return (enum yarrowdoor_kind)yarrowdoor_call(client, request, &bytes, 0, &buffer, 0, answer);
+    return (enum yarrowdoor_kind)yarrowdoor_call(client, request, NULL, 0, NULL, 0, answer);
 }
 
-/* Makes a call with bytes and a buffer, each of which may be null where its length is 0. */
+/* Makes a call with bytes and a buffer. */
 static inline enum yarrowdoor_kind yarrowdoor_call_bytes(yarrowdoor *client, const yarrowdoor_request *request,
                                                          const uint8_t *bytes, size_t bytes_len, uint8_t *buffer,
                                                          size_t buffer_len, yarrowdoor_answer *answer)
 {
-    uint8_t no_bytes = 0, no_buffer = 0;
     yarrowdoor_clear(answer);
-    return (enum yarrowdoor_kind)yarrowdoor_call(client, request, bytes_len ? bytes : &no_bytes, bytes_len,
-                                                 buffer_len ? buffer : &no_buffer, buffer_len, answer);
+    return (enum yarrowdoor_kind)yarrowdoor_call(client, request, bytes, bytes_len, buffer, buffer_len, answer);
 }
 
 /* Makes a call that only looks. */

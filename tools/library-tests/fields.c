@@ -493,6 +493,27 @@ static uint64_t idle_until(const yarrowdoor_settings *good, uint64_t keepalive, 
     return time / 1000000000;
 }
 
+/* Where a length is 0 the pointer before it may be null, to each export. */
+static void null_pointers(const yarrowdoor_settings *s)
+{
+    const uint8_t *name = (const uint8_t *)"user";
+    yarrowdoor_request r = yarrowdoor_request_of(YARROWDOOR_CALL_POLL_TRANSMIT, 0);
+    yarrowdoor_answer answer;
+    yarrowdoor *client = NULL;
+    check("no user name", yarrowdoor_new(s, NULL, 0, name, 4, payload, 32, &client), YARROWDOOR_BAD_CREDENTIALS);
+    check("no seed", yarrowdoor_new(s, name, 4, name, 4, NULL, 0, &client), YARROWDOOR_BAD_SEED);
+    check("no client", client != NULL, 0);
+    check("no password", yarrowdoor_new(s, name, 4, NULL, 0, payload, 32, &client), 0);
+    yarrowdoor_clear(&answer);
+    check("no buffer", yarrowdoor_call(client, &r, NULL, 0, NULL, 0, &answer), YARROWDOOR_PACKET);
+    check("nothing in no buffer", answer.len == 0 && answer.left > 0, 1);
+    check("all of it", yarrowdoor_read(client, buffer, BUFFER, &answer), YARROWDOOR_BYTES);
+    check("an empty datagram",
+          yarrowdoor_recv(client, YARROWDOOR_UDP, &s->remote, &s->local, NULL, 0, 0, NULL, 0, &answer), YARROWDOOR_IGNORED);
+    yarrowdoor_free(client);
+    yarrowdoor_free(NULL);
+}
+
 int main(void)
 {
     yarrowdoor_address local = yarrowdoor_ipv4(192, 168, 0, 1, 1000), remote = yarrowdoor_ipv4(10, 0, 0, 2, 2000);
@@ -518,7 +539,7 @@ int main(void)
     check("refreshed a second before", (uint32_t)idle_until(&settings, 0, 1), 1000 - 1);
     check("kept alive", (uint32_t)idle_until(&settings, (uint64_t)15000000000, 0), 15);
     check("kept alive each second", (uint32_t)idle_until(&settings, 1, 0), 1);
-    yarrowdoor_free(NULL);
+    null_pointers(&settings);
     check("the version", yarrowdoor_version(), YARROWDOOR_VERSION);
     exchange(&settings);
     yarrowdoor_free(teased);

@@ -174,11 +174,23 @@ static void frames(void)
     read_as(YARROWDOOR_TCP, channel, 1, YARROWDOOR_NO_FRAME);
 }
 
+/* Of no bytes the pointer may be null. */
+static void no_bytes(void)
+{
+    yarrowdoor_message said;
+    check("no datagram", yarrowdoor_read_message(YARROWDOOR_UDP, NULL, 0, &said), YARROWDOOR_NO_FRAME);
+    says_no_more(&said, 12);
+    check("no stream", yarrowdoor_read_message(YARROWDOOR_TCP, NULL, 0, &said), YARROWDOOR_NOTHING);
+    says_no_more(&said, 12);
+    finds(NULL, 0, 0x0009, NULL, 0);
+}
+
 int main(void)
 {
     mapped_addresses();
     codes();
     frames();
+    no_bytes();
     printf("hints: %lu checks passed\n", checks);
     return 0;
 }
