@@ -19,18 +19,26 @@ enum { PORT = 10000, OTHER_PORT = 10001 };
 /* A Send indication is a header, XOR-PEER-ADDRESS over IPv4, and DATA (RFC 8656, section 11.1). */
 enum { INDICATION = 20 + 12 + 4 + PAYLOAD };
 
-enum { NO_CALL, FRAME_IN, DATA_IN, FRAME_OUT, SEND, HAVE, POLL, TRANSMIT, EVENT, ROWS };
+enum {
+    NO_CALL, NO_LOOK, FRAME_IN, DATA_IN, FRAME_OUT, SEND, HAVE, RELAYED, POLL, TRANSMIT, EVENT, FRAME_READ, DATA_READ, FOUND,
+    ROWS
+};
 
 static const struct row rows[ROWS] = {
     [NO_CALL] = {"a request of no call, refused", YARROWDOOR_BAD_CALL},
+    [NO_LOOK] = {"the same, of yarrowdoor_look", YARROWDOOR_BAD_CALL},
     [FRAME_IN] = {"channel frame of 1,200 bytes in", PAYLOAD},
     [DATA_IN] = {"DATA indication of 1,200 bytes in", PAYLOAD},
     [FRAME_OUT] = {"frame of 1,200 bytes out, written into a place", 4 + PAYLOAD},
     [SEND] = {"Send indication of 1,200 bytes out, into a place", INDICATION},
     [HAVE] = {"have_permission", YARROWDOOR_YES},
+    [RELAYED] = {"relayed_address", YARROWDOOR_ADDRESS},
     [POLL] = {"poll, nothing to be done", YARROWDOOR_WAIT_UNTIL},
     [TRANSMIT] = {"poll_transmit, nothing to be sent", YARROWDOOR_NOTHING},
     [EVENT] = {"poll_event, no event", YARROWDOOR_NOTHING},
+    [FRAME_READ] = {"read_message, of a channel frame of 1,200 bytes", 4 + PAYLOAD},
+    [DATA_READ] = {"read_message, of a DATA indication of 1,200 bytes", INDICATION},
+    [FOUND] = {"read_attribute, DATA of the same", PAYLOAD},
 };
 
 static const int counts[] = {1, 100, 4096};
@@ -134,10 +142,32 @@ static uint64_t send_out(const yarrowdoor_address *to, yarrowdoor_answer *answer
     return answer->len;
 }
 
+/* Reads what the first frame says, and returns the length of that. */
+static uint64_t read_frame(void)
+{
+    yarrowdoor_message said;
+    yarrowdoor_read_message(YARROWDOOR_UDP, input, input_len, &said);
+    return said.len;
+}
+
+/* Finds the data, and returns the length of it. */
+static uint64_t find_data(void)
+{
+    size_t start, len;
+    yarrowdoor_read_attribute(input, input_len, 0x0013, &start, &len);
+    return len;
+}
+
+/* A request of no call. */
+static uint64_t no_call(uint32_t row, yarrowdoor_answer *answer)
+{
+    yarrowdoor_request request = yarrowdoor_request_of(0, now);
+    return row == NO_LOOK ? yarrowdoor_look_at(client, &request, answer) : yarrowdoor_call_plain(client, &request, answer);
+}
+
 static uint64_t turn(uint32_t row)
 {
     yarrowdoor_answer answer;
-    yarrowdoor_request request;
     switch (row) {
     case FRAME_IN:
     case DATA_IN:
@@ -154,9 +184,15 @@ static uint64_t turn(uint32_t row)
         return yarrowdoor_poll_event(client, &answer);
     case HAVE:
         return yarrowdoor_have_permission(client, YARROWDOOR_UDP, &peer, &answer);
+    case RELAYED:
+        return yarrowdoor_relayed_address(client, 0, &answer);
+    case FRAME_READ:
+    case DATA_READ:
+        return read_frame();
+    case FOUND:
+        return find_data();
     default:
-        request = yarrowdoor_request_of(0, now);
-        return yarrowdoor_call_plain(client, &request, &answer);
+        return no_call(row, &answer);
     }
 }
 
@@ -169,7 +205,8 @@ static void measure(int count, double found[ROWS])
     begin(is_right);
     for (uint32_t row = 0; row < ROWS; row++) {
         uint64_t turns, sum = 0;
-        input_len = row == DATA_IN ? write_data(input) : write_frame(input, (uint16_t)(0x3fff + count), PAYLOAD);
+        int is_data = row == DATA_IN || row == DATA_READ || row == FOUND;
+        input_len = is_data ? write_data(input) : write_frame(input, (uint16_t)(0x3fff + count), PAYLOAD);
         while ((turns = bench_next(row, sum)) > 0) {
             sum = 0;
             for (uint64_t i = 0; i < turns; i++) {
