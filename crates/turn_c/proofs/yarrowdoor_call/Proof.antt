@@ -145,7 +145,8 @@ yarrowdoor_call_spec 𝓤 𝓛 𝓜 𝓡 wired =
     lft_new ! tt (λ α1. let κ1 : Lft = α1 ∷ [] in let s1 : Bor (List ℕ) = record { ref_ptr = (b1, o1); now = xs1 } in
     let fits : length xs1 < 2 ^ 64 = omega (arith, l1, low1) in let room : length xs1 * 1 < 2 ^ 63 = omega (arith, l1, low1) in
     move ! (4 ∷ []) $ feq_i ! ℕ (length xs1) (length xs1) refl $ fjoin ! $
-    use2 𝓛 (later ((‵ ((ShrSlice (named 1) κ1 u8).own_val s1 (slice_val (b1, o1) (length xs1) ∷ [])) ⊛ ‵ (flent κ1 (fsep (feq ℕ (length xs1) (length xs1)) (bytes q1 xs1 b1 o1)))) ⊛ ‵ (flft κ1 full_share)))
+    use2 𝓛 (later ((‵ ((ShrSlice (named 1) κ1 u8).own_val s1 (slice_val (b1, o1) (length xs1) ∷ []))
+    ⊛ ‵ (flent κ1 (fsep (feq ℕ (length xs1) (length xs1)) (bytes q1 xs1 b1 o1)))) ⊛ ‵ (flft κ1 full_share)))
     (lends_shr_slice 𝓛 u8 (named 1) κ1 q1 xs1 b1 o1 (fits, room) κ1 ((uint_Copied 𝓛 w8).shares q1 κ1) ((κ1, full_share) ∷ []) (Incl-refl κ1) (Incl-refl κ1)) $ await ! tt $ split ! $ split ! $
     rewrite ! 0 (λ (m : ℕ). ‵ ((ShrSlice (named 1) κ1 u8).own_val s1 (slice_val (b1, o1) m ∷ []))) l1 refl $
     lft_new ! tt (λ α2. let κ2 : Lft = α2 ∷ [] in

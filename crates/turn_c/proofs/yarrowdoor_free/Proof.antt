@@ -84,7 +84,8 @@ yarrowdoor_free_spec {M} 𝓤 𝓛 𝓜 𝓡 wired =
     (λ t. absurd t)))
     (λ bs os e. regoal ! (λ p. prop (Run p)) e refl $ let p : Ptr = block_ptr bs os in
     -- [the box; the handle]
-    fsplit ! $ move ! (1 ∷ []) $ use1 𝓛 (given (Testable p) (‵ (freeable (bare (lone R.mir)) p))) (tests 𝓛 (bare (lone R.mir)) p) $ learn ! (λ may. move ! (1 ∷ 0 ∷ []) $ fjoin ! $ move ! (1 ∷ 0 ∷ []) $
+    fsplit ! $ move ! (1 ∷ []) $ use1 𝓛 (given (Testable p) (‵ (freeable (bare (lone R.mir)) p))) (tests 𝓛 (bare (lone R.mir)) p) $
+    learn ! (λ may. move ! (1 ∷ 0 ∷ []) $ fjoin ! $ move ! (1 ∷ 0 ∷ []) $
     enter ! 𝓣.C 𝓣.Λ fn (hv ∷ rawptr_vals p) (W.post (y p)) $ alloc_all ! (λ l. pass_all ! refl ((tt, ((tt, tt), tt)), ((rawptr_Lawful 𝓛).typed p _ refl)) $
     -- [the handle; the box; the locals]
     sets ! (bin ! (get ! refl) (lit ! tt) (tests_null p may)) refl (tt, tt) $

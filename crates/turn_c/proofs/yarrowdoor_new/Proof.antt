@@ -141,19 +141,22 @@ yarrowdoor_new_spec 𝓤 𝓛 𝓜 𝓡 wired =
     lft_new ! tt (λ α1. let κ1 : Lft = α1 ∷ [] in let s1 : Bor (List ℕ) = record { ref_ptr = (b1, o1); now = xs1 } in
     let fits : length xs1 < 2 ^ 64 = omega (arith, l1, low1) in let room : length xs1 * 1 < 2 ^ 63 = omega (arith, l1, low1) in
     move ! (3 ∷ []) $ feq_i ! ℕ (length xs1) (length xs1) refl $ fjoin ! $
-    use2 𝓛 (later ((‵ ((ShrSlice (named 1) κ1 u8).own_val s1 (slice_val (b1, o1) (length xs1) ∷ [])) ⊛ ‵ (flent κ1 (fsep (feq ℕ (length xs1) (length xs1)) (bytes q1 xs1 b1 o1)))) ⊛ ‵ (flft κ1 full_share)))
+    use2 𝓛 (later ((‵ ((ShrSlice (named 1) κ1 u8).own_val s1 (slice_val (b1, o1) (length xs1) ∷ []))
+    ⊛ ‵ (flent κ1 (fsep (feq ℕ (length xs1) (length xs1)) (bytes q1 xs1 b1 o1)))) ⊛ ‵ (flft κ1 full_share)))
     (lends_shr_slice 𝓛 u8 (named 1) κ1 q1 xs1 b1 o1 (fits, room) κ1 ((uint_Copied 𝓛 w8).shares q1 κ1) ((κ1, full_share) ∷ []) (Incl-refl κ1) (Incl-refl κ1)) $ await ! tt $ split ! $ split ! $
     rewrite ! 0 (λ (m : ℕ). ‵ ((ShrSlice (named 1) κ1 u8).own_val s1 (slice_val (b1, o1) m ∷ []))) l1 refl $
     lft_new ! tt (λ α2. let κ2 : Lft = α2 ∷ [] in let s2 : Bor (List ℕ) = record { ref_ptr = (b2, o2); now = xs2 } in
     let fits : length xs2 < 2 ^ 64 = omega (arith, l2, low2) in let room : length xs2 * 1 < 2 ^ 63 = omega (arith, l2, low2) in
     move ! (6 ∷ []) $ feq_i ! ℕ (length xs2) (length xs2) refl $ fjoin ! $
-    use2 𝓛 (later ((‵ ((ShrSlice (named 2) κ2 u8).own_val s2 (slice_val (b2, o2) (length xs2) ∷ [])) ⊛ ‵ (flent κ2 (fsep (feq ℕ (length xs2) (length xs2)) (bytes q2 xs2 b2 o2)))) ⊛ ‵ (flft κ2 full_share)))
+    use2 𝓛 (later ((‵ ((ShrSlice (named 2) κ2 u8).own_val s2 (slice_val (b2, o2) (length xs2) ∷ []))
+    ⊛ ‵ (flent κ2 (fsep (feq ℕ (length xs2) (length xs2)) (bytes q2 xs2 b2 o2)))) ⊛ ‵ (flft κ2 full_share)))
     (lends_shr_slice 𝓛 u8 (named 2) κ2 q2 xs2 b2 o2 (fits, room) κ2 ((uint_Copied 𝓛 w8).shares q2 κ2) ((κ2, full_share) ∷ []) (Incl-refl κ2) (Incl-refl κ2)) $ await ! tt $ split ! $ split ! $
     rewrite ! 0 (λ (m : ℕ). ‵ ((ShrSlice (named 2) κ2 u8).own_val s2 (slice_val (b2, o2) m ∷ []))) l2 refl $
     lft_new ! tt (λ α3. let κ3 : Lft = α3 ∷ [] in let s3 : Bor (List ℕ) = record { ref_ptr = (b3, o3); now = xs3 } in
     let fits : length xs3 < 2 ^ 64 = omega (arith, l3, low3) in let room : length xs3 * 1 < 2 ^ 63 = omega (arith, l3, low3) in
     move ! (9 ∷ []) $ feq_i ! ℕ (length xs3) (length xs3) refl $ fjoin ! $
-    use2 𝓛 (later ((‵ ((ShrSlice (named 3) κ3 u8).own_val s3 (slice_val (b3, o3) (length xs3) ∷ [])) ⊛ ‵ (flent κ3 (fsep (feq ℕ (length xs3) (length xs3)) (bytes q3 xs3 b3 o3)))) ⊛ ‵ (flft κ3 full_share)))
+    use2 𝓛 (later ((‵ ((ShrSlice (named 3) κ3 u8).own_val s3 (slice_val (b3, o3) (length xs3) ∷ []))
+    ⊛ ‵ (flent κ3 (fsep (feq ℕ (length xs3) (length xs3)) (bytes q3 xs3 b3 o3)))) ⊛ ‵ (flft κ3 full_share)))
     (lends_shr_slice 𝓛 u8 (named 3) κ3 q3 xs3 b3 o3 (fits, room) κ3 ((uint_Copied 𝓛 w8).shares q3 κ3) ((κ3, full_share) ∷ []) (Incl-refl κ3) (Incl-refl κ3)) $ await ! tt $ split ! $ split ! $
     rewrite ! 0 (λ (m : ℕ). ‵ ((ShrSlice (named 3) κ3 u8).own_val s3 (slice_val (b3, o3) m ∷ []))) l3 refl $
     -- [the seed's slice, the right to its bytes, its token; those of the password; those of the user name; the tokens; what the parameters own; the locals]

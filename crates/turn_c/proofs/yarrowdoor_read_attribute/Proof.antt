@@ -65,7 +65,13 @@ yarrowdoor_read_attribute_spec 𝓤 𝓛 𝓜 𝓡 wired =
     let none : Ptr = block_ptr b' o' in let n_fits = are.1.0.1 in
     let z : P.Ghost = ((tt, tt, tt, (at, (n, (none, tt))), (rawptr_vals at, (uint_vals w64 n, (rawptr_vals none, tt)))), tt) in
     move ! (1 ∷ []) $ split ! $
-    enter ! _ _ _ _ _ $ alloc_all ! (λ l'. pass_all ! refl (((rawptr_Lawful 𝓛).typed at _ refl).0, ((tt, record { fits = n_fits }), ((tt, record { fits = are.1.1.0.1 }), ((tt, tt), ((tt, tt), tt))))) $
+    enter ! _ _ _ _ _ $ alloc_all ! (λ l'. pass_all ! refl (
+      ((rawptr_Lawful 𝓛).typed at _ refl).0,
+      (
+        (tt, record { fits = n_fits }),
+        ((tt, record { fits = are.1.1.0.1 }), ((tt, tt), ((tt, tt), tt))),
+      ),
+    ) $
     -- [the tokens; what the parameters own; the bytes; the locals]
     sets ! (addr ! (through ! refl (stop !))) refl (tt, tt) $
     nothing ! $ feq_i ! (List Val) (rawptr_vals none) (rawptr_vals none) refl $ fjoin ! $ owned ! usize (Is usize) (uint_Makes 𝓛 w64) n (vint w64 n ∷ []) (refl, n_fits) $ fjoin ! $
