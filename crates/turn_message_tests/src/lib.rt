@@ -1,4 +1,4 @@
-//! The tests of `turn_stun`, `turn_types`, `turn_auth` and `turn_agent`, through their public items.
+//! The tests of `turn_stun`, `turn_types`, `turn_auth`, `turn_agent` and `turn_hints`, through their public items.
 //!
 //! The gate proves a crate that has tests twice, with them and without. So the tests are here, a module for
 //! each crate, and the crates under test are proved once.
@@ -15,6 +15,8 @@ mod agent;
 mod auth;
 #[cfg(test)]
 mod fixture;
+#[cfg(test)]
+mod hints;
 #[cfg(test)]
 mod stun;
 #[cfg(test)]
