@@ -1,11 +1,10 @@
 -- When the first grant is refreshed, from what is kept of those that are to be.
-use Rattle.std.proofs.Common.{◌≡◌, ◌∙◌, ◌≤◌, ◌-◌, ◌^◌, ℕ, Bool, true, false, cond, List, [], ◌∷◌, ◌++◌, append-nil, ap, sym, refl, arith}
-use Rattle.std.specs.Prelude.{◌&&◌, Option, Some, None, filter_map, flat_map, fold, if◌then◌else◌, min, not, option_and_then, option_map, option_to_list, slice_get}
-use Rattle.std.specs.List.{list_any}
+use Rattle.std.proofs.Common.{◌≡◌, ◌∙◌, ◌≤◌, ◌-◌, ℕ, Bool, true, false, List, [], ◌∷◌, ◌++◌, append-nil, ap, sym, refl, arith}
+use Rattle.std.specs.Prelude.{◌&&◌, Option, Some, None, filter_map, flat_map, fold, if◌then◌else◌, min, not, option_map, option_to_list}
 use Rattle.std.specs.Option.{option_map_or}
 use Rattle.turn_client_api.specs.Due.{is_refreshable, refresh_time, refresh_time_by_kind, refresh_time_of, time_ahead}
 use Rattle.turn_client_api.specs.Effect.{channel_lifetime, permission_lifetime}
-use Rattle.turn_client_api.specs.Grants.{as_allocation, has_request, is_for}
+use Rattle.turn_client_api.specs.Grants.{as_allocation, has_request}
 use Rattle.turn_client_api.specs.State.{State, max_time}
 use Rattle.turn_client_api.specs.declared.grant.Grant.{Grant}
 use Rattle.turn_client_api.specs.declared.grant.Grant.TheVariants.{Allocation, Permission, Channel}
@@ -13,9 +12,9 @@ use Rattle.turn_client_api.specs.declared.grant.Listing.{Listing}
 use Rattle.turn_client_api.specs.declared.grant.Progress.TheVariants.{Active}
 use Rattle.turn_client_api.specs.declared.grant.Relay.{Relay}
 use Rattle.turn_client_grants.specs.Lists.{with_ahead, with_lists}
-use Rattle.turn_client_grants.specs.Summary.{IsSummary, expiry_by_kind, far, is_kept, kept_expiry, refresh_in, relay_refresh}
+use Rattle.turn_client_grants.specs.Summary.{IsSummary, far, is_kept, kept_expiry, refresh_in, relay_refresh}
 use Rattle.turn_client_grants.specs.declared.summary.Summary.{Summary}
-use Rattle.turn_client_grants.proofs.SummaryLemmas.{flat-options, flat-same, fold-min-append, fold-min-both, fold-min-from, fold-min-le}
+use Rattle.turn_client_grants.proofs.SummaryLemmas.{flat-options, flat-same, fold-min-both, fold-min-le}
 
 -- ---- a refresh is one of an allocation, of a permission, or of a channel
 

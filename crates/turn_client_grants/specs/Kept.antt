@@ -1,5 +1,5 @@
 -- How a table of grants is kept.
-use Rattle.std.specs.Prelude.{ℕ, zero, suc, ◌≡◌, List, Option}
+use Rattle.std.specs.Prelude.{ℕ, zero, suc, List, Option}
 use Rattle.turn_client_api.specs.declared.grant.Grant.{Grant}
 use Rattle.turn_client_api.specs.declared.grant.Listing.{Listing}
 use Rattle.turn_client_grants.specs.Index.{IsIndex}

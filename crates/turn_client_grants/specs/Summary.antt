@@ -1,5 +1,5 @@
 -- What is read from all grants at once.
-use Rattle.std.specs.Prelude.{ℕ, ◌≡◌, ◌+◌, ◌-◌, ◌^◌, ◌&&◌, if◌then◌else◌, min, not, Bool, true, false, List, filter_map, fold, slice_get, option_and_then}
+use Rattle.std.specs.Prelude.{ℕ, ◌≡◌, ◌+◌, ◌-◌, ◌^◌, ◌&&◌, ◌||◌, if◌then◌else◌, min, not, Bool, true, false, List, filter_map, fold, slice_get, option_and_then}
 use Rattle.std.specs.Prelude.{option_to_list, Option, Some, None}
 use Rattle.std.specs.List.{list_any}
 use Rattle.std.specs.Option.{option_map_or}
@@ -16,6 +16,7 @@ use Rattle.turn_client_api.specs.declared.grant.Origin.TheVariants.{ServerReques
 use Rattle.turn_client_api.specs.declared.grant.Progress.TheVariants.{Active, Reserved}
 use Rattle.turn_client_grants.specs.Lists.{with_lists}
 use Rattle.turn_client_grants.specs.declared.summary.Summary.{Summary}
+use Rattle.turn_client_grants.specs.declared.totals.Totals.{Totals}
 
 -- the expiry or the deadline of a grant other than an allocation
 abbrev pub end_in : Grant → Option ℕ
@@ -47,10 +48,13 @@ expiry_by_kind true (Channel number peer (Active lease)) = Some lease.expiry
 expiry_by_kind false (Permission ip (Active lease)) = Some lease.expiry
 expiry_by_kind of_channels _ = None
 
--- the same, if it is to be refreshed: its allocation is in use, and no request for it is pending
+-- its allocation is in use, and no request for it is pending
+abbrev pub needs_refresh : Grant → State → Bool
+needs_refresh g s = is_refreshable g s && not (has_request g s)
+
+-- the expiry of an active channel, or of an active permission, that is to be refreshed
 unfoldable pub kept_expiry : Bool → State → Grant → Option ℕ
-kept_expiry of_channels s g =
-    option_and_then (λ expiry. if is_refreshable g s && not (has_request g s) then Some expiry else None) (expiry_by_kind of_channels g)
+kept_expiry of_channels s g = option_and_then (λ expiry. if needs_refresh g s then Some expiry else None) (expiry_by_kind of_channels g)
 
 -- an allocation is to be refreshed
 abbrev pub is_kept : List Listing → Relay → Bool
@@ -91,6 +95,18 @@ is_requested _ = false
 abbrev pub is_reserved : Grant → Bool
 is_reserved (Channel number peer (Reserved until)) = true
 is_reserved _ = false
+
+-- what is read from the rest of some grants, after what was read before, is what is read from all of them
+pub record ReadsAlike (now : Totals) (rest : List Grant) (start : Totals) (all grants : List Grant) (listed : List Listing) : Type 0 where
+  pub end : fold min now.end (filter_map end_in rest) ≡ fold min start.end (filter_map end_in all)
+  pub lapse : fold min now.lapse (filter_map (lapse_in listed) rest) ≡ fold min start.lapse (filter_map (lapse_in listed) all)
+  pub permissions : (s : State) → fold min now.permissions (filter_map (kept_expiry false (with_lists grants listed s)) rest)
+      ≡ fold min start.permissions (filter_map (kept_expiry false (with_lists grants listed s)) all)
+  pub channels : (s : State) → fold min now.channels (filter_map (kept_expiry true (with_lists grants listed s)) rest)
+      ≡ fold min start.channels (filter_map (kept_expiry true (with_lists grants listed s)) all)
+  pub untold : (now.has_untold || list_any is_untold rest) ≡ (start.has_untold || list_any is_untold all)
+  pub requested : (now.has_requested || list_any is_requested rest) ≡ (start.has_requested || list_any is_requested all)
+  pub reserved : (now.has_reserved || list_any is_reserved rest) ≡ (start.has_reserved || list_any is_reserved all)
 
 -- it is the summary of these grants and these requests
 pub record IsSummary (summary : Summary) (grants : List Grant) (listed : List Listing) : Type 0 where

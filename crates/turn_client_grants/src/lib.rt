@@ -40,6 +40,7 @@ mod refresh;
 mod summary;
 mod table;
 mod time;
+mod totals;
 
 pub use grant_filter::GrantFilter;
 pub use kind::{family_of, family_of_ip};

@@ -1,7 +1,7 @@
 use Rattle.std.proofs.Common.{rules, ◌≡◌, ◌∙◌, false, refl, sym, true}
 use Rattle.std.specs.Duration.{as_nanos}
-use Rattle.std.specs.Prelude.{Some, not}
-use Rattle.turn_client_api.specs.Due.{is_refreshable, refresh_time_by_kind}
+use Rattle.std.specs.Prelude.{Some}
+use Rattle.turn_client_api.specs.Due.{refresh_time_by_kind}
 use Rattle.turn_client_api.specs.Grants.{has_request}
 use Rattle.turn_client_grants.specs.Lists.{with_lists}
 use Rattle.turn_client_grants.proofs.AheadLemmas.{timed, used-ahead}
