@@ -7,3 +7,6 @@ pub mod RestPolls
 pub mod RestSends
 pub mod RestLemmas
 pub mod DrivenRowLemmas
+pub mod RestWaits
+pub mod RestWaitPolls
+pub mod RestWaitSends

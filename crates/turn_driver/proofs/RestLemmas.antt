@@ -3,11 +3,8 @@ use Rattle.std.proofs.Common.{◌≡◌, ◌∙◌, ℕ, zero, suc, ◌+◌, ◌
 use Rattle.std.proofs.Common.{suc-add, sym, zero-add}
 use Rattle.std.specs.Prelude.{find, ⊤}
 use Rattle.std.proofs.lemmas.Bool.{ltb-false}
-use Rattle.std.specs.declared.net.socket_addr.SocketAddr.{SocketAddr}
-use Rattle.turn_stun.specs.declared.transport.TransportType.{TransportType}
 use Rattle.turn_stun.specs.declared.transport.Transmit.{Transmit}
 use Rattle.turn_client_api.specs.Alarm.{HasWorkNow, IsTimely}
-use Rattle.turn_client_api.specs.Config.{Config}
 use Rattle.turn_client_api.specs.Payloads.{Handled, Ignored, Outcome, Payload, PeerData, PeerIcmp}
 use Rattle.turn_client_api.specs.Poll.{poll_step}
 use Rattle.turn_client_api.specs.State.{State, initial}
@@ -15,7 +12,7 @@ use Rattle.turn_client_api.specs.Steps.{state_after, state_after_all}
 use Rattle.turn_client_api.specs.Streams.{first_ready_step, go_on, is_ready, max_steps, next_frame_step, poll_recv_step, steps_until_payload}
 use Rattle.turn_client_api.specs.Transmit.{transmit_step}
 use Rattle.turn_client_api.specs.declared.call.Call.{Call}
-use Rattle.turn_client_api.specs.declared.call.Call.TheVariants.{PollRecv, Recv}
+use Rattle.turn_client_api.specs.declared.call.Call.TheVariants.{Poll as PollCall, PollRecv, Recv}
 use Rattle.turn_client_api.specs.declared.event.TurnEvent.{TurnEvent}
 use Rattle.turn_client_api.specs.declared.poll.TurnPollRet.{TurnPollRet}
 use Rattle.turn_client_api.specs.declared.poll.TurnPollRet.TheVariants as Poll
@@ -23,8 +20,7 @@ use Rattle.turn_client_api.specs.declared.state.Stream.{Stream}
 use Rattle.turn_client_laws.specs.LawsGrantAllocations.{GrantsHaveAllocations}
 use Rattle.turn_client_laws.specs.LawsOrder.{FitsPhase}
 use Rattle.turn_client_laws.proofs.EditsOfCalls.{calls-walk}
-use Rattle.turn_client_laws.proofs.EditsOfTime.{poll-walk}
-use Rattle.turn_client_laws.proofs.FixedFields.{SameIn, fixed-all-edits, fixed-edits}
+use Rattle.turn_client_laws.proofs.FixedFields.{SameIn, fixed-all-edits}
 use Rattle.turn_client_laws.proofs.InAllocation.{GrantsHaveAllocations-AllHaveAllocation, initial-GrantsHaveAllocations, leaves-GrantsHaveAllocations}
 use Rattle.turn_client_laws.proofs.SendOrderLemmas.{initial-steady, leaves-steadies, steady-FitsPhaseForPoll}
 use Rattle.turn_client_laws.proofs.StreamDrainLemmas.{turn-lighter}
@@ -33,96 +29,98 @@ use Rattle.turn_client_laws.proofs.TimelyLemmas.{poll-timely}
 use Rattle.turn_driver.specs.Driver.{DriveState, begun, drive_state, drive_steps, going, once_more, with_answer}
 use Rattle.turn_driver.specs.Given.{Given, packet_in}
 use Rattle.turn_driver.specs.Next.{Answer, Does, Rests, by_streams, by_time, next_step, poll_answer, to_send, waiting}
-use Rattle.turn_driver.specs.Rests.{IsAtRest, LoopsComeToRest, RestsWithin}
+use Rattle.turn_driver.specs.Rests.{HasWaits, IsAtRest, LeavesNoWork, LoopsComeToRest, RestsWithin}
 use Rattle.turn_driver.specs.declared.task.Rest.{Rest}
 use Rattle.turn_driver.specs.declared.task.Rest.TheVariants.{Until, Now, Ended}
 use Rattle.turn_driver.specs.declared.task.Task.{Task}
 use Rattle.turn_driver.proofs.EndedLemmas.{transmit-IsIdle}
 use Rattle.turn_driver.proofs.RestPolls.{IsTold, poll-IsTold}
 use Rattle.turn_driver.proofs.RestSends.{transmit-GetsOn}
+use Rattle.turn_driver.proofs.RestWaitPolls.{poll-told}
+use Rattle.turn_driver.proofs.RestWaitSends.{transmit-awaits}
+use Rattle.turn_driver.proofs.RestWaits.{left_to_await}
 use Rattle.turn_driver.proofs.RestWeights.{GetsOn, IsLess, KeepsUp, descends, gets-on-further, left_to_do, less-trans}
 use Rattle.turn_driver.proofs.RunLemmas.{next-run}
 
--- ---- what holds of every client in a run
+-- ---- numbers of which the first that changes gets less
 
-record IsFit (s : State) : Type 0 where
-  phase : FitsPhase s
-  housed : GrantsHaveAllocations s
-  pauses : 0 < s.config.request_cadence
+-- What has to hold of them for clients of some kind, which calls keep.
+pub record Measures (fit : State → Type 0) (left : ℕ → State → List ℕ) (size : ℕ) : Type 0 where
+  pub sized : (now : ℕ) (s : State) → length (left now s) ≡ size
+  pub calls : (call : Call) (s : State) → fit s → fit (state_after call s)
+  pub phase : (s : State) → fit s → FitsPhase s
+  pub housed : (s : State) → fit s → GrantsHaveAllocations s
+  pub told : (now : ℕ) (s : State) → now ≤ 2 ^ 62 → fit s → IsTold (left now) s (poll_step now s)
+  pub sends : (now : ℕ) (s : State) → now ≤ 2 ^ 62 → fit s → (packet : Transmit (List ℕ)) → (transmit_step now s).0 ≡ Some packet → GetsOn (left now) s (transmit_step now s).1
+  pub tells : (now : ℕ) (event : TurnEvent) (events : List TurnEvent) (s : State) → GetsOn (left now) (record s { events = event ∷ events }) (record s { events = events })
+  pub drains : (now : ℕ) (s t : State) → weight t.streams < weight s.streams → GetsOn (left now) s t
 
-call-fit : (call : Call) (s : State) → IsFit s → IsFit (state_after call s)
-call-fit call s fit = record {
-  phase = leaves-steadies call s (state_after call s) (inl refl) fit.phase;
-  housed = leaves-GrantsHaveAllocations call s (state_after call s) (inl refl) fit.housed;
-  pauses =
-      let config : (state_after call s).config ≡ s.config = calls-walk (SameIn (λ f. f.1.0)) (fixed-all-edits (λ f. f.1.0)) (λ t streams. refl) call s in
-      rw config fit.pauses;
-}
-
-calls-fit : (calls : List Call) (s : State) → IsFit s → IsFit (state_after_all s calls)
-calls-fit [] s fit = fit
-calls-fit (call ∷ calls) s fit = calls-fit calls (state_after call s) (call-fit call s fit)
+calls-fit : (fit : State → Type 0) → ((call : Call) (s : State) → fit s → fit (state_after call s)) → (calls : List Call) (s : State) → fit s → fit (state_after_all s calls)
+calls-fit fit keeps [] s is = is
+calls-fit fit keeps (call ∷ calls) s is = calls-fit fit keeps calls (state_after call s) (keeps call s is)
 
 -- ---- one answer
 
 -- with a rest nothing is left to do, and with a task less
-abbrev GoesOn : ℕ → State → Answer × State → Type 0
-GoesOn now s (Rests (Until time), t) = ⊤
-GoesOn now s (Rests Now, t) = GetsOn now s t
-GoesOn now s (Rests Ended, t) = ⊤
-GoesOn now s (Does given, t) = GetsOn now s t
+abbrev GoesOn : (State → List ℕ) → State → Answer × State → Type 0
+GoesOn left s (Rests (Until time), t) = ⊤
+GoesOn left s (Rests Now, t) = GetsOn left s t
+GoesOn left s (Rests Ended, t) = ⊤
+GoesOn left s (Does given, t) = GetsOn left s t
 
-goes-on-further : (now : ℕ) (s t : State) (p : Answer × State) → GetsOn now s t → GoesOn now t p → GoesOn now s p
-goes-on-further now s t (Rests (Until time), u) less goes = tt
-goes-on-further now s t (Rests Now, u) less goes = less-trans (left_to_do now u) (left_to_do now t) (left_to_do now s) goes less
-goes-on-further now s t (Rests Ended, u) less goes = tt
-goes-on-further now s t (Does given, u) less goes = less-trans (left_to_do now u) (left_to_do now t) (left_to_do now s) goes less
+goes-on-further : (left : State → List ℕ) (s t : State) (p : Answer × State) → GetsOn left s t → GoesOn left t p → GoesOn left s p
+goes-on-further left s t (Rests (Until time), u) less goes = tt
+goes-on-further left s t (Rests Now, u) less goes = less-trans (left u) (left t) (left s) goes less
+goes-on-further left s t (Rests Ended, u) less goes = tt
+goes-on-further left s t (Does given, u) less goes = less-trans (left u) (left t) (left s) goes less
 
-module _ (now : ℕ) (range : now ≤ 2 ^ 62) (s : State) where
+module _ (fit : State → Type 0) (measure : ℕ → State → List ℕ) (size : ℕ) (m : Measures fit measure size) (now : ℕ) (range : now ≤ 2 ^ 62) (s : State) where
+  abbrev left : State → List ℕ
+  left = measure now
+
   -- nothing was to be told and sent, though something was due: a request has timed out
-  gave-up : (t : State) → KeepsUp now s t → t.events ≡ [] → (transmit_step now t).0 ≡ None → HasWorkNow now s t → GetsOn now s t
+  gave-up : (t : State) → KeepsUp left s t → t.events ≡ [] → (transmit_step now t).0 ≡ None → HasWorkNow now s t → GetsOn left s t
   gave-up t (inl less) none idle busy = less
   gave-up t (inr (same, awaits)) none idle (inl some) = absurd (some none)
   gave-up t (inr (same, awaits)) none idle (inr (inl some)) = absurd (let clash : false ≡ true = rw idle at some in cc)
   gave-up t (inr (same, awaits)) none idle (inr (inr (x, before, after))) = absurd (let clash : true ≡ false = sym before ∙ (rw (← awaits) after) in cc)
 
-  sent-goes-on : (rest : Rest) (t : State) → KeepsUp now s t → t.events ≡ [] → 0 < t.config.request_cadence → (rest ≡ Now → HasWorkNow now s t)
-      → (p : Option (Transmit (List ℕ)) × State) → transmit_step now t ≡ p → GoesOn now s (to_send rest p)
-  sent-goes-on rest t keeps none pauses busy (Some packet, u) e =
-      let less : GetsOn now t (transmit_step now t).1 = transmit-GetsOn now t pauses range packet (rw e refl) in
-      gets-on-further now s t u keeps (rw e at less)
-  sent-goes-on (Until time) t keeps none pauses busy (None, u) e = tt
-  sent-goes-on Ended t keeps none pauses busy (None, u) e = tt
-  sent-goes-on Now t keeps none pauses busy (None, u) e =
+  sent-goes-on : (rest : Rest) (t : State) → KeepsUp left s t → t.events ≡ [] → fit t → (rest ≡ Now → HasWorkNow now s t)
+      → (p : Option (Transmit (List ℕ)) × State) → transmit_step now t ≡ p → GoesOn left s (to_send rest p)
+  sent-goes-on rest t keeps none is busy (Some packet, u) e =
+      let less : GetsOn left t (transmit_step now t).1 = m.sends now t range is packet (rw e refl) in
+      gets-on-further left s t u keeps (rw e at less)
+  sent-goes-on (Until time) t keeps none is busy (None, u) e = tt
+  sent-goes-on Ended t keeps none is busy (None, u) e = tt
+  sent-goes-on Now t keeps none is busy (None, u) e =
       let idle : (transmit_step now t).0 ≡ None = rw e refl in
       let stays : (transmit_step now t).1 ≡ t = transmit-IsIdle now t idle in
       let same : u ≡ t = sym (rw e refl) ∙ stays in
-      subst (GetsOn now s) (sym same) (gave-up t keeps none idle (busy refl))
+      subst (GetsOn left s) (sym same) (gave-up t keeps none idle (busy refl))
 
-  waiting-goes-on : (rest : Rest) (t : State) → KeepsUp now s t → 0 < t.config.request_cadence → (rest ≡ Now → HasWorkNow now s t) → GoesOn now s (waiting now rest t)
+  waiting-goes-on : (rest : Rest) (t : State) → KeepsUp left s t → fit t → (rest ≡ Now → HasWorkNow now s t) → GoesOn left s (waiting now rest t)
   waiting-goes-on rest t = by t.events
     where
-      by : (events : List TurnEvent) → KeepsUp now s (record t { events = events }) → 0 < t.config.request_cadence → (rest ≡ Now → HasWorkNow now s (record t { events = events }))
-          → GoesOn now s (waiting now rest (record t { events = events }))
-      by [] keeps pauses busy = let u : State = record t { events = [] } in sent-goes-on rest u keeps refl pauses busy (transmit_step now u) refl
-      by (event ∷ events) keeps pauses busy =
-          gets-on-further now s (record t { events = event ∷ events }) (record t { events = events }) keeps (inr (refl, inr (refl, inr (refl, inr (refl, inl (omega arith))))))
+      by : (events : List TurnEvent) → KeepsUp left s (record t { events = events }) → fit (record t { events = events }) → (rest ≡ Now → HasWorkNow now s (record t { events = events }))
+          → GoesOn left s (waiting now rest (record t { events = events }))
+      by [] keeps is busy = let u : State = record t { events = [] } in sent-goes-on rest u keeps refl is busy (transmit_step now u) refl
+      by (event ∷ events) keeps is busy =
+          gets-on-further left s (record t { events = event ∷ events }) (record t { events = events }) keeps (m.tells now event events t)
 
-  told-goes-on : (p : TurnPollRet × State) → IsTold now s p → IsTimely p.0 now s p.1 → 0 < p.1.config.request_cadence → GoesOn now s (by_time now p)
-  told-goes-on (Poll.AllocateTcpSocket id socket peer, t) told timely pauses = told
-  told-goes-on (Poll.TcpClose local remote, t) told timely pauses = told
-  told-goes-on (Poll.Closed, t) told timely pauses = waiting-goes-on Ended t told pauses (λ e. cc)
-  told-goes-on (Poll.WaitUntil time, t) told timely pauses = by (nat_lt now time) refl
+  told-goes-on : (p : TurnPollRet × State) → IsTold left s p → IsTimely p.0 now s p.1 → fit p.1 → GoesOn left s (by_time now p)
+  told-goes-on (Poll.AllocateTcpSocket id socket peer, t) told timely is = told
+  told-goes-on (Poll.TcpClose local remote, t) told timely is = told
+  told-goes-on (Poll.Closed, t) told timely is = waiting-goes-on Ended t told is (λ e. cc)
+  told-goes-on (Poll.WaitUntil time, t) told timely is = by (nat_lt now time) refl
     where
-      by : (b : Bool) → nat_lt now time ≡ b → GoesOn now s (cond b (Rests (Until time), t) (waiting now Now t))
+      by : (b : Bool) → nat_lt now time ≡ b → GoesOn left s (cond b (Rests (Until time), t) (waiting now Now t))
       by true e = tt
-      by false e = waiting-goes-on Now t told pauses (λ same. timely.1 (ltb-false now time e))
+      by false e = waiting-goes-on Now t told is (λ same. timely.1 (ltb-false now time e))
 
-  polled-goes-on : IsFit s → GoesOn now s (poll_answer now s)
-  polled-goes-on fit =
-      let config : (poll_step now s).1.config ≡ s.config = poll-walk (SameIn (λ f. f.1.0)) (fixed-edits (λ f. f.1.0)) now s in
-      told-goes-on (poll_step now s) (poll-IsTold now s)
-      (poll-timely now s (steady-FitsPhaseForPoll s fit.phase) (GrantsHaveAllocations-AllHaveAllocation s fit.housed) range) (rw config fit.pauses)
+  polled-goes-on : fit s → GoesOn left s (poll_answer now s)
+  polled-goes-on is =
+      told-goes-on (poll_step now s) (m.told now s range is)
+      (poll-timely now s (steady-FitsPhaseForPoll s (m.phase s is)) (GrantsHaveAllocations-AllHaveAllocation s (m.housed s is)) range) (m.calls (PollCall now) s is)
 
 -- ---- the streams
 
@@ -146,15 +144,16 @@ drains (suc n) now s = by (find is_ready s.streams) refl (λ t. drains n now t)
     by None e later = inr refl
     by (Some stream) e later = inl (goes (next_frame_step stream now s) (turn-lighter stream now s e) later)
 
-next-goes-on : (now : ℕ) → now ≤ 2 ^ 62 → (s : State) → IsFit s → GoesOn now s (next_step now s)
-next-goes-on now range s fit = elim (drains (max_steps s) now s) [
-  | inl less ↦ fed (poll_recv_step now s) less (call-fit (PollRecv now) s fit)
-  | inr same ↦ rw same (polled-goes-on now range s fit)
+next-goes-on : (fit : State → Type 0) (measure : ℕ → State → List ℕ) (size : ℕ) (m : Measures fit measure size) (now : ℕ) → now ≤ 2 ^ 62 → (s : State) → fit s
+    → GoesOn (measure now) s (next_step now s)
+next-goes-on fit measure size m now range s is = elim (drains (max_steps s) now s) [
+  | inl less ↦ fed (poll_recv_step now s) less (m.calls (PollRecv now) s is)
+  | inr same ↦ rw same (polled-goes-on fit measure size m now range s is)
 ]
   where
-    fed : (p : Option Payload × State) → weight p.1.streams < weight s.streams → IsFit p.1 → GoesOn now s (by_streams now p)
-    fed (Some payload, t) less is = inl less
-    fed (None, t) less is = goes-on-further now s t (poll_answer now t) (inl less) (polled-goes-on now range t is)
+    fed : (p : Option Payload × State) → weight p.1.streams < weight s.streams → fit p.1 → GoesOn (measure now) s (by_streams now p)
+    fed (Some payload, t) less is = m.drains now s t less
+    fed (None, t) less is = goes-on-further (measure now) s t (poll_answer now t) (m.drains now s t less) (polled-goes-on fit measure size m now range t is)
 
 -- ---- all polls
 
@@ -178,37 +177,39 @@ stays-at-rest (suc n) now t rests = ap (once_more now) (stays-at-rest n now t re
 abbrev Settles : ℕ → State → Type 0
 Settles now s = (n : ℕ) × ((most : ℕ) (given : List Given) → n ≤ most → IsAtRest (drive_steps most now (going given s)).rest)
 
-settles-first : (now : ℕ) (s : State) → IsFit s → GoesOn now s (next_step now s) → ((t : State) → GetsOn now s t → IsFit t → Settles now t) → Settles now s
-settles-first now s fit goes later = by (next_step now s) refl goes
-  where
-    fit-after : IsFit (next_step now s).1
-    fit-after = let (calls, all, told) = next-run now s in rw told.1 (calls-fit calls s fit)
+module _ (fit : State → Type 0) (measure : ℕ → State → List ℕ) (size : ℕ) (m : Measures fit measure size) (now : ℕ) (range : now ≤ 2 ^ 62) where
+  settles-first : (s : State) → fit s → GoesOn (measure now) s (next_step now s) → ((t : State) → GetsOn (measure now) s t → fit t → Settles now t) → Settles now s
+  settles-first s is goes later = by (next_step now s) refl goes
+    where
+      fit-after : fit (next_step now s).1
+      fit-after = let (calls, all, told) = next-run now s in rw told.1 (calls-fit fit m.calls calls s is)
 
-    -- after the first poll
-    after : (n : ℕ) (p : Answer × State) → next_step now s ≡ p → ((most : ℕ) (given : List Given) → n ≤ most → IsAtRest (drive_steps most now (with_answer given p)).rest) → Settles now s
-    after n p e enough = (n + 1, λ most given less. polls most given less)
-      where
-        polls : (most : ℕ) (given : List Given) → n + 1 ≤ most → IsAtRest (drive_steps most now (going given s)).rest
-        polls zero given less = absurd (omega (arith, less))
-        polls (suc most) given less =
-            let first : drive_steps (suc most) now (going given s) ≡ drive_steps most now (with_answer given p) = first-poll most now (going given s) ∙ rw e refl in
-            rw first (enough most given (omega (arith, less)))
+      -- after the first poll
+      after : (n : ℕ) (p : Answer × State) → next_step now s ≡ p → ((most : ℕ) (given : List Given) → n ≤ most → IsAtRest (drive_steps most now (with_answer given p)).rest) → Settles now s
+      after n p e enough = (n + 1, λ most given less. polls most given less)
+        where
+          polls : (most : ℕ) (given : List Given) → n + 1 ≤ most → IsAtRest (drive_steps most now (going given s)).rest
+          polls zero given less = absurd (omega (arith, less))
+          polls (suc most) given less =
+              let first : drive_steps (suc most) now (going given s) ≡ drive_steps most now (with_answer given p) = first-poll most now (going given s) ∙ rw e refl in
+              rw first (enough most given (omega (arith, less)))
 
-    by : (p : Answer × State) → next_step now s ≡ p → GoesOn now s p → Settles now s
-    by (Rests (Until time), t) e goes = after 0 (Rests (Until time), t) e (λ most given less. rw (stays-at-rest most now (with_answer given (Rests (Until time), t)) tt) tt)
-    by (Rests Ended, t) e goes = after 0 (Rests Ended, t) e (λ most given less. rw (stays-at-rest most now (with_answer given (Rests Ended, t)) tt) tt)
-    by (Rests Now, t) e goes = let (n, enough) = later t goes (rw e at fit-after) in after n (Rests Now, t) e (λ most given few. enough most given few)
-    by (Does one, t) e goes = let (n, enough) = later t goes (rw e at fit-after) in after n (Does one, t) e (λ most given few. enough most _ few)
+      by : (p : Answer × State) → next_step now s ≡ p → GoesOn (measure now) s p → Settles now s
+      by (Rests (Until time), t) e goes = after 0 (Rests (Until time), t) e (λ most given less. rw (stays-at-rest most now (with_answer given (Rests (Until time), t)) tt) tt)
+      by (Rests Ended, t) e goes = after 0 (Rests Ended, t) e (λ most given less. rw (stays-at-rest most now (with_answer given (Rests Ended, t)) tt) tt)
+      by (Rests Now, t) e goes = let (n, enough) = later t goes (rw e at fit-after) in after n (Rests Now, t) e (λ most given few. enough most given few)
+      by (Does one, t) e goes = let (n, enough) = later t goes (rw e at fit-after) in after n (Does one, t) e (λ most given few. enough most _ few)
 
-settles : (now : ℕ) → now ≤ 2 ^ 62 → (s : State) → IsFit s → Settles now s
-settles now range s fit = descends 5 P step (left_to_do now s) refl s refl fit
-  where
-    P : List ℕ → Type 0
-    P xs = (t : State) → left_to_do now t ≡ xs → IsFit t → Settles now t
+  pub settles : (s : State) → fit s → Settles now s
+  settles s is = descends size P step (measure now s) (m.sized now s) s refl is
+    where
+      P : List ℕ → Type 0
+      P xs = (t : State) → measure now t ≡ xs → fit t → Settles now t
 
-    step : (xs : List ℕ) → length xs ≡ 5 → ((ys : List ℕ) → length ys ≡ 5 → IsLess ys xs → P ys) → P xs
-    step xs five lesser t e is =
-        settles-first now t is (next-goes-on now range t is) (λ u less fits. lesser (left_to_do now u) refl (subst (IsLess (left_to_do now u)) e less) u refl fits)
+      step : (xs : List ℕ) → length xs ≡ size → ((ys : List ℕ) → length ys ≡ size → IsLess ys xs → P ys) → P xs
+      step xs sized lesser t e is =
+          settles-first t is (next-goes-on fit measure size m now range t is)
+          (λ u less fits. lesser (measure now u) (m.sized now u) (subst (IsLess (measure now u)) e less) u refl fits)
 
 -- ---- all iterations
 
@@ -256,25 +257,90 @@ iterates (suc n) most now s some enough = by t.rest t.given t.client refl (λ u 
 
 -- ---- a run
 
-first-fit : (transport : TransportType) (local remote : SocketAddr) (config : Config) (seed : List ℕ) → 0 < config.request_cadence → IsFit (initial transport local remote config seed)
-first-fit transport local remote config seed pauses = record {
-  phase = initial-steady transport local remote config seed;
-  housed = initial-GrantsHaveAllocations transport local remote config seed;
-  pauses = pauses;
+-- a client of some kind, and each packet and number of polls
+pub rests : (fit : State → Type 0) (measure : ℕ → State → List ℕ) (size : ℕ) → Measures fit measure size → (s : State) (now : ℕ) → now ≤ 2 ^ 62 → fit s → LeavesNoWork s now
+rests fit measure size m s now range is = record { polls = λ came. polls (packet_in came); iterations = iterations }
+  where
+    polls : (o : Option (Transmit (List ℕ))) → (n : ℕ) × ((most : ℕ) (tasks : List Task) → n ≤ most → IsAtRest (drive_steps most now (begun o now (drive_state tasks s))).rest)
+    polls None = let (n, enough) = settles fit measure size m now range s is in (n, λ most tasks less. enough most _ less)
+    polls (Some packet) =
+        let (n, enough) = settles fit measure size m now range (state_after (Recv packet now) s) (m.calls (Recv packet now) s is) in
+        (n, λ most tasks less. enough most _ less)
+
+    iterations : (most : ℕ) → 0 < most → (n : ℕ) × RestsWithin n most now s
+    iterations most some = let (n, enough) = settles fit measure size m now range s is in (suc n, iterates n most now s some enough)
+
+-- ---- with a pause between two requests
+
+record IsFit (s : State) : Type 0 where
+  phase : FitsPhase s
+  housed : GrantsHaveAllocations s
+  pauses : 0 < s.config.request_cadence
+
+pub config-stays : (call : Call) (s : State) → (state_after call s).config ≡ s.config
+config-stays call s = calls-walk (SameIn (λ f. f.1.0)) (fixed-all-edits (λ f. f.1.0)) (λ t streams. refl) call s
+
+call-fit : (call : Call) (s : State) → IsFit s → IsFit (state_after call s)
+call-fit call s is = record {
+  phase = leaves-steadies call s (state_after call s) (inl refl) is.phase;
+  housed = leaves-GrantsHaveAllocations call s (state_after call s) (inl refl) is.housed;
+  pauses = rw (config-stays call s) is.pauses;
+}
+
+pausing : Measures IsFit left_to_do 5
+pausing = record {
+  sized = λ now s. refl;
+  calls = call-fit;
+  phase = λ s is. is.phase;
+  housed = λ s is. is.housed;
+  told = λ now s range is. poll-IsTold now s;
+  sends = λ now s range is packet e. transmit-GetsOn now s is.pauses range packet e;
+  tells = λ now event events s. inr (refl, inr (refl, inr (refl, inr (refl, inl (omega arith)))));
+  drains = λ now s t less. inl less;
+}
+
+-- ---- with waits
+
+record IsPatient (s : State) : Type 0 where
+  phase : FitsPhase s
+  housed : GrantsHaveAllocations s
+  waits : HasWaits s.transport s.config
+
+call-patient : (call : Call) (s : State) → IsPatient s → IsPatient (state_after call s)
+call-patient call s is = record {
+  phase = leaves-steadies call s (state_after call s) (inl refl) is.phase;
+  housed = leaves-GrantsHaveAllocations call s (state_after call s) (inl refl) is.housed;
+  waits =
+      let transport : (state_after call s).transport ≡ s.transport = calls-walk (SameIn (λ f. f.0)) (fixed-all-edits (λ f. f.0)) (λ t streams. refl) call s in
+      rw (transport, config-stays call s) is.waits;
+}
+
+waiting-long : Measures IsPatient left_to_await 7
+waiting-long = record {
+  sized = λ now s. refl;
+  calls = call-patient;
+  phase = λ s is. is.phase;
+  housed = λ s is. is.housed;
+  told = λ now s range is. poll-told now s;
+  sends = λ now s range is packet e. transmit-awaits now s range is.waits.waits is.waits.keepalive packet e;
+  tells = λ now event events s. inr (refl, inr (refl, inr (refl, inr (refl, inr (refl, inr (refl, inl (omega arith)))))));
+  drains = λ now s t less. inl less;
 }
 
 pub loops-come-to-rest : LoopsComeToRest
-loops-come-to-rest transport local remote config seed calls now pauses range = record { polls = λ came. polls (packet_in came); iterations = iterations }
-  where
-    s : State
-    s = state_after_all (initial transport local remote config seed) calls
-
-    fit : IsFit s
-    fit = calls-fit calls (initial transport local remote config seed) (first-fit transport local remote config seed pauses)
-
-    polls : (o : Option (Transmit (List ℕ))) → (n : ℕ) × ((most : ℕ) (tasks : List Task) → n ≤ most → IsAtRest (drive_steps most now (begun o now (drive_state tasks s))).rest)
-    polls None = let (n, enough) = settles now range s fit in (n, λ most tasks less. enough most _ less)
-    polls (Some packet) = let (n, enough) = settles now range (state_after (Recv packet now) s) (call-fit (Recv packet now) s fit) in (n, λ most tasks less. enough most _ less)
-
-    iterations : (most : ℕ) → 0 < most → (n : ℕ) × RestsWithin n most now s
-    iterations most some = let (n, enough) = settles now range s fit in (suc n, iterates n most now s some enough)
+loops-come-to-rest transport local remote config seed calls now (inl pauses) range =
+    let first : State = initial transport local remote config seed in
+    let fits : IsFit first = record {
+      phase = initial-steady transport local remote config seed;
+      housed = initial-GrantsHaveAllocations transport local remote config seed;
+      pauses = pauses;
+    } in
+    rests IsFit left_to_do 5 pausing (state_after_all first calls) now range (calls-fit IsFit call-fit calls first fits)
+loops-come-to-rest transport local remote config seed calls now (inr waits) range =
+    let first : State = initial transport local remote config seed in
+    let fits : IsPatient first = record {
+      phase = initial-steady transport local remote config seed;
+      housed = initial-GrantsHaveAllocations transport local remote config seed;
+      waits = waits;
+    } in
+    rests IsPatient left_to_await 7 waiting-long (state_after_all first calls) now range (calls-fit IsPatient call-patient calls first fits)

@@ -33,26 +33,26 @@ use Rattle.turn_client_laws.proofs.InAllocationLemmas.{same_family-true}
 use Rattle.turn_client_laws.proofs.LapseLemmas.{has-unreversed}
 use Rattle.turn_client_laws.proofs.LapseSteps.{lapsed_in-does}
 use Rattle.turn_client_laws.proofs.StreamWeightLemmas.{weight}
-use Rattle.turn_driver.proofs.RestWeights.{GetsOn, IsParted, KeepsUp, fewer, five-same, gets-on-further, load, load-append, may_send, parted, removed-load, resends_left, steps_of}
+use Rattle.turn_driver.proofs.RestWeights.{GetsOn, IsParted, KeepsUp, fewer, five-same, gets-on-further, left_to_do, load, load-append, may_send, parted, removed-load, resends_left, steps_of}
 
 -- ---- what time changes in a client, apart from what timed out
 
-abbrev IsLighter : State → State → Type 0
+abbrev pub IsLighter : State → State → Type 0
 IsLighter s t = (load t.grants < load s.grants) ⊎ ((load t.grants ≡ load s.grants) × (length t.events + length t.closes ≡ length s.events + length s.closes))
 
 -- all but the grants, the events and the connections to close stays
-record Stands (s t : State) : Type 0 where
-  config : t.config ≡ s.config
-  transport : t.transport ≡ s.transport
-  last_send : t.last_send ≡ s.last_send
-  streams : t.streams ≡ s.streams
-  transactions : t.transactions ≡ s.transactions
-  queue : t.queue ≡ s.queue
+pub record Stands (s t : State) : Type 0 where
+  pub config : t.config ≡ s.config
+  pub transport : t.transport ≡ s.transport
+  pub last_send : t.last_send ≡ s.last_send
+  pub streams : t.streams ≡ s.streams
+  pub transactions : t.transactions ≡ s.transactions
+  pub queue : t.queue ≡ s.queue
 
-stands-self : (s : State) → Stands s s
+pub stands-self : (s : State) → Stands s s
 stands-self s = record { config = refl; transport = refl; last_send = refl; streams = refl; transactions = refl; queue = refl }
 
-stands-trans : (s t u : State) → Stands s t → Stands t u → Stands s u
+pub stands-trans : (s t u : State) → Stands s t → Stands t u → Stands s u
 stands-trans s t u a b = record {
   config = b.config ∙ a.config;
   transport = b.transport ∙ a.transport;
@@ -62,9 +62,10 @@ stands-trans s t u a b = record {
   queue = b.queue ∙ a.queue;
 }
 
-record Ages (s t : State) : Type 0 where
-  stands : Stands s t
-  lighter : IsLighter s t
+pub record Ages (s t : State) : Type 0 where
+  pub stands : Stands s t
+  pub phase : t.phase ≡ s.phase
+  pub lighter : IsLighter s t
 
 lighter-trans : (s t u : State) → IsLighter s t → IsLighter t u → IsLighter s u
 lighter-trans s t u (inl a) (inl b) = inl (omega (arith, a, b))
@@ -73,16 +74,17 @@ lighter-trans s t u (inr a) (inl b) = let e = a.0 in inl (omega (arith, e, b))
 lighter-trans s t u (inr a) (inr b) = inr (b.0 ∙ a.0, b.1 ∙ a.1)
 
 ages-self : (s : State) → Ages s s
-ages-self s = record { stands = stands-self s; lighter = inr (refl, refl) }
+ages-self s = record { stands = stands-self s; phase = refl; lighter = inr (refl, refl) }
 
 ages-trans : (s t u : State) → Ages s t → Ages t u → Ages s u
-ages-trans s t u a b = record { stands = stands-trans s t u a.stands b.stands; lighter = lighter-trans s t u a.lighter b.lighter }
+ages-trans s t u a b = record { stands = stands-trans s t u a.stands b.stands; phase = b.phase ∙ a.phase; lighter = lighter-trans s t u a.lighter b.lighter }
 
 -- ---- what expires in one allocation
 
 failed-ages : (which : Grant → Bool) (s : State) → Ages s (failed which s)
 failed-ages which s = record {
   stands = record { config = refl; transport = refl; last_send = refl; streams = refl; transactions = refl; queue = refl };
+  phase = refl;
   lighter = by (parted which s.grants);
 }
   where
@@ -93,6 +95,7 @@ failed-ages which s = record {
 unbound-ages : (which : Grant → Bool) (s : State) → Ages s (unbound which s)
 unbound-ages which s = record {
   stands = record { config = refl; transport = refl; last_send = refl; streams = refl; transactions = refl; queue = refl };
+  phase = refl;
   lighter = by (parted which s.grants);
 }
   where
@@ -103,6 +106,7 @@ unbound-ages which s = record {
 freed-ages : (which : Grant → Bool) (s : State) → Ages s (without_grants which s)
 freed-ages which s = record {
   stands = record { config = refl; transport = refl; last_send = refl; streams = refl; transactions = refl; queue = refl };
+  phase = refl;
   lighter = by (parted which s.grants);
 }
   where
@@ -113,6 +117,7 @@ freed-ages which s = record {
 channel-ages : (o : Option Grant) (s : State) → ((g : Grant) → o ≡ Some g → Has g s.grants) → Ages s (channel_lapsed o s)
 channel-ages (Some (Channel number peer (Active lease))) s there = record {
   stands = record { config = refl; transport = refl; last_send = refl; streams = refl; transactions = refl; queue = refl };
+  phase = refl;
   lighter = inl (
       let less = removed-load (is_channel_of number) (Channel number peer (Active lease)) s.grants (there (Channel number peer (Active lease)) refl) (eq-eqb number number refl) in
       let more = load-append (filter (λ g. not (is_channel_of number g)) s.grants) (Channel number peer (Reserved (later_by reserved_time lease.expiry)) ∷ []) in
@@ -134,6 +139,7 @@ lapsed_in-ages family given purposes now =
       offers = λ t. failed-ages _ t;
       refreshes = λ t. record {
         stands = record { config = refl; transport = refl; last_send = refl; streams = refl; transactions = refl; queue = refl };
+        phase = refl;
         lighter = inr (refl, refl);
       };
       frees = λ t. freed-ages _ t;
@@ -152,7 +158,7 @@ each-ages given purposes now (a ∷ relays) s =
     let t = lapsed_allocation given purposes now s a in
     ages-trans s t (fold (lapsed_allocation given purposes now) t relays) (allocation-ages given purposes now s a) (each-ages given purposes now relays t)
 
-lapsed-ages : (given : Option ℕ) (now : ℕ) (s : State) → Ages s (lapsed given now s)
+pub lapsed-ages : (given : Option ℕ) (now : ℕ) (s : State) → Ages s (lapsed given now s)
 lapsed-ages given now s = each-ages given (timed_out_purposes given s) now (allocations s) s
 
 -- ---- the five numbers
@@ -160,7 +166,7 @@ lapsed-ages given now s = each-ages given (timed_out_purposes given s) now (allo
 may-same : (now : ℕ) (s t : State) → t.config ≡ s.config → t.last_send ≡ s.last_send → may_send now t ≡ may_send now s
 may-same now s t e f = rw (e, f) refl
 
-ages-KeepsUp : (now : ℕ) (s t : State) → Ages s t → KeepsUp now s t
+ages-KeepsUp : (now : ℕ) (s t : State) → Ages s t → KeepsUp (left_to_do now) s t
 ages-KeepsUp now s t ages = by ages.lighter
   where
     stands : Stands s t
@@ -181,37 +187,40 @@ ages-KeepsUp now s t ages = by ages.lighter
     queue : length t.queue ≡ length s.queue
     queue = rw stands.queue refl
 
-    by : IsLighter s t → KeepsUp now s t
+    by : IsLighter s t → KeepsUp (left_to_do now) s t
     by (inl less) = inl (inr (bytes, inr (may, inr (awaits, inl less))))
     by (inr (same, told)) = inr (five-same _ _ _ _ _ _ _ _ _ _ bytes may awaits same (omega (arith, resends, queue, told)), stands.transactions)
 
 -- a request is no longer awaited, and the streams and the pause are as they were
-fewer-GetsOn : (now : ℕ) (s t u : State) → t.streams ≡ s.streams → t.config ≡ s.config → t.last_send ≡ s.last_send → Stands t u → length t.transactions < length s.transactions → GetsOn now s u
+fewer-GetsOn : (now : ℕ) (s t u : State) → t.streams ≡ s.streams → t.config ≡ s.config → t.last_send ≡ s.last_send → Stands t u → length t.transactions < length s.transactions
+    → GetsOn (left_to_do now) s u
 fewer-GetsOn now s t u streams config last_send stands less =
     inr (ap weight (stands.streams ∙ streams), inr (may-same now s u (stands.config ∙ config) (stands.last_send ∙ last_send), inl (rw stands.transactions less)))
 
 -- ---- what is returned
 
 -- what the caller is to do leaves less to do, and a time to wait for leaves as much at most
-abbrev pub IsTold : ℕ → State → TurnPollRet × State → Type 0
-IsTold now s (Poll.AllocateTcpSocket id socket peer, t) = GetsOn now s t
-IsTold now s (Poll.TcpClose local remote, t) = GetsOn now s t
-IsTold now s (Poll.WaitUntil time, t) = KeepsUp now s t
-IsTold now s (Poll.Closed, t) = KeepsUp now s t
+abbrev pub IsTold : (State → List ℕ) → State → TurnPollRet × State → Type 0
+IsTold left s (Poll.AllocateTcpSocket id socket peer, t) = GetsOn left s t
+IsTold left s (Poll.TcpClose local remote, t) = GetsOn left s t
+IsTold left s (Poll.WaitUntil time, t) = KeepsUp left s t
+IsTold left s (Poll.Closed, t) = KeepsUp left s t
 
-gets-on-IsTold : (now : ℕ) (s : State) (p : TurnPollRet × State) → GetsOn now s p.1 → IsTold now s p
-gets-on-IsTold now s (Poll.AllocateTcpSocket id socket peer, t) less = less
-gets-on-IsTold now s (Poll.TcpClose local remote, t) less = less
-gets-on-IsTold now s (Poll.WaitUntil time, t) less = inl less
-gets-on-IsTold now s (Poll.Closed, t) less = inl less
+pub gets-on-IsTold : (left : State → List ℕ) (s : State) (p : TurnPollRet × State) → GetsOn left s p.1 → IsTold left s p
+gets-on-IsTold left s (Poll.AllocateTcpSocket id socket peer, t) less = less
+gets-on-IsTold left s (Poll.TcpClose local remote, t) less = less
+gets-on-IsTold left s (Poll.WaitUntil time, t) less = inl less
+gets-on-IsTold left s (Poll.Closed, t) less = inl less
 
-answer-IsTold : (given : Option ℕ) (now : ℕ) (s t : State) → KeepsUp now s t → IsTold now s (answer_step given now t)
-answer-IsTold given now s t keeps = by t.closes t.phase (allocations t) refl
+-- a connection to close leaves less to do
+abbrev pub Closes : (State → List ℕ) → Type 0
+Closes left = (local : SocketAddr) (others : List SocketAddr) (s : State) → s.closes ≡ local ∷ others → GetsOn left s (record s { closes = others })
+
+pub answer-IsTold : (left : State → List ℕ) → Closes left → (given : Option ℕ) (now : ℕ) (s t : State) → KeepsUp left s t → IsTold left s (answer_step given now t)
+answer-IsTold left closing given now s t keeps = by t.closes t.phase (allocations t) refl
   where
-    by : (closes : List SocketAddr) (p : Phase) (relays : List Relay) → t.closes ≡ closes → IsTold now s (answer_by closes p relays given now t)
-    by (local ∷ others) p relays e =
-        gets-on-further now s t (record t { closes = others }) keeps
-        (inr (refl, inr (refl, inr (refl, inr (refl, inl (let e' = ap (λ (xs : List SocketAddr). length xs) e in omega (arith, e')))))))
+    by : (closes : List SocketAddr) (p : Phase) (relays : List Relay) → t.closes ≡ closes → IsTold left s (answer_by closes p relays given now t)
+    by (local ∷ others) p relays e = gets-on-further left s t (record t { closes = others }) keeps (closing local others t e)
     by [] Allocated [] e = keeps
     by [] Allocated (a ∷ relays) e = keeps
     by [] New relays e = keeps
@@ -219,16 +228,19 @@ answer-IsTold given now s t keeps = by t.closes t.phase (allocations t) refl
     by [] Authenticating relays e = keeps
     by [] Closed relays e = keeps
 
+closing : (now : ℕ) → Closes (left_to_do now)
+closing now local others s e = let more = ap (λ (xs : List SocketAddr). length xs) e in inr (refl, inr (refl, inr (refl, inr (refl, inl (omega (arith, more))))))
+
 -- nothing timed out
-none-IsTold : (p : Phase) (now : ℕ) (s : State) → IsTold now s (timed_step p None now s)
+none-IsTold : (p : Phase) (now : ℕ) (s : State) → IsTold (left_to_do now) s (timed_step p None now s)
 none-IsTold New now s = inr (refl, refl)
-none-IsTold Requesting now s = answer-IsTold None now s s (inr (refl, refl))
-none-IsTold Authenticating now s = answer-IsTold None now s s (inr (refl, refl))
-none-IsTold Allocated now s = answer-IsTold None now s (lapsed None now s) (ages-KeepsUp now s (lapsed None now s) (lapsed-ages None now s))
+none-IsTold Requesting now s = answer-IsTold (left_to_do now) (closing now) None now s s (inr (refl, refl))
+none-IsTold Authenticating now s = answer-IsTold (left_to_do now) (closing now) None now s s (inr (refl, refl))
+none-IsTold Allocated now s = answer-IsTold (left_to_do now) (closing now) None now s (lapsed None now s) (ages-KeepsUp now s (lapsed None now s) (lapsed-ages None now s))
 none-IsTold Closed now s = inr (refl, refl)
 
 -- a request timed out
-answer-stands : (given : Option ℕ) (now : ℕ) (s t : State) → Stands s t → Stands s (answer_step given now t).1
+pub answer-stands : (given : Option ℕ) (now : ℕ) (s t : State) → Stands s t → Stands s (answer_step given now t).1
 answer-stands given now s t stands = answer-by (Stands s) given now t (λ closes. record {
   config = stands.config;
   transport = stands.transport;
@@ -238,7 +250,7 @@ answer-stands given now s t stands = answer-by (Stands s) given now t (λ closes
   queue = stands.queue;
 })
 
-timed-stands : (p : Phase) (id now : ℕ) (s : State) → Stands s (timed_step p (Some id) now s).1
+pub timed-stands : (p : Phase) (id now : ℕ) (s : State) → Stands s (timed_step p (Some id) now s).1
 timed-stands New id now s = stands-self s
 timed-stands Requesting id now s = record { config = refl; transport = refl; last_send = refl; streams = refl; transactions = refl; queue = refl }
 timed-stands Authenticating id now s = answer-stands (Some id) now s _ (by (is_listed_for_allocation id s))
@@ -249,12 +261,12 @@ timed-stands Authenticating id now s = answer-stands (Some id) now s _ (by (is_l
 timed-stands Allocated id now s = answer-stands (Some id) now s (lapsed (Some id) now s) (lapsed-ages (Some id) now s).stands
 timed-stands Closed id now s = stands-self s
 
-timed-IsTold : (now : ℕ) (s : State) (x : Transaction) → timed_out_transaction (agent_of s) now ≡ Some x → IsTold now s (timed_step s.phase (Some x.id) now (transaction_ended x.id s))
+timed-IsTold : (now : ℕ) (s : State) (x : Transaction) → timed_out_transaction (agent_of s) now ≡ Some x → IsTold (left_to_do now) s (timed_step s.phase (Some x.id) now (transaction_ended x.id s))
 timed-IsTold now s x found =
     let t = transaction_ended x.id s in
     let p = timed_step s.phase (Some x.id) now t in
     let there = has-found _ x s.transactions found in
-    gets-on-IsTold now s p
+    gets-on-IsTold (left_to_do now) s p
     (fewer-GetsOn now s t p.1 refl refl refl (timed-stands s.phase x.id now t)
     (fewer (λ (y : Transaction). not (eqb y.id x.id)) x s.transactions there.0 (not_from_true (eqb x.id x.id) (eq-eqb x.id x.id refl))))
 
@@ -288,8 +300,8 @@ reported-load family (g ∷ gs) offer e = by (unreported_in family g) refl (λ f
         let (less, is) = unreported-steps family g o f in
         (rw f (omega (arith, less)), subst (λ (x : DataOffer). is_of_family family x.peer ≡ true) same is)
 
-offer-IsTold : (now : ℕ) (s : State) (offer : DataOffer) → next_offer s ≡ Some offer → IsTold now s (offer_step offer s)
-offer-IsTold now s offer e = inr (refl, inr (refl, inr (refl, inl (by s.phase e))))
+pub offer-lighter : (s : State) (offer : DataOffer) → next_offer s ≡ Some offer → load (first_reported (family_of offer.peer) s.grants) < load s.grants
+offer-lighter s offer e = by s.phase e
   where
     in_one : (a : Relay) → first_unreported (family_of a.relayed) s ≡ Some offer → load (first_reported (family_of offer.peer) s.grants) < load s.grants
     in_one a f =
@@ -310,18 +322,31 @@ offer-IsTold now s offer e = inr (refl, inr (refl, inr (refl, inl (by s.phase e)
 
 -- ---- the call
 
-pub poll-IsTold : (now : ℕ) (s : State) → IsTold now s (poll_step now s)
-poll-IsTold now s = by (has_event s || has_reply s)
+-- what each case of the call leaves to do
+pub record Polls (left : State → List ℕ) (now : ℕ) (s : State) : Type 0 where
+  pub none : IsTold left s (timed_step s.phase None now s)
+  pub timed : (x : Transaction) → timed_out_transaction (agent_of s) now ≡ Some x → IsTold left s (timed_step s.phase (Some x.id) now (transaction_ended x.id s))
+  pub offers : (offer : DataOffer) → next_offer s ≡ Some offer → IsTold left s (offer_step offer s)
+
+pub told-by : (left : State → List ℕ) (now : ℕ) (s : State) → Polls left now s → IsTold left s (poll_step now s)
+told-by left now s cases = by (has_event s || has_reply s)
   where
     timed : (o : Option Transaction) → timed_out_transaction (agent_of s) now ≡ o
-        → IsTold now s (option_map_or (λ t. timed_step s.phase (Some t.id) now (transaction_ended t.id s)) o (timed_step s.phase None now s))
-    timed None e = none-IsTold s.phase now s
-    timed (Some x) e = timed-IsTold now s x e
+        → IsTold left s (option_map_or (λ t. timed_step s.phase (Some t.id) now (transaction_ended t.id s)) o (timed_step s.phase None now s))
+    timed None e = cases.none
+    timed (Some x) e = cases.timed x e
 
-    offered : (o : Option DataOffer) → next_offer s ≡ o → IsTold now s (option_map_or (λ offer. offer_step offer s) o (timed_out_step now s))
+    offered : (o : Option DataOffer) → next_offer s ≡ o → IsTold left s (option_map_or (λ offer. offer_step offer s) o (timed_out_step now s))
     offered None e = timed (timed_out_transaction (agent_of s) now) refl
-    offered (Some offer) e = offer-IsTold now s offer e
+    offered (Some offer) e = cases.offers offer e
 
-    by : (b : Bool) → IsTold now s (cond b (Poll.WaitUntil now, s) (option_map_or (λ offer. offer_step offer s) (next_offer s) (timed_out_step now s)))
+    by : (b : Bool) → IsTold left s (cond b (Poll.WaitUntil now, s) (option_map_or (λ offer. offer_step offer s) (next_offer s) (timed_out_step now s)))
     by true = inr (refl, refl)
     by false = offered (next_offer s) refl
+
+pub poll-IsTold : (now : ℕ) (s : State) → IsTold (left_to_do now) s (poll_step now s)
+poll-IsTold now s = told-by (left_to_do now) now s (record {
+  none = none-IsTold s.phase now s;
+  timed = timed-IsTold now s;
+  offers = λ offer e. inr (refl, inr (refl, inr (refl, inl (offer-lighter s offer e))));
+})

@@ -21,7 +21,7 @@ use Rattle.turn_client_api.specs.declared.state.Phase.TheVariants.{New, Requesti
 use Rattle.turn_client_api.specs.declared.state.Queued.{Queued}
 use Rattle.turn_client_laws.proofs.HasLemmas.{Has, has-found}
 use Rattle.turn_client_laws.proofs.StreamWeightLemmas.{weight}
-use Rattle.turn_driver.proofs.RestWeights.{GetsOn, may_send, resends_left}
+use Rattle.turn_driver.proofs.RestWeights.{GetsOn, left_to_do, may_send, resends_left}
 
 -- ---- the pause
 
@@ -64,7 +64,7 @@ resent-length id now (t ∷ ts) = let later = resent-length id now ts in omega (
 
 -- ---- a reply
 
-reply-shorter : (queue : List Queued) (packet : Transmit (List ℕ)) → slice_get (filter_map reply_in queue) 0 ≡ Some packet → length (without_first_reply queue) < length queue
+pub reply-shorter : (queue : List Queued) (packet : Transmit (List ℕ)) → slice_get (filter_map reply_in queue) 0 ≡ Some packet → length (without_first_reply queue) < length queue
 reply-shorter [] packet e = cc
 reply-shorter (q ∷ queue) packet e = by q.is_request e (λ f. reply-shorter queue packet f)
   where
@@ -112,9 +112,9 @@ queue-SentNow now s = by (slice_get s.queue 0)
 
 module _ (now : ℕ) (s : State) (pauses : 0 < s.config.request_cadence) (range : now ≤ 2 ^ 62) where
   abbrev Sends : Option (Transmit (List ℕ)) × State → Type 0
-  Sends p = (packet : Transmit (List ℕ)) → p.0 ≡ Some packet → GetsOn now s p.1
+  Sends p = (packet : Transmit (List ℕ)) → p.0 ≡ Some packet → GetsOn (left_to_do now) s p.1
 
-  retransmits : (x : Transaction) → due (agent_of s) now ≡ Some x → GetsOn now s (sent now (record s { transactions = resent x.id now s.transactions }))
+  retransmits : (x : Transaction) → due (agent_of s) now ≡ Some x → GetsOn (left_to_do now) s (sent now (record s { transactions = resent x.id now s.transactions }))
   retransmits x e = by (is_paused now s) refl
     where
       t : State
@@ -129,7 +129,7 @@ module _ (now : ℕ) (s : State) (pauses : 0 < s.config.request_cadence) (range 
       few : x.resends < resends_of (timers_of s.config) s.transport
       few = ltb-true x.resends (resends_of (timers_of s.config) s.transport) (and_parts _ _ found.1).0
 
-      by : (b : Bool) → is_paused now s ≡ b → GetsOn now s t
+      by : (b : Bool) → is_paused now s ≡ b → GetsOn (left_to_do now) s t
       by true f =
           let none : may_send now s ≡ 0 = rw f refl in
           let less = resent-less (timers_of s.config) s.transport now x s.transactions found.0 few in

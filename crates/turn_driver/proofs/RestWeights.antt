@@ -158,17 +158,19 @@ left_to_do now s =
     ∷ (resends_left (timers_of s.config) s.transport s.transactions + queued s)
     ∷ []
 
+-- ---- by any such numbers
+
 -- the second state has less left to do
-abbrev pub GetsOn : ℕ → State → State → Type 0
-GetsOn now s t = IsLess (left_to_do now t) (left_to_do now s)
+abbrev pub GetsOn : (State → List ℕ) → State → State → Type 0
+GetsOn left s t = IsLess (left t) (left s)
 
 -- or as much, and awaits the same responses
-abbrev pub KeepsUp : ℕ → State → State → Type 0
-KeepsUp now s t = GetsOn now s t ⊎ ((left_to_do now t ≡ left_to_do now s) × (t.transactions ≡ s.transactions))
+abbrev pub KeepsUp : (State → List ℕ) → State → State → Type 0
+KeepsUp left s t = GetsOn left s t ⊎ ((left t ≡ left s) × (t.transactions ≡ s.transactions))
 
-pub gets-on-further : (now : ℕ) (s t u : State) → KeepsUp now s t → GetsOn now t u → GetsOn now s u
-gets-on-further now s t u (inl less) further = less-trans (left_to_do now u) (left_to_do now t) (left_to_do now s) further less
-gets-on-further now s t u (inr (same, awaits)) further = subst (λ (xs : List ℕ). IsLess (left_to_do now u) xs) same further
+pub gets-on-further : (left : State → List ℕ) (s t u : State) → KeepsUp left s t → GetsOn left t u → GetsOn left s u
+gets-on-further left s t u (inl less) further = less-trans (left u) (left t) (left s) further less
+gets-on-further left s t u (inr (same, awaits)) further = subst (λ (xs : List ℕ). IsLess (left u) xs) same further
 
 pub five-same : (a b c d e a' b' c' d' e' : ℕ) → a ≡ a' → b ≡ b' → c ≡ c' → d ≡ d' → e ≡ e' → a ∷ b ∷ c ∷ d ∷ e ∷ [] ≡ a' ∷ b' ∷ c' ∷ d' ∷ e' ∷ []
 five-same a b c d e a' b' c' d' e' f g h i j = rw (f, g, h, i, j) refl

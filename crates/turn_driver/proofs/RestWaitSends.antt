@@ -1,0 +1,175 @@
+-- A client that sends a packet has less left to do, if no request times out when it is sent.
+use Rattle.std.proofs.Common.{◌≡◌, ◌∙◌, ℕ, ◌^◌, ◌<◌, ◌≤◌, max, Bool, true, false, cond, not, ◌&&◌, leb, List, [], ◌∷◌, Option, Some, None, arith, inl, inr, length, refl, subst, sym}
+use Rattle.std.specs.Prelude.{IfSome, drop, map, nat_le, option_and_then, option_to_list, slice_get}
+use Rattle.std.specs.List.{list_any}
+use Rattle.std.specs.Option.{option_map_or}
+use Rattle.std.proofs.lemmas.Bool.{and_parts, cases_Bool, eq-eqb, leb-true}
+use Rattle.std.proofs.lemmas.Option.{cond_some, none-some}
+use Rattle.turn_stun.specs.declared.transport.Transmit.{Transmit}
+use Rattle.turn_agent.specs.Agent.{due, first_sent, is_due, resent, transaction_timeout}
+use Rattle.turn_agent.specs.Schedule.{wait_at}
+use Rattle.turn_agent.specs.declared.transaction.Transaction.{Transaction}
+use Rattle.turn_client_api.specs.Config.{timers_of}
+use Rattle.turn_client_api.specs.Due.{has_allocation_in_use, is_paused, is_refreshable, keepalive_times, pause_end, refresh_time, refresh_time_by_kind}
+use Rattle.turn_client_api.specs.Grants.{family_of, has_request, is_for}
+use Rattle.turn_client_api.specs.Requests.{asked_lifetime, binding_indication, fresh_id, id_used, request_for, to_server}
+use Rattle.turn_client_api.specs.State.{State, agent_of, later_by}
+use Rattle.turn_client_api.specs.Transmit.{idle_step, is_refresh_due, keepalive_step, next_refresh, queue_step, refresh_purpose, refresh_step, reply_step, sent, sent_at_once, transmit_step}
+use Rattle.turn_client_api.specs.declared.grant.Grant.{Grant}
+use Rattle.turn_client_api.specs.declared.grant.Grant.TheVariants.{Allocation, Channel, Permission}
+use Rattle.turn_client_api.specs.declared.grant.Progress.TheVariants.{Active}
+use Rattle.turn_client_api.specs.declared.grant.Purpose.{Purpose}
+use Rattle.turn_client_api.specs.declared.grant.Purpose.TheVariants.{ForChannel, ForPermission, ForRefresh}
+use Rattle.turn_client_api.specs.declared.state.Phase.{Phase}
+use Rattle.turn_client_api.specs.declared.state.Phase.TheVariants.{New, Requesting, Authenticating, Allocated, Closed}
+use Rattle.turn_client_api.specs.declared.state.Queued.{Queued}
+use Rattle.turn_client_laws.proofs.GrantOriginEffectLemmas.{same_ip-same}
+use Rattle.turn_client_laws.proofs.HasLemmas.{Has, has-found}
+use Rattle.turn_client_laws.proofs.InAllocationLemmas.{same_family-self}
+use Rattle.turn_client_runs.proofs.LastingTransmits.{IsNext, next-of}
+use Rattle.turn_driver.proofs.RestSends.{reply-shorter}
+use Rattle.turn_driver.proofs.RestWaits.{asked-fewer, is_over, left_to_await, may_keep, not-over, over-append, resent-fewer}
+use Rattle.turn_driver.proofs.RestWeights.{GetsOn}
+
+-- ---- what keeps the path alive
+
+-- once a packet was sent, no indication is due at this time
+later-kept : (now ends : ℕ) (keepalive : Option ℕ) → IfSome keepalive (λ k. 0 < k) → now ≤ 2 ^ 62
+    → list_any (λ time. nat_le time now) (map (λ k. max ends (later_by k now)) (option_to_list keepalive)) ≡ false
+later-kept now ends None some range = refl
+later-kept now ends (Some k) some range = elim (cases_Bool (nat_le (max ends (later_by k now)) now)) [
+  | inl e ↦ let past = leb-true (max ends (later_by k now)) now e in absurd (omega (arith, past, some, range))
+  | inr e ↦ rw e refl
+]
+
+silent : (now : ℕ) (s : State) → s.last_send ≡ Some now → IfSome s.config.keepalive (λ k. 0 < k) → now ≤ 2 ^ 62 → may_keep now s ≡ 0
+silent now s e some range = rw (by (has_allocation_in_use s)) refl
+  where
+    times : list_any (λ time. nat_le time now) (map (λ keepalive. max (pause_end s) (option_map_or (later_by keepalive) s.last_send 0)) (option_to_list s.config.keepalive)) ≡ false
+    times = rw e (later-kept now _ s.config.keepalive some range)
+
+    by : (b : Bool) → list_any (λ time. nat_le time now)
+        (cond b (map (λ keepalive. max (pause_end s) (option_map_or (later_by keepalive) s.last_send 0)) (option_to_list s.config.keepalive)) []) ≡ false
+    by true = times
+    by false = refl
+
+-- ---- a refresh
+
+gives-for : (now : ℕ) (p : Purpose) (g : Grant) → refresh_purpose now g ≡ Some p → is_for p g ≡ true
+gives-for now p (Allocation a) e =
+    subst (λ (x : Purpose). is_for x (Allocation a) ≡ true) (cond_some (leb now a.expiry) (ForRefresh (family_of a.relayed) asked_lifetime) p e).1
+    (same_family-self (family_of a.relayed) (family_of a.relayed) refl)
+gives-for now p (Permission ip (Active lease)) e = subst (λ (x : Purpose). is_for x (Permission ip (Active lease)) ≡ true) (cond_some _ (ForPermission ip) p e).1 (same_ip-same ip)
+gives-for now p (Channel number peer (Active lease)) e =
+    subst (λ (x : Purpose). is_for x (Channel number peer (Active lease)) ≡ true) (cond_some _ (ForChannel number peer) p e).1 (eq-eqb number number refl)
+gives-for now p g e = absurd (none-some p e)
+
+by-kind : (now : ℕ) (o : Option ℕ) (may asked : Bool)
+    → option_map_or (λ time. nat_le time now) (option_and_then (λ time. cond (may && not asked) (Some time) None) o) false ≡ true → asked ≡ false
+by-kind now None may asked e = cc
+by-kind now (Some time) true false e = refl
+by-kind now (Some time) true true e = cc
+by-kind now (Some time) false asked e = cc
+
+unasked : (now : ℕ) (s : State) (g : Grant) → is_refresh_due now s g ≡ true → has_request g s ≡ false
+unfolding is_refresh_due refresh_time
+unasked now s g due = by-kind now (refresh_time_by_kind s.config.refresh_ahead g) (is_refreshable g s) (has_request g s) due
+
+-- ---- the call
+
+module _ (now : ℕ) (s : State) (range : now ≤ 2 ^ 62) (waits : (place : ℕ) → 0 < wait_at (timers_of s.config) s.transport place)
+    (some : IfSome s.config.keepalive (λ k. 0 < k)) where
+  abbrev Sends : Option (Transmit (List ℕ)) × State → Type 0
+  Sends p = (packet : Transmit (List ℕ)) → p.0 ≡ Some packet → GetsOn (left_to_await now) s p.1
+
+  retransmits : (x : Transaction) → due (agent_of s) now ≡ Some x → GetsOn (left_to_await now) s (sent now (record s { transactions = resent x.id now s.transactions }))
+  retransmits x e =
+      let found : Has x s.transactions × (is_due (timers_of s.config) s.transport now x ≡ true) = has-found _ x s.transactions e in
+      let reached : nat_le (transaction_timeout (timers_of s.config) s.transport x) now ≡ true = (and_parts _ _ found.1).1 in
+      let is : is_over (timers_of s.config) s.transport now x ≡ 1 = rw reached refl in
+      inr (refl, inr (refl, inl (resent-fewer (timers_of s.config) s.transport now range waits x s.transactions found.0 is)))
+
+  replies : Sends (reply_step s)
+  replies packet e =
+      let less = reply-shorter s.queue packet e in
+      inr (refl, inr (refl, inr (refl, inr (refl, inr (refl, inr (refl, inl (omega (arith, less))))))))
+
+  -- an indication, if one was due
+  keeps : Sends (keepalive_step now s)
+  keeps = by (list_any (λ time. nat_le time now) (keepalive_times s)) refl
+    where
+      by : (b : Bool) → list_any (λ time. nat_le time now) (keepalive_times s) ≡ b
+          → Sends (cond {A = Option (Transmit (List ℕ)) × State} b (Some (to_server s s.local (binding_indication (fresh_id s))), sent now (id_used s)) (None, s))
+      by true e packet f =
+          let one : may_keep now s ≡ 1 = rw e refl in
+          let zero = silent now (sent now (id_used s)) refl some range in
+          inr (refl, inr (refl, inr (refl, inr (refl, inr (refl, inl (omega (arith, one, zero)))))))
+      by false e packet f = cc
+
+  refreshes : Sends (refresh_step now s)
+  refreshes = by (next_refresh now s) refl
+    where
+      by : (o : Option Purpose) → next_refresh now s ≡ o → Sends (option_map_or (λ purpose. sent_at_once (request_for s purpose (fresh_id s)) purpose now s) o (keepalive_step now s))
+      by None e packet f = keeps packet f
+      by (Some purpose) e packet f =
+          let next : IsNext now s purpose = next-of now s purpose e in
+          let new : Transaction = first_sent (fresh_id s) s.remote now (request_for s purpose (fresh_id s)) in
+          let more = over-append (timers_of s.config) s.transport now s.transactions (new ∷ []) in
+          let young = not-over (timers_of s.config) s.transport now new refl (waits 0) range in
+          inr (
+            refl,
+            inr (
+              refl,
+              inr (
+                omega (arith, more, young),
+                inr (
+                  refl,
+                  inl (asked-fewer (record { id = fresh_id s; purpose = purpose }) s.listed next.grant s.grants next.there
+                      (unasked now s next.grant next.is_due) (gives-for now purpose next.grant next.gives)),
+                ),
+              ),
+            ),
+          )
+
+  idles : (p : Phase) → s.phase ≡ p → Sends (idle_step p now s)
+  idles New e packet f = inr (refl, inl (rw e (omega arith)))
+  idles Requesting e packet f = cc
+  idles Authenticating e packet f = cc
+  idles Allocated e packet f = refreshes packet f
+  idles Closed e packet f = cc
+
+  queues : (q : Queued) → slice_get s.queue 0 ≡ Some q → GetsOn (left_to_await now) s (sent now (record s { queue = drop 1 s.queue }))
+  queues q e = elim (cases_Bool (list_any (λ time. nat_le time now) (keepalive_times s))) [
+    | inl f ↦
+        let one : may_keep now s ≡ 1 = rw f refl in
+        inr (refl, inr (refl, inr (refl, inr (refl, inr (refl, inl (omega (arith, one, zero)))))))
+    | inr f ↦
+        let none : may_keep now s ≡ 0 = rw f refl in
+        let less = shorter s.queue e in
+        inr (refl, inr (refl, inr (refl, inr (refl, inr (refl, inr (zero ∙ sym none, inl (omega (arith, less))))))))
+  ]
+    where
+      zero : may_keep now (sent now (record s { queue = drop 1 s.queue })) ≡ 0
+      zero = silent now (sent now (record s { queue = drop 1 s.queue })) refl some range
+
+      shorter : (queue : List Queued) → slice_get queue 0 ≡ Some q → length (drop 1 queue) < length queue
+      shorter [] f = cc
+      shorter (r ∷ queue) f = omega arith
+
+  pub transmit-awaits : Sends (transmit_step now s)
+  transmit-awaits = by (due (agent_of s) now) refl
+    where
+      queued : (o : Option Queued) → slice_get s.queue 0 ≡ o
+          → Sends (option_map_or (λ q. (Some q.packet, sent now (record s { queue = drop 1 s.queue }))) o (idle_step s.phase now s))
+      queued None e packet f = idles s.phase refl packet f
+      queued (Some q) e packet f = queues q e
+
+      paused : (b : Bool) → Sends (cond b (reply_step s) (queue_step now s))
+      paused true = replies
+      paused false = queued (slice_get s.queue 0) refl
+
+      by : (o : Option Transaction) → due (agent_of s) now ≡ o → Sends (option_map_or
+          (λ t. (Some (record (to_server s s.local t.request) { to = t.to }), sent now (record s { transactions = resent t.id now s.transactions }))) o
+          (cond (is_paused now s) (reply_step s) (queue_step now s)))
+      by None e = paused (is_paused now s)
+      by (Some x) e = λ packet f. retransmits x e
