@@ -33,7 +33,8 @@ use Rattle.turn_client_laws.proofs.InAllocationLemmas.{same_family-true}
 use Rattle.turn_client_laws.proofs.LapseLemmas.{has-unreversed}
 use Rattle.turn_client_laws.proofs.LapseSteps.{lapsed_in-does}
 use Rattle.turn_client_laws.proofs.StreamWeightLemmas.{weight}
-use Rattle.turn_driver.proofs.RestWeights.{GetsOn, IsParted, KeepsUp, fewer, five-same, gets-on-further, left_to_do, load, load-append, may_send, parted, removed-load, resends_left, steps_of}
+use Rattle.turn_driver.proofs.RestWeights.{GetsOn, IsParted, KeepsUp, fewer, five-same, gets-on-further, left_to_do, load, load-append, may-same, may_send, parted}
+use Rattle.turn_driver.proofs.RestWeights.{removed-load, resends_left, steps_of}
 
 -- ---- what time changes in a client, apart from what timed out
 
@@ -162,9 +163,6 @@ pub lapsed-ages : (given : Option ℕ) (now : ℕ) (s : State) → Ages s (lapse
 lapsed-ages given now s = each-ages given (timed_out_purposes given s) now (allocations s) s
 
 -- ---- the five numbers
-
-may-same : (now : ℕ) (s t : State) → t.config ≡ s.config → t.last_send ≡ s.last_send → may_send now t ≡ may_send now s
-may-same now s t e f = rw (e, f) refl
 
 ages-KeepsUp : (now : ℕ) (s t : State) → Ages s t → KeepsUp (left_to_do now) s t
 ages-KeepsUp now s t ages = by ages.lighter

@@ -144,6 +144,9 @@ fewer p x (y ∷ ys) (inr there) e = elim (cases_Bool (p y)) [
 abbrev pub may_send : ℕ → State → ℕ
 may_send now s = cond (is_paused now s) 0 1
 
+pub may-same : (now : ℕ) (s t : State) → t.config ≡ s.config → t.last_send ≡ s.last_send → may_send now t ≡ may_send now s
+may-same now s t e f = rw (e, f) refl
+
 abbrev pub queued : State → ℕ
 queued s = length s.queue + length s.events + length s.closes
 
