@@ -32,7 +32,7 @@ from .answers import (
     TcpConnected, TcpConnectFailed, WaitUntil, event_of, packet_of, poll_of,
 )
 from .errors import Refused
-from .library import Buffer, Handle, Library, load
+from .library import Buffer, Handle, Library, Route, load
 from .settings import TRANSPORTS, Times, credential, number, packed_settings
 
 __all__ = [
@@ -82,6 +82,7 @@ class Client:
         self._way_name, self._relay_name = transport, allocation
         self._local_name, self._remote_name = socket_address(self._local), socket_address(self._remote)
         self._recv, self._send_to = self._handle.recv, self._handle.send_to
+        self._received, self._sent = Route.received(self._way, self._remote, self._local), Route.sent(self._relay_way)
 
     def close(self) -> None:
         """Frees the client. It sends nothing: `delete` gives the allocation back to the server before."""
@@ -111,9 +112,12 @@ class Client:
         `remote` and `local` are the addresses of the socket that had it, unless it is the one to the server. Over TCP call
         `poll_recv` afterwards, until it returns None.
         """
-        way = self._way if transport is None else number(TRANSPORTS, transport)
-        kind, start, end, peer = self._recv(now, way, self._remote if remote is None else packed(remote),
-                                            self._local if local is None else packed(local), data)
+        route = self._received
+        if transport is not None or remote is not None or local is not None:
+            way = self._way if transport is None else number(TRANSPORTS, transport)
+            route = Route.received(way, self._remote if remote is None else packed(remote),
+                                   self._local if local is None else packed(local))
+        kind, start, end, peer = self._recv(now, route, data)
         if kind == _RANGE:
             piece = data[start:end]
             return PeerData(piece if piece.__class__ is bytes else bytes(piece), peer_of(peer), self._relay_name, start)
@@ -139,14 +143,25 @@ class Client:
 
         `Refused` (`no-permission`, `no-socket`). `ValueError` for over 65,504 bytes where the allocation is over UDP.
         """
-        way = self._relay_way if transport is None else number(TRANSPORTS, transport)
-        kind, sent = self._send_to(now, way, packed(peer), data)
+        route = self._sent if transport is None else Route.sent(number(TRANSPORTS, transport))
+        kind, sent = self._send_to(now, route, packed(peer), data)
         if kind == _PACKET and not self._relay_way:
             return Packet(sent, self._way_name, self._local_name, self._remote_name)
+        return packet_of(self._refused(kind), sent)
+
+    def data_to(self, peer: AddressLike, data: Buffer, now: int) -> bytes:
+        """The bytes of `send_to` alone, for a client with one socket, the one to the server."""
+        kind, sent = self._send_to(now, self._sent, packed(peer), data)
+        if kind != _PACKET:
+            self._refused(kind)
+        return sent
+
+    def _refused(self, kind: int) -> c.Answer:
+        """The answer of `send_to`, unless that was refused. It has no time of its own."""
         answer, _ = self._handle.last()
         if kind == c.REFUSED:
             raise Refused(_REASONS.get(answer.error, str(answer.error)))
-        return packet_of(answer, sent)
+        return answer
 
     # Requests
 

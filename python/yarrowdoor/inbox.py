@@ -45,6 +45,10 @@ class Inbox:
                 asyncio.get_running_loop().call_exception_handler(context)
         return put
 
+    def pop(self) -> Optional[Tuple[bytes, Address]]:
+        """The next data, and its peer, or None where there is none yet."""
+        return self._packets.popleft() if self._packets else None
+
     async def take(self) -> Optional[Tuple[bytes, Address]]:
         """The next data, and its peer; None when all is taken and the client has ended."""
         while not self._packets:

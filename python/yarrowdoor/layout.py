@@ -24,9 +24,8 @@ SETTINGS = struct.Struct("=QQQIIIIIIIIIHH28s28sQQQ16x")
 NO_PAUSE = (1 << 64) - 1
 # struct yarrowdoor_request: time, kind, id, transport, 0, from, to, peer, local.
 REQUEST = struct.Struct("=QIIII28s28s28s28s")
-# What RECV and SEND_TO use of it; all else is 0.
-RECV_REQUEST = struct.Struct("=QIIII28s28s56x")
-SEND_REQUEST = struct.Struct("=QIIII56x28s28x")
+# Where its time stands is the first of eight bytes, and its peer is here.
+PEER_PLACE = slice(80, 108)
 # struct yarrowdoor_answer: the fields of Answer.
 ANSWER = struct.Struct("=IIQQQQIIIIBBH28s28s28s16x")
 # struct yarrowdoor_message: length, kind, method, class, ID, channel, code, place and length of the reason, and of the realm, the

@@ -19,11 +19,11 @@ from typing import Callable, Iterator, NoReturn, Optional, Tuple, Union
 from .errors import Busy, LibraryError
 from .layout import (
     ADDRESS, ANSWER, Answer, BAD_TIME, CHANNEL_DATA, fail, LENGTHS, MAX_OVERHEAD, MAX_PACKET, MESSAGE, Message, MESSAGE_IS, NAME,
-    NO_ADDRESS, PACKET, PEER_DATA, PEER_DATA_RANGE, POLL, POLL_TRANSMIT, RANGE, READ, RECV, RECV_REQUEST, REQUEST, SEND_REQUEST,
-    SEND_TO, SETTINGS, SMALL_BUFFER, TCP, UDP, WAIT_UNTIL, YES,
+    NO_ADDRESS, PACKET, PEER_DATA, PEER_DATA_RANGE, PEER_PLACE, POLL, POLL_TRANSMIT, RANGE, READ, RECV, REQUEST, SEND_TO, SETTINGS,
+    SMALL_BUFFER, TCP, UDP, WAIT_UNTIL, YES,
 )
 
-__all__ = ["Buffer", "Handle", "Library", "find", "load"]
+__all__ = ["Buffer", "Handle", "Library", "Route", "find", "load"]
 
 Buffer = Union[bytes, bytearray, memoryview]
 
@@ -121,6 +121,28 @@ def _check_layout(library: Library) -> None:
         raise LibraryError(f"{library.path} has other structs than those that this package knows")
 
 
+class Route:
+    """What the calls have in common that pass data on, from one socket or to one: of their requests the time is set for each, and
+    the peer where data is sent."""
+
+    __slots__ = ("at", "request", "time")
+
+    def __init__(self, kind: int, transport: int, from_: bytes = NO_ADDRESS, to: bytes = NO_ADDRESS) -> None:
+        self.request = bytearray(REQUEST.pack(0, kind, 0, transport, 0, from_, to, NO_ADDRESS, NO_ADDRESS))
+        self.time = memoryview(self.request).cast("Q")
+        self.at = _at(self.request)
+
+    @classmethod
+    def received(cls, transport: int, from_: bytes, to: bytes) -> Route:
+        """That of what a socket has received."""
+        return cls(RECV, transport, from_, to)
+
+    @classmethod
+    def sent(cls, transport: int) -> Route:
+        """That of what is sent to peers."""
+        return cls(SEND_TO, transport)
+
+
 class Handle:
     """A client of the library, owned: freed when nothing refers to it any more.
 
@@ -128,8 +150,8 @@ class Handle:
     `ValueError`.
     """
 
-    __slots__ = ("__weakref__", "_acquire", "_answer", "_answer_at", "_args", "_beyond", "_call", "_finalizer", "_len",
-                 "_library", "_release", "_request", "_request_at", "_room", "_room_at", "_room_len", "_view", "_client")
+    __slots__ = ("__weakref__", "_acquire", "_answer", "_answer_at", "_beyond", "_call", "_client_at", "_finalizer", "_len",
+                 "_library", "_release", "_request", "_request_at", "_room", "_room_at", "_room_len", "_view")
 
     def __init__(self, library: Library, settings: bytes, user: bytes, password: bytes, seed: bytes, guard: bytes = b"") -> None:
         """A new client. `settings` are packed (`SETTINGS`). `ValueError`, or `MemoryError`, where there is none."""
@@ -139,7 +161,8 @@ class Handle:
         if error:
             fail(error)
         lock = threading.Lock()
-        self._library, self._client = library, place
+        self._library = library
+        self._client_at: object = ctypes.c_void_p.from_param(place.value)
         self._call: Callable[..., int] = library.call
         self._acquire, self._release = lock.acquire, lock.release
         self._finalizer = weakref.finalize(self, library.free, place)
@@ -156,7 +179,7 @@ class Handle:
     def _make_room(self, size: int) -> None:
         self._room = bytearray(size)
         self._view = memoryview(self._room)
-        self._room_at, self._room_len = _at(self._room), ctypes.c_size_t(size)
+        self._room_at, self._room_len = _at(self._room), _size(size)
 
     def free(self) -> None:
         """Frees the client, which sends nothing. A second time it does nothing."""
@@ -192,7 +215,7 @@ class Handle:
     # These two are the way of each packet, so they do what `_make` does by themselves, and set no answer to 0 before: of the
     # fields only those are read that the kind has.
 
-    def recv(self, now: int, transport: int, from_: bytes, to: bytes, data: Buffer) -> Tuple[int, int, int, bytes]:
+    def recv(self, now: int, route: Route, data: Buffer) -> Tuple[int, int, int, bytes]:
         """Makes the call RECV, read as far as data of a peer in the bytes needs it: kind, start, end and peer.
 
         Of another kind than PEER_DATA_RANGE the answer is to be read by `last`.
@@ -200,22 +223,22 @@ class Handle:
         if not self._acquire(False):
             raise Busy("another thread uses this client")
         try:
-            _pack_recv(self._request, 0, now, RECV, 0, transport, 0, from_, to)
+            route.time[0] = now
             given = data if data.__class__ is bytes else _pointed(data)
             self._len.value = len(given)
-            kind = self._call(self._client, self._request_at, given, self._len, self._room_at, self._room_len, self._answer_at)
+            kind = self._call(self._client_at, route.at, given, self._len, self._room_at, self._room_len, self._answer_at)
             if kind == PEER_DATA_RANGE:
                 size, start, peer = _unpack_range(self._answer)
                 return kind, start, start + size, peer
-            if kind <= SMALL_BUFFER:
-                fail(kind)
-            return kind, 0, 0, NO_ADDRESS
-        except struct.error:
-            fail(BAD_TIME)
+        except (TypeError, ValueError) as error:
+            _fail_time(now, error)
         finally:
             self._release()
+        if kind <= SMALL_BUFFER:
+            fail(kind)
+        return kind, 0, 0, NO_ADDRESS
 
-    def send_to(self, now: int, transport: int, peer: bytes, data: Buffer) -> Tuple[int, bytes]:
+    def send_to(self, now: int, route: Route, peer: bytes, data: Buffer) -> Tuple[int, bytes]:
         """Makes the call SEND_TO, read as far as a packet over UDP needs it: kind, and the bytes to send.
 
         Of another kind than PACKET the answer is to be read by `last`.
@@ -223,21 +246,22 @@ class Handle:
         if not self._acquire(False):
             raise Busy("another thread uses this client")
         try:
-            _pack_send(self._request, 0, now, SEND_TO, 0, transport, 0, peer)
+            route.time[0] = now
+            route.request[PEER_PLACE] = peer
             given = data if data.__class__ is bytes else _pointed(data)
             self._len.value = size = len(given)
             if size > MAX_PACKET - MAX_OVERHEAD and size > len(self._room) - MAX_OVERHEAD:
                 self._make_room(size + MAX_OVERHEAD)
-            kind = self._call(self._client, self._request_at, given, self._len, self._room_at, self._room_len, self._answer_at)
+            kind = self._call(self._client_at, route.at, given, self._len, self._room_at, self._room_len, self._answer_at)
             if kind == PACKET:
                 return kind, bytes(self._view[: _unpack_len(self._answer)[0]])
-            if kind <= SMALL_BUFFER:
-                fail(kind)
-            return kind, b""
-        except struct.error:
-            fail(BAD_TIME)
+        except (TypeError, ValueError) as error:
+            _fail_time(now, error)
         finally:
             self._release()
+        if kind <= SMALL_BUFFER:
+            fail(kind)
+        return kind, b""
 
     def last(self) -> Tuple[Answer, bytes]:
         """The answer of the last call, and all bytes of it. Fields that its kind does not have may be those of an earlier one."""
@@ -259,7 +283,7 @@ class Handle:
         self._answer[: ANSWER.size] = _NO_ANSWER
         given = data if data.__class__ is bytes else _pointed(data)
         self._len.value = len(given)
-        found = self._call(self._client, self._request_at, given, self._len, self._room_at, self._room_len, self._answer_at)
+        found = self._call(self._client_at, self._request_at, given, self._len, self._room_at, self._room_len, self._answer_at)
         if found <= SMALL_BUFFER:
             fail(found)
         return found
@@ -275,13 +299,17 @@ class Handle:
 
 
 _NO_ANSWER = bytes(ANSWER.size)
-_pack_recv, _pack_send = RECV_REQUEST.pack_into, SEND_REQUEST.pack_into
 _unpack_range, _unpack_len = RANGE.unpack_from, struct.Struct("=16xQ").unpack_from
 
 
-def _at(buffer: bytearray) -> ctypes.Array[ctypes.c_char]:
+def _at(buffer: bytearray) -> object:
     """The memory of a buffer, to be passed to the library. It keeps the buffer where it is."""
-    return (ctypes.c_char * len(buffer)).from_buffer(buffer)
+    return ctypes.byref((ctypes.c_char * len(buffer)).from_buffer(buffer))
+
+
+def _size(size: int) -> object:
+    """A length, to be passed to the library."""
+    return ctypes.c_size_t.from_param(size)
 
 
 def _pointed(data: Buffer) -> Union[bytes, ctypes.Array[ctypes.c_char]]:
@@ -290,6 +318,13 @@ def _pointed(data: Buffer) -> Union[bytes, ctypes.Array[ctypes.c_char]]:
     if view.readonly or not view.c_contiguous or not view.nbytes:
         return view.tobytes()
     return (ctypes.c_char * view.nbytes).from_buffer(view)
+
+
+def _fail_time(now: int, error: Exception) -> NoReturn:
+    """Raises that a time is none, where that was the error."""
+    if not isinstance(now, int) or not 0 <= now < 1 << 64:
+        fail(BAD_TIME)
+    raise error
 
 
 def _freed(*_: object) -> NoReturn:

@@ -211,7 +211,7 @@ class TurnClient(Told, Lifetime):
         if self._relay == "tcp":
             raise ValueError("relay='tcp' has streams: use connect, or accept")
         try:
-            packet = session.client.send_to(peer, data, self._clock.now()).data
+            packet = session.client.data_to(peer, data, self._clock.now())
         except Refused:
             session.usable_client()
             self._check_family(peer[0])
@@ -257,7 +257,7 @@ class TurnClient(Told, Lifetime):
     async def __anext__(self) -> Tuple[bytes, Address]:
         """The next data of a peer. It ends when the client is closed; `Ended` where it ended by itself, or was not opened;
         `RuntimeError` with `receiver=`, which takes all."""
-        found = await self._take()
+        found = self._inbox.pop() or await self._take()
         if found is None:
             if self._has_failed():
                 raise self._ending()
@@ -267,7 +267,7 @@ class TurnClient(Told, Lifetime):
     async def receive(self) -> Tuple[bytes, Address]:
         """The next data of a peer, and the peer. `Ended` where the client has ended, or was not opened; `RuntimeError` with
         `receiver=`, which takes all."""
-        found = await self._take()
+        found = self._inbox.pop() or await self._take()
         if found is None:
             raise self._ending()
         return found
