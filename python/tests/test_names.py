@@ -8,12 +8,14 @@ import unittest.mock
 from typing import Any, Iterator, List, Tuple
 
 from yarrowdoor import AllocationFailed, Times, TurnClient
+from yarrowdoor.servers import connected
 from yarrowdoor.uri import TurnUri
 
 from .network import SECOND, Endpoint, StreamEndpoint
 from .server import Server
 
 SHORT = Times(initial=100_000_000, longest=SECOND, last=300_000_000, count=3)  # 0.1 + 0.2 + 0.3 s
+PEER = ("10.1.0.1", 9)
 
 
 @contextlib.contextmanager
@@ -113,14 +115,13 @@ class Names(unittest.IsolatedAsyncioTestCase):
         endpoint = await self.serve()
         take, late = endpoint.datagram_received, []
         endpoint.datagram_received = lambda *it: late.append(it)
-        opened: List[Any] = []
-        create = asyncio.get_running_loop().create_datagram_endpoint
+        opened: List[socket.socket] = []
 
-        async def count(*it: Any, **options: Any) -> Any:
-            opened.append(await create(*it, **options))
+        def count(host: str, port: int) -> socket.socket:
+            opened.append(connected(host, port))
             return opened[-1]
 
-        with resolving("127.0.0.1"), unittest.mock.patch.object(asyncio.get_running_loop(), "create_datagram_endpoint", count):
+        with resolving("127.0.0.1"), unittest.mock.patch("yarrowdoor.servers.connected", count):
             with unittest.mock.patch("yarrowdoor.servers.interleaved", lambda hosts: ["127.0.0.1", "127.0.0.1"]):
                 relay = TurnClient(endpoint.uri, "user", "pass")
                 opening = asyncio.ensure_future(relay.open())
@@ -130,8 +131,51 @@ class Names(unittest.IsolatedAsyncioTestCase):
                 for it in late:
                     take(*it)
                 await opening
-        self.assertEqual([transport.is_closing() for transport, _ in opened].count(True), 1)
+        self.assertEqual([it.fileno() < 0 for it in opened].count(True), 1)
         await relay.close()
+        self.assertTrue(all(it.fileno() < 0 for it in opened))
+
+
+class Sockets(unittest.IsolatedAsyncioTestCase):
+    """A socket that is given."""
+
+    def connected(self, uri: str) -> socket.socket:
+        is_udp = "transport=tcp" not in uri
+        sock = socket.socket(socket.AF_INET, socket.SOCK_DGRAM if is_udp else socket.SOCK_STREAM)
+        self.addCleanup(sock.close)
+        sock.connect(("127.0.0.1", port_of(uri)))
+        return sock
+
+    async def test_a_socket_that_is_given(self) -> None:
+        """The name is not looked up, and the socket is closed with the client."""
+        kinds: List[Any] = [Endpoint, StreamEndpoint]
+        for kind, form in zip(kinds, ("turn:nowhere.invalid:{}", "turn:nowhere.invalid:{}?transport=tcp")):
+            endpoint = await kind.start(Server())
+            self.addCleanup(endpoint.close)
+            sock = self.connected(endpoint.uri)
+            name = sock.getsockname()
+            async with TurnClient(form.format(port_of(endpoint.uri)), "user", "pass", sock=sock) as relay:
+                self.assertEqual((relay.local_address, relay.address.host), (name, "10.9.9.9"))
+                await relay.bind(PEER)
+                await relay.send(b"hello", PEER)
+                self.assertEqual(await asyncio.wait_for(relay.receive(), 10), (b"hello", PEER))
+            await asyncio.sleep(0.01)
+            self.assertLess(sock.fileno(), 0)
+
+    async def test_a_socket_that_is_not_used(self) -> None:
+        """One over the other transport, of another family or that is not connected is refused, and left alone."""
+        endpoint = await Endpoint.start(Server())
+        self.addCleanup(endpoint.close)
+        udp, local = self.connected(endpoint.uri), socket.socketpair(socket.AF_UNIX, socket.SOCK_DGRAM)
+        loose = socket.socket(type=socket.SOCK_DGRAM)
+        for it in (*local, loose):
+            self.addCleanup(it.close)
+        none = "^sock is none for"
+        for sock, uri, why in ((udp, "turn:127.0.0.1?transport=tcp", none), (local[0], endpoint.uri, none),
+                               (loose, endpoint.uri, "^sock is to be connected")):
+            with self.assertRaisesRegex(ValueError, why):
+                TurnClient(uri, "user", "pass", sock=sock)
+            self.assertGreaterEqual(sock.fileno(), 0)
 
 
 class Arguments(unittest.TestCase):

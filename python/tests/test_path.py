@@ -8,16 +8,16 @@ import subprocess
 import sys
 import textwrap
 import unittest
-from typing import Any, List
+from typing import Any, List, cast
 
 from yarrowdoor import Clock, Ended, TurnClient
+from yarrowdoor.link import StreamLink
 
 from . import coturn as coturn_server
 from .network import SECOND, Endpoint, StreamEndpoint
 from .server import Server
 
 PEER = ("10.1.0.1", 9000)
-IS_UVLOOP = os.environ.get("YARROWDOOR_LOOP") == "uvloop"
 
 
 class Checks(unittest.IsolatedAsyncioTestCase):
@@ -86,24 +86,26 @@ class Checks(unittest.IsolatedAsyncioTestCase):
 class Sockets(unittest.IsolatedAsyncioTestCase):
     """Errors of a socket, and its end."""
 
-    async def test_a_socket_that_is_lost(self) -> None:
-        """What another event loop than asyncio's does after an error of a socket over UDP."""
+    async def test_a_socket_that_is_closed_by_another(self) -> None:
+        """A socket that was given, and that its owner closes, is told with the system's error."""
         endpoint = await Endpoint.start(Server())
         self.addCleanup(endpoint.close)
-        relay = TurnClient(endpoint.uri, "user", "pass")
-        await relay.open()
-        receiving = asyncio.ensure_future(relay.receive())
-        await asyncio.sleep(0)
-        link = relay._link if hasattr(relay, "_link") else relay._session().link
-        link.connection_lost(OSError(101, "Network is unreachable"))
-        with self.assertRaisesRegex(Ended, "^the connection to the server has ended: .*Network is unreachable$") as ended:
-            await asyncio.wait_for(receiving, 2)
+        with socket.socket(type=socket.SOCK_DGRAM) as sock:
+            sock.connect(endpoint.transport.get_extra_info("sockname"))
+            relay = TurnClient(endpoint.uri, "user", "pass", sock=sock, clock=Clock(rate=10))
+            await relay.open()
+            await relay.bind(PEER)
+            receiving = asyncio.ensure_future(relay.receive())
+            await asyncio.sleep(0)
+        relay.sendto(b"x", PEER)
+        self.assertEqual(relay.unsent, 1)
+        with self.assertRaisesRegex(Ended, "^the connection to the server has ended: .*Bad file descriptor$") as ended:
+            await asyncio.wait_for(receiving, 10)
         self.assertIsInstance(ended.exception.__cause__, OSError)
         self.assertTrue(relay.closed)
         with self.assertRaises(Ended):
             relay.sendto(b"x", PEER)
 
-    @unittest.skipIf(IS_UVLOOP, "uvloop closes a socket after its first error")
     async def test_a_server_whose_port_is_closed(self) -> None:
         endpoint = await Endpoint.start(Server())
         errors: List[Exception] = []
@@ -118,7 +120,6 @@ class Sockets(unittest.IsolatedAsyncioTestCase):
         self.assertIsInstance(ended.exception.__cause__, ConnectionRefusedError)
         self.assertGreaterEqual(len(errors), 3)
 
-    @unittest.skipIf(IS_UVLOOP, "uvloop closes a socket after its first error")
     async def test_a_port_that_is_closed_for_a_short_time(self) -> None:
         endpoint = await Endpoint.start(Server())
         where, loop = endpoint.transport.get_extra_info("sockname"), asyncio.get_running_loop()
@@ -156,7 +157,8 @@ class Sockets(unittest.IsolatedAsyncioTestCase):
         endpoint = await StreamEndpoint.start(Server())
         self.addCleanup(endpoint.close)
         async with TurnClient(endpoint.uri, "user", "pass") as relay:
-            with socket.socket(fileno=os.dup(relay._session().link.transport.get_extra_info("socket").fileno())) as own:
+            link = cast(StreamLink, relay._session().link)
+            with socket.socket(fileno=os.dup(link.transport.get_extra_info("socket").fileno())) as own:
                 self.assertEqual(own.getsockopt(socket.IPPROTO_TCP, getattr(socket, "TCP_USER_TIMEOUT")), 30_000)
                 self.assertEqual(own.getsockopt(socket.SOL_SOCKET, socket.SO_KEEPALIVE), 1)
                 self.assertEqual(own.getsockopt(socket.IPPROTO_TCP, socket.TCP_KEEPIDLE), 15)
@@ -250,7 +252,7 @@ class Interfaces(unittest.TestCase):
 
     def test_an_address_that_comes_back_soon(self) -> None:
         said = self.run_without_address(0.15)
-        self.assertRegex(said, "^ended: OSError the connection" if IS_UVLOOP else "^data comes$")
+        self.assertRegex(said, "^data comes$")
 
     def test_silence(self) -> None:
         """A path that drops all, and says nothing. The times are a tenth of those that a user has."""

@@ -1,11 +1,12 @@
-"""One socket to the server, as a protocol of asyncio: bytes out, bytes in, whether it is full, and how it ends."""
+"""One socket to the server: bytes out, bytes in, whether it is full, and how it ends."""
 from __future__ import annotations
 
 import asyncio
+import collections
 import contextlib
 import os
 import socket
-from typing import Any, Callable, Optional, cast
+from typing import Any, Callable, Deque, Optional, cast
 
 from .address import SocketAddress, of_socket
 from .reasons import Frames
@@ -18,6 +19,10 @@ USER_TIMEOUT = 30_000
 _TCP_USER_TIMEOUT = getattr(socket, "TCP_USER_TIMEOUT", 18)
 # A stream on which nothing is sent is asked for a sign of life after so long, and again after so long, in seconds.
 KEEPALIVE = 15
+# The longest datagram, in bytes, and so many are read before the event loop goes on.
+MAX_DATAGRAM, BATCH = 65_535, 32
+# So many messages of the client wait for a socket over UDP that is full. A further one is lost, as a network may lose it.
+MAX_LATE = 64
 
 
 class LinkUser:
@@ -36,11 +41,12 @@ class LinkUser:
         """The socket is full, or no longer."""
 
 
-class Link(asyncio.BaseProtocol):
+class Link:
     """A socket to the server. Until it has a user what comes is dropped: the server sends nothing before it is asked."""
 
-    transport: Any
     is_stream = False
+    local: SocketAddress
+    remote: SocketAddress
 
     def __init__(self) -> None:
         self.frames: Optional[Frames] = None
@@ -62,83 +68,126 @@ class Link(asyncio.BaseProtocol):
     def user(self, user: LinkUser) -> None:
         self._user, self._received = user, user.received
 
-    def connection_made(self, transport: Any) -> None:
-        self.transport = transport
-        names = [transport.get_extra_info(it) for it in ("sockname", "peername")]
-        if None in names:
-            self.abort()  # The other end has reset the connection already.
-            return
-        self.local: SocketAddress = of_socket(names[0])
-        self.remote: SocketAddress = of_socket(names[1])
-
-    def connection_lost(self, exc: Optional[Exception]) -> None:
-        self.is_over, self.error = True, exc
-        self.writable.set()
-        self._user.ended(self, exc)
-
     def pause_writing(self) -> None:
+        """The socket is full."""
         self.writable.clear()
         self._user.paused(self, True)
 
     def resume_writing(self) -> None:
+        """The socket is full no longer."""
         self.writable.set()
         self._user.paused(self, False)
 
     def send(self, data: bytes) -> None:
         """Sends a message of the client. One that is lost is retransmitted, or makes its request fail."""
-        if not self.is_over and not self.transport.is_closing():
-            self._write(data)
+        raise NotImplementedError
 
     def send_data(self, data: bytes) -> bool:
         """Sends data, or drops it where the socket is full or refuses it, and says whether it was sent."""
         raise NotImplementedError
 
-    def _write(self, data: bytes) -> None:
-        raise NotImplementedError
-
     def close(self) -> None:
-        """Closes the socket, when what was sent has left it. A second time it does nothing."""
-        self.is_over = True
-        self.writable.set()
-        # From Python 3.11 on a transport over TLS that is closed twice cannot be aborted any more.
-        if not self.transport.is_closing():
-            self.transport.close()
+        """Closes the socket, over a stream when what was sent has left it. A second time it does nothing."""
+        raise NotImplementedError
 
     def abort(self) -> None:
         """Closes the socket at once. What waits in it is dropped."""
-        self.is_over = True
-        self.writable.set()
-        self.transport.abort()
+        raise NotImplementedError
 
 
-class DatagramLink(Link, asyncio.DatagramProtocol):
-    """A socket over UDP."""
+class DatagramLink(Link):
+    """A socket over UDP, which is connected to the server. It is read and written here, and not by a transport of the event loop:
+    so several datagrams are read at a time, and no event loop closes it at an error, as uvloop does."""
 
-    def __init__(self) -> None:
+    def __init__(self, sock: socket.socket) -> None:
         super().__init__()
-        self._was_refused = False
+        self.socket, self._loop = sock, asyncio.get_running_loop()
+        self._number = sock.fileno()  # which the loop knows, also where another has closed the socket
+        self.local, self.remote = of_socket(sock.getsockname()), of_socket(sock.getpeername())
+        self._recv, self._send = sock.recv, sock.send
+        self._late: Deque[bytes] = collections.deque()
+        self._loop.add_reader(self._number, self._read)
 
-    def datagram_received(self, data: bytes, addr: Any) -> None:
-        self._received(data, self)
+    def _read(self) -> None:
+        for at in range(BATCH):
+            try:
+                data = self._recv(MAX_DATAGRAM)
+            except (BlockingIOError, InterruptedError):
+                if at == 0:
+                    self._read_on()
+                return
+            except OSError as error:
+                self._user.refused(self, error)
+                self._read_on()
+                return
+            self._received(data, self)
+            if self.is_over:
+                return
 
-    def error_received(self, exc: Exception) -> None:
-        self._was_refused = True
-        self._user.refused(self, exc)
+    def _read_on(self) -> None:
+        """Registers the socket again. After an error of it uvloop tells once that there is something to read, and never again."""
+        if not self.is_over:
+            with contextlib.suppress(OSError):  # another has closed it
+                self._loop.remove_reader(self._number)
+                self._loop.add_reader(self._number, self._read)
 
-    def _write(self, data: bytes) -> None:
-        self.transport.sendto(data)
+    def send(self, data: bytes) -> None:
+        if self.is_over:
+            return
+        if not self._late:
+            self._send_now(data)
+        elif len(self._late) < MAX_LATE:
+            self._late.append(data)
 
     def send_data(self, data: bytes) -> bool:
-        if self.is_over or not self.writable.is_set():
+        return not self.is_over and not self._late and self._send_now(data)
+
+    def _send_now(self, data: bytes) -> bool:
+        try:
+            self._send(data)
+        except (BlockingIOError, InterruptedError):
+            self._late.append(data)
+            self._loop.add_writer(self._number, self._send_late)
+            self.pause_writing()
+        except OSError as error:
+            self._user.refused(self, error)
             return False
-        self._was_refused = False
-        self.transport.sendto(data)  # asyncio calls `error_received` meanwhile, if the system refuses it
-        return not self._was_refused
+        return True
+
+    def _send_late(self) -> None:
+        """Sends what the socket did not take at first."""
+        while self._late:
+            data = self._late.popleft()
+            try:
+                self._send(data)
+            except (BlockingIOError, InterruptedError):
+                self._late.appendleft(data)
+                return
+            except OSError as error:
+                self._user.refused(self, error)
+        if not self.is_over:
+            self._loop.remove_writer(self._number)
+            self.resume_writing()
+
+    def close(self) -> None:
+        if self.is_over:
+            return
+        self.is_over = True
+        self._late.clear()
+        self.writable.set()
+        if not self._loop.is_closed():
+            self._loop.remove_reader(self._number)
+            self._loop.remove_writer(self._number)
+        self.socket.close()
+
+    def abort(self) -> None:
+        self.close()
 
 
 class StreamLink(Link, asyncio.Protocol):
     """A connection over TCP or TLS. `frames` finds the messages in what comes, as long as it is read for them."""
 
+    transport: Any
     is_stream = True
 
     def __init__(self) -> None:
@@ -146,20 +195,43 @@ class StreamLink(Link, asyncio.Protocol):
         self.frames: Optional[Frames] = Frames()
 
     def connection_made(self, transport: Any) -> None:
-        super().connection_made(transport)
+        self.transport = transport
+        names = [transport.get_extra_info(it) for it in ("sockname", "peername")]
+        if None in names:
+            self.abort()  # The other end has reset the connection already.
+            return
+        self.local, self.remote = of_socket(names[0]), of_socket(names[1])
         _notice_silence(transport)
+
+    def connection_lost(self, exc: Optional[Exception]) -> None:
+        self.is_over, self.error = True, exc
+        self.writable.set()
+        self._user.ended(self, exc)
 
     def data_received(self, data: bytes) -> None:
         self._received(data, self)
 
-    def _write(self, data: bytes) -> None:
-        self.transport.write(data)
+    def send(self, data: bytes) -> None:
+        if not self.is_over and not self.transport.is_closing():
+            self.transport.write(data)
 
     def send_data(self, data: bytes) -> bool:
         if self.is_over or not self.writable.is_set():
             return False
         self.transport.write(data)
         return True
+
+    def close(self) -> None:
+        self.is_over = True
+        self.writable.set()
+        # From Python 3.11 on a transport over TLS that is closed twice cannot be aborted any more.
+        if not self.transport.is_closing():
+            self.transport.close()
+
+    def abort(self) -> None:
+        self.is_over = True
+        self.writable.set()
+        self.transport.abort()
 
 
 def _notice_silence(transport: Any) -> None:

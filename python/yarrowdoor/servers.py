@@ -20,19 +20,23 @@ _Found = TypeVar("_Found")
 
 
 class Server:
-    """A server: what its URI says, and the context of TLS where that is used."""
+    """A server: what its URI says, the context of TLS where that is used, and a socket to it, if one was given."""
 
-    def __init__(self, uri: TurnUri, ssl: Optional[tls.SSLContext]) -> None:
+    def __init__(self, uri: TurnUri, ssl: Optional[tls.SSLContext], sock: Optional[socket.socket] = None) -> None:
         if uri.secure and uri.transport != "tcp":
             raise ValueError(f"TURN over DTLS is not supported: {uri}")
         if ssl is not None and not uri.secure:
             raise ValueError(f"ssl is for turns:, and the URI is {uri}")
         _check_name(uri.host)
-        self.uri = uri
+        if sock is not None:
+            _check_socket(sock, uri)
+        self.uri, self._socket = uri, sock
         self._ssl = (ssl or tls.create_default_context()) if uri.secure else None
 
     async def addresses(self) -> List[str]:
         """The server's IP addresses, in the order in which they are tried. `AllocationFailed` where its name has none."""
+        if self._socket is not None:
+            return [_scoped(self._socket.getpeername())]
         kind = socket.SOCK_DGRAM if self.uri.transport == "udp" else socket.SOCK_STREAM
         try:
             found = await asyncio.get_running_loop().getaddrinfo(self.uri.host, self.uri.port, type=kind)
@@ -41,17 +45,49 @@ class Server:
         return interleaved(_scoped(it[4]) for it in found)
 
     async def connect(self, host: str) -> Link:
-        """A new socket to the server at this address of it. `OSError` where there is none."""
-        loop, uri = asyncio.get_running_loop(), self.uri
-        link: Link
-        if uri.transport == "udp":
-            link = (await loop.create_datagram_endpoint(DatagramLink, remote_addr=(host, uri.port)))[1]
+        """A new socket to the server at this address of it, or the one that was given, which is used once. `OSError` where there is
+        none."""
+        if self.uri.transport != "udp":
+            return await self.stream(host)
+        given, self._socket = self._socket, None
+        return DatagramLink(given or connected(host, self.uri.port))
+
+    async def stream(self, host: str) -> StreamLink:
+        """The same, of a server over TCP or TLS."""
+        loop, uri, name = asyncio.get_running_loop(), self.uri, self.uri.host if self._ssl else None
+        given, self._socket = self._socket, None
+        if given is not None:
+            link = (await loop.create_connection(StreamLink, sock=given, ssl=self._ssl, server_hostname=name))[1]
         else:
-            name = uri.host if self._ssl else None
             link = (await loop.create_connection(StreamLink, host, uri.port, ssl=self._ssl, server_hostname=name))[1]
         if link.is_over:
             raise ConnectionResetError("the server closed the connection at once")
         return link
+
+
+def connected(host: str, port: int) -> socket.socket:
+    """A new socket over UDP that is connected to this IP address, which may have a scope. `OSError` where the system refuses it."""
+    (family, kind, protocol, _, where), *_ = socket.getaddrinfo(host, port, type=socket.SOCK_DGRAM, flags=socket.AI_NUMERICHOST)
+    sock = socket.socket(family, kind, protocol)
+    try:
+        sock.setblocking(False)
+        sock.connect(where)
+    except BaseException:
+        sock.close()
+        raise
+    return sock
+
+
+def _check_socket(sock: socket.socket, uri: TurnUri) -> None:
+    """`ValueError` where a socket is none to a server of this URI. It never blocks from then on."""
+    kind = socket.SOCK_DGRAM if uri.transport == "udp" else socket.SOCK_STREAM
+    if sock.family not in (socket.AF_INET, socket.AF_INET6) or sock.type != kind:
+        raise ValueError(f"sock is none for {uri}: {sock}")
+    try:
+        sock.getpeername()
+    except OSError as error:
+        raise ValueError(f"sock is to be connected to the server: {error}") from None
+    sock.setblocking(False)
 
 
 def _check_name(host: str) -> None:

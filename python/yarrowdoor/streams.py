@@ -9,7 +9,7 @@ from . import reasons
 from .address import Address, ScopedAddress, SocketAddress
 from .answers import AllocateTcpSocket, Ignored, PeerData
 from .errors import ConnectFailed, Ended, Refused, because
-from .link import Link, LinkUser
+from .link import Link, LinkUser, StreamLink
 from .requests import Key, Made
 
 if TYPE_CHECKING:
@@ -32,7 +32,7 @@ class EndedUnbound(ConnectFailed):
 class PeerTransport(asyncio.Transport):
     """The transport of a stream to a peer, over a data connection. `get_extra_info` knows `peername` and `sockname`."""
 
-    def __init__(self, streams: Streams, link: Link, peer: Address, is_own: bool) -> None:
+    def __init__(self, streams: Streams, link: StreamLink, peer: Address, is_own: bool) -> None:
         super().__init__({"peername": peer, "sockname": streams.address})
         self._streams, self.link, self.peer = streams, link, peer
         # Whether `connect` asked for it, whether the server has bound it, and whether `connect` has returned it.
@@ -108,7 +108,7 @@ class Streams(LinkUser):
     def __init__(self, session: Session) -> None:
         self._session, self.loop = session, asyncio.get_running_loop()
         self._by_peer: Dict[Address, PeerTransport] = {}
-        self._links: List[Link] = []
+        self._links: List[StreamLink] = []
         # The peers of the CONNECTs that were made and that the client has not asked to open yet, and how many callers of `connect`
         # wait for a peer.
         self._asked: Set[Address] = set()
@@ -176,7 +176,7 @@ class Streams(LinkUser):
             if not is_own:
                 self._offered.add(wanted.peer)
             try:
-                link = await self._session.server.connect(_host(wanted.remote))
+                link = await self._session.server.stream(_host(wanted.remote))
                 self._add(link, wanted.peer, is_own)
             except OSError as error:
                 self._offered.discard(wanted.peer)
@@ -190,7 +190,7 @@ class Streams(LinkUser):
             self._session.requests.settle(_connection(wanted.peer), failure)
         self._session.drive()
 
-    def _add(self, link: Link, peer: Address, is_own: bool) -> None:
+    def _add(self, link: StreamLink, peer: Address, is_own: bool) -> None:
         self._links.append(link)
         self._by_peer[peer] = PeerTransport(self, link, peer, is_own)
         link.user = self
@@ -219,7 +219,7 @@ class Streams(LinkUser):
         if stream is not None:
             stream.feed(data)
 
-    def link_at(self, local: SocketAddress) -> Optional[Link]:
+    def link_at(self, local: SocketAddress) -> Optional[StreamLink]:
         """The data connection with this local address."""
         return next((link for link in self._links if link.local == local), None)
 
@@ -269,8 +269,7 @@ class Streams(LinkUser):
     def _forget(self, link: Optional[Link], error: Optional[Exception] = None) -> None:
         if link is None:
             return
-        if link in self._links:
-            self._links.remove(link)
+        self._links = [it for it in self._links if it is not link]
         link.close()
         for peer, stream in [*self._by_peer.items()]:
             if stream.link is link:

@@ -2,6 +2,7 @@
 from __future__ import annotations
 
 import asyncio
+import socket
 import ssl as tls
 from typing import AsyncIterator, Optional, Tuple, Union
 
@@ -45,7 +46,8 @@ class TurnClient(Told, Lifetime):
     are refreshed `refresh_ahead` seconds before they expire. `anonymous` hides the user name (RFC 8489, section 14.4):
     `"required"` always, `"disabled"` never, and `"auto"` never so far. `max_stale_nonces` is how many challenges in a row are
     answered. It should be greater than the number of permissions and channels: their refreshes may all be challenged at once, and
-    that of the relayed address too.
+    that of the relayed address too. With `sock`, a connected socket over what the URI says, the name is not looked up: the client
+    uses this socket from `open` on, and closes it.
 
     Peers are IP addresses with ports; names are not resolved. What is counted and told:
 
@@ -74,7 +76,7 @@ class TurnClient(Told, Lifetime):
                  family: int = 4, ssl: Optional[tls.SSLContext] = None, times: Optional[Times] = None, queue: int = 1024,
                  receiver: Optional[Receiver] = None, probe: Optional[float] = None, keepalive: float = 15.0,
                  pause: float = 0.005, refresh_ahead: float = 150.0, anonymous: str = "auto", max_stale_nonces: int = 256,
-                 clock: Optional[Clock] = None) -> None:
+                 sock: Optional[socket.socket] = None, clock: Optional[Clock] = None) -> None:
         self.uri = parse(uri) if isinstance(uri, str) else uri
         if relay not in ("udp", "tcp"):
             raise ValueError(f"relay is 'udp' or 'tcp', and not {relay!r}")
@@ -88,7 +90,7 @@ class TurnClient(Told, Lifetime):
             if not 0 <= seconds < 1e9:
                 raise ValueError(f"{name} is a number of seconds from 0 on, and not {seconds!r}")
         check_times(times)
-        Lifetime.__init__(self, Server(self.uri, ssl), Inbox(queue, receiver))
+        Lifetime.__init__(self, Server(self.uri, ssl, sock), Inbox(queue, receiver))
         Told.__init__(self, self._inbox, Notices())
         self._user, self._password = credential("user", user), credential("password", password)
         self._times, self._anonymous, self._max_stale_nonces = times, anonymous, max_stale_nonces

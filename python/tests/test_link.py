@@ -1,0 +1,146 @@
+"""A socket over UDP: how it is read and written, and what becomes of its errors."""
+import asyncio
+import errno
+import socket
+import unittest
+import unittest.mock
+from typing import Any, List
+
+from yarrowdoor.link import BATCH, MAX_LATE, DatagramLink, Link, LinkUser
+
+
+class User(LinkUser):
+    """Notes what it is told, and in which round of the event loop data has come."""
+
+    def __init__(self) -> None:
+        self.came: List[bytes] = []
+        self.rounds: List[int] = []
+        self.round = 0
+        self.told: List[Any] = []
+
+    def received(self, data: bytes, link: Link) -> None:
+        self.came.append(data)
+        self.rounds.append(self.round)
+
+    def refused(self, link: Link, error: Exception) -> None:
+        self.told.append(error)
+
+    def paused(self, link: Link, is_full: bool) -> None:
+        self.told.append(is_full)
+
+
+class Datagrams(unittest.IsolatedAsyncioTestCase):
+    async def asyncSetUp(self) -> None:
+        self.server, self.sock = (socket.socket(socket.AF_INET, socket.SOCK_DGRAM) for _ in range(2))
+        self.addCleanup(self.server.close)
+        self.server.bind(("127.0.0.1", 0))
+        self.server.settimeout(10)
+        self.sock.setblocking(False)
+        self.sock.connect(self.server.getsockname())
+        self.link, self.user = DatagramLink(self.sock), User()
+        self.link.user = self.user
+        self.addCleanup(self.link.close)
+
+    async def wait_for(self, count: int) -> None:
+        while len(self.user.came) < count:
+            self.user.round += 1
+            await asyncio.sleep(0)
+
+    async def test_a_burst(self) -> None:
+        """Some datagrams are read at a time, and not all: others have their turn."""
+        sent = [b"%d" % number for number in range(2 * BATCH + 1)]
+        for data in sent:
+            self.server.sendto(data, self.sock.getsockname())
+        await asyncio.wait_for(self.wait_for(len(sent)), 20)
+        self.assertEqual(self.user.came, sent)
+        counts = [self.user.rounds.count(it) for it in sorted(set(self.user.rounds))]
+        self.assertEqual(max(counts), BATCH)
+
+    async def test_nothing_comes_after_the_end(self) -> None:
+        for _ in range(3):
+            self.server.sendto(b"x", self.sock.getsockname())
+
+        def end(data: bytes, link: Link) -> None:
+            self.user.came.append(data)
+            link.close()
+
+        with unittest.mock.patch.object(self.user, "received", end):
+            self.link.user = self.user
+            await asyncio.wait_for(self.wait_for(1), 10)
+            await asyncio.sleep(0.01)
+        self.assertEqual((self.user.came, self.sock.fileno()), ([b"x"], -1))
+        self.link.send(b"x")
+        self.assertFalse(self.link.send_data(b"x"))
+        self.link.close()
+        self.link.abort()
+
+    async def test_a_socket_that_is_full(self) -> None:
+        """What it did not take is kept, data is refused meanwhile, and all goes on when it is no longer full."""
+        full = unittest.mock.Mock(side_effect=BlockingIOError)
+        with unittest.mock.patch.object(self.link, "_send", full), unittest.mock.patch.object(self.link._loop, "add_writer"):
+            self.assertTrue(self.link.send_data(b"first"))
+            self.assertFalse(self.link.send_data(b"refused"))
+            for _ in range(2 * MAX_LATE):
+                self.link.send(b"request")
+            self.assertEqual((self.user.told, self.link.writable.is_set(), full.call_count), ([True], False, 1))
+            self.link._send_late()
+            self.assertEqual(self.user.told, [True])
+        self.link._loop.add_writer(self.sock.fileno(), self.link._send_late)
+        await asyncio.wait_for(self.link.writable.wait(), 10)
+        self.assertEqual(self.user.told, [True, False])
+        self.assertTrue(self.link.send_data(b"last"))
+        came = [self.server.recv(99) for _ in range(MAX_LATE + 1)]
+        self.assertEqual(came, [b"first"] + [b"request"] * (MAX_LATE - 1) + [b"last"])
+        await asyncio.sleep(0.01)
+        with self.assertRaises(BlockingIOError):
+            self.server.setblocking(False)
+            self.server.recv(99)
+
+    async def test_what_waits_is_dropped_at_the_end(self) -> None:
+        with unittest.mock.patch.object(self.link, "_send", unittest.mock.Mock(side_effect=BlockingIOError)):
+            self.link.send(b"x")
+            self.link.close()
+        self.assertTrue(self.link.writable.is_set())  # who waits for it goes on
+        self.link._send_late()
+        self.assertEqual(self.user.told, [True])
+
+    async def test_a_socket_that_another_has_closed(self) -> None:
+        self.sock.close()
+        self.assertFalse(self.link.send_data(b"x"))
+        self.assertEqual([type(it) for it in self.user.told], [OSError])
+        self.link._read()
+        self.link.close()
+        self.assertTrue(self.link.is_over)
+
+    async def test_errors(self) -> None:
+        """Each is told, and what is sent and comes later passes."""
+        error = OSError(errno.ENETUNREACH, "Network is unreachable")
+        with unittest.mock.patch.object(self.link, "_send", unittest.mock.Mock(side_effect=error)):
+            self.assertFalse(self.link.send_data(b"lost"))
+            self.link.send(b"lost")
+        self.assertEqual(self.user.told, [error, error])
+        self.assertTrue(self.link.send_data(b"sent"))
+        self.assertEqual(self.server.recv(99), b"sent")
+        where = self.server.getsockname()
+        self.server.close()
+        self.link.send(b"to a closed port")
+        while len(self.user.told) < 3:
+            await asyncio.sleep(0.001)
+        self.assertIsInstance(self.user.told[2], ConnectionRefusedError)
+        with socket.socket(type=socket.SOCK_DGRAM) as again:
+            again.bind(where)
+            for number in range(2):
+                again.sendto(b"back", self.sock.getsockname())
+                await asyncio.wait_for(self.wait_for(number + 1), 10)
+
+    async def test_a_socket_is_registered_again_after_an_error(self) -> None:
+        """As uvloop needs it, which tells of a socket that has had an error no more."""
+        for error in (ConnectionRefusedError, BlockingIOError):
+            with unittest.mock.patch.object(self.link, "_recv", unittest.mock.Mock(side_effect=error)):
+                with unittest.mock.patch.object(self.link._loop, "add_reader") as add:
+                    self.link._read()
+            add.assert_called_once_with(self.sock.fileno(), self.link._read)
+
+
+if __name__ == "__main__":
+    unittest.main()
