@@ -44,12 +44,13 @@ def make_certificate(room: str) -> "list[str]":
 
 
 @contextlib.contextmanager
-def coturn(*options: str, host: str = "127.0.0.1") -> Iterator[Coturn]:
-    """Starts a server at this address with user `user` and password `pass`, and ends it."""
+def coturn(*options: str, host: str = "127.0.0.1", namespace: str = "") -> Iterator[Coturn]:
+    """Starts a server at this address with user `user` and password `pass`, in a network namespace that is named, and ends it."""
     with tempfile.TemporaryDirectory() as room:
         files = make_certificate(room)
         port, tls_port = free_port(), free_port()
-        words = ["turnserver", "-n", "--no-cli", "--no-dtls", "--lt-cred-mech", "-u", "user:pass", "-r", "realm",
+        inside = ["ip", "netns", "exec", namespace] if namespace else []
+        words = [*inside, "turnserver", "-n", "--no-cli", "--no-dtls", "--lt-cred-mech", "-u", "user:pass", "-r", "realm",
                  "--allow-loopback-peers", "-L", host, "-p", str(port), "--log-file", os.path.join(room, "log"),
                  "--pidfile", os.path.join(room, "pid"), "--relay-threads", "1", *options]
         words += ["--tls-listening-port", str(tls_port), "--cert", files[0], "--pkey", files[1]] if files else ["--no-tls"]

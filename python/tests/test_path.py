@@ -8,6 +8,7 @@ import subprocess
 import sys
 import textwrap
 import unittest
+import unittest.mock
 from typing import Any, List, cast
 
 from yarrowdoor import Clock, Ended, TurnClient
@@ -152,14 +153,33 @@ class Sockets(unittest.IsolatedAsyncioTestCase):
                 await asyncio.wait_for(relay.receive(), 30)
             self.assertLess(clock.now() / SECOND, 1800)  # and not an hour
 
+    async def test_a_route_that_goes_over_tcp(self) -> None:
+        """The system has to say so three times. Where it had none from the beginning, nothing is concluded."""
+        endpoint = await StreamEndpoint.start(Server())
+        self.addCleanup(endpoint.close)
+        gone = OSError(101, "Network is unreachable")
+        for said, is_end in (([None, None, gone, gone, None] + [gone] * 3, True), ([None, gone, gone] + [None] * 9, False),
+                             ([gone] * 9, False)):
+            asked = iter(said)
+            with unittest.mock.patch("yarrowdoor.path.route_error", lambda link: next(asked)):
+                async with TurnClient(endpoint.uri, "user", "pass", clock=Clock(rate=100)) as relay:
+                    if not is_end:
+                        await asyncio.sleep(1)
+                        self.assertFalse(relay.closed)
+                        continue
+                    with self.assertRaisesRegex(Ended, "^the connection to the server has ended: .*unreachable$") as ended:
+                        await asyncio.wait_for(relay.receive(), 10)
+                    self.assertIs(ended.exception.__cause__, gone)
+            self.assertEqual([*asked], [])
+
     async def test_options_of_a_connection(self) -> None:
-        """The system gives up on a silent one after 30 s."""
+        """The system gives up on a silent one after 25 s."""
         endpoint = await StreamEndpoint.start(Server())
         self.addCleanup(endpoint.close)
         async with TurnClient(endpoint.uri, "user", "pass") as relay:
             link = cast(StreamLink, relay._session().link)
             with socket.socket(fileno=os.dup(link.transport.get_extra_info("socket").fileno())) as own:
-                self.assertEqual(own.getsockopt(socket.IPPROTO_TCP, getattr(socket, "TCP_USER_TIMEOUT")), 30_000)
+                self.assertEqual(own.getsockopt(socket.IPPROTO_TCP, getattr(socket, "TCP_USER_TIMEOUT")), 25_000)
                 self.assertEqual(own.getsockopt(socket.SOL_SOCKET, socket.SO_KEEPALIVE), 1)
                 self.assertEqual(own.getsockopt(socket.IPPROTO_TCP, socket.TCP_KEEPIDLE), 15)
 

@@ -15,7 +15,7 @@ __all__ = ["DatagramLink", "Link", "LinkUser", "StreamLink"]
 
 # The system gives up on a connection when nothing that was sent is confirmed for so long, in milliseconds (RFC 5482). Together with
 # what is sent in between, every 15 s, a path that drops all in silence is noticed within a minute.
-USER_TIMEOUT = 30_000
+USER_TIMEOUT = 25_000
 _TCP_USER_TIMEOUT = getattr(socket, "TCP_USER_TIMEOUT", 18)
 # A stream on which nothing is sent is asked for a sign of life after so long, and again after so long, in seconds.
 KEEPALIVE = 15

@@ -1,12 +1,15 @@
-"""Whether the path to the server still carries: it is asked by Binding requests, and errors of the socket are counted."""
+"""Whether the path to the server still carries: it is asked by Binding requests, the system is asked for a route, and errors of the
+socket are counted."""
 from __future__ import annotations
 
 import asyncio
 import os
+import socket
 from typing import TYPE_CHECKING, Dict, NamedTuple, Optional
 
 from . import reasons
 from .address import Address
+from .link import Link
 
 if TYPE_CHECKING:
     from .session import Session
@@ -18,6 +21,8 @@ WAITS = (0.5, 1.0, 2.0)
 # So many checks in a row without an answer end the relay, and so many errors in a row, each a second after the last one.
 RUN = 3
 PAUSE = 1.0
+# How often the system is asked for a route to a server over TCP, in seconds.
+ROUTE_PAUSE = 15.0
 
 
 class Check(NamedTuple):
@@ -30,6 +35,21 @@ class Check(NamedTuple):
     has forgotten the client: the relayed address is lost (RFC 8656, section 3.2)"""
 
 
+def route_error(link: Link) -> Optional[OSError]:
+    """Why the system would send nothing from this end of a link to the other one, or None. Nothing is sent."""
+    try:
+        asked = socket.socket(socket.AF_INET6 if ":" in link.remote.host else socket.AF_INET, socket.SOCK_DGRAM)
+    except OSError:
+        return None  # which is not about the route: too many files are open
+    with asked:
+        try:
+            asked.bind((link.local.host, 0, *link.local[2:]))
+            asked.connect(link.remote)
+        except OSError as error:
+            return error
+    return None
+
+
 class Path:
     """The path to the server of a session."""
 
@@ -39,6 +59,7 @@ class Path:
         self._errors = 0
         self._suspicion: Optional[asyncio.Future[None]] = None
         self._probing: Optional[asyncio.Future[None]] = None
+        self._watching = asyncio.ensure_future(self._watch_route()) if session.link.is_stream else None
 
     async def check(self) -> Check:
         """Asks the server for a sign of life. `Ended` where the client has ended."""
@@ -82,6 +103,19 @@ class Path:
         why = f"no answer from {session.server.uri} to {RUN} checks in a row"
         session.breaks(f"the connection to the server has ended: {why}", None)
 
+    async def _watch_route(self) -> None:
+        """The system refuses a datagram without a route at once, but keeps what a connection sends, and waits. So it is asked.
+        Where it had no route while the connection was made, what it says means nothing."""
+        session, refusals = self._session, 0
+        error = route_error(session.link)
+        if error is not None:
+            return
+        while refusals < RUN:
+            await asyncio.sleep(session.clock.real(PAUSE if refusals else ROUTE_PAUSE))
+            error = route_error(session.link)
+            refusals = 0 if error is None else refusals + 1
+        session.breaks(f"the connection to the server has ended: {error}", error)
+
     def refused(self, error: Exception) -> None:
         """The socket has told an error. One may pass; several in a row, with nothing from the server between, end the relay."""
         self._errors += 1
@@ -100,6 +134,6 @@ class Path:
 
     def end(self) -> None:
         """Nothing is checked any more."""
-        for task in (self._probing, self._suspicion):
+        for task in (self._probing, self._suspicion, self._watching):
             if task is not None:
                 task.cancel()
