@@ -3,7 +3,8 @@
 A wheel holds the library for C where there is one in the folder `YARROWDOOR_DIST`, by default `../dist`, which tools/library
 makes: the library, its checksum (`yarrowdoor/SHA256SUMS`), and what proved it (`yarrowdoor/PROOF`). Else the package is made
 without it, where `YARROWDOOR_LIB` names one or the system has one: that one is used. Where no PROOF says that the library is
-proved, the version ends with `+unproved`. The same files make the same wheel.
+proved, the version ends with `+unproved`. The same files make the same wheel. Of the folder of another platform, as
+`dist/aarch64-linux`, a wheel for that one is made.
 
     python3 build_wheel.py FOLDER       puts a wheel with the library into the folder, and prints its name
 """
@@ -21,11 +22,13 @@ import struct
 import sys
 import tarfile
 import zipfile
-from typing import Any, Dict, Optional
+from typing import Any, Dict, List, Optional
 
 HERE = pathlib.Path(__file__).resolve().parent
 LIBRARY = "libyarrowdoor.so.0"
 MACHINES = {62: "x86_64", 183: "aarch64"}
+# The processors of which every one of a machine has what they have: a wheel is for all of them.
+BASELINE = ("x86-64", "generic")
 # The newest C library of the GNU project that the wheel may ask for: pip knows the tag from it.
 GLIBC = (2, 17)
 # The time of all files in what is made, in seconds since 1970: 2020-01-01.
@@ -76,7 +79,7 @@ def is_proved(proof: str) -> bool:
     """Whether PROOF has the `logic=proved` of `rt lib`, or ends with a gate that passed, and has nothing that says otherwise."""
     if re.search(r"NOT PROVED|\bproved=no\b", proof):
         return False
-    has_passed = re.search(r"^[1-9][0-9]* passed, 0 failed\s*\Z", proof, re.M)
+    has_passed = re.search(r"^(?:the gate: )?[1-9][0-9]* passed, 0 failed\s*\Z", proof, re.M)
     return bool(has_passed or re.search(r"(?<!\S)logic=proved(?!\S)", proof))
 
 
@@ -85,14 +88,39 @@ def version(folder: Optional[pathlib.Path]) -> str:
     return release() + ("" if folder is not None and is_proved((folder / "PROOF").read_text()) else "+unproved")
 
 
+def needed(library: bytes) -> List[str]:
+    """The names of the libraries that a shared library needs: its DT_NEEDED, in an ELF file of 64 bits, little end first."""
+    if library[:6] != b"\x7fELF\2\1":
+        sys.exit("the library is no ELF file of 64 bits, little end first")
+    (start,), (size, count) = struct.unpack_from("<Q", library, 32), struct.unpack_from("<HH", library, 54)
+    # Of each segment: kind, flags, place in the file and in memory, another place, size in the file.
+    segments = [struct.unpack_from("<IIQQQQ", library, start + size * at) for at in range(count)]
+    dynamic = [it for kind, _, place, _, _, length in segments if kind == 2
+               for it in struct.iter_unpack("<qQ", library[place:place + length // 16 * 16])]
+    texts = next((value for tag, value in dynamic if tag == 5), 0)
+    front = next((texts - it[3] + it[2] for it in segments if it[0] == 1 and it[3] <= texts < it[3] + it[5]), 0)
+    return [library[front + value:library.index(b"\0", front + value)].decode() for tag, value in dynamic if tag == 1]
+
+
 def platform(library: bytes) -> str:
-    """The tag of the machine and the C library that this library needs. One that names no C library fits that of musl too."""
-    machine = MACHINES.get(struct.unpack_from("<H", library, 18)[0])
+    """The tags of the machine and the C libraries that this library fits. One that needs no other library fits both of them."""
+    machine, needs = MACHINES.get(struct.unpack_from("<H", library, 18)[0]), needed(library)
     versions = [(int(it[1]), int(it[2])) for it in re.finditer(rb"GLIBC_(\d+)\.(\d+)", library)]
-    if machine is None or max(versions, default=(0, 0)) > GLIBC:
-        sys.exit(f"there is no tag for this library: machine {machine}, versions {versions}")
-    gnu = f"manylinux_{GLIBC[0]}_{GLIBC[1]}_{machine}"
-    return gnu if versions or b"libc.so.6" in library else f"{gnu}.musllinux_1_1_{machine}"
+    gnu, musl = f"manylinux_{GLIBC[0]}_{GLIBC[1]}_{machine}", f"musllinux_1_1_{machine}"
+    if machine is not None and not needs:
+        return f"{gnu}.{musl}"
+    if machine is not None and needs == ["libc.so.6"] and max(versions, default=(0, 0)) <= GLIBC:
+        return gnu
+    if needs == [f"libc.musl-{machine}.so.1"]:
+        return musl
+    sys.exit(f"there is no tag for this library: machine {machine}, libraries {needs}, versions {versions}")
+
+
+def check_processor(proof: str) -> None:
+    """Ends where the library is for some processors of its kind alone."""
+    found = re.search(r"^processor: (.*)$", proof, re.M)
+    if found is not None and found[1] not in BASELINE:
+        sys.exit(f"the library is for {found[1]}, and a wheel is for each processor of its kind: run tools/library without --cpu")
 
 
 def sources() -> Dict[str, bytes]:
@@ -112,7 +140,9 @@ def licence() -> bytes:
 def metadata(version: str) -> bytes:
     head = [("Metadata-Version", "2.1"), ("Name", project("name")), ("Version", version), ("Summary", project("description")),
             ("License", "MIT OR Apache-2.0"), ("License-File", "LICENSE"), ("Requires-Python", project("requires-python"))]
-    head += [("Classifier", it) for it in re.findall(r'^    "(.* :: .*)",$', (HERE / "pyproject.toml").read_text(), re.M)]
+    about = (HERE / "pyproject.toml").read_text()
+    head += [("Project-URL", ", ".join(it)) for it in re.findall(r'^urls\."(.*)" = "(.*)"$', about, re.M)]
+    head += [("Classifier", it) for it in re.findall(r'^    "(.* :: .*)",$', about, re.M)]
     head += [("Description-Content-Type", "text/markdown")]
     lines = "".join(f"{name}: {value}\n" for name, value in head)
     return f"{lines}\n{(HERE / 'README.md').read_text()}".encode()
@@ -153,6 +183,7 @@ def build_wheel(wheel_directory: str, config_settings: Any = None, metadata_dire
     else:
         library = (folder / LIBRARY).read_bytes()
         found[f"yarrowdoor/{LIBRARY}"], tag = library, platform(library)
+        check_processor((folder / "PROOF").read_text())
         found["yarrowdoor/PROOF"] = (folder / "PROOF").read_bytes()
         found["yarrowdoor/SHA256SUMS"] = f"{hashlib.sha256(library).hexdigest()}  {LIBRARY}\n".encode()
     return write_wheel(wheel_directory, called, tag, found)
@@ -166,12 +197,14 @@ def build_editable(wheel_directory: str, config_settings: Any = None, metadata_d
 
 
 def build_sdist(sdist_directory: str, config_settings: Any = None) -> str:
-    """Makes an archive of the sources, without the library, and returns its name (PEP 517)."""
-    about = f"{project('name')}-{release()}"
+    """Makes an archive of the sources and their tests, without the library, and returns its name (PEP 517). Its version is that of
+    what is made of it, without a proved library beside it."""
+    about = f"{project('name')}-{version(None)}"
     found = sources()
+    found.update({f"tests/{it.name}": it.read_bytes() for it in sorted((HERE / "tests").glob("*.py"))})
     for name in ("pyproject.toml", "build_wheel.py", "README.md"):
         found[name] = (HERE / name).read_bytes()
-    found["LICENSE"], found["PKG-INFO"] = licence(), metadata(release())
+    found["LICENSE"], found["PKG-INFO"] = licence(), metadata(version(None))
     packed = io.BytesIO()
     with tarfile.open(fileobj=packed, mode="w", format=tarfile.PAX_FORMAT) as archive:
         for path, data in sorted(found.items()):

@@ -44,6 +44,7 @@ def try_one(edit: pathlib.Path) -> Tuple[bool, str]:
         room = pathlib.Path(folder, "python")
         skipped = shutil.ignore_patterns("plants", "wheel", "__pycache__")
         shutil.copytree(TOP, room, ignore=skipped)
+        shutil.copy(TOP.parent / "LICENSE", folder)
         seen = plant(edit, room)
         words = [sys.executable, "-B", "-m", "unittest", seen]
         ends = []

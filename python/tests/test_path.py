@@ -9,7 +9,7 @@ import sys
 import textwrap
 import unittest
 import unittest.mock
-from typing import Any, List, cast
+from typing import Any, List, Optional, Tuple, cast
 
 from yarrowdoor import Clock, Ended, TurnClient
 from yarrowdoor.link import StreamLink
@@ -158,8 +158,9 @@ class Sockets(unittest.IsolatedAsyncioTestCase):
         endpoint = await StreamEndpoint.start(Server())
         self.addCleanup(endpoint.close)
         gone = OSError(101, "Network is unreachable")
-        for said, is_end in (([None, None, gone, gone, None] + [gone] * 3, True), ([None, gone, gone] + [None] * 9, False),
-                             ([gone] * 9, False)):
+        cases: List[Tuple[List[Optional[OSError]], bool]] = [
+            ([None, None, gone, gone, None, gone, gone, gone], True), ([None, gone, gone, *[None] * 9], False), ([gone] * 9, False)]
+        for said, is_end in cases:
             asked = iter(said)
             with unittest.mock.patch("yarrowdoor.path.route_error", lambda link: next(asked)):
                 async with TurnClient(endpoint.uri, "user", "pass", clock=Clock(rate=100)) as relay:

@@ -3,6 +3,9 @@ import hashlib
 import importlib.util
 import os
 import pathlib
+import re
+import shutil
+import struct
 import subprocess
 import sys
 import tarfile
@@ -15,8 +18,22 @@ from typing import Any, Optional
 BACKEND = pathlib.Path(__file__).resolve().parent.parent / "build_wheel.py"
 HEAD = "proved with: rt 1\nsources: 0123456\nrt lib in crates/turn_c:\n"
 NO_GATE = "the gate: no log was given\n"
-# The front of an ELF file for x86-64: its machine is at byte 18.
-LIBRARY = b"\x7fELF" + bytes(14) + (62).to_bytes(2, "little") + bytes(44)
+
+
+def library(*needs: str, machine: int = 62, more: bytes = b"") -> bytes:
+    """A shared library of 64 bits, for x86-64 unless told otherwise, that needs these and has nothing else: one segment in memory,
+    at 0x1000, and one that is dynamic in it."""
+    texts = b"\0" + b"".join(it.encode() + b"\0" for it in needs)
+    places = [texts.index(it.encode()) for it in needs]
+    dynamic = b"".join(struct.pack("<qQ", *it) for it in [*((1, it) for it in places), (5, 0x1000 + 176), (0, 0)])
+    head = b"\x7fELF\2\1\1" + bytes(9) + struct.pack("<HHIQQQIHHHHHH", 3, machine, 1, 0, 64, 0, 0, 64, 56, 2, 0, 0, 0)
+    size = len(texts) + len(dynamic) + 176
+    segments = struct.pack("<IIQQQQQQ", 1, 4, 0, 0x1000, 0x1000, size, size, 8)
+    segments += struct.pack("<IIQQQQQQ", 2, 4, 176 + len(texts), 0, 0, len(dynamic), len(dynamic), 8)
+    return head + segments + texts + dynamic + more
+
+
+LIBRARY = library()
 
 
 def backend() -> Any:
@@ -28,11 +45,11 @@ def backend() -> Any:
     return module
 
 
-def wheel_with(proof: str, room: str, library: bytes = LIBRARY) -> str:
-    """The name of a wheel in this folder, made with this PROOF."""
+def wheel_with(proof: str, room: str, found: bytes = LIBRARY) -> str:
+    """The name of a wheel in this folder, made with this PROOF and this library."""
     folder = pathlib.Path(room)
-    (folder / "libyarrowdoor.so.0").write_bytes(library)
-    (folder / "SHA256SUMS").write_text(f"{hashlib.sha256(library).hexdigest()}  libyarrowdoor.so.0\n")
+    (folder / "libyarrowdoor.so.0").write_bytes(found)
+    (folder / "SHA256SUMS").write_text(f"{hashlib.sha256(found).hexdigest()}  libyarrowdoor.so.0\n")
     (folder / "PROOF").write_text(proof)
     with unittest.mock.patch.dict(os.environ, YARROWDOOR_DIST=room):
         return str(backend().build_wheel(room))
@@ -43,6 +60,7 @@ class Versions(unittest.TestCase):
     PROVED = (
         HEAD + "out/libturn_c.a logic=proved\n" + NO_GATE,
         HEAD + "made\nthe gate:\na: passed\nb: passed\n31 passed, 0 failed\n",
+        HEAD + "made\nthe gate: 31 passed, 0 failed\n",
     )
     UNPROVED = (
         "",
@@ -51,6 +69,7 @@ class Versions(unittest.TestCase):
         HEAD + "out/libturn_c.a\n" + NO_GATE,
         HEAD + "logic=proved-in-part\n" + NO_GATE,
         HEAD + "the gate:\n30 passed, 1 failed\n",
+        HEAD + "the gate: 30 passed, 1 failed\n",
         HEAD + "the gate:\n31 passed, 0 failed\nstopped\n",
         HEAD + "the gate:\n0 passed, 0 failed\n",
     )
@@ -86,11 +105,18 @@ class Versions(unittest.TestCase):
 @unittest.skipUnless(BACKEND.exists(), "the sources are not here")
 class Files(unittest.TestCase):
     def test_a_wheel_that_is_made_twice(self) -> None:
-        made = []
-        for _ in range(2):
-            with tempfile.TemporaryDirectory() as room:
-                made.append(pathlib.Path(room, wheel_with(HEAD, room)).read_bytes())
-        self.assertEqual(made[0], made[1])
+        """In another folder, with other times and rights of the files, another time zone and another order of dictionaries."""
+        with tempfile.TemporaryDirectory() as room, tempfile.TemporaryDirectory() as other:
+            name = wheel_with(HEAD, room)
+            top = pathlib.Path(other, "elsewhere")
+            shutil.copytree(BACKEND.parent, top, ignore=shutil.ignore_patterns("wheel", "__pycache__", "plants"))
+            shutil.copy(BACKEND.parent.parent / "LICENSE", other)
+            for path in top.rglob("*"):
+                os.utime(path, (1, 1))
+                os.chmod(path, 0o700 if path.is_dir() else 0o600)
+            env = {**os.environ, "YARROWDOOR_DIST": room, "TZ": "Pacific/Apia", "PYTHONHASHSEED": "7", "LC_ALL": "C"}
+            subprocess.run([sys.executable, "-B", "build_wheel.py", other], cwd=top, env=env, check=True, stdout=subprocess.DEVNULL)
+            self.assertEqual(pathlib.Path(other, name).read_bytes(), pathlib.Path(room, name).read_bytes())
 
     def test_the_files_of_a_wheel(self) -> None:
         with tempfile.TemporaryDirectory() as room:
@@ -101,16 +127,40 @@ class Files(unittest.TestCase):
                 self.assertIn(b"MIT License", wheel.read(f"{info}/LICENSE"))
         self.assertIn("yarrowdoor/py.typed", names)
         self.assertEqual([it.split(",")[0] for it in record.splitlines()], names)
-        for line in ("License-File: LICENSE", "Classifier: Typing :: Typed", "Requires-Python: >=3.9"):
+        for line in ("License-File: LICENSE", "Classifier: Typing :: Typed", "Requires-Python: >=3.9",
+                     "Project-URL: TURN (RFC 8656), https://www.rfc-editor.org/rfc/rfc8656.html"):
             self.assertIn(f"\n{line}\n", metadata)
 
     def test_the_systems_that_a_wheel_fits(self) -> None:
-        for library, tag in ((LIBRARY, "manylinux_2_17_x86_64.musllinux_1_1_x86_64"),
-                             (LIBRARY + b"libc.so.6\0GLIBC_2.2.5\0", "manylinux_2_17_x86_64")):
+        old = b"\0GLIBC_2.2.5\0GLIBC_2.17\0"
+        for found, tag in ((LIBRARY, "manylinux_2_17_x86_64.musllinux_1_1_x86_64"),
+                           (library(machine=183), "manylinux_2_17_aarch64.musllinux_1_1_aarch64"),
+                           (library("libc.so.6", more=old), "manylinux_2_17_x86_64"),
+                           (library("libc.so.6", machine=183), "manylinux_2_17_aarch64"),
+                           (library("libc.musl-x86_64.so.1"), "musllinux_1_1_x86_64")):
             with tempfile.TemporaryDirectory() as room:
-                self.assertTrue(wheel_with(HEAD, room, library).endswith(f"-py3-none-{tag}.whl"))
-        with tempfile.TemporaryDirectory() as room, self.assertRaisesRegex(SystemExit, "^there is no tag for this library"):
-            wheel_with(HEAD, room, LIBRARY + b"GLIBC_2.34\0")
+                name = wheel_with(HEAD, room, found)
+                self.assertEqual(name, f"yarrowdoor-{backend().release()}+unproved-py3-none-{tag}.whl")
+                with zipfile.ZipFile(pathlib.Path(room, name)) as wheel:
+                    about = wheel.read(f"yarrowdoor-{backend().release()}+unproved.dist-info/WHEEL").decode()
+                self.assertEqual(re.findall("^Tag: (.*)$", about, re.M), [f"py3-none-{it}" for it in tag.split(".")])
+
+    def test_the_systems_that_no_wheel_fits(self) -> None:
+        """A newer C library, another library, another machine, and what is no library."""
+        newer = library("libc.so.6", more=b"GLIBC_2.34\0")
+        for found in (newer, library("libc.so.6", "libm.so.6"), library("libcrypto.so.3"), library(machine=40)):
+            with tempfile.TemporaryDirectory() as room, self.assertRaisesRegex(SystemExit, "^there is no tag for this library"):
+                wheel_with(HEAD, room, found)
+        with tempfile.TemporaryDirectory() as room, self.assertRaisesRegex(SystemExit, "^the library is no ELF file"):
+            wheel_with(HEAD, room, b"MZ" + bytes(99))
+
+    def test_the_processors_that_a_wheel_is_for(self) -> None:
+        for name in ("x86-64-v3", "neoverse-v2"):
+            with tempfile.TemporaryDirectory() as room, self.assertRaisesRegex(SystemExit, f"^the library is for {name}, and "):
+                wheel_with(f"target: x86_64-linux\nprocessor: {name}\n{HEAD}", room)
+        for name in ("x86-64", "generic"):
+            with tempfile.TemporaryDirectory() as room:
+                wheel_with(f"target: x86_64-linux\nprocessor: {name}\n{HEAD}", room)
 
     def test_a_library_that_is_not_as_its_sums_say(self) -> None:
         with tempfile.TemporaryDirectory() as room:
