@@ -3,13 +3,45 @@ from __future__ import annotations
 
 import asyncio
 import collections
-from typing import Callable, Deque, Optional, Tuple
+import contextvars
+from typing import Any, Callable, Deque, Optional, Tuple
 
 from .address import Address
 
 __all__ = ["Inbox", "Receiver"]
 
 Receiver = Callable[[bytes, Address], None]
+
+
+class Taker(asyncio.Future[None]):
+    """What the task waits for that takes data. It can be told to go on at once, and not in the next round of the event loop."""
+
+    def __init__(self) -> None:
+        super().__init__()
+        self._goes_on: Optional[Tuple[Callable[[Any], object], Optional[contextvars.Context]]] = None
+
+    def add_done_callback(self, fn: Callable[[Any], object], *, context: Optional[contextvars.Context] = None) -> None:
+        self._goes_on = fn, context
+
+    def cancel(self, msg: Optional[Any] = None) -> bool:
+        is_cancelled = super().cancel()
+        if is_cancelled:
+            self._go_on_soon()
+        return is_cancelled
+
+    def wake(self, at_once: bool) -> None:
+        """Has the task go on: at once where that is wanted and no other task runs, else soon."""
+        self.set_result(None)
+        if at_once and self._goes_on is not None and asyncio.current_task() is None:
+            fn, context = self._goes_on
+            (context or contextvars.copy_context()).run(fn, self)
+        else:
+            self._go_on_soon()
+
+    def _go_on_soon(self) -> None:
+        if self._goes_on is not None:
+            fn, context = self._goes_on
+            self.get_loop().call_soon(fn, self, context=context)
 
 
 class Inbox:
@@ -22,17 +54,28 @@ class Inbox:
         self.has_receiver = receiver is not None
         self._size = size
         self._packets: Deque[Tuple[bytes, Address]] = collections.deque()
-        self._takers: Deque[asyncio.Future[None]] = collections.deque()
+        self._takers: Deque[Taker] = collections.deque()
         self._has_ended = False
         self.put: Receiver = self._guarded(receiver) if receiver is not None else self._keep
         """Takes data of a peer."""
+        self.put_last: Receiver = self._guarded(receiver) if receiver is not None else self._keep_last
+        """The same, for a caller that has nothing to do after it: a task that waits for data goes on meanwhile. A round of the
+        event loop would take as long as all else that is done for a datagram."""
 
     def _keep(self, data: bytes, peer: Address) -> None:
+        if self._has_kept(data, peer):
+            self._wake_taker(at_once=False)
+
+    def _keep_last(self, data: bytes, peer: Address) -> None:
+        if self._has_kept(data, peer):
+            self._wake_taker(at_once=True)
+
+    def _has_kept(self, data: bytes, peer: Address) -> bool:
         if len(self._packets) >= self._size:
             self.dropped += 1
-            return
+            return False
         self._packets.append((data, peer))
-        self._wake_taker()
+        return True
 
     @staticmethod
     def _guarded(receiver: Receiver) -> Receiver:
@@ -54,7 +97,7 @@ class Inbox:
         while not self._packets:
             if self._has_ended:
                 return None
-            taker: asyncio.Future[None] = asyncio.get_running_loop().create_future()
+            taker = Taker()
             self._takers.append(taker)
             try:
                 await taker
@@ -62,21 +105,21 @@ class Inbox:
                 if taker in self._takers:
                     self._takers.remove(taker)
                 if self._packets:
-                    self._wake_taker()  # another one, since this one takes nothing
+                    self._wake_taker(at_once=False)  # another one, since this one takes nothing
                 raise
         return self._packets.popleft()
 
     def end(self) -> None:
         """No more data comes: who waits for some learns it."""
         self._has_ended = True
-        while self._wake_taker():
+        while self._wake_taker(at_once=False):
             pass
 
-    def _wake_taker(self) -> bool:
+    def _wake_taker(self, at_once: bool) -> bool:
         """Wakes one that waits for data, and says whether there was one. One that was cancelled waits no more."""
         while self._takers:
             taker = self._takers.popleft()
             if not taker.done():
-                taker.set_result(None)
+                taker.wake(at_once)
                 return True
         return False

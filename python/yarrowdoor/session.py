@@ -80,7 +80,8 @@ class Session(LinkUser):
         self.mapped: Optional[Address] = None
         self.count = 0
         """how many packets, or pieces of the stream, have come"""
-        self._has_streams, self._put = relay == "tcp", inbox.put
+        # After a datagram's data nothing is to be done.
+        self._has_streams, self._put = relay == "tcp", inbox.put if link.is_stream else inbox.put_last
         self._alarm = Alarm(clock, self._wake)
         self._is_driving = False
         self.requests = Requests()
