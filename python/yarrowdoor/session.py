@@ -2,6 +2,7 @@
 from __future__ import annotations
 
 import asyncio
+import functools
 from dataclasses import dataclass
 from typing import Optional, Union
 
@@ -82,7 +83,7 @@ class Session(LinkUser):
         """how many packets, or pieces of the stream, have come"""
         # After a datagram's data nothing is to be done.
         self._has_streams, self._put = relay == "tcp", inbox.put if link.is_stream else inbox.put_last
-        self._alarm = Alarm(clock, self._wake)
+        self._alarm = Alarm(clock, functools.partial(self.drive, is_wake_up=True))
         self._is_driving = False
         self.requests = Requests()
         self.diagnosis = Diagnosis(str(server.uri), max_stale_nonces, clock, self.requests)
@@ -179,8 +180,10 @@ class Session(LinkUser):
 
     # The client
 
-    def drive(self) -> None:
+    def drive(self, is_wake_up: bool = False) -> None:
         """Does all that is due, and sets the timer for the next time."""
+        if is_wake_up:
+            self.diagnosis.begins()
         if self._is_driving:
             return
         self._is_driving = True
@@ -209,10 +212,6 @@ class Session(LinkUser):
             link = self.link if packet.local == self.link.local else self.streams.link_at(packet.local)
             if link is not None:
                 link.send(packet.data)
-
-    def _wake(self) -> None:
-        self.diagnosis.begins()
-        self.drive()
 
     def _take_events(self) -> None:
         while not isinstance(self.state, Over) and (event := self.client.poll_event()) is not None:
