@@ -191,8 +191,8 @@ class Coturn(unittest.IsolatedAsyncioTestCase):
         uri = self.server.uri("turn:127.0.0.1:{port}?transport=tcp")
         self.addCleanup(peers.close)
         async with TurnClient(uri, "user", "pass", relay="tcp") as relay:
-            opens = relay._server.connect
-            with unittest.mock.patch.object(relay._server, "connect", lambda *them: open_one(opens, *them)):
+            opens = relay._server.stream
+            with unittest.mock.patch.object(relay._server, "stream", lambda *them: open_one(opens, *them)):
                 with self.assertRaises(ConnectFailed) as failed:
                     await asyncio.wait_for(relay.connect(peers.sockets[0].getsockname()), 10)
             self.assertFalse(relay.closed)
@@ -221,14 +221,14 @@ class Coturn(unittest.IsolatedAsyncioTestCase):
         peer, opened = peers.sockets[0].getsockname(), []
         async with TurnClient(self.server.uri("turn:127.0.0.1:{port}?transport=tcp"), "user", "pass", relay="tcp") as relay:
             await relay.permit(peer[0])
-            opens = relay._server.connect
+            opens = relay._server.stream
 
             async def open_late(*them: Any) -> Link:
                 await asyncio.sleep(0.5)
                 opened.append(await opens(*them))
                 return opened[-1]
 
-            with unittest.mock.patch.object(relay._server, "connect", open_late):
+            with unittest.mock.patch.object(relay._server, "stream", open_late):
                 with self.assertRaises(asyncio.TimeoutError):
                     await asyncio.wait_for(relay.connect(peer), 0.3)
                 while not opened or not opened[0].is_over:
