@@ -119,7 +119,7 @@ class Installed(unittest.TestCase):
         shutil.unpack_archive(name, self.room / "unpacked")
         top = next((self.room / "unpacked").iterdir())
         self.assertEqual(top.name, os.path.basename(name)[: -len(".tar.gz")])
-        words = [sys.executable, "-B", "-m", "unittest", "tests.test_link", "tests.test_uri", "tests.test_reasons"]
+        words = [sys.executable, "-B", "-m", "unittest", "tests.test_link", "tests.test_uri", "tests.test_names.Sockets"]
         ran = subprocess.run(words, cwd=top, env=self.env(YARROWDOOR_LIB=self.library), stdout=subprocess.PIPE,
                              stderr=subprocess.STDOUT, text=True)
         self.assertEqual(ran.returncode, 0, ran.stdout)
