@@ -143,7 +143,7 @@ class Installed(unittest.TestCase):
             program.write_text("".join(f"{line[3:]}\n" for line in lines))
             said = self.run_python(str(program))
         self.assertRegex(said, rf"^peers reach me at 127\.0\.0\.1:\d+\n127\.0\.0\.1:{port} sent b'hello'\n$")
-        if shutil.which("mypy"):
+        if shutil.which("mypy") and sys.version_info < (3, 12):  # Debian's mypy reads no later Python
             words = ["mypy", "--strict", "--python-executable", self.python, "--cache-dir", str(self.room / "mypy"), str(program)]
             checked = subprocess.run(words, env=self.env(), stdout=subprocess.PIPE, stderr=subprocess.STDOUT, text=True)
             self.assertEqual(checked.returncode, 0, checked.stdout)
