@@ -160,7 +160,8 @@ class Sockets(unittest.IsolatedAsyncioTestCase):
         self.addCleanup(endpoint.close)
         gone = OSError(101, "Network is unreachable")
         cases: List[Tuple[List[Optional[OSError]], bool]] = [
-            ([None, None, gone, gone, None, gone, gone, gone], True), ([None, gone, gone, None, gone, gone, None], False), ([gone] * 9, False)]
+            ([None, None, gone, gone, None, gone, gone, gone], True), ([None, gone, gone, None, gone, gone, None], False),
+            ([gone] * 9, False)]
         for said, is_end in cases:
             asked = itertools.chain(said, itertools.repeat(None))
             with unittest.mock.patch("yarrowdoor.path.route_error", lambda link: next(asked)):
