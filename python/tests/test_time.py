@@ -118,8 +118,7 @@ class InItsOwnTime(unittest.TestCase):
     def test_the_times_of_the_readme(self) -> None:
         server = TestServer()
         server.is_dead = True
-        times = Times(initial=200_000_000, longest=800_000_000, last=1_600_000_000, count=4)
-        network = Network(server, times=times)
+        network = Network(server, times=Times.seconds(initial=0.2, longest=0.8, last=1.6, count=4))
         network.run(60)
         self.assertEqual((network.sent_packets, network.now), (4, 3 * SECOND))
 
@@ -146,6 +145,14 @@ class Arguments(unittest.TestCase):
         for times in (Times(initial=half), Times(initial=-1), Times(initial=1 << 64)):
             with self.assertRaisesRegex(ValueError, "^times.initial is a whole number of nanoseconds"):
                 TurnClient("turn:127.0.0.1", "user", "pass", times=times)
+
+    def test_times_in_seconds(self) -> None:
+        self.assertEqual(Times.seconds(0.2, 0.8, 1.6, 4), Times(200_000_000, 800_000_000, 1_600_000_000, 4))
+        default = Times()
+        self.assertEqual(Times.seconds(longest=1.0), Times(default.initial, SECOND, default.last, default.count))
+        for wrong in (-0.1, 1.1e9, float("nan"), float("inf")):
+            with self.assertRaisesRegex(ValueError, "^last is a number of seconds from 0 to 1e9, and not "):
+                Times.seconds(last=wrong)
 
 
 if __name__ == "__main__":

@@ -23,7 +23,7 @@ class Times:
     Over TCP and TLS it is transmitted once, and fails as late. Each request has this time for itself, and entering a
     `TurnClient` makes two. Three seconds for each:
 
-        Times(initial=200_000_000, longest=800_000_000, last=1_600_000_000, count=4)    # 0.2 + 0.4 + 0.8 + 1.6 = 3 s
+        Times.seconds(initial=0.2, longest=0.8, last=1.6, count=4)      # 0.2 + 0.4 + 0.8 + 1.6 = 3 s
     """
 
     initial: int = 500_000_000
@@ -34,6 +34,14 @@ class Times:
     """the wait after the last transmission, in nanoseconds"""
     count: int = 7
     """how often a request is transmitted in all"""
+
+    @classmethod
+    def seconds(cls, initial: float = 0.5, longest: float = 1e9, last: float = 8.0, count: int = 7) -> Times:
+        """The same, in seconds. `ValueError` where one is below 0, or over 1e9."""
+        for name, value in (("initial", initial), ("longest", longest), ("last", last)):
+            if not 0 <= value <= 1e9:
+                raise ValueError(f"{name} is a number of seconds from 0 to 1e9, and not {value!r}")
+        return cls(round(initial * 1e9), round(longest * 1e9), round(last * 1e9), count)
 
 
 def credential(name: str, value: Union[str, bytes]) -> bytes:

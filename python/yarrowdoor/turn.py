@@ -186,7 +186,7 @@ class TurnClient(Told, Lifetime):
         (`sendto`).
         """
         session = self._session()
-        # asyncio reads one datagram in a round of its loop. Before the data is sent, so that a send that is cancelled is none.
+        # Before the data is sent, so that a send that is cancelled is none.
         if self._count == session.count:
             await asyncio.sleep(0)
         self._count = session.count
