@@ -35,7 +35,7 @@ class LinkUser:
         """An error of a datagram socket, which does not end it."""
 
     def ended(self, link: Link, error: Optional[Exception]) -> None:
-        """The socket is closed: by this end, by the other one, or by an error."""
+        """A connection is closed: by this end, by the other one, or by an error."""
 
     def paused(self, link: Link, is_full: bool) -> None:
         """The socket is full, or no longer."""
@@ -52,8 +52,6 @@ class Link:
         self.frames: Optional[Frames] = None
         self.is_over = False
         """Whether it was closed, here or there."""
-        self.error: Optional[Exception] = None
-        """What ended it, if it was an error."""
         self.writable = asyncio.Event()
         self.writable.set()
         self._user = LinkUser()
@@ -204,7 +202,7 @@ class StreamLink(Link, asyncio.Protocol):
         _notice_silence(transport)
 
     def connection_lost(self, exc: Optional[Exception]) -> None:
-        self.is_over, self.error = True, exc
+        self.is_over = True
         self.writable.set()
         self._user.ended(self, exc)
 

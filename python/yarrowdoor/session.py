@@ -160,13 +160,10 @@ class Session(LinkUser):
             self.path.refused(error)
 
     def ended(self, link: Link, error: Optional[Exception]) -> None:
-        if isinstance(self.state, Over):
-            return
-        if link.is_stream:
+        if not isinstance(self.state, Over):
             self.client.recv(b"", self.clock.now())
             self.take_rest()
-        default = "the server closed it" if link.is_stream else "its socket was closed"
-        self.breaks(f"the connection to the server has ended: {error or default}", error)
+            self.breaks(f"the connection to the server has ended: {error or 'the server closed it'}", error)
 
     def paused(self, link: Link, is_full: bool) -> None:
         self.notices.tell_pause(is_full)

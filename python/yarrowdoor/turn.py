@@ -63,10 +63,10 @@ class TurnClient(Told, Lifetime):
     after 60 s. `asyncio.wait_for(client.open(), seconds)` limits it all. It is used in one event loop. Where the server's name has
     several addresses, an attempt with the next one begins after 250 ms (RFC 8305), and the first one that answers is used.
 
-    Over UDP the relay ends when the socket is closed by an error, and when the system refuses several packets in a row. A server
-    that is silent is told by `on_lost`, at most five minutes after the last renewal of a permission, and `closed` becomes True when
-    the relayed address expires, up to half an hour after its last renewal; with `probe=15` within a minute. Over TCP and TLS a
-    silent server ends the relay within a minute. `address` keeps its last value.
+    Over UDP the relay ends when the system refuses several packets in a row. A server that is silent is told by `on_lost`, at most
+    five minutes after the last renewal of a permission, and `closed` becomes True when the relayed address expires, up to half an
+    hour after its last renewal; with `probe=15` within a minute. Over TCP and TLS a silent server ends the relay within a minute,
+    and a route that is gone within 20 s. `address` keeps its last value.
 
     Making it raises `ValueError` or `TypeError`, which says what is wrong; for `anonymous` and `max_stale_nonces`, for an empty
     user, and for a user or password that is too long, opening it does.
