@@ -125,12 +125,12 @@ class Route:
     """What the calls have in common that pass data on, from one socket or to one: of their requests the time is set for each, and
     the peer where data is sent."""
 
-    __slots__ = ("at", "request", "time")
+    __slots__ = ("at", "peer", "time")
 
     def __init__(self, kind: int, transport: int, from_: bytes = NO_ADDRESS, to: bytes = NO_ADDRESS) -> None:
-        self.request = bytearray(REQUEST.pack(0, kind, 0, transport, 0, from_, to, NO_ADDRESS, NO_ADDRESS))
-        self.time = memoryview(self.request).cast("Q")
-        self.at = _at(self.request)
+        request = bytearray(REQUEST.pack(0, kind, 0, transport, 0, from_, to, NO_ADDRESS, NO_ADDRESS))
+        self.time, self.peer = memoryview(request).cast("Q"), memoryview(request)[PEER_PLACE]
+        self.at = _at(request)
 
     @classmethod
     def received(cls, transport: int, from_: bytes, to: bytes) -> Route:
@@ -151,7 +151,7 @@ class Handle:
     """
 
     __slots__ = ("__weakref__", "_acquire", "_answer", "_answer_at", "_beyond", "_call", "_client_at", "_finalizer", "_len",
-                 "_library", "_release", "_request", "_request_at", "_room", "_room_at", "_room_len", "_view")
+                 "_lengths", "_library", "_release", "_request", "_request_at", "_room", "_room_at", "_room_len", "_view")
 
     def __init__(self, library: Library, settings: bytes, user: bytes, password: bytes, seed: bytes, guard: bytes = b"") -> None:
         """A new client. `settings` are packed (`SETTINGS`). `ValueError`, or `MemoryError`, where there is none."""
@@ -172,6 +172,7 @@ class Handle:
         self._answer = bytearray(ANSWER.size + len(guard))
         self._beyond = guard
         self._answer[ANSWER.size:] = guard
+        self._lengths = memoryview(self._answer).cast("Q")
         self._request_at, self._answer_at = _at(self._request), _at(self._answer)
         self._len = ctypes.c_size_t()
         self._make_room(MAX_PACKET)
@@ -247,14 +248,14 @@ class Handle:
             raise Busy("another thread uses this client")
         try:
             route.time[0] = now
-            route.request[PEER_PLACE] = peer
+            route.peer[:] = peer
             given = data if data.__class__ is bytes else _pointed(data)
             self._len.value = size = len(given)
-            if size > MAX_PACKET - MAX_OVERHEAD and size > len(self._room) - MAX_OVERHEAD:
+            if size > _MAX_USUAL and size > len(self._room) - MAX_OVERHEAD:
                 self._make_room(size + MAX_OVERHEAD)
             kind = self._call(self._client_at, route.at, given, self._len, self._room_at, self._room_len, self._answer_at)
             if kind == PACKET:
-                return kind, bytes(self._view[: _unpack_len(self._answer)[0]])
+                return kind, self._view[: self._lengths[_LEN]].tobytes()
         except (TypeError, ValueError) as error:
             _fail_time(now, error)
         finally:
@@ -299,7 +300,9 @@ class Handle:
 
 
 _NO_ANSWER = bytes(ANSWER.size)
-_unpack_range, _unpack_len = RANGE.unpack_from, struct.Struct("=16xQ").unpack_from
+_unpack_range, _MAX_USUAL = RANGE.unpack_from, MAX_PACKET - MAX_OVERHEAD
+# Where the length of what is in the buffer stands in an answer, in steps of eight bytes.
+_LEN = 2
 
 
 def _at(buffer: bytearray) -> object:
