@@ -19,12 +19,14 @@ SHOW = "import yarrowdoor, yarrowdoor.library as it; print(it.load().path, yarro
 
 
 def has_pip() -> bool:
-    ran = subprocess.run([sys.executable, "-c", "import pip, venv"], stdout=subprocess.DEVNULL, stderr=subprocess.DEVNULL)
+    """Whether this Python has venv, and a pip that installs into another environment."""
+    asks = "import pip, sys, venv; sys.exit(tuple(int(it) for it in pip.__version__.split('.')[:2]) < (22, 3))"
+    ran = subprocess.run([sys.executable, "-c", asks], stdout=subprocess.DEVNULL, stderr=subprocess.DEVNULL)
     return ran.returncode == 0
 
 
 @unittest.skipUnless((TOP / "build_wheel.py").exists() and (TOP.parent / "LICENSE").exists(), "the sources are not here")
-@unittest.skipUnless(has_pip(), "this Python has no pip, or no venv")
+@unittest.skipUnless(has_pip(), "this Python has no venv, or no pip from 22.3 on")
 @unittest.skipUnless(os.environ.get("YARROWDOOR_LIB"), "YARROWDOOR_LIB names no library")
 class Installed(unittest.TestCase):
     def setUp(self) -> None:
