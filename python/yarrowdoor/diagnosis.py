@@ -4,8 +4,10 @@ from __future__ import annotations
 from typing import Optional
 
 from . import reasons
+from .address import Address
 from .clock import Clock
 from .errors import AllocationFailed, Ended, Hint, WrongCredentials, because
+from .redirect import TRY_ALTERNATE, alternate_of
 from .requests import Key, Requests
 
 __all__ = ["Diagnosis"]
@@ -23,6 +25,7 @@ class Diagnosis:
         self._clock, self._requests = clock, requests
         self._heard = clock.now()
         self._error_now: Hint = None
+        self._alternate: Optional[Address] = None
         self.socket_error: Optional[Exception] = None
         """The last error of the socket since the server was heard, or the one that has ended it."""
         self.broken = ""
@@ -37,6 +40,7 @@ class Diagnosis:
         self._heard, self.socket_error = self._clock.now(), None
         if message.error is not None:
             self._error_now = message.error
+            self._alternate = alternate_of(packet) if message.error[0] == TRY_ALTERNATE else None
             if is_ignored or not reasons.is_challenge(message.error[0]):  # Else the client asks again: nothing has failed.
                 asked.error = message.error
         elif not is_ignored:
@@ -63,7 +67,9 @@ class Diagnosis:
         if self.broken:
             return because(AllocationFailed(self.broken, hint), self.socket_error)
         if hint is not None:
-            return refusal(hint)
+            error = refusal(hint)
+            error.alternate = self._alternate
+            return error
         if self._error_now is not None:
             return AllocationFailed(self._why())
         waited = (self._clock.now() - self._heard) / 1e9

@@ -59,6 +59,9 @@ class AllocationFailed(_Hinted):
     `code` is the number of an error response, or None where none was seen, and `phrase` its words. They are a hint.
     """
 
+    alternate: Optional[Tuple[str, int]] = None
+    """the address of another server, where the error response is 300 and has one (RFC 8489, section 10). It is a hint too"""
+
 
 class WrongCredentials(AllocationFailed):
     """The server gives no relayed address, and a packet said that user name or password are wrong.

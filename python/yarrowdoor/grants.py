@@ -2,17 +2,21 @@
 from __future__ import annotations
 
 from dataclasses import dataclass
-from typing import Callable, Dict, Set, Union
+from typing import AbstractSet, Callable, Dict, Set, Union
 
 from . import reasons
 from .address import Address
 from .client import Client
 from .clock import Clock
 from .errors import ChannelFailed, Hint, PermissionFailed, Refused
+from .journal import Journal
 from .notices import Lost, Notices
 from .requests import Key, Made, Requests
 
-__all__ = ["Grants", "channel", "permission"]
+__all__ = ["About", "Grants", "channel", "permission"]
+
+# Whose grant it is: of a permission the IP address, of a channel the peer.
+About = Union[str, Address]
 
 # How long `send` asks for no permission after the server has refused one, in seconds: twice as long each time, up to the last.
 FIRST_REST, LAST_REST = 5.0, 80.0
@@ -41,7 +45,8 @@ class Grants:
     """The permissions and channels of a client. `open_client` gives the client, or raises what says that it has ended."""
 
     def __init__(self, open_client: Callable[[], Client], drive: Callable[[], None], clock: Clock, requests: Requests,
-                 notices: Notices) -> None:
+                 notices: Notices, journal: Journal) -> None:
+        self._journal = journal
         self._open_client, self._drive, self._clock = open_client, drive, clock
         self._requests, self._notices = requests, notices
         self._granted: Set[Key] = set()
@@ -88,7 +93,20 @@ class Grants:
         if not self._open_client().have_permission(peer.host):
             await self.permit(peer.host)  # The channel is an older one, whose permission is gone: a refresh does not bring it back.
 
-    def set_kept(self, about: Union[str, Address], is_kept: bool) -> None:
+    def granted(self) -> AbstractSet[About]:
+        """Whose permissions and channels there are."""
+        return {it.about for it in self._granted if it.about is not None}
+
+    def released(self) -> AbstractSet[About]:
+        """Those of them that are not renewed any more."""
+        return {it.about for it in self._released if it.about is not None}
+
+    def answered(self, key: Key, is_granted: bool) -> None:
+        """The server has answered a request, and the client has taken the answer."""
+        if is_granted and key in self._granted:
+            self._journal.refreshed(key)
+
+    def set_kept(self, about: About, is_kept: bool) -> None:
         """Says whether the permission of an IP address, or the channel of a peer, is refreshed."""
         client, key = self._open_client(), permission(about) if isinstance(about, str) else channel(about)
         if isinstance(about, str):
@@ -103,6 +121,7 @@ class Grants:
     def created(self, key: Key) -> None:
         """The client tells that something is granted."""
         self._granted.add(key)
+        self._journal.granted(key)
         self._rests.pop(_host(key), None)
         self._requests.settle(key, None)
 
@@ -110,6 +129,10 @@ class Grants:
         """The client tells that something is refused, or lost. Says whether it is lost since the server did not answer."""
         hint, was_granted = self._requests.error_of(key), key in self._granted
         was_released = key in self._released
+        if was_released:
+            self._journal.released(key)
+        else:
+            self._journal.failed(key, hint, was_granted)
         self._granted.discard(key)
         self._released.discard(key)
         error: Union[PermissionFailed, ChannelFailed]

@@ -10,6 +10,7 @@ from typing import Dict, Optional, Type, TypeVar, Union
 from .errors import AllocationFailed, Ended, because
 from .inbox import Inbox
 from .link import Link
+from .redirect import Redirects
 from .servers import NoneSucceeded, Server, first_of
 from .session import Leaving, Over, Session
 
@@ -42,13 +43,17 @@ class Failed:
 class Lifetime:
     """A client that is opened once, and closed. A `Session` does its work, from the time when there is a relayed address."""
 
-    def __init__(self, server: Server, inbox: Inbox) -> None:
-        self._server, self._inbox = server, inbox
+    def __init__(self, server: Server, inbox: Inbox, redirects: int = 0) -> None:
+        self._server, self._inbox, self._redirects = server, inbox, Redirects(redirects)
         self._phase: Union[NotOpened, Connecting, Failed, Session] = NotOpened()
+        self._rest: Optional[asyncio.Future[None]] = None
 
     def _session_over(self, link: Link) -> Session:
         """A new session over this link."""
         raise NotImplementedError
+
+    async def _prepare(self) -> None:
+        """Gets what a session needs."""
 
     async def __aenter__(self: _Self) -> _Self:
         await self.open()
@@ -87,23 +92,34 @@ class Lifetime:
             raise
 
     async def _connect(self) -> None:
-        session = None
         try:
-            session = await self._first_session()
-            await session.ready()
-        except asyncio.CancelledError:
-            if session is not None:
-                await session.leave()
-            raise
+            await self._prepare()
+            session = await self._ready_session()
         except Exception as error:
-            rest = asyncio.ensure_future(session.leave()) if session is not None else None
             why = because(Ended(f"the client was not opened: {error}"), error.__cause__)
-            self._phase = Failed(why, rest)
+            self._phase = Failed(why, self._rest)
             self._inbox.end()
             raise
         self._phase = session
         inbox = self._inbox
         session.over.add_done_callback(lambda _: inbox.end())
+
+    async def _ready_session(self) -> Session:
+        """A session with a relayed address, of the server or of one that it names in its place."""
+        while True:
+            session = await self._first_session()
+            try:
+                await session.ready()
+                return session
+            except asyncio.CancelledError:
+                await session.leave()
+                raise
+            except Exception as error:
+                self._rest = asyncio.ensure_future(session.leave())
+                other = self._redirects.next(self._server, error) if isinstance(error, AllocationFailed) else None
+                if other is None:
+                    raise
+                self._server = other
 
     async def _first_session(self) -> Session:
         """A session with the first of the server's addresses that answers."""

@@ -3,10 +3,12 @@ from __future__ import annotations
 
 import asyncio
 import collections
+import dataclasses
 from dataclasses import dataclass
 from typing import Callable, Deque, Optional, TypeVar, Union
 
 from .address import Address
+from .counters import Counters
 from .inbox import Inbox
 
 __all__ = ["Lost", "Notices", "Told"]
@@ -28,6 +30,7 @@ class Notices:
     """The functions that the user has set, and what is kept for who asks later. What a function raises is not the client's."""
 
     def __init__(self) -> None:
+        self.counters = Counters()
         self.unsent = 0
         self.lost: Deque[Lost] = collections.deque(maxlen=1024)
         self.on_lost: Optional[Callable[[Lost], None]] = None
@@ -74,6 +77,11 @@ class Told:
     def unsent(self) -> int:
         """How many packets to peers were dropped, since the socket was full or refused them. Later losses are not counted."""
         return self._notices.unsent
+
+    @property
+    def counters(self) -> Counters:
+        """What was sent and has come since the client was made, as it is now: a copy, which does not change."""
+        return dataclasses.replace(self._notices.counters, dropped=self.dropped, unsent=self.unsent)
 
     @property
     def lost(self) -> Deque[Lost]:

@@ -9,6 +9,7 @@ from typing import Awaitable, Callable, Dict, NamedTuple, Optional, Set, Union
 
 from . import reasons
 from .address import Address
+from .counters import Counters
 from .errors import Hint
 
 __all__ = ["Asked", "Key", "Made", "Requests", "settle"]
@@ -40,6 +41,10 @@ class Asked:
     """The last request of a key that was sent, and what was answered to it."""
 
     transaction: bytes
+    sent: int = 0
+    """when it was sent first, as a time of the client"""
+    is_repeated: bool = False
+    """whether it was sent again"""
     error: Hint = None
     """of the error response, if one was seen"""
     is_granted: bool = False
@@ -51,7 +56,8 @@ class Asked:
 class Requests:
     """The requests of a client: who waits for them, and what the server has answered."""
 
-    def __init__(self) -> None:
+    def __init__(self, counters: Optional[Counters] = None) -> None:
+        self._counters = counters or Counters()
         self.allocates = 0
         """How many ALLOCATEs were sent: all but the first one are signed, and may have been granted."""
         self._waiters: Dict[Key, asyncio.Future[None]] = {}
@@ -97,15 +103,21 @@ class Requests:
         self._tasks.add(task)
         task.add_done_callback(self._tasks.discard)
 
-    def sent(self, packet: bytes) -> None:
+    def sent(self, packet: bytes, now: int = 0) -> None:
         """A packet of the client leaves: if it is a request, its transaction is that of its key from now on."""
         message = reasons.read(packet)
-        if message is None or not message.is_request or message.transaction in self._keys:
+        if message is None or not message.is_request:
             return
+        before = self._keys.get(message.transaction)
+        if before is not None:
+            self._counters.retransmissions += 1
+            self._asked[before].is_repeated = True
+            return
+        self._counters.requests += 1
         key = _key_of(message, packet)
         self.allocates += key.method == reasons.ALLOCATE
         self._forget(key)
-        self._asked[key], self._keys[message.transaction] = Asked(message.transaction), key
+        self._asked[key], self._keys[message.transaction] = Asked(message.transaction, now), key
         if len(self._asked) > MAX_REMEMBERED:
             self._forget(next(iter(self._asked)))
         leaves = self._unsent.pop(key, None)

@@ -2,11 +2,13 @@
 from __future__ import annotations
 
 import asyncio
+import dataclasses
 import ipaddress
 import socket
 import ssl as tls
 from typing import Awaitable, Callable, Dict, Iterable, List, Optional, Tuple, TypeVar
 
+from .address import Address
 from .errors import AllocationFailed, YarrowdoorError, because
 from .link import DatagramLink, Link, StreamLink
 from .uri import TurnUri
@@ -22,7 +24,10 @@ _Found = TypeVar("_Found")
 class Server:
     """A server: what its URI says, the context of TLS where that is used, and a socket to it, if one was given."""
 
-    def __init__(self, uri: TurnUri, ssl: Optional[tls.SSLContext], sock: Optional[socket.socket] = None) -> None:
+    def __init__(self, uri: TurnUri, ssl: Optional[tls.SSLContext], sock: Optional[socket.socket] = None, *,
+                 local_addr: Optional[Tuple[str, int]] = None, family: int = socket.AF_UNSPEC, name: Optional[str] = None) -> None:
+        """`local_addr` and `family` are those of the sockets, as asyncio has them. The certificate is for `name`, by default the
+        host of the URI."""
         if uri.secure and uri.transport != "tcp":
             raise ValueError(f"TURN over DTLS is not supported: {uri}")
         if ssl is not None and not uri.secure:
@@ -32,6 +37,12 @@ class Server:
             _check_socket(sock, uri)
         self.uri, self._socket = uri, sock
         self._ssl = (ssl or tls.create_default_context()) if uri.secure else None
+        self._local_addr, self._family, self._name = local_addr, family, name or uri.host
+
+    def redirected(self, to: Address) -> Server:
+        """The server at another address, over the same transport, and with a certificate for the same name."""
+        uri = dataclasses.replace(self.uri, host=to.host, port=to.port)
+        return Server(uri, self._ssl, local_addr=self._local_addr, family=self._family, name=self._name)
 
     async def addresses(self) -> List[str]:
         """The server's IP addresses, in the order in which they are tried. `AllocationFailed` where its name has none."""
@@ -39,7 +50,7 @@ class Server:
             return [_scoped(self._socket.getpeername())]
         kind = socket.SOCK_DGRAM if self.uri.transport == "udp" else socket.SOCK_STREAM
         try:
-            found = await asyncio.get_running_loop().getaddrinfo(self.uri.host, self.uri.port, type=kind)
+            found = await asyncio.get_running_loop().getaddrinfo(self.uri.host, self.uri.port, type=kind, family=self._family)
         except (OSError, UnicodeError) as error:
             raise because(AllocationFailed(f"no connection to {self.uri}: {error}"), error)
         return interleaved(_scoped(it[4]) for it in found)
@@ -48,29 +59,36 @@ class Server:
         """A new socket to the server at this address of it, or the one that was given, which is used once. `OSError` where there is
         none."""
         if self.uri.transport != "udp":
-            return await self.stream(host)
+            return await self._stream(host, self._local_addr)
         given, self._socket = self._socket, None
-        return DatagramLink(given or connected(host, self.uri.port))
+        return DatagramLink(given or connected(host, self.uri.port, self._local_addr))
 
     async def stream(self, host: str) -> StreamLink:
-        """The same, of a server over TCP or TLS."""
-        loop, uri, name = asyncio.get_running_loop(), self.uri, self.uri.host if self._ssl else None
+        """One more connection to a server over TCP or TLS, from another port."""
+        return await self._stream(host, (self._local_addr[0], 0) if self._local_addr is not None else None)
+
+    async def _stream(self, host: str, own: Optional[Tuple[str, int]]) -> StreamLink:
+        loop, uri, name = asyncio.get_running_loop(), self.uri, self._name if self._ssl else None
         given, self._socket = self._socket, None
         if given is not None:
             link = (await loop.create_connection(StreamLink, sock=given, ssl=self._ssl, server_hostname=name))[1]
         else:
-            link = (await loop.create_connection(StreamLink, host, uri.port, ssl=self._ssl, server_hostname=name))[1]
+            link = (await loop.create_connection(StreamLink, host, uri.port, ssl=self._ssl, server_hostname=name,
+                                                 local_addr=own))[1]
         if link.is_over:
             raise ConnectionResetError("the server closed the connection at once")
         return link
 
 
-def connected(host: str, port: int) -> socket.socket:
-    """A new socket over UDP that is connected to this IP address, which may have a scope. `OSError` where the system refuses it."""
+def connected(host: str, port: int, own: Optional[Tuple[str, int]] = None) -> socket.socket:
+    """A new socket over UDP that is connected to this IP address, which may have a scope, from its own one, if that is given.
+    `OSError` where the system refuses it."""
     (family, kind, protocol, _, where), *_ = socket.getaddrinfo(host, port, type=socket.SOCK_DGRAM, flags=socket.AI_NUMERICHOST)
     sock = socket.socket(family, kind, protocol)
     try:
         sock.setblocking(False)
+        if own is not None:
+            sock.bind(own)
         sock.connect(where)
     except BaseException:
         sock.close()

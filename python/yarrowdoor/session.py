@@ -3,8 +3,7 @@ from __future__ import annotations
 
 import asyncio
 import functools
-from dataclasses import dataclass
-from typing import Optional, Union
+from typing import List, Optional, Sequence
 
 from . import reasons
 from .address import Address
@@ -14,18 +13,22 @@ from .answers import (
 )
 from .client import Client
 from .clock import Alarm, Clock
+from .counters import Counters
 from .diagnosis import ALLOCATE, Diagnosis, refusal
 from .errors import AllocationFailed, Ended, Refused, because
 from .grants import Grants, channel, permission
+from .idle import Idle
 from .inbox import Inbox
+from .journal import Journal
 from .link import Link, LinkUser
 from .notices import Notices
 from .path import Path
+from .phases import Leaving, Open, Opening, Over, State, fail
 from .requests import Key, Requests, settle
 from .servers import Server
 from .streams import Streams
 
-__all__ = ["Leaving", "Open", "Opening", "Over", "Session"]
+__all__ = ["Leaving", "Over", "Session"]
 
 # How long a signed answer may still come after one that said, unsigned, why it fails, in seconds.
 GRACE = 1.0
@@ -33,44 +36,11 @@ GRACE = 1.0
 DELETE_WAIT = 2.0
 
 
-@dataclass(frozen=True)
-class Opening:
-    """The server was asked for a relayed address."""
-
-    heard: asyncio.Future[None]
-    """set when the server has answered anything, or cannot be reached"""
-    ready: asyncio.Future[None]
-    """set when there is a relayed address, or none"""
-
-
-@dataclass(frozen=True)
-class Open:
-    """There is a relayed address."""
-
-    address: Address
-
-
-@dataclass(frozen=True)
-class Leaving:
-    """The relayed address is given back to the server, as soon as it is there."""
-
-
-@dataclass(frozen=True)
-class Over:
-    """The client has ended."""
-
-    why: Optional[Ended]
-    """why, or None where the user has closed it"""
-
-
-State = Union[Opening, Open, Leaving, Over]
-
-
 class Session(LinkUser):
     """A client over a link to the server, which asks for a relayed address at once."""
 
     def __init__(self, client: Client, link: Link, server: Server, relay: str, max_stale_nonces: int, clock: Clock, inbox: Inbox,
-                 notices: Notices) -> None:
+                 notices: Notices, families: Sequence[int] = (4,)) -> None:
         self._loop = asyncio.get_running_loop()
         self.client, self.link, self.server, self.clock, self.notices = client, link, server, clock, notices
         self.state: State = Opening(self._loop.create_future(), self._loop.create_future())
@@ -78,6 +48,9 @@ class Session(LinkUser):
         """set when the client has ended"""
         self.address: Optional[Address] = None
         """the relayed address, or the last one"""
+        self.addresses: List[Address] = []
+        """all relayed addresses: one for each family that was asked for and granted"""
+        self._refused_families, self._families = 0, len(families)
         self.mapped: Optional[Address] = None
         self.count = 0
         """how many packets, or pieces of the stream, have come"""
@@ -85,9 +58,11 @@ class Session(LinkUser):
         self._has_streams, self._put = relay == "tcp", inbox.put if link.is_stream else inbox.put_last
         self._alarm = Alarm(clock, functools.partial(self.drive, is_wake_up=True))
         self._is_driving = False
-        self.requests = Requests()
+        self.counters, self.idle = notices.counters, None  # type: Counters, Optional[Idle]
+        self.journal = Journal(server.uri, link, self.counters)
+        self.requests = Requests(self.counters)
         self.diagnosis = Diagnosis(str(server.uri), max_stale_nonces, clock, self.requests)
-        self.grants = Grants(self.usable_client, self.drive, clock, self.requests, notices)
+        self.grants = Grants(self.usable_client, self.drive, clock, self.requests, notices, self.journal)
         self.streams = Streams(self)
         self.path = Path(self)
         link.user = self
@@ -102,7 +77,7 @@ class Session(LinkUser):
         now = self.clock.now()
         answer = self.client.recv(data, now)
         if isinstance(answer, PeerData):
-            self._put(answer.data, answer.peer)
+            self._take(answer.data, answer.peer)
             # A datagram, or a piece that is one ChannelData message, has nothing else in it. Data makes nothing due.
             if not link.is_stream or link.frames is not None and answer.start == 4 and link.frames.is_one(data, len(answer.data)):
                 return
@@ -120,7 +95,17 @@ class Session(LinkUser):
             if self._has_streams:
                 self.streams.feed(more.data, more.peer)
             else:
-                self._put(more.data, more.peer)
+                self._take(more.data, more.peer)
+
+    def _take(self, data: bytes, peer: Address) -> None:
+        self.counters.packets_in += 1
+        self.counters.bytes_in += len(data)
+        self._put(data, peer)
+
+    def release_idle(self, seconds: float) -> None:
+        """Lets go each peer that was not used for so long."""
+        self.idle = Idle(self.grants, self.clock, seconds)
+        self._put = self.idle.listening(self._put)
 
     def hear(self, data: bytes, link: Link, is_ignored: bool) -> None:
         """Reads what the server's messages say, after the client has taken them, or ignored the first one."""
@@ -140,6 +125,8 @@ class Session(LinkUser):
         if key is None:
             return
         self.diagnosis.hears(message, packet, is_ignored)
+        self.journal.answered(key, self.requests.last(key), message, is_ignored, self.clock.now())
+        self.grants.answered(key, message.error is None and not is_ignored)
         if isinstance(self.state, Opening):
             settle(self.state.heard, None)
         if key != ALLOCATE:
@@ -205,7 +192,7 @@ class Session(LinkUser):
 
     def _transmit(self, now: int) -> None:
         while not isinstance(self.state, Over) and (packet := self.client.poll_transmit(now)) is not None:
-            self.requests.sent(packet.data)
+            self.requests.sent(packet.data, now)
             link = self.link if packet.local == self.link.local else self.streams.link_at(packet.local)
             if link is not None:
                 link.send(packet.data)
@@ -218,8 +205,9 @@ class Session(LinkUser):
         if isinstance(event, AllocationCreated):
             self._allocated(event.address)
         elif isinstance(event, AllocationCreateFailed):
-            if isinstance(self.state, Opening):
-                _fail(self.state, self.diagnosis.no_address())
+            self._refused_families += 1
+            if isinstance(self.state, Opening) and self._refused_families == self._families:
+                fail(self.state, self.diagnosis.no_address())
         elif isinstance(event, PermissionCreated):
             self.grants.created(permission(event.ip))
         elif isinstance(event, PermissionCreateFailed):
@@ -234,10 +222,12 @@ class Session(LinkUser):
             self.streams.failed(event.peer)
 
     def _allocated(self, address: Address) -> None:
+        self.addresses.append(address)
         if isinstance(self.state, Leaving):
             self._delete()
         elif isinstance(self.state, Opening):
             before, self.address, self.state = self.state, address, Open(address)
+            self.journal.allocated(address, self.mapped)
             settle(before.heard, None)
             settle(before.ready, None)
 
@@ -263,7 +253,7 @@ class Session(LinkUser):
     def _fail_soon(self, error: AllocationFailed) -> None:
         """Gives up the allocation, unless a signed answer comes soon."""
         if isinstance(self.state, Opening):
-            self._loop.call_later(GRACE, _fail, self.state, error)
+            self._loop.call_later(GRACE, fail, self.state, error)
 
     async def leave(self) -> None:
         """Gives the relayed address back to the server, and ends when it has answered, or after two seconds."""
@@ -272,7 +262,7 @@ class Session(LinkUser):
         elif isinstance(self.state, (Opening, Open)):
             before, self.state = self.state, Leaving()
             if isinstance(before, Opening):
-                _fail(before, AllocationFailed("the client was closed"))
+                fail(before, AllocationFailed("the client was closed"))
             else:
                 self.streams.close()
                 self._delete()
@@ -299,8 +289,11 @@ class Session(LinkUser):
         if isinstance(before, Over):
             return
         self.state = Over(why)
+        self.journal.ended(why)
+        if self.idle is not None:
+            self.idle.end()
         if isinstance(before, Opening):
-            _fail(before, AllocationFailed("the client was closed") if why is None else self.diagnosis.no_address())
+            fail(before, AllocationFailed("the client was closed") if why is None else self.diagnosis.no_address())
         self.over.set_result(None)
         self.client.close()
         self.path.end()
@@ -327,9 +320,3 @@ class Session(LinkUser):
         """Why a call is not made any more, as a new error for each."""
         why = self.state.why if isinstance(self.state, Over) else None
         return Ended("the client was closed") if why is None else because(Ended(*why.args), why.__cause__)
-
-
-def _fail(opening: Opening, error: AllocationFailed) -> None:
-    for waiter in (opening.heard, opening.ready):
-        if settle(waiter, error):
-            waiter.exception()  # Nobody has to wait for it.

@@ -7,7 +7,7 @@ from typing import Dict, Optional, Sequence, Tuple, Union
 
 from . import layout as c
 
-__all__ = ["Times", "TRANSPORTS", "check_times", "credential", "number", "packed_settings"]
+__all__ = ["Times", "TRANSPORTS", "check_seconds", "check_times", "checked_families", "credential", "number", "packed_settings"]
 
 TRANSPORTS = {"udp": 0, "tcp": 1}
 _ALGORITHMS = {"sha1": 1, "sha256": 2}
@@ -64,6 +64,24 @@ def check_times(times: Optional[Times]) -> None:
         value = getattr(times, name)
         if not isinstance(value, int) or not 0 <= value < 1 << bits:
             raise ValueError(f"times.{name} is a whole number {what}, from 0 to 2^{bits} - 1, and not {value!r}")
+
+
+def check_seconds(*, above_zero: Dict[str, Optional[float]], from_zero: Dict[str, float]) -> None:
+    """`ValueError` where one of these is no number of seconds."""
+    for name, seconds in above_zero.items():
+        if seconds is not None and not seconds > 0:
+            raise ValueError(f"{name} is a number of seconds above 0, and not {seconds!r}")
+    for name, seconds in from_zero.items():
+        if not 0 <= seconds < 1e9:
+            raise ValueError(f"{name} is a number of seconds from 0 on, and not {seconds!r}")
+
+
+def checked_families(family: Union[int, Tuple[int, ...]]) -> Tuple[int, ...]:
+    """The families of the relayed addresses. `ValueError` where there are no such."""
+    families = family if isinstance(family, tuple) else (family,)
+    if families not in ((4,), (6,), (4, 6), (6, 4)):
+        raise ValueError(f"family is 4 or 6, or both as (4, 6), and not {family!r}")
+    return families
 
 
 def number(table: Dict[str, int], word: str) -> int:

@@ -4,11 +4,12 @@ from __future__ import annotations
 import asyncio
 import socket
 import ssl as tls
-from typing import AsyncIterator, Optional, Tuple, Union
+from typing import AsyncIterator, List, Optional, Tuple, Union
 
 from .address import Address, AddressLike, SocketAddress, checked_ip, checked_peer
 from .client import Buffer, Client, Times
 from .clock import Clock
+from .credentials import Credentials, CredentialsLike, Text, ask, one_source
 from .errors import Refused
 from .inbox import Inbox, Receiver
 from .lifetime import Lifetime
@@ -17,7 +18,7 @@ from .notices import Lost, Notices, Told
 from .path import Check
 from .servers import Server
 from .session import Session
-from .settings import check_times, credential
+from .settings import check_seconds, check_times, checked_families
 from .streams import Pair
 from .uri import TurnUri, parse
 
@@ -36,18 +37,24 @@ class TurnClient(Told, Lifetime):
                 ...
 
     `uri` is that of the server (RFC 7065), as text or parsed. `relay` is the transport between server and peers: `"udp"`, or
-    `"tcp"` for streams (`connect`, `accept`; RFC 6062), which needs a URI with TCP. `family` is that of the relayed address,
-    4 or 6. `ssl` is the context for `turns:` URIs, by default `ssl.create_default_context()`. `times` says how long a request
-    waits for its answer (`Times`). At most `queue` packets of peers wait to be taken; a further one is dropped and counted. With
-    `receiver` there is no queue: it is called with data and peer, in the event loop, and must not block. What it raises goes to the
-    event loop's exception handler. `probe` is how often the path to the server is checked, in seconds: three checks in a row
-    without an answer end the relay. By default none is made. When nothing was sent for `keepalive` seconds, something is, so that
-    a NAT in between keeps its mapping; with 0 never. Between two requests lies a `pause` in seconds, and permissions and channels
-    are refreshed `refresh_ahead` seconds before they expire. `anonymous` hides the user name (RFC 8489, section 14.4):
-    `"required"` always, `"disabled"` never, and `"auto"` never so far. `max_stale_nonces` is how many challenges in a row are
-    answered. It should be greater than the number of permissions and channels: their refreshes may all be challenged at once, and
-    that of the relayed address too. With `sock`, a connected socket over what the URI says, the name is not looked up: the client
-    uses this socket from `open` on, and closes it.
+    `"tcp"` for streams (`connect`, `accept`; RFC 6062), which needs a URI with TCP. `family` is that of the relayed address, 4 or
+    6, or both as `(4, 6)`: then there are up to two, `addresses`, of which the server has to grant one. `ssl` is the context for
+    `turns:` URIs, by default `ssl.create_default_context()`. `times` says how long a request waits for its answer (`Times`). At
+    most `queue` packets of peers wait to be taken; a further one is dropped and counted. With `receiver` there is no queue: it is
+    called with data and peer, in the event loop, and must not block. What it raises goes to the event loop's exception handler.
+    `probe` is how often the path to the server is checked, in seconds: three checks in a row without an answer end the relay. By
+    default none is made. When nothing was sent for `keepalive` seconds, something is, so that a NAT in between keeps its mapping;
+    with 0 never. Between two requests lies a `pause` in seconds, and permissions and channels are refreshed `refresh_ahead`
+    seconds before they expire. `anonymous` hides the user name (RFC 8489, section 14.4): `"required"` always, `"disabled"` never,
+    and `"auto"` never so far. `max_stale_nonces` is how many challenges in a row are answered. It should be greater than the
+    number of permissions and channels: their refreshes may all be challenged at once, and that of the relayed address too. In
+    place of user and password `credentials` is both, or an async function that returns both: it is asked when the client is
+    opened. A peer that was neither sent to nor heard from for `idle` seconds is released, and kept again when it is; by default
+    none is. Where the server names another one (RFC 8489, section 10), that one is asked in its place, up to `redirects` times,
+    over TLS with a certificate for the name in `uri`. Nobody has signed that answer: anyone who sees the first request may send
+    it. `local_addr` and `socket_family` are those of the socket to the server, as asyncio has `local_addr` and `family`. With
+    `sock`, a connected socket over what the URI says, the name is not looked up: the client uses this socket from `open` on, and
+    closes it.
 
     Peers are IP addresses with ports; names are not resolved. What is counted and told:
 
@@ -72,44 +79,54 @@ class TurnClient(Told, Lifetime):
     user, and for a user or password that is too long, opening it does.
     """
 
-    def __init__(self, uri: Union[str, TurnUri], user: Union[str, bytes], password: Union[str, bytes], *, relay: str = "udp",
-                 family: int = 4, ssl: Optional[tls.SSLContext] = None, times: Optional[Times] = None, queue: int = 1024,
+    def __init__(self, uri: Union[str, TurnUri], user: Optional[Text] = None, password: Optional[Text] = None, *,
+                 credentials: Optional[CredentialsLike] = None, relay: str = "udp", family: Union[int, Tuple[int, int]] = 4,
+                 ssl: Optional[tls.SSLContext] = None, times: Optional[Times] = None, queue: int = 1024,
                  receiver: Optional[Receiver] = None, probe: Optional[float] = None, keepalive: float = 15.0,
                  pause: float = 0.005, refresh_ahead: float = 150.0, anonymous: str = "auto", max_stale_nonces: int = 256,
-                 sock: Optional[socket.socket] = None, clock: Optional[Clock] = None) -> None:
+                 idle: Optional[float] = None, redirects: int = 0, sock: Optional[socket.socket] = None,
+                 local_addr: Optional[Tuple[str, int]] = None, socket_family: int = socket.AF_UNSPEC,
+                 clock: Optional[Clock] = None) -> None:
         self.uri = parse(uri) if isinstance(uri, str) else uri
         if relay not in ("udp", "tcp"):
             raise ValueError(f"relay is 'udp' or 'tcp', and not {relay!r}")
         if relay == "tcp" and self.uri.transport != "tcp":
             raise ValueError("relay='tcp' needs a server over TCP: turn:HOST?transport=tcp, or turns:HOST (RFC 6062, section 4.1)")
-        if family not in (4, 6):
-            raise ValueError(f"family is 4 or 6, and not {family!r}")
-        if probe is not None and not probe > 0:
-            raise ValueError(f"probe is a number of seconds above 0, and not {probe!r}")
-        for name, seconds in (("keepalive", keepalive), ("pause", pause), ("refresh_ahead", refresh_ahead)):
-            if not 0 <= seconds < 1e9:
-                raise ValueError(f"{name} is a number of seconds from 0 on, and not {seconds!r}")
+        self._families = checked_families(family)
+        check_seconds(above_zero={"probe": probe, "idle": idle},
+                      from_zero={"keepalive": keepalive, "pause": pause, "refresh_ahead": refresh_ahead})
+        if not 0 <= redirects < 100:
+            raise ValueError(f"redirects is a number from 0 to 99, and not {redirects!r}")
         check_times(times)
-        Lifetime.__init__(self, Server(self.uri, ssl, sock), Inbox(queue, receiver))
+        server = Server(self.uri, ssl, sock, local_addr=local_addr, family=socket_family)
+        Lifetime.__init__(self, server, Inbox(queue, receiver), redirects)
         Told.__init__(self, self._inbox, Notices())
-        self._user, self._password = credential("user", user), credential("password", password)
+        self._source = one_source(user, password, credentials)
+        self._credentials: Optional[Credentials] = None
         self._times, self._anonymous, self._max_stale_nonces = times, anonymous, max_stale_nonces
         self._pause, self._keepalive, self._refresh_ahead = (int(it * 1e9) for it in (pause, keepalive, refresh_ahead))
-        self._relay, self._family, self._probe = relay, family, probe
+        self._relay, self._probe, self._idle = relay, probe, idle
         self._clock = clock or Clock()
         # How much had come when `send` was called last.
         self._count = -1
 
+    async def _prepare(self) -> None:
+        self._credentials = await ask(self._source)
+
     def _session_over(self, link: Link) -> Session:
         try:
-            client = Client(link.local, link.remote, self._user, self._password, families=(self._family,),
+            user, password = self._credentials or ("", "")
+            client = Client(link.local, link.remote, user, password, families=self._families,
                             transport=self.uri.transport, allocation=self._relay, times=self._times, anonymous=self._anonymous,
                             max_stale_nonces=self._max_stale_nonces, pause=self._pause, keepalive=self._keepalive,
                             refresh_ahead=self._refresh_ahead)
         except BaseException:
             link.close()
             raise
-        session = Session(client, link, self._server, self._relay, self._max_stale_nonces, self._clock, self._inbox, self._notices)
+        session = Session(client, link, self._server, self._relay, self._max_stale_nonces, self._clock, self._inbox, self._notices,
+                          self._families)
+        if self._idle is not None:
+            session.release_idle(self._idle)
         if self._probe is not None:
             session.path.probe(self._probe)
         return session
@@ -126,6 +143,15 @@ class TurnClient(Told, Lifetime):
         if found is None:
             raise self._ending()
         return found
+
+    @property
+    def addresses(self) -> List[Address]:
+        """All relayed addresses: with `family=(4, 6)` one of each family that the server has granted, else `address` alone.
+
+        `Ended` where there never was one.
+        """
+        first = self.address
+        return [first, *(it for it in self._session().addresses if it != first)]
 
     @property
     def mapped_address(self) -> Optional[Address]:
@@ -222,12 +248,18 @@ class TurnClient(Told, Lifetime):
             raise ValueError(f"the message to {peer} has {len(packet)} bytes with its header, and at most {MAX_MESSAGE} fit")
         if not session.link.send_data(packet):
             self._notices.unsent += 1
+            return
+        session.counters.packets_out += 1
+        session.counters.bytes_out += len(data)
+        if session.idle is not None:
+            session.idle.use(checked_peer(peer))
 
     def _check_family(self, ip: str) -> None:
         """Refuses a peer that the relayed address cannot reach."""
-        if (":" in ip) != (self._family == 6):
-            other = 4 if self._family == 6 else 6
-            detail = f"the relayed address is IPv{self._family}, and {ip} is IPv{other} (family={other} gets such an address)"
+        asked = 6 if ":" in ip else 4
+        families = [6 if ":" in it.host else 4 for it in self._session().addresses]
+        if asked not in families:
+            detail = f"the relayed address is IPv{families[0]}, and {ip} is IPv{asked} (family={asked} gets such an address)"
             raise Refused("no-allocation", detail=detail)
 
     async def connect(self, peer: AddressLike) -> Pair:

@@ -1,0 +1,72 @@
+"""User names and passwords: as a value, or asked for when they are needed; and those that expire, which a shared secret makes."""
+from __future__ import annotations
+
+import base64
+import hashlib
+import hmac
+import time
+from typing import Awaitable, Callable, NamedTuple, Optional, Tuple, Union
+
+from .settings import credential
+
+__all__ = ["Credentials", "CredentialsLike", "Text", "ask", "check_source", "one_source", "rest_credentials"]
+
+Text = Union[str, bytes]
+
+
+class Credentials(NamedTuple):
+    """A user name and its password. It prints without the password."""
+
+    user: Text
+    password: Text
+
+    def __repr__(self) -> str:
+        return f"Credentials(user={self.user!r}, password=..)"
+
+
+CredentialsLike = Union[Tuple[Text, Text], Callable[[], Awaitable[Tuple[Text, Text]]]]
+
+
+def rest_credentials(secret: Text, user: str = "", ttl: float = 86_400) -> Credentials:
+    """Credentials that a server takes for `ttl` seconds from now on, where it shares a secret with who makes them: those of "A REST
+    API for access to TURN services", and of coturn's `use-auth-secret`.
+
+    The user name is `EXPIRY:USER`, with the expiry in seconds since 1970, and the password the Base64 of its HMAC-SHA-1. The clocks
+    of both sides have to agree. `ValueError` where `ttl` is not above 0, or `user` has a colon.
+    """
+    if not ttl > 0:
+        raise ValueError(f"ttl is a number of seconds above 0, and not {ttl!r}")
+    if ":" in user:
+        raise ValueError(f"a colon ends the expiry, so that the user has none: {user!r}")
+    name = f"{int(time.time() + ttl)}:{user}" if user else f"{int(time.time() + ttl)}"
+    digest = hmac.new(credential("secret", secret), name.encode(), hashlib.sha1).digest()
+    return Credentials(name, base64.b64encode(digest).decode())
+
+
+def check_source(source: object) -> None:
+    """`TypeError` where this is neither a pair of texts nor a function."""
+    if callable(source):
+        return
+    if not isinstance(source, tuple) or len(source) != 2:
+        raise TypeError("credentials is a user and a password, or an async function that returns them")
+    for name, value in zip(("user", "password"), source):
+        credential(name, value)
+
+
+def one_source(user: Optional[Text], password: Optional[Text], credentials: Optional[CredentialsLike]) -> CredentialsLike:
+    """The credentials of a call that takes them as two arguments, or as one. `TypeError` where it has neither, or both."""
+    if credentials is None:
+        if user is None or password is None:
+            raise TypeError("user and password are missing, or credentials=")
+        credentials = user, password
+    elif user is not None or password is not None:
+        raise TypeError("either user and password, or credentials=")
+    check_source(credentials)
+    return credentials
+
+
+async def ask(source: CredentialsLike) -> Credentials:
+    """The credentials of a source, which is asked where it is a function. What that raises is passed on."""
+    found = await source() if callable(source) else source
+    check_source(found)
+    return Credentials(*found)

@@ -1,0 +1,100 @@
+"""Whether a relay is up or down, for who looks, is called, or waits for the next change."""
+from __future__ import annotations
+
+import asyncio
+import collections
+from dataclasses import dataclass
+from typing import AsyncIterator, Callable, Deque, List, Optional, Union
+
+from .address import Address
+
+__all__ = ["Down", "State", "States", "Up"]
+
+# So many changes wait for an iterator that does not take them. Then the oldest one is forgotten.
+HISTORY = 64
+
+
+@dataclass(frozen=True)
+class Up:
+    """There is a relayed address."""
+
+    address: Address
+    """what peers send to"""
+    before: Optional[Address] = None
+    """what they sent to before, if there was one"""
+
+    @property
+    def is_new(self) -> bool:
+        """Whether the relayed address is another one than before, so that the peers have to be told it."""
+        return self.address != self.before
+
+
+@dataclass(frozen=True)
+class Down:
+    """There is no relayed address, or none that carries data."""
+
+    reason: Exception
+    """what has ended the last one, or why there is no new one"""
+
+
+State = Union[Up, Down]
+
+
+class States:
+    """The state of a relay now, and its changes."""
+
+    def __init__(self, on_state: Optional[Callable[[State], None]]) -> None:
+        self.now: Optional[State] = None
+        self.on_state = on_state
+        self._readers: List[_Reader] = []
+        self._end: Optional[Callable[[], Optional[Exception]]] = None
+
+    def set(self, state: State) -> None:
+        """The state has changed."""
+        self.now = state
+        for reader in self._readers:
+            reader.put(state)
+        if self.on_state is not None:
+            asyncio.get_running_loop().call_soon(self.on_state, state)
+
+    def end(self, why: Callable[[], Optional[Exception]]) -> None:
+        """There is no further change: who waits for one gets this error, if it is one."""
+        self._end = why
+        for reader in self._readers:
+            reader.wake()
+
+    async def changes(self) -> AsyncIterator[State]:
+        """The state now, if there is one, and each one that follows."""
+        reader = _Reader(self.now)
+        self._readers.append(reader)
+        try:
+            while True:
+                while reader.states:
+                    yield reader.states.popleft()
+                if self._end is not None:
+                    break
+                await reader.wait()
+        finally:
+            self._readers.remove(reader)
+        error = self._end()
+        if error is not None:
+            raise error
+
+
+class _Reader:
+    """The changes that one iterator has not taken yet."""
+
+    def __init__(self, now: Optional[State]) -> None:
+        self.states: Deque[State] = collections.deque([] if now is None else [now], maxlen=HISTORY)
+        self._event = asyncio.Event()
+
+    def put(self, state: State) -> None:
+        self.states.append(state)
+        self.wake()
+
+    def wake(self) -> None:
+        self._event.set()
+
+    async def wait(self) -> None:
+        await self._event.wait()
+        self._event.clear()
