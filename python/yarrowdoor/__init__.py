@@ -10,20 +10,25 @@ The library is proved, where `PROOF` in the package says so; this package is tes
 begin. In a wheel it is the description: `importlib.metadata.metadata("yarrowdoor").get_payload()`.
 """
 from .address import Address
+from .backoff import Backoff
 from .client import Client, Times
 from .errors import (
     AllocationFailed, Busy, ChannelFailed, ConnectFailed, Ended, LibraryError, PermissionFailed, Refused, WrongCredentials,
     YarrowdoorError,
 )
 from .clock import Clock
+from .counters import Counters
+from .credentials import Credentials, rest_credentials
 from .notices import Lost
 from .path import Check
+from .relay import Relay
+from .states import Down, Up
 from .turn import TurnClient
 from .uri import TurnUri
 from .version import __version__
 
 __all__ = [
-    "Address", "AllocationFailed", "Busy", "ChannelFailed", "Check", "Client", "Clock", "ConnectFailed", "Ended", "LibraryError",
-    "Lost", "PermissionFailed", "Refused", "Times", "TurnClient", "TurnUri", "WrongCredentials", "YarrowdoorError",
-    "__version__",
+    "Address", "AllocationFailed", "Backoff", "Busy", "ChannelFailed", "Check", "Client", "Clock", "ConnectFailed", "Counters",
+    "Credentials", "Down", "Ended", "LibraryError", "Lost", "PermissionFailed", "Refused", "Relay", "Times", "TurnClient",
+    "TurnUri", "Up", "WrongCredentials", "YarrowdoorError", "__version__", "rest_credentials",
 ]

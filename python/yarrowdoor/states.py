@@ -45,21 +45,25 @@ class States:
 
     def __init__(self, on_state: Optional[Callable[[State], None]]) -> None:
         self.now: Optional[State] = None
+        self.address: Optional[Address] = None
+        """the last relayed address, if there was one"""
         self.on_state = on_state
         self._readers: List[_Reader] = []
-        self._end: Optional[Callable[[], Optional[Exception]]] = None
+        self._is_over, self._why = False, None  # type: bool, Optional[Callable[[], Exception]]
 
     def set(self, state: State) -> None:
         """The state has changed."""
         self.now = state
+        if isinstance(state, Up):
+            self.address = state.address
         for reader in self._readers:
             reader.put(state)
         if self.on_state is not None:
             asyncio.get_running_loop().call_soon(self.on_state, state)
 
-    def end(self, why: Callable[[], Optional[Exception]]) -> None:
-        """There is no further change: who waits for one gets this error, if it is one."""
-        self._end = why
+    def end(self, why: Optional[Callable[[], Exception]]) -> None:
+        """There is no further change: who waits for one gets this error, if there is one."""
+        self._is_over, self._why = True, why
         for reader in self._readers:
             reader.wake()
 
@@ -71,14 +75,13 @@ class States:
             while True:
                 while reader.states:
                     yield reader.states.popleft()
-                if self._end is not None:
+                if self._is_over:
                     break
                 await reader.wait()
         finally:
             self._readers.remove(reader)
-        error = self._end()
-        if error is not None:
-            raise error
+        if self._why is not None:
+            raise self._why()
 
 
 class _Reader:

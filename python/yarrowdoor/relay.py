@@ -1,0 +1,220 @@
+"""A relayed address that comes back: after an outage, another address of this host, or a restart of the server."""
+from __future__ import annotations
+
+from types import TracebackType
+from typing import Any, AsyncIterator, Awaitable, Callable, Dict, Optional, Tuple, Type, Union
+
+from .address import Address, AddressLike, checked_ip, checked_peer
+from .backoff import Backoff
+from .client import Buffer, Times
+from .credentials import Credentials, CredentialsLike, Text, one_source
+from .errors import AllocationFailed, ChannelFailed, Ended, PermissionFailed
+from .inbox import Inbox, Receiver
+from .notices import Notices, Told
+from .path import Check
+from .revival import Revival
+from .states import State, States
+from .tries import TIMES, Tries, Watched
+from .uri import TurnUri
+from .vigil import UNSURE
+
+__all__ = ["Relay"]
+
+
+class Relay(Told):
+    """A relayed address of a TURN server that comes back by itself, as another one: one `TurnClient` after the other.
+
+        async with Relay("turn:turn.example.org", "user", "password", on_state=print) as relay:
+            await relay.send(b"hello", ("192.0.2.7", 9000))
+
+    When its client ends for a reason that a new one may mend (nothing answers, the server was restarted or no longer knows the
+    address, this host has another address, a stream broke), another one is tried: at once, and then after the waits of `backoff`,
+    each for under four seconds. It asks for the same permissions and channels, and then the relay is up. `on_state` is called with
+    each change, `Up` or `Down`, and `states` gives them. Peers have to be told the new address: `Up.is_new` says so.
+
+    Meanwhile `sendto` drops data, which `unsent` counts. So does `send`, or with `waits=True` it waits until the relay is up.
+    Requests wait. `lost` and `on_lost` tell what the server did not grant again. `credentials` is as for a `TurnClient`, and asked
+    at each try.
+
+    The relay ends where user name or password are refused twice in a row, by a server that answers nothing signed (with
+    `credentials` as a function those of two calls), where the server refuses this user (403), has no room for it three times in
+    a row (486), names another server that is not to be asked (300) or cannot do what is asked (440, 442), and when it is
+    closed. What `probe`, in seconds, `times` and the other arguments are, `TurnClient` says. It relays over UDP, and has no
+    streams.
+
+    A server over UDP that was restarted is noticed when a packet of this client met its closed port, and else at the next refresh,
+    up to two and a half minutes later where there is a permission: it answers the checks of `probe` as before.
+    """
+
+    def __init__(self, uri: Union[str, TurnUri], user: Optional[Text] = None, password: Optional[Text] = None, *,
+                 credentials: Optional[CredentialsLike] = None, backoff: Backoff = Backoff(), waits: bool = False,
+                 on_state: Optional[Callable[[State], None]] = None, probe: float = 5.0, times: Times = TIMES, queue: int = 1024,
+                 receiver: Optional[Receiver] = None, **settings: Any) -> None:
+        Told.__init__(self, Inbox(queue, receiver), Notices())
+        if settings.get("relay", "udp") != "udp":
+            raise ValueError("a Relay has no streams: use a TurnClient with relay='tcp'")
+        self._settings: Dict[str, Any] = {**settings, "probe": probe, "times": times, "receiver": self._inbox.put}
+        self._uri, self._waits, self._states = uri, waits, States(on_state)
+        source = one_source(user, password, credentials)
+        self._make(Credentials("", ""))  # says what is wrong with the arguments
+        tries = Tries(self._make, source, backoff, lambda client: self._revival.leave(client))
+        self._revival = Revival(tries, self._states, self._inbox, self._notices)
+
+    def _make(self, credentials: Credentials) -> Watched:
+        client = Watched(self._uri, credentials=credentials, **self._settings)
+        client.count_in(self._notices.counters)
+        return client
+
+    # From opening to the end
+
+    async def __aenter__(self) -> Relay:
+        await self.open()
+        return self
+
+    async def __aexit__(self, kind: Optional[Type[BaseException]], error: Optional[BaseException],
+                        trace: Optional[TracebackType]) -> None:
+        await self.close()
+
+    async def open(self) -> None:
+        """Tries until the relay is up for the first time: what entering does. It is called once. `asyncio.wait_for` limits it.
+
+        Raises what ends a relay: `WrongCredentials`, `AllocationFailed`. `RuntimeError` where it was called before.
+        """
+        self._revival.start()
+        try:
+            await self._revival.up()
+        except Ended as ended:
+            raise (self._revival.why or AllocationFailed(str(ended))) from None
+        except BaseException:
+            await self._revival.stop()
+            raise
+
+    async def close(self) -> None:
+        """Deletes the relayed address, and ends the relay, when the server has answered, or after two seconds."""
+        await self._revival.stop()
+
+    async def wait_closed(self) -> None:
+        """Waits until the relay has ended. Raises `Ended` where it ended by itself, or was not opened; its text says why."""
+        await self._revival.wait()
+        if self._revival.why is not None or not self._revival.is_over:
+            raise self._revival.ending()
+
+    @property
+    def closed(self) -> bool:
+        """Whether the relay has ended, by `close` or by itself."""
+        return self._revival.is_over
+
+    # What there is
+
+    @property
+    def state(self) -> Optional[State]:
+        """`Up` or `Down`, or None where it was never either."""
+        return self._states.now
+
+    def states(self) -> AsyncIterator[State]:
+        """The state now, and each change of it: `Up`, `Down`. At most 64 wait to be taken; then the oldest one is forgotten. It
+        ends when the relay is closed, and raises `Ended` where the relay ended by itself."""
+        return self._states.changes()
+
+    @property
+    def address(self) -> Address:
+        """The relayed address, or the last one while the relay is down. `Ended` where there never was one."""
+        if self._states.address is None:
+            raise self._revival.ending()
+        return self._states.address
+
+    @property
+    def unsent(self) -> int:
+        """How many packets to peers were dropped, since the relay was down, or a socket was full or refused them."""
+        return self._notices.unsent + (self._revival.client.unsent if self._revival.client is not None else 0)
+
+    # Requests. Each waits until the relay is up.
+
+    async def permit(self, ip: str) -> None:
+        """Lets an IP address send to the relayed address, as `TurnClient.permit`, also to the one that follows it."""
+        host = checked_ip(ip)
+        await self._ask(lambda client: client.permit(host))
+
+    async def bind(self, peer: AddressLike) -> None:
+        """Gives a peer a channel, as `TurnClient.bind`, also at the relayed address that follows this one."""
+        where = checked_peer(peer)
+        await self._ask(lambda client: client.bind(where))
+
+    async def check(self) -> Check:
+        """Asks the server for a sign of life, as `TurnClient.check`."""
+        return await (await self._revival.up()).check()
+
+    async def _ask(self, ask: Callable[[Watched], Awaitable[None]]) -> None:
+        while True:
+            client = await self._revival.up()
+            try:
+                return await ask(client)
+            except Ended:
+                if not client.closed:
+                    raise
+            except (PermissionFailed, ChannelFailed) as failed:
+                if failed.code not in UNSURE or await self._revival.is_good(client):
+                    raise
+
+    def release(self, peer: Union[str, AddressLike]) -> None:
+        """Lets go what a peer was granted, as `TurnClient.release`: the address that follows does not ask for it. `Refused` also
+        while the relay is down."""
+        self._revival.current().release(peer)
+
+    def keep(self, peer: Union[str, AddressLike]) -> None:
+        """Takes `release` back, as `TurnClient.keep`. `Refused` also while the relay is down."""
+        self._revival.current().keep(peer)
+
+    # Data
+
+    async def send(self, data: Buffer, peer: AddressLike) -> None:
+        """Sends data to a peer, as `TurnClient.send`. While the relay is down it drops the data, or waits (`waits`)."""
+        checked_peer(peer)
+        if self._waits:
+            return await self._ask(lambda client: client.send(data, peer))
+        self._revival.check()
+        client = self._revival.client
+        try:
+            if client is not None:
+                return await client.send(data, peer)
+        except Ended:
+            self._revival.check()
+        self._notices.unsent += 1
+
+    def sendto(self, data: Buffer, peer: AddressLike) -> None:
+        """Sends data at once to a peer that has a permission, as `TurnClient.sendto`. While the relay is down it is dropped."""
+        client = self._revival.client
+        try:
+            if client is not None:
+                return client.sendto(data, peer)
+        except Ended:
+            pass
+        self._revival.check()
+        self._notices.unsent += 1
+
+    def __aiter__(self) -> AsyncIterator[Tuple[bytes, Address]]:
+        return self
+
+    async def __anext__(self) -> Tuple[bytes, Address]:
+        """The next data of a peer. It goes on while the relay is down, and ends when it is closed; `Ended` where it ended by
+        itself; `RuntimeError` with `receiver=`, which takes all."""
+        found = await self._take()
+        if found is None:
+            if self._revival.why is not None:
+                raise self._revival.ending()
+            raise StopAsyncIteration
+        return found
+
+    async def _take(self) -> Optional[Tuple[bytes, Address]]:
+        if self._inbox.has_receiver:
+            raise RuntimeError("the receiver of this relay takes all data: there is none to wait for")
+        if not self._revival.is_begun:
+            return None
+        return await self._inbox.take()
+
+    async def receive(self) -> Tuple[bytes, Address]:
+        """The next data of a peer, and the peer. `Ended` where the relay has ended; `RuntimeError` with `receiver=`."""
+        found = await self._take()
+        if found is None:
+            raise self._revival.ending()
+        return found

@@ -1,0 +1,120 @@
+"""A new client, tried until there is one: after which failures another try may succeed, and how long each takes."""
+from __future__ import annotations
+
+import asyncio
+import logging
+from typing import Callable, List, Optional, Tuple, Type
+
+from .backoff import Backoff
+from .counters import Counters
+from .credentials import Credentials, CredentialsLike, ask
+from .errors import AllocationFailed, LibraryError, WrongCredentials, because
+from .grants import About
+from .journal import Watcher
+from .session import Session
+from .settings import Times
+from .turn import TurnClient
+
+__all__ = ["Failures", "TIMES", "Tries", "Watched"]
+
+_log = logging.getLogger("yarrowdoor")
+
+# How long a request waits, and a whole try, so that one that begins while the network is away is soon over. In seconds, a request
+# is sent after 0, 0.5, 1, 1.5, 2 and 2.5, and fails after 3.
+TIMES = Times(initial=500_000_000, longest=500_000_000, last=500_000_000, count=6)
+TRY = 3.9
+# How long the function that has the credentials may take, in seconds.
+ASKING = 30.0
+# The least time between the end of a try and the next one, in seconds.
+REST = 0.2
+# Errors that stay as they are: a redirect that is not followed, a refusal of this user, and what the server cannot do (RFC 8656,
+# section 19).
+FINAL = (300, 403, 440, 442)
+# So many of these in a row are the end. Nobody has to have signed the packet that says that credentials are wrong.
+MAX_WRONG, MAX_QUOTA, QUOTA = 2, 3, 486
+# What is wrong with the arguments, or the installation.
+OUR_OWN: Tuple[Type[Exception], ...] = (ValueError, TypeError, LibraryError)
+
+
+class Watched(TurnClient):
+    """A client of a relay that comes back."""
+
+    def kept(self) -> List[About]:
+        """Whose permissions and channels are renewed."""
+        session = self._phase
+        return sorted(session.grants.granted() - session.grants.released(), key=str) if isinstance(session, Session) else []
+
+    def watch(self, watcher: Optional[Watcher]) -> None:
+        """Has each answer of the server told."""
+        if isinstance(self._phase, Session):
+            self._phase.journal.watcher = watcher
+
+    def count_in(self, counters: Counters) -> None:
+        """Has its packets counted there. It was not opened yet."""
+        self._notices.counters = counters
+
+
+class Failures:
+    """What has failed since the relay was up."""
+
+    def __init__(self) -> None:
+        self._wrong = self._quota = 0
+
+    def clear(self) -> None:
+        """The relay is up."""
+        self._wrong = self._quota = 0
+
+    def is_final(self, error: Exception) -> bool:
+        """Takes one more failure, and says whether no other try is made."""
+        if isinstance(error, WrongCredentials):
+            self._wrong += 1
+            return self._wrong >= MAX_WRONG
+        code = error.code if isinstance(error, AllocationFailed) else None
+        self._quota = self._quota + 1 if code == QUOTA else 0
+        return code in FINAL or self._quota >= MAX_QUOTA or isinstance(error, OUR_OWN)
+
+
+class Tries:
+    """Makes clients, and opens them."""
+
+    def __init__(self, make: Callable[[Credentials], Watched], source: CredentialsLike, backoff: Backoff,
+                 leave: Callable[[Watched], None]) -> None:
+        self._make, self._source, self._backoff, self._leave = make, source, backoff, leave
+        self.failures = Failures()
+
+    async def client(self, tell: Callable[[Exception], None]) -> Watched:
+        """A client that is open. Raises what no other try would mend; of all else it tells, and tries again."""
+        loop, waits = asyncio.get_running_loop(), self._backoff.waits()
+        while True:
+            began = loop.time()
+            try:
+                return await self._try()
+            except Exception as error:
+                if self.failures.is_final(error):
+                    raise
+                tell(error)
+                wait = max(next(waits) - (loop.time() - began), REST)
+                _log.warning("no relayed address: %s. The next try is in %.1f s", error, wait)
+            await asyncio.sleep(wait)
+
+    async def _try(self) -> Watched:
+        client = self._make(await self._ask())
+        opening = asyncio.ensure_future(client.open())
+        try:
+            await asyncio.wait([opening], timeout=TRY)
+            if not opening.done():
+                raise AllocationFailed(f"no relayed address from {client.uri} in {TRY} s")
+            opening.result()
+            return client
+        except BaseException:
+            opening.add_done_callback(lambda it: it.cancelled() or it.exception())  # Nobody waits for it any more.
+            self._leave(client)
+            raise
+
+    async def _ask(self) -> Credentials:
+        """The credentials. What their function raises is no error of ours: it may ask a server that is away, too."""
+        try:
+            return await asyncio.wait_for(ask(self._source), ASKING)
+        except Exception as error:
+            why = f"{ASKING:.0f} s" if isinstance(error, asyncio.TimeoutError) else f"{type(error).__name__}: {error}"
+            raise because(AllocationFailed(f"no credentials: {why}"), error)

@@ -1,0 +1,144 @@
+"""Whether a relayed address is still good: it is asked where something makes one doubt it."""
+from __future__ import annotations
+
+import asyncio
+import errno
+import itertools
+import socket
+from typing import Optional, Set
+
+from . import reasons
+from .errors import Ended, PermissionFailed, WrongCredentials, YarrowdoorError, because
+from .requests import Key
+from .tries import Watched
+
+__all__ = ["UNSURE", "Vigil"]
+
+# How often it is looked whether this host still has the address that its socket is bound to, in seconds.
+LOOK = 1.0
+# Between two questions lie so many seconds, and so many in a row without an answer are the end.
+PAUSE, RUN = 1.0, 3
+# How long a signed answer may still come after a second 401, in seconds.
+GRACE = 1.0
+# What a server answers that does not know the relayed address: 437, and coturn 400 (docs/REAL-SERVERS.md).
+UNKNOWN = (400, 437)
+# Errors of a request after which one cannot be sure of the relayed address: these, refused credentials, and no answer.
+UNSURE = (*UNKNOWN, 401, None)
+# Addresses that no host has (RFC 5737, RFC 3849). A permission for one of them lets nobody in.
+NOWHERE = {4: "192.0.2.{}", 6: "2001:db8::{:x}"}
+
+
+class Vigil:
+    """Watches a client that is open, until its relayed address is gone.
+
+    A server that was restarted answers a check of the path as before, and drops data. So after an error of the socket, or a
+    refused renewal, a permission is asked for that is of no use: only a server that knows the relayed address grants or denies it.
+    """
+
+    def __init__(self, client: Watched) -> None:
+        self._client = client
+        self._gone: asyncio.Future[Exception] = asyncio.get_running_loop().create_future()
+        self._checking: Optional[asyncio.Future[bool]] = None
+        self._is_doubted = False
+        self._refused = 0
+        self._grace: Optional[asyncio.TimerHandle] = None
+        self._numbers = itertools.cycle(range(1, 255))
+        client.watch(self._answered)
+
+    async def until_gone(self) -> Exception:
+        """Waits until the relayed address is gone, and says why."""
+        watching: Set[asyncio.Future[Exception]] = {asyncio.ensure_future(it) for it in (self._closed(), self._moved())}
+        try:
+            done, _ = await asyncio.wait({*watching, self._gone}, return_when=asyncio.FIRST_COMPLETED)
+            return done.pop().result()
+        finally:
+            self._client.watch(None)
+            if self._grace is not None:
+                self._grace.cancel()
+            for task in (*watching, self._checking):
+                if task is not None:
+                    task.cancel()
+
+    async def _closed(self) -> Exception:
+        try:
+            await self._client.wait_closed()
+        except Ended as ended:
+            return ended
+        return Ended("the client was closed")
+
+    async def _moved(self) -> Exception:
+        """Waits until this host has another address. Not every socket is told so: a stream is silent then for half a minute."""
+        own = self._client.local_address
+        kind = socket.AF_INET6 if ":" in own.host else socket.AF_INET
+        while True:
+            await asyncio.sleep(LOOK)
+            try:
+                with socket.socket(kind, socket.SOCK_DGRAM) as probe:
+                    probe.bind((own.host, 0, *own[2:]))
+            except OSError as error:
+                if error.errno == errno.EADDRNOTAVAIL:
+                    return because(Ended(f"this host has the address {own.host} no longer"), error)
+
+    # Doubts
+
+    def doubt(self) -> asyncio.Future[bool]:
+        """Asks the server whether it still knows the relayed address. Gives whether it does."""
+        self._is_doubted = True
+        if self._checking is None or self._checking.done():
+            self._checking = asyncio.ensure_future(self._check())
+        return self._checking
+
+    async def is_good(self) -> bool:
+        """Whether the server still knows the relayed address."""
+        return await asyncio.shield(self.doubt())
+
+    async def _check(self) -> bool:
+        while self._is_doubted:
+            self._is_doubted = False
+            found = await self._question()
+            if found is not None:
+                self._tell(found)
+                return False
+            await asyncio.sleep(PAUSE)  # Errors of a socket come by the hundred.
+        return True
+
+    async def _question(self) -> Optional[Exception]:
+        """Why the relayed address is gone, or None where the server still knows it."""
+        for _ in range(RUN):
+            ip = NOWHERE[6 if ":" in self._client.address.host else 4].format(next(self._numbers))
+            try:
+                await self._client.permit(ip)
+                self._client.release(ip)
+                return None
+            except PermissionFailed as failed:
+                if failed.code in UNKNOWN:
+                    return because(Ended(f"the server no longer knows the relayed address: {failed}"), failed)
+                if failed.code is not None:
+                    return None  # It is denied, or the server has no room, but there is an allocation.
+            except YarrowdoorError:
+                return None  # It has ended meanwhile, which is told in another way.
+        return Ended(f"the server answers no signed request: {RUN} in a row")
+
+    def _tell(self, why: Exception) -> None:
+        if not self._gone.done():
+            self._gone.set_result(why)
+
+    # Refused credentials
+
+    def _answered(self, key: Key, code: Optional[int], is_ignored: bool) -> None:
+        """The server has answered. A 401 to a signed request cannot be signed, and is a hint: it counts if it is repeated, and
+        nothing signed comes."""
+        if code == 401 and is_ignored:
+            self._refused += 1
+            if self._refused == 1:
+                self.doubt()
+            elif self._grace is None:
+                self._grace = asyncio.get_running_loop().call_later(GRACE, self._distrust)
+        elif not is_ignored and (code is None or not reasons.is_challenge(code)):
+            self._refused = 0
+            if self._grace is not None:
+                self._grace.cancel()
+                self._grace = None
+
+    def _distrust(self) -> None:
+        self._tell(WrongCredentials("the server takes user name and password no longer", (401, "")))
