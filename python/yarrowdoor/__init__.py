@@ -12,12 +12,14 @@ begin. In a wheel it is the description: `importlib.metadata.metadata("yarrowdoo
 from .address import Address
 from .backoff import Backoff
 from .client import Client, Times
+from .endpoint import RelayTransport, create_datagram_endpoint
 from .errors import (
     AllocationFailed, Busy, ChannelFailed, ConnectFailed, Ended, LibraryError, PermissionFailed, Refused, WrongCredentials,
     YarrowdoorError,
 )
 from .clock import Clock
 from .counters import Counters
+from .connections import RelayServer, open_connection, start_server
 from .credentials import Credentials, rest_credentials
 from .notices import Lost
 from .path import Check
@@ -29,6 +31,7 @@ from .version import __version__
 
 __all__ = [
     "Address", "AllocationFailed", "Backoff", "Busy", "ChannelFailed", "Check", "Client", "Clock", "ConnectFailed", "Counters",
-    "Credentials", "Down", "Ended", "LibraryError", "Lost", "PermissionFailed", "Refused", "Relay", "Times", "TurnClient",
-    "TurnUri", "Up", "WrongCredentials", "YarrowdoorError", "__version__", "rest_credentials",
+    "Credentials", "Down", "Ended", "LibraryError", "Lost", "PermissionFailed", "Refused", "Relay", "RelayServer",
+    "RelayTransport", "Times", "TurnClient", "TurnUri", "Up", "WrongCredentials", "YarrowdoorError", "__version__",
+    "create_datagram_endpoint", "open_connection", "rest_credentials", "start_server",
 ]

@@ -30,6 +30,8 @@ class Journal:
         self._server, self._prefix, self.counters = str(server), str(server), counters
         self.watcher: Optional[Watcher] = None
         """who is told of each answer"""
+        self.is_leaving = False
+        """whether the relayed address is being deleted, which is a refresh too"""
         self._say(logging.INFO, "connected from %s to %s", link.local, link.remote)
 
     def allocated(self, address: Address, mapped: Optional[Address]) -> None:
@@ -55,7 +57,7 @@ class Journal:
         if asked is not None and not asked.is_repeated and not is_ignored:
             self.counters.measure((now - asked.sent) / 1e9)
         if key.method == reasons.REFRESH and not is_ignored and message.error is None:
-            self._say(logging.DEBUG, "refreshed")
+            self._say(logging.DEBUG, "deleted" if self.is_leaving else "refreshed")
         elif key.method in (reasons.ALLOCATE, reasons.REFRESH) and message.error is not None:
             is_new = is_ignored or not reasons.is_challenge(message.error[0])
             self._say(logging.WARNING if is_new else logging.DEBUG, "refused: %s%s", "allocation"

@@ -273,6 +273,7 @@ class Session(LinkUser):
             self.end(None)
 
     def _delete(self) -> None:
+        self.journal.is_leaving = True
         try:
             self.client.delete(self.clock.now())
         except Refused:

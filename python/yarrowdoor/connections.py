@@ -1,0 +1,155 @@
+"""Streams over a relay as asyncio has them: `open_connection` and `start_server` (RFC 6062)."""
+from __future__ import annotations
+
+import asyncio
+import contextlib
+import socket
+from types import TracebackType
+from typing import Any, Awaitable, Callable, Iterable, Optional, Set, Tuple, Type, Union
+
+from .address import Address
+from .credentials import CredentialsLike
+from .errors import ConnectFailed, Ended, because
+from .streams import Pair
+from .turn import TurnClient
+from .uri import TurnUri
+
+__all__ = ["RelayServer", "open_connection", "start_server"]
+
+# Takes a connection, as the function of `asyncio.start_server` does.
+Connected = Callable[[asyncio.StreamReader, asyncio.StreamWriter], Optional[Awaitable[None]]]
+
+# What closes relays whose streams have ended.
+_closing: Set[asyncio.Future[None]] = set()
+
+
+async def open_connection(uri: Union[str, TurnUri], host: str, port: int, *, credentials: CredentialsLike,
+                          local_addr: Optional[Tuple[str, int]] = None, family: int = 0, relay_family: int = 4,
+                          **settings: Any) -> Pair:
+    """A stream to a peer from a relayed address: `asyncio.open_connection` over a TURN server, which has to be reached over TCP or
+    TLS. A name is resolved here, and its first address taken. The relayed address is deleted when the stream has ended.
+
+    `local_addr` and `family` are those of the socket to the server, and `relay_family`, 4 or 6, is what `TurnClient` calls
+    `family`. The other arguments are those of `TurnClient`. Raises what entering that raises, `PermissionFailed`, and
+    `ConnectFailed`.
+    """
+    relay = _client(uri, credentials, local_addr, family, relay_family, settings)
+    peer = await _resolved(host, port, relay_family)
+    await relay.open()
+    try:
+        reader, writer = await relay.connect(peer)
+    except BaseException:
+        await relay.close()
+        raise
+    task = asyncio.ensure_future(_close_after(writer, relay))
+    _closing.add(task)
+    task.add_done_callback(_closing.discard)
+    return reader, writer
+
+
+async def _close_after(writer: asyncio.StreamWriter, relay: TurnClient) -> None:
+    try:
+        with contextlib.suppress(OSError, Ended):
+            await writer.wait_closed()
+    finally:
+        await relay.close()
+
+
+async def start_server(uri: Union[str, TurnUri], client_connected_cb: Connected, *, credentials: CredentialsLike,
+                       peers: Iterable[str] = (), local_addr: Optional[Tuple[str, int]] = None, family: int = 0,
+                       relay_family: int = 4, **settings: Any) -> RelayServer:
+    """A server for peers at a relayed address: `asyncio.start_server` over a TURN server, which has to be reached over TCP or TLS.
+
+    `client_connected_cb` is called with a reader and a writer for each peer that connects. `peers` are the IP addresses that may,
+    and `RelayServer.permit` lets further ones. The other arguments are those of `open_connection`. Raises what entering a
+    `TurnClient` raises, and `PermissionFailed`.
+    """
+    relay = _client(uri, credentials, local_addr, family, relay_family, settings)
+    await relay.open()
+    try:
+        await asyncio.gather(*(relay.permit(it) for it in peers))
+    except BaseException:
+        await relay.close()
+        raise
+    return RelayServer(relay, client_connected_cb)
+
+
+class RelayServer:
+    """What `start_server` gives: an `asyncio.Server` as far as a relayed address has what one has."""
+
+    def __init__(self, relay: TurnClient, connected: Connected) -> None:
+        self.relay = relay
+        self._connected = connected
+        self._tasks: Set[asyncio.Future[Any]] = set()
+        self._spawn(self._accept())
+
+    @property
+    def address(self) -> Address:
+        """What peers connect to."""
+        return self.relay.address
+
+    async def permit(self, ip: str) -> None:
+        """Lets one more IP address connect. `PermissionFailed`, `Ended`."""
+        await self.relay.permit(ip)
+
+    def is_serving(self) -> bool:
+        """Whether peers may connect."""
+        return not self.relay.closed
+
+    def close(self) -> None:
+        """Deletes the relayed address, and ends its streams."""
+        self._spawn(self.relay.close())
+
+    async def wait_closed(self) -> None:
+        """Waits for the end. `Ended` where the relayed address was lost."""
+        await self.relay.wait_closed()
+
+    async def serve_forever(self) -> None:
+        """Waits for the end, and closes where it is cancelled."""
+        try:
+            await self.wait_closed()
+        finally:
+            await self.relay.close()
+
+    async def __aenter__(self) -> RelayServer:
+        return self
+
+    async def __aexit__(self, kind: Optional[Type[BaseException]], error: Optional[BaseException],
+                        trace: Optional[TracebackType]) -> None:
+        await self.relay.close()
+
+    async def _accept(self) -> None:
+        with contextlib.suppress(Ended):
+            while True:
+                self._spawn(self._serve(await self.relay.accept()))
+
+    async def _serve(self, pair: Pair) -> None:
+        try:
+            working = self._connected(*pair)
+            if working is not None:
+                await working
+        except Exception as error:
+            context = {"message": "the function of a start_server raised", "exception": error}
+            asyncio.get_running_loop().call_exception_handler(context)
+            pair[1].close()
+
+    def _spawn(self, work: Any) -> None:
+        task = asyncio.ensure_future(work)
+        self._tasks.add(task)
+        task.add_done_callback(self._tasks.discard)
+
+
+def _client(uri: Union[str, TurnUri], credentials: CredentialsLike, local_addr: Optional[Tuple[str, int]], family: int,
+            relay_family: int, settings: Any) -> TurnClient:
+    return TurnClient(uri, credentials=credentials, relay="tcp", family=relay_family, local_addr=local_addr, socket_family=family,
+                      **settings)
+
+
+async def _resolved(host: str, port: int, family: int) -> Tuple[str, int]:
+    """The first address of a name. `ConnectFailed` where it has none."""
+    kind = socket.AF_INET6 if family == 6 else socket.AF_INET
+    try:
+        found = await asyncio.get_running_loop().getaddrinfo(host, port, family=kind, type=socket.SOCK_STREAM)
+    except (OSError, UnicodeError) as error:
+        raise because(ConnectFailed(f"no connection to {host}:{port}: {error}"), error)
+    return str(found[0][4][0]), port
