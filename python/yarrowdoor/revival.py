@@ -167,7 +167,10 @@ class Revival:
     # Permissions and channels
 
     async def _restore(self, client: Watched, vigil: Vigil) -> None:
-        await asyncio.gather(*(self._regain(client, vigil, it) for it in sorted(self._wanted, key=str)))
+        """Asks for what the peers had at the last client. A channel brings a permission."""
+        with_channel = {it.host for it in self._wanted if not isinstance(it, str)}
+        for asked in (self._wanted - with_channel, self._wanted & with_channel):
+            await asyncio.gather(*(self._regain(client, vigil, it) for it in sorted(asked, key=str)))
 
     async def _regain(self, client: Watched, vigil: Vigil, about: About) -> None:
         """Asks for what a peer had before. What the server does not grant is told as lost."""

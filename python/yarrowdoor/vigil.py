@@ -8,6 +8,7 @@ import socket
 from typing import Optional, Set
 
 from . import reasons
+from .address import SocketAddress
 from .errors import Ended, PermissionFailed, WrongCredentials, YarrowdoorError, because
 from .requests import Key
 from .tries import Watched
@@ -26,6 +27,16 @@ UNKNOWN = (400, 437)
 UNSURE = (*UNKNOWN, 401, None)
 # Addresses that no host has (RFC 5737, RFC 3849). A permission for one of them lets nobody in.
 NOWHERE = {4: "192.0.2.{}", 6: "2001:db8::{:x}"}
+
+
+def has_address(own: SocketAddress) -> bool:
+    """Whether a socket may still be bound to the address of this one."""
+    try:
+        with socket.socket(socket.AF_INET6 if ":" in own.host else socket.AF_INET, socket.SOCK_DGRAM) as other:
+            other.bind((own.host, 0, *own[2:]))
+    except OSError as error:
+        return error.errno != errno.EADDRNOTAVAIL
+    return True
 
 
 class Vigil:
@@ -69,15 +80,9 @@ class Vigil:
     async def _moved(self) -> Exception:
         """Waits until this host has another address. Not every socket is told so: a stream is silent then for half a minute."""
         own = self._client.local_address
-        kind = socket.AF_INET6 if ":" in own.host else socket.AF_INET
-        while True:
+        while has_address(own):
             await asyncio.sleep(LOOK)
-            try:
-                with socket.socket(kind, socket.SOCK_DGRAM) as probe:
-                    probe.bind((own.host, 0, *own[2:]))
-            except OSError as error:
-                if error.errno == errno.EADDRNOTAVAIL:
-                    return because(Ended(f"this host has the address {own.host} no longer"), error)
+        return Ended(f"this host has the address {own.host} no longer")
 
     # Doubts
 
@@ -89,8 +94,10 @@ class Vigil:
         return self._checking
 
     async def is_good(self) -> bool:
-        """Whether the server still knows the relayed address."""
-        return await asyncio.shield(self.doubt())
+        """Whether the server still knows the relayed address. Not where the vigil ends meanwhile."""
+        checking = self.doubt()
+        await asyncio.wait([checking])
+        return not checking.cancelled() and checking.result()
 
     async def _check(self) -> bool:
         while self._is_doubted:
