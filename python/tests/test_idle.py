@@ -66,8 +66,8 @@ class MemoryLink(Link):
 
     def __init__(self, server: Server) -> None:
         super().__init__()
-        self.server, self.loop = server, asyncio.get_running_loop()
-        self.local, self.remote = Address("10.0.0.1", 5000), Address("10.0.0.2", 3478)
+        self.server, self.loop, self.own = server, asyncio.get_running_loop(), Address("10.0.0.1", 5000)
+        self.local, self.remote = self.own, Address("10.0.0.2", 3478)
         self.transport = self
 
     def is_closing(self) -> bool:
@@ -77,7 +77,7 @@ class MemoryLink(Link):
         self.is_over = True
 
     def _write(self, data: bytes) -> None:
-        self.loop.call_later(0.01, self._carry, self.server.receive(data, self.local, self.loop.time()))
+        self.loop.call_later(0.01, self._carry, self.server.receive(data, self.own, self.loop.time()))
 
     def send_data(self, data: bytes) -> bool:
         self._write(data)
@@ -85,10 +85,10 @@ class MemoryLink(Link):
 
     def _carry(self, packets: List[Tuple[bytes, Where]]) -> None:
         for data, where in packets:
-            if where == self.local:
+            if where == self.own:
                 self._received(data, self)
             else:
-                self._carry(self.server.from_peer(data, where, self.local, self.loop.time()))
+                self._carry(self.server.from_peer(data, where, self.own, self.loop.time()))
 
 
 class Near(Reached):
