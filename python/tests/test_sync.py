@@ -1,0 +1,191 @@
+"""The calls without asyncio, over coturn and sockets that misbehave."""
+import gc
+import socket
+import ssl
+import threading
+import time
+import unittest
+import warnings
+from typing import Any, List
+
+from yarrowdoor import AllocationFailed, Ended, PermissionFailed, Refused, WrongCredentials, sync
+
+from . import coturn as server
+
+PORTS = "turn:127.0.0.1:{port}", "turn:127.0.0.1:{port}?transport=tcp"
+
+
+class Peer:
+    """A peer that sends back what it gets."""
+
+    def __init__(self) -> None:
+        self.socket = socket.socket(type=socket.SOCK_DGRAM)
+        self.socket.bind(("127.0.0.1", 0))
+        self.where = self.socket.getsockname()
+        threading.Thread(target=self.run, daemon=True).start()
+
+    def run(self) -> None:
+        while True:
+            data, source = self.socket.recvfrom(65_536)
+            if data == b"end":
+                return self.socket.close()
+            self.socket.sendto(data, source)
+
+    def close(self) -> None:
+        with socket.socket(type=socket.SOCK_DGRAM) as own:
+            own.sendto(b"end", self.where)
+
+
+@unittest.skipUnless(server.IS_HERE, server.WHY)
+class Coturn(unittest.TestCase):
+    def setUp(self) -> None:
+        self.peer = Peer()
+        self.addCleanup(self.peer.close)
+
+    def echo(self, relay: sync.TurnClient) -> None:
+        relay.send(b"hello", self.peer.where)
+        self.assertEqual(relay.receive(timeout=5), (b"hello", self.peer.where))
+
+    def test_echoes(self) -> None:
+        with server.coturn() as at:
+            for uri in PORTS:
+                with sync.TurnClient(at.uri(uri), "user", "pass") as relay:
+                    self.echo(relay)
+                    relay.bind(self.peer.where)
+                    self.echo(relay)
+                    with self.assertRaises(TimeoutError):
+                        relay.receive(timeout=0.05)
+                    with self.assertRaises(Refused):
+                        relay.sendto(b"x", ("192.0.2.7", 9))
+                    with self.assertRaises(ValueError):
+                        relay.send(b"x", ("localhost", 9))
+                    address = relay.address
+                self.assertTrue(relay.closed)
+                self.assertEqual(relay.address, address)
+                calls: List[Any] = [relay.receive, lambda: relay.send(b"x", self.peer.where), lambda: relay.bind(self.peer.where)]
+                for call in calls:
+                    with self.assertRaisesRegex(Ended, "^the client was closed$"):
+                        call()
+                self.assertEqual([*relay], [])
+                relay.close()
+
+    def test_tls(self) -> None:
+        with server.coturn() as at:
+            if not at.certificate:
+                self.skipTest("openssl is not installed, which makes a certificate")
+            context = ssl.create_default_context(cafile=at.certificate)
+            with sync.TurnClient(at.uri("turns:localhost:{tls_port}"), "user", "pass", ssl=context) as relay:
+                for _ in range(200):
+                    relay.send(bytes(1000), self.peer.where)
+                self.assertEqual(len(relay.receive(timeout=5)[0]), 1000)
+            with self.assertRaisesRegex(AllocationFailed, "certificate"):
+                sync.TurnClient(at.uri("turns:localhost:{tls_port}"), "user", "pass").open()
+
+    def test_threads(self) -> None:
+        """Four threads ask, send and receive at one time; each waits for the same permission."""
+        with server.coturn() as at, sync.TurnClient(at.uri(), "user", "pass") as relay:
+            came: List[bytes] = []
+
+            def work(name: int) -> None:
+                for number in range(50):
+                    relay.send(b"%d-%d" % (name, number), self.peer.where)
+                    came.append(relay.receive(timeout=10)[0])
+
+            threads = [threading.Thread(target=work, args=(it,)) for it in range(4)]
+            for thread in threads:
+                thread.start()
+            for thread in threads:
+                thread.join(30)
+            self.assertEqual(sorted(came), sorted(b"%d-%d" % (name, number) for name in range(4) for number in range(50)))
+
+    def test_closing_while_others_wait(self) -> None:
+        with server.coturn() as at, sync.TurnClient(at.uri(), "user", "pass") as relay:
+            ended: List[str] = []
+
+            def wait() -> None:
+                try:
+                    relay.receive()
+                except Ended as error:
+                    ended.append(str(error))
+
+            threads = [threading.Thread(target=wait) for _ in range(3)]
+            for thread in threads:
+                thread.start()
+            time.sleep(0.1)
+            relay.close()
+            for thread in threads:
+                thread.join(5)
+            self.assertEqual(ended, ["the client was closed"] * 3)
+
+    def test_a_wrong_password(self) -> None:
+        with server.coturn() as at:
+            start = time.monotonic()
+            with self.assertRaises(WrongCredentials):
+                sync.TurnClient(at.uri(), "user", "wrong").open()
+            self.assertLess(time.monotonic() - start, 10)
+
+    def test_a_denied_peer(self) -> None:
+        with server.coturn("--denied-peer-ip", "10.0.0.0-10.255.255.255") as at:
+            with sync.TurnClient(at.uri(), "user", "pass") as relay:
+                with self.assertRaises(PermissionFailed):
+                    relay.send(b"x", ("10.1.2.3", 9))
+                with self.assertRaisesRegex(Refused, "^no-allocation"):
+                    relay.permit("2001:db8::1")
+                self.echo(relay)
+
+    def test_a_server_that_ends(self) -> None:
+        with server.coturn() as at:
+            relay = sync.TurnClient(at.uri(PORTS[1]), "user", "pass")
+            relay.open()
+        with self.assertRaisesRegex(Ended, "^the connection to the server has ended: "):
+            relay.receive(timeout=10)
+        self.assertTrue(relay.closed)
+
+    def test_no_socket_is_left(self) -> None:
+        with server.coturn() as at, warnings.catch_warnings():
+            warnings.simplefilter("error")
+            for _ in range(3):
+                with sync.TurnClient(at.uri(), "user", "pass"):
+                    pass
+            while any(it.name == "yarrowdoor" for it in threading.enumerate()):
+                time.sleep(0.01)
+            gc.collect()
+
+
+class Sockets(unittest.TestCase):
+    def test_a_silent_server(self) -> None:
+        for kind, uri in zip((socket.SOCK_DGRAM, socket.SOCK_STREAM), PORTS):
+            with socket.socket(type=kind) as silent:
+                silent.bind(("127.0.0.1", 0))
+                if kind == socket.SOCK_STREAM:
+                    silent.listen()
+                relay = sync.TurnClient(uri.format(port=silent.getsockname()[1]), "user", "pass", timeout=0.3)
+                with self.assertRaisesRegex(AllocationFailed, "^no relayed address: no answer in 0.3 s$"):
+                    relay.open()
+                with self.assertRaises(Ended):
+                    relay.address
+                with self.assertRaises(RuntimeError):
+                    relay.open()
+
+    def test_a_closed_port(self) -> None:
+        port = server.free_port()
+        with self.assertRaisesRegex(AllocationFailed, "no connection to .*refused"):
+            sync.TurnClient(PORTS[1].format(port=port), "user", "pass").open()
+        with self.assertRaisesRegex(AllocationFailed, "no answer"):
+            sync.TurnClient(PORTS[0].format(port=port), "user", "pass", timeout=0.5).open()
+        with self.assertRaisesRegex(AllocationFailed, "no connection to "):
+            sync.TurnClient("turn:no-such-name.invalid", "user", "pass").open()
+
+    def test_wrong_arguments(self) -> None:
+        with self.assertRaises(ValueError):
+            sync.TurnClient("http://example.org", "user", "pass")
+        with self.assertRaises(Ended):
+            sync.TurnClient("turn:127.0.0.1", "user", "pass").receive()
+        with warnings.catch_warnings():
+            warnings.simplefilter("error")
+            with self.assertRaises(ValueError):
+                sync.TurnClient("turn:127.0.0.1", "", "pass").open()
+
+
+if __name__ == "__main__":
+    unittest.main()
