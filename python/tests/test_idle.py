@@ -68,19 +68,15 @@ class MemoryLink(Link):
         super().__init__()
         self.server, self.loop, self.own = server, asyncio.get_running_loop(), Address("10.0.0.1", 5000)
         self.local, self.remote = self.own, Address("10.0.0.2", 3478)
-        self.transport = self
-
-    def is_closing(self) -> bool:
-        return self.is_over
 
     def close(self) -> None:
         self.is_over = True
 
-    def _write(self, data: bytes) -> None:
+    def send(self, data: bytes) -> None:
         self.loop.call_later(0.01, self._carry, self.server.receive(data, self.own, self.loop.time()))
 
     def send_data(self, data: bytes) -> bool:
-        self._write(data)
+        self.send(data)
         return True
 
     def _carry(self, packets: List[Tuple[bytes, Where]]) -> None:

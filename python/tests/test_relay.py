@@ -80,6 +80,12 @@ class Case(unittest.IsolatedAsyncioTestCase):
 
 
 class Returns(Case):
+    def refuse(self, relay: Relay) -> None:
+        """The socket tells that the server's port is closed."""
+        client: Any = relay._revival.client
+        session = client._session()
+        session.refused(session.link, ConnectionRefusedError(111, "Connection refused"))
+
     async def test_a_server_that_was_restarted(self) -> None:
         """It answers checks of the path as before. An error of the socket makes one ask it what it knows."""
         endpoint = await self.serve(Restarting())
@@ -91,8 +97,7 @@ class Returns(Case):
             first = relay.address
             endpoint.server.forget()
             endpoint.server.asked.clear()
-            client: Any = relay._revival.client
-            client._session().link.error_received(ConnectionRefusedError(111, "Connection refused"))
+            self.refuse(relay)
             await self.until(lambda: len(states) == 3)
             self.assertEqual([type(it) for it in states], [Up, Down, Up])
             self.assertRegex(str(states[1].reason), "^the server no longer knows the relayed address: .*437")
@@ -112,9 +117,8 @@ class Returns(Case):
         relay, states = self.relay(endpoint)
         async with relay:
             await relay.permit(PEER[0])
-            client: Any = relay._revival.client
             for _ in range(3):
-                client._session().link.error_received(ConnectionRefusedError(111, "Connection refused"))
+                self.refuse(relay)
                 await asyncio.sleep(0.1)
             await self.echo(relay)
             self.assertEqual(len(states), 1)

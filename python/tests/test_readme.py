@@ -1,0 +1,85 @@
+"""The samples of README.md that are parts of a program, each as it stands there, through coturn."""
+import asyncio
+import io
+import pathlib
+import re
+import socket
+import textwrap
+import threading
+import unittest
+import unittest.mock
+from contextlib import redirect_stdout
+from typing import Any, Dict, List, Tuple
+
+from . import coturn as server
+from .test_sync import Peer
+
+README = pathlib.Path(__file__).resolve().parent.parent / "README.md"
+# Each sample by the first words of it, with what it prints.
+SAMPLES = {
+    "async with Relay(": r"peers reach me at 127\.0\.0\.1:\d+\n",
+    "transport, protocol = await create_datagram_endpoint(": r"sent from 127\.0\.0\.1:\d+\n",
+    "reader, writer = await open_connection(": r"b'hello'\n",
+    "server = await start_server(": r"peers connect to 127\.0\.0\.1:\d+\n",
+    "async def credentials(": r"127\.0\.0\.1:\d+\n",
+    'async with TurnClient("turn:turn.example.org", "user", "password", idle=60': r"\(b'hello', Address\(host='127.0.0.1'.*\n",
+    "logging.basicConfig(level=logging.INFO)\nasync with TurnClient(": r"1 0\.\d+\n",
+    "with sync.TurnClient(": r"127\.0\.0\.1:\d+ sent b'hello'\n",
+}
+PRELUDE = """
+import asyncio, logging
+from yarrowdoor import *
+from yarrowdoor import sync
+
+class MyProtocol(asyncio.DatagramProtocol):
+    pass
+
+async def connected(reader, writer):
+    writer.close()
+"""
+
+
+def samples() -> List[str]:
+    return re.findall(r"^```python\n(.*?)^```$", README.read_text(), re.MULTILINE | re.DOTALL)
+
+
+@unittest.skipUnless(README.exists(), "the sources are not here")
+@unittest.skipUnless(server.IS_HERE, server.WHY)
+class Samples(unittest.TestCase):
+    def test_each(self) -> None:
+        peer, stream = Peer(), socket.create_server(("127.0.0.1", 0))
+        threading.Thread(target=self.answer, args=(stream,), daemon=True).start()
+        self.addCleanup(peer.close)
+        options = {"async def credentials(": ("--use-auth-secret", "--static-auth-secret", "secret")}
+        for begins, prints in SAMPLES.items():
+            with self.subTest(begins=begins), server.coturn(*options.get(begins, ())) as at:
+                (found,) = [it for it in samples() if it.startswith(begins)]
+                self.assertLessEqual(len([it for it in found.splitlines() if it]), 5)
+                self.assertRegex(self.run_sample(found, at, peer.where, stream.getsockname()[1]), f"^(INFO.*\n)*{prints}$")
+
+    def answer(self, stream: socket.socket) -> None:
+        with stream, stream.accept()[0] as own:
+            own.sendall(own.recv(100))
+
+    def run_sample(self, text: str, at: server.Coturn, peer: Tuple[str, int], port: int) -> str:
+        """What a sample prints, with the server and the peers of this test in place of its own."""
+        text = text.replace("turn:turn.example.org", f"turn:127.0.0.1:{at.port}").replace('"password"', '"pass"')
+        text = text.replace('("192.0.2.7", 9000)', repr(tuple(peer))).replace('"192.0.2.7", 9001', f'"127.0.0.1", {port}')
+        text = text.replace('"192.0.2.7"', '"127.0.0.1"')
+        names: Dict[str, Any] = {}
+        exec(f"{PRELUDE}\nasync def main():\n{textwrap.indent(text, '    ')}", names)
+        said = io.StringIO()
+
+        async def run() -> None:
+            try:
+                await asyncio.wait_for(names["main"](), 3)
+            except asyncio.TimeoutError:  # One looks for further changes until it is ended.
+                self.assertIn("relay.states()", text)
+
+        with redirect_stdout(said), unittest.mock.patch("logging.basicConfig"):
+            asyncio.run(run())
+        return said.getvalue()
+
+
+if __name__ == "__main__":
+    unittest.main()
