@@ -122,6 +122,8 @@ class Day(unittest.TestCase):
             await asyncio.sleep(ALIVE * BETWEEN)
             self.assertEqual(len(came), PEERS * ALIVE)
             self.assertEqual(list(relay.lost), [])
+            idle: Any = relay._session().idle
+            self.assertLess(max(len(idle._released), len(idle._used)), 400)
         self.assertEqual(len(server.numbers), PEERS)
         self.assertLess(max(server.numbers), 0x40F0)
         self.assertLessEqual(server.most, 100)
@@ -166,7 +168,7 @@ class Idle(unittest.TestCase):
             relay.release(OTHER[0])  # by the user, and so not kept again
             await asyncio.sleep(100)
             self.assertEqual(relay._session().grants.released(), {PEER[0], OTHER[0]})
-            for peer in (PEER, OTHER):
+            for peer in (OTHER, PEER):
                 relay.sendto(b"x", peer)
             self.assertEqual(relay._session().grants.released(), {OTHER[0]})
             await asyncio.sleep(120)

@@ -159,6 +159,7 @@ class Returns(Case):
             await self.echo(relay)
             self.assertEqual((relay.unsent, len(states)), (6, 3))
             self.assertEqual((relay.counters.packets_in, relay.counters.packets_out), (2, 2))
+        self.assertEqual(relay.unsent, 6)
 
     async def test_what_is_released_is_not_asked_for_again(self) -> None:
         endpoint = await self.serve(Restarting(), StreamEndpoint)

@@ -167,6 +167,13 @@ class Sockets(unittest.TestCase):
                 with self.assertRaises(RuntimeError):
                     relay.open()
 
+    def test_a_stream_that_ends(self) -> None:
+        with socket.create_server(("127.0.0.1", 0)) as listener:
+            relay = sync.TurnClient(PORTS[1].format(port=listener.getsockname()[1]), "user", "pass", timeout=10)
+            threading.Thread(target=lambda: listener.accept()[0].shutdown(socket.SHUT_WR), daemon=True).start()
+            with self.assertRaisesRegex(AllocationFailed, "^no relayed address: .* the server closed it$"):
+                relay.open()
+
     def test_a_closed_port(self) -> None:
         port = server.free_port()
         with self.assertRaisesRegex(AllocationFailed, "no connection to .*refused"):
