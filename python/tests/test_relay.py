@@ -2,12 +2,13 @@
 import asyncio
 import functools
 import hashlib
+import socket
 import unittest
 import unittest.mock
 from typing import Any, Callable, Dict, List, Optional, Tuple
 
 from yarrowdoor import (
-    Address, AllocationFailed, Backoff, Down, Ended, Lost, PermissionFailed, Refused, Relay, Times, Up, WrongCredentials,
+    Address, AllocationFailed, Backoff, Clock, Down, Ended, Lost, PermissionFailed, Refused, Relay, Times, Up, WrongCredentials,
 )
 from yarrowdoor import vigil
 
@@ -111,6 +112,19 @@ class Returns(Case):
             self.assertEqual(list(relay.lost), [])
         self.assertTrue(relay.closed)
         self.assertEqual(endpoint.server.allocations, {})
+
+    async def test_a_server_that_was_restarted_and_met_by_no_packet(self) -> None:
+        """It shows at the next refresh."""
+        endpoint = await self.serve(Restarting())
+        for grants in (True, False):
+            relay, states = self.relay(endpoint, clock=Clock(rate=100), probe=1500)
+            async with relay:
+                if grants:
+                    await relay.permit(PEER[0])
+                endpoint.server.forget()
+                await self.until(lambda: len(states) == 3, 30)
+                self.assertRegex(str(states[1].reason), "^the server no longer knows the relayed address: .*437")
+                await self.echo(relay)
 
     async def test_an_error_that_means_nothing(self) -> None:
         endpoint = await self.serve(Restarting())
@@ -401,7 +415,8 @@ class Ends(Case):
                     pass
 
     async def test_wrong_arguments(self) -> None:
-        settings: List[Any] = [{"relay": "tcp"}, {"probe": -1}, {"family": 5}, {"credentials": ("a", "b")}, {"nothing": 1}]
+        settings: List[Any] = [{"relay": "tcp"}, {"sock": socket.socket}, {"probe": -1}, {"family": 5},
+                               {"credentials": ("a", "b")}, {"nothing": 1}]
         for wrong in settings:
             with self.assertRaises((ValueError, TypeError)):
                 Relay("turn:10.0.0.1", "user", "pass", **wrong)

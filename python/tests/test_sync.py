@@ -141,6 +141,18 @@ class Coturn(unittest.TestCase):
             relay.receive(timeout=10)
         self.assertTrue(relay.closed)
 
+    def test_one_that_nobody_closes(self) -> None:
+        """Its relayed address is deleted, and nobody waits for that."""
+        with server.coturn() as at:
+            relay: Any = sync.TurnClient(at.uri(), "user", "pass")
+            relay.open()
+            pump = relay._pump
+            with self.assertWarnsRegex(ResourceWarning, "^unclosed turn:"):
+                del relay
+                gc.collect()
+            with self.assertRaisesRegex(Ended, "^the client was closed$"):
+                pump.receive(5)
+
     def test_no_socket_is_left(self) -> None:
         with server.coturn() as at, warnings.catch_warnings():
             warnings.simplefilter("error")
@@ -170,7 +182,7 @@ class Sockets(unittest.TestCase):
     def test_a_stream_that_ends(self) -> None:
         with socket.create_server(("127.0.0.1", 0)) as listener:
             relay = sync.TurnClient(PORTS[1].format(port=listener.getsockname()[1]), "user", "pass", timeout=10)
-            threading.Thread(target=lambda: listener.accept()[0].shutdown(socket.SHUT_WR), daemon=True).start()
+            threading.Thread(target=lambda: listener.accept()[0].close(), daemon=True).start()
             with self.assertRaisesRegex(AllocationFailed, "^no relayed address: .* the server closed it$"):
                 relay.open()
 

@@ -14,6 +14,7 @@ from .address import Address, AddressLike
 from .clock import Clock
 from .diagnosis import refusal
 from .errors import AllocationFailed, Ended, Hint, Refused
+from .layout import MAX_TIME
 
 __all__ = ["Pump"]
 
@@ -37,9 +38,10 @@ class Pump:
         """the relayed address, also after the end"""
         self.dropped = 0
         self.is_over, self._is_leaving, self._why = False, False, "the client was closed"
+        self._leave_by = MAX_TIME
         # What an unsigned error to a request for the relayed address has said, and until when a signed answer is waited for.
         self._hint: Hint = None
-        self._grace = 0
+        self._grace = MAX_TIME
         self._told: Dict[Union[str, Address], bool] = {}
         self._data: Deque[Tuple[bytes, Address]] = collections.deque()
 
@@ -56,13 +58,18 @@ class Pump:
 
     def close(self) -> None:
         """Deletes the relayed address, and ends."""
-        with self._change, contextlib.suppress(Ended, Refused):
-            self._usable().delete(self._clock.now())
-            self._is_leaving = True
-            self._wake()
-            self._change.wait_for(lambda: self.is_over, DELETE_WAIT)
         with self._change:
-            self._end("the client was closed")
+            self.leave()
+            self._change.wait_for(lambda: self.is_over)
+
+    def leave(self) -> None:
+        """Deletes the relayed address, and ends when the server has answered, or after two seconds."""
+        with self._change:
+            if not self.is_over and not self._is_leaving:
+                self._is_leaving, self._leave_by = True, self._clock.now() + int(DELETE_WAIT * 1e9)
+                with contextlib.suppress(Refused):
+                    self._client.delete(self._clock.now())
+                self._wake()
 
     def ask(self, about: Union[str, Address], make: Callable[[io.Client, int], None]) -> bool:
         """Makes a request, unless what it asks for is there, and says whether it was granted."""
@@ -139,11 +146,11 @@ class Pump:
             while (event := self._client.poll_event()) is not None:
                 self._take_event(event)
             rest = self._client.poll(now)
-            if self._hint is not None and self.address is None and now >= self._grace or not isinstance(rest, io.WaitUntil):
+            end = min(self._leave_by, self._grace if self.address is None else MAX_TIME)
+            if now >= end or not isinstance(rest, io.WaitUntil):
                 self._end("the server gives no relayed address, or renews it no more")
             elif rest.time > now:
-                until = rest.time if self._hint is None or self.address is not None else min(rest.time, self._grace)
-                return min(self._clock.seconds(until), NAP)
+                return min(self._clock.seconds(min(rest.time, end)), NAP)
         return 0.0
 
     def _take_event(self, event: io.Event) -> None:

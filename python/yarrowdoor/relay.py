@@ -53,6 +53,8 @@ class Relay(Told):
         Told.__init__(self, Inbox(queue, receiver), Notices())
         if settings.get("relay", "udp") != "udp":
             raise ValueError("a Relay has no streams: use a TurnClient with relay='tcp'")
+        if settings.get("sock") is not None:
+            raise ValueError("a Relay makes a socket for each try, so that none is given")
         self._settings: Dict[str, Any] = {**settings, "probe": probe, "times": times, "receiver": self._inbox.put}
         self._uri, self._waits, self._states = uri, waits, States(on_state)
         source = one_source(user, password, credentials)

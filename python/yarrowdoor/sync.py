@@ -9,6 +9,7 @@ from __future__ import annotations
 import contextlib
 import socket
 import ssl as tls
+import warnings
 from types import TracebackType
 from typing import Any, Callable, Dict, Iterator, Optional, Tuple, Type, Union
 
@@ -47,6 +48,12 @@ class TurnClient:
     def __exit__(self, kind: Optional[Type[BaseException]], error: Optional[BaseException],
                  trace: Optional[TracebackType]) -> None:
         self.close()
+
+    def __del__(self) -> None:
+        pump = getattr(self, "_pump", None)
+        if pump is not None and not pump.is_over:
+            pump.leave()
+            warnings.warn(f"unclosed {self.uri}: use `with`, or `close`", ResourceWarning, stacklevel=2, source=self)
 
     def open(self) -> None:
         """Connects, and waits for a relayed address. It is called once. `AllocationFailed`, `WrongCredentials`."""

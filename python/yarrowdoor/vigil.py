@@ -146,6 +146,8 @@ class Vigil:
             if self._grace is not None:
                 self._grace.cancel()
                 self._grace = None
+        if code in UNKNOWN:
+            self.doubt()
 
     def _distrust(self) -> None:
         self._tell(WrongCredentials("the server takes user name and password no longer", (401, "")))
