@@ -67,7 +67,7 @@ class RelayTransport(asyncio.DatagramTransport):
     def __init__(self, protocol: Any, relay: TurnClient, remote: Optional[Address] = None) -> None:
         super().__init__({"sockname": relay.address, "peername": remote, "related_address": relay.local_address, "relay": relay})
         self.protocol, self.relay, self._remote = protocol, relay, remote
-        self._ready: Set[Address] = set()
+        self._bound: Set[Address] = set()
         self._waiting: Dict[Address, List[bytes]] = {}
         self._refused: Dict[Address, float] = {}
         self._tasks: Set[asyncio.Future[None]] = set()
@@ -97,7 +97,7 @@ class RelayTransport(asyncio.DatagramTransport):
             raise ValueError(f"this endpoint has the one peer {self._remote}")
         if self._is_closing or self.relay.closed or not self._reaches(peer):
             return
-        if peer in self._ready:
+        if peer in self._bound:
             self._send(bytes(data), peer)
         elif peer in self._waiting:
             if len(self._waiting[peer]) < WAITING:
@@ -113,7 +113,7 @@ class RelayTransport(asyncio.DatagramTransport):
         try:
             self.relay.sendto(data, peer)
         except Refused:
-            self._ready.discard(peer)  # Its permission is gone: it is asked for with the next packet.
+            self._bound.discard(peer)  # Its permission is gone: it is asked for with the next packet.
         except YarrowdoorError:
             pass  # The client has just ended, which `connection_lost` tells.
 
@@ -124,9 +124,9 @@ class RelayTransport(asyncio.DatagramTransport):
                 await self.relay.bind(peer)
             except Refused:
                 await self.relay.permit(peer.host)
-            if len(self._ready) >= MAX_PEERS:
-                self._ready.clear()  # Each is asked for again, which takes no request where it is granted.
-            self._ready.add(peer)
+            if len(self._bound) >= MAX_PEERS:
+                self._bound.clear()  # Each is asked for again, which takes no request where it is granted.
+            self._bound.add(peer)
             self._refused.pop(peer, None)
         except YarrowdoorError as error:
             if len(self._refused) >= MAX_PEERS:
@@ -137,7 +137,7 @@ class RelayTransport(asyncio.DatagramTransport):
         finally:
             waiting = self._waiting.pop(peer)
         for data in waiting:
-            if peer in self._ready:
+            if peer in self._bound:
                 self._send(data, peer)
 
     async def _watch(self) -> None:
