@@ -3,6 +3,7 @@ import asyncio
 import functools
 import hashlib
 import socket
+import traceback
 import unittest
 import unittest.mock
 from typing import Any, Callable, Dict, List, Optional, Tuple
@@ -254,6 +255,7 @@ class Credentials(Case):
             await asyncio.wait_for(relay.open(), 10)
         self.assertTrue(relay.closed)
         self.assertIsInstance(states[-1], Down)
+        traceback.clear_frames(states[-1].reason.__traceback__)
         calls: List[Callable[[], Any]] = [relay.wait_closed, relay.receive, lambda: relay.send(b"x", PEER),
                                           lambda: relay.permit(PEER[0])]
         for call in calls:
@@ -341,6 +343,7 @@ class Ends(Case):
         await self.until(lambda: states)
         self.assertIsInstance(states[0], Down)
         self.assertFalse(relay.closed)
+        traceback.clear_frames(states[0].reason.__traceback__)  # as `assertRaises` does; it ends coroutines that wait
         endpoint.server.is_dead = False
         await asyncio.wait_for(opening, 5)
         await self.echo(relay)

@@ -182,9 +182,13 @@ class Sockets(unittest.TestCase):
     def test_a_stream_that_ends(self) -> None:
         with socket.create_server(("127.0.0.1", 0)) as listener:
             relay = sync.TurnClient(PORTS[1].format(port=listener.getsockname()[1]), "user", "pass", timeout=10)
-            threading.Thread(target=lambda: listener.accept()[0].close(), daemon=True).start()
+            threading.Thread(target=self.end_stream, args=(listener,), daemon=True).start()
             with self.assertRaisesRegex(AllocationFailed, "^no relayed address: .* the server closed it$"):
                 relay.open()
+
+    def end_stream(self, listener: socket.socket) -> None:
+        with listener.accept()[0] as own:
+            own.recv(100)  # else it is a reset
 
     def test_a_closed_port(self) -> None:
         port = server.free_port()

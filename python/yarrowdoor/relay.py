@@ -1,6 +1,7 @@
 """A relayed address that comes back: after an outage, another address of this host, or a restart of the server."""
 from __future__ import annotations
 
+import copy
 from types import TracebackType
 from typing import Any, AsyncIterator, Awaitable, Callable, Dict, Optional, Tuple, Type, Union
 
@@ -8,7 +9,7 @@ from .address import Address, AddressLike, checked_ip, checked_peer
 from .backoff import Backoff
 from .client import Buffer, Times
 from .credentials import Credentials, CredentialsLike, Text, one_source
-from .errors import AllocationFailed, ChannelFailed, Ended, PermissionFailed
+from .errors import AllocationFailed, ChannelFailed, Ended, PermissionFailed, because
 from .inbox import Inbox, Receiver
 from .notices import Notices, Told
 from .path import Check
@@ -86,7 +87,8 @@ class Relay(Told):
         try:
             await self._revival.up()
         except Ended as ended:
-            raise (self._revival.why or AllocationFailed(str(ended))) from None
+            why = self._revival.why or AllocationFailed(str(ended))
+            raise because(copy.copy(why), why.__cause__)
         except BaseException:
             await self._revival.stop()
             raise

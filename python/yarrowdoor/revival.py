@@ -66,7 +66,7 @@ class Revival:
         except asyncio.CancelledError:
             self._end(None)
         except Exception as error:
-            self._end(error)
+            self._end(error.with_traceback(None))  # which names this frame: who clears what it names would end this call
         while self._tasks:
             await asyncio.wait([*self._tasks])
 

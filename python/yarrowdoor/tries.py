@@ -92,7 +92,7 @@ class Tries:
             except Exception as error:
                 if self.failures.is_final(error):
                     raise
-                tell(error)
+                tell(error.with_traceback(None))  # which names this frame: who clears what it names would end this loop
                 wait = max(next(waits) - (loop.time() - began), REST)
                 _log.warning("no relayed address: %s. The next try is in %.1f s", error, wait)
             await asyncio.sleep(wait)
