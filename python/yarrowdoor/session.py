@@ -13,7 +13,6 @@ from .answers import (
 )
 from .client import Client
 from .clock import Alarm, Clock
-from .counters import Counters
 from .diagnosis import ALLOCATE, Diagnosis, refusal
 from .errors import AllocationFailed, Ended, Refused, because
 from .grants import Grants, channel, permission
@@ -40,7 +39,7 @@ class Session(LinkUser):
     """A client over a link to the server, which asks for a relayed address at once."""
 
     def __init__(self, client: Client, link: Link, server: Server, relay: str, max_stale_nonces: int, clock: Clock, inbox: Inbox,
-                 notices: Notices, families: Sequence[int] = (4,)) -> None:
+                 notices: Notices, families: Sequence[int] = (4,), idle: Optional[float] = None) -> None:
         self._loop = asyncio.get_running_loop()
         self.client, self.link, self.server, self.clock, self.notices = client, link, server, clock, notices
         self.state: State = Opening(self._loop.create_future(), self._loop.create_future())
@@ -54,15 +53,18 @@ class Session(LinkUser):
         self.mapped: Optional[Address] = None
         self.count = 0
         """how many packets, or pieces of the stream, have come"""
-        # After a datagram's data nothing is to be done.
-        self._has_streams, self._put = relay == "tcp", inbox.put if link.is_stream else inbox.put_last
+        self._has_streams = relay == "tcp"
         self._alarm = Alarm(clock, functools.partial(self.drive, is_wake_up=True))
         self._is_driving = False
-        self.counters, self.idle = notices.counters, None  # type: Counters, Optional[Idle]
+        self.counters = notices.counters
         self.journal = Journal(server.uri, link, self.counters)
         self.requests = Requests(self.counters)
         self.diagnosis = Diagnosis(str(server.uri), max_stale_nonces, clock, self.requests)
         self.grants = Grants(self.usable_client, self.drive, clock, self.requests, notices, self.journal)
+        self.idle = Idle(self.grants, clock, idle) if idle is not None else None
+        # After a datagram's data nothing is to be done.
+        put = self.counters.counting(inbox.put if link.is_stream else inbox.put_last)
+        self._put = put if self.idle is None else self.idle.listening(put)
         self.streams = Streams(self)
         self.path = Path(self)
         link.user = self
@@ -77,7 +79,7 @@ class Session(LinkUser):
         now = self.clock.now()
         answer = self.client.recv(data, now)
         if isinstance(answer, PeerData):
-            self._take(answer.data, answer.peer)
+            self._put(answer.data, answer.peer)
             # A datagram, or a piece that is one ChannelData message, has nothing else in it. Data makes nothing due.
             if not link.is_stream or link.frames is not None and answer.start == 4 and link.frames.is_one(data, len(answer.data)):
                 return
@@ -95,17 +97,7 @@ class Session(LinkUser):
             if self._has_streams:
                 self.streams.feed(more.data, more.peer)
             else:
-                self._take(more.data, more.peer)
-
-    def _take(self, data: bytes, peer: Address) -> None:
-        self.counters.packets_in += 1
-        self.counters.bytes_in += len(data)
-        self._put(data, peer)
-
-    def release_idle(self, seconds: float) -> None:
-        """Lets go each peer that was not used for so long."""
-        self.idle = Idle(self.grants, self.clock, seconds)
-        self._put = self.idle.listening(self._put)
+                self._put(more.data, more.peer)
 
     def hear(self, data: bytes, link: Link, is_ignored: bool) -> None:
         """Reads what the server's messages say, after the client has taken them, or ignored the first one."""

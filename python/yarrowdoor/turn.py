@@ -124,9 +124,7 @@ class TurnClient(Told, Lifetime):
             link.close()
             raise
         session = Session(client, link, self._server, self._relay, self._max_stale_nonces, self._clock, self._inbox, self._notices,
-                          self._families)
-        if self._idle is not None:
-            session.release_idle(self._idle)
+                          self._families, self._idle)
         if self._probe is not None:
             session.path.probe(self._probe)
         return session

@@ -79,7 +79,10 @@ class Vigil:
 
     async def _moved(self) -> Exception:
         """Waits until this host has another address. Not every socket is told so: a stream is silent then for half a minute."""
-        own = self._client.local_address
+        try:
+            own = self._client.local_address
+        except Ended as ended:
+            return ended  # It has ended already.
         while has_address(own):
             await asyncio.sleep(LOOK)
         return Ended(f"this host has the address {own.host} no longer")
@@ -97,7 +100,7 @@ class Vigil:
         """Whether the server still knows the relayed address. Not where the vigil ends meanwhile."""
         checking = self.doubt()
         await asyncio.wait([checking])
-        return not checking.cancelled() and checking.result()
+        return not checking.cancelled() and checking.result() and not self._client.closed
 
     async def _check(self) -> bool:
         while self._is_doubted:
