@@ -4,8 +4,8 @@ import unittest
 import unittest.mock
 from typing import Any, Callable, Dict, List, Optional, Tuple
 
-from yarrowdoor import Address, Backoff, Clock, Down, Lost, PermissionFailed, Refused, Relay, Times, Up
-from yarrowdoor import vigil
+from yarrowdoor import Address, Backoff, Clock, Down, Ended, Lost, PermissionFailed, Refused, Relay, Times, Up
+from yarrowdoor import tries, vigil
 
 from .network import Endpoint, StreamEndpoint
 from .server import CHANNEL_BIND, CREATE_PERMISSION, Server, Where, attribute, unxored, xored
@@ -146,20 +146,18 @@ class Returns(Case):
             self.assertEqual([type(it) for it in states], [Up, Down, Up])
             self.assertEqual(relay.unsent, 0)
 
-    async def test_a_stream_that_ends_as_soon_as_it_is_open(self) -> None:
-        endpoint = await self.serve(Restarting(), StreamEndpoint)
-        send = endpoint.send
+    async def test_a_client_that_ends_as_soon_as_it_is_open(self) -> None:
+        """Who begins to watch it finds that it has ended."""
+        def gone(client: Any) -> Any:
+            raise Ended("it has ended")
 
-        def send_once(packets: Any, client: Where) -> None:
-            send(packets, client)
-            if endpoint.server.allocations and not endpoint.server.lives:
-                endpoint.server.forget()
-                endpoint.end(resets=False)
-
-        endpoint.send = send_once
+        endpoint = await self.serve(Restarting())
         relay, states = self.relay(endpoint)
-        await asyncio.wait_for(relay.open(), 10)
-        await self.until(lambda: endpoint.server.allocations)
+        with unittest.mock.patch.object(tries.Watched, "local_address", property(gone)):
+            opening = asyncio.ensure_future(relay.open())
+            await self.until(lambda: any(isinstance(it, Down) for it in states))
+        await asyncio.wait_for(opening, 5)
+        await self.until(lambda: isinstance(relay.state, Up))
         await self.echo(relay)
 
     async def test_data_is_dropped_meanwhile(self) -> None:
