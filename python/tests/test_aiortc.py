@@ -1,4 +1,4 @@
-"""A data channel of aiortc between two relays, over this client."""
+"""Libraries that know nothing of this client: a data channel of aiortc between two relays, and a protocol of aioice."""
 import asyncio
 import functools
 import unittest
@@ -9,7 +9,8 @@ try:
     import aioice.turn
     import aiortc
     import aiortc.rtcicetransport
-    from aioice.ice import Connection, TransportPolicy
+    from aioice import stun
+    from aioice.ice import Connection, StunProtocol, TransportPolicy
 
     HAS_AIORTC = True
 except ImportError:
@@ -65,6 +66,21 @@ class DataChannels(unittest.IsolatedAsyncioTestCase):
                 self.assertGreater(transport.relay.counters.packets_in, 50)
             self.assertEqual(len(self.made), 2)
             await asyncio.gather(one.close(), other.close())
+
+
+@unittest.skipUnless(HAS_AIORTC, "aiortc is not installed (Debian's package python3-aiortc)")
+@unittest.skipUnless(server.IS_HERE, server.WHY)
+class Protocols(unittest.IsolatedAsyncioTestCase):
+    async def test_a_protocol_of_aioice(self) -> None:
+        """Its own STUN protocol, which knows nothing of TURN, asks a server what address it has: the relayed one."""
+        with server.coturn() as at, server.coturn() as other:
+            transport, protocol = await yarrowdoor.create_datagram_endpoint(
+                at.uri(), lambda: StunProtocol(unittest.mock.Mock()), credentials=("user", "pass"))
+            request = stun.Message(stun.Method.BINDING, stun.Class.REQUEST)
+            answer, source = await asyncio.wait_for(protocol.request(request, ("127.0.0.1", other.port)), 10)
+            self.assertEqual(source, ("127.0.0.1", other.port))
+            self.assertEqual(answer.attributes["XOR-MAPPED-ADDRESS"], transport.get_extra_info("sockname"))
+            await asyncio.wait_for(protocol.close(), 5)
 
 
 if __name__ == "__main__":
