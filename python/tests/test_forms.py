@@ -55,15 +55,15 @@ class Datagrams(Case):
         for number in range(100):
             transport.sendto(b"%d" % number, PEER)
         for number in range(64):
-            self.assertEqual(await asyncio.wait_for(protocol.came.get(), 5), (b"%d" % number, PEER))
+            self.assertEqual(await asyncio.wait_for(protocol.came.get(), 30), (b"%d" % number, PEER))
         transport.sendto(b"more", PEER)
-        self.assertEqual(await asyncio.wait_for(protocol.came.get(), 5), (b"more", PEER))
+        self.assertEqual(await asyncio.wait_for(protocol.came.get(), 30), (b"more", PEER))
         with self.assertRaises(ValueError):
             transport.sendto(b"x")
         transport.sendto(b"x", ("2001:db8::1", 9))  # the relayed address reaches it not
         self.assertFalse(transport.is_closing())
         transport.close()
-        self.assertIsNone(await asyncio.wait_for(protocol.lost, 5))
+        self.assertIsNone(await asyncio.wait_for(protocol.lost, 30))
         self.assertTrue(transport.is_closing())
         self.assertEqual(endpoint.server.allocations, {})
 
@@ -75,36 +75,36 @@ class Datagrams(Case):
         await transport.get_extra_info("relay").permit(OTHER[0])
         for peer in (OTHER, PEER):
             endpoint.send(endpoint.server.from_peer(b"y", peer, client, 0.0), client, 0.0)
-        self.assertEqual(await asyncio.wait_for(protocol.came.get(), 5), (b"y", PEER))
+        self.assertEqual(await asyncio.wait_for(protocol.came.get(), 30), (b"y", PEER))
         transport.sendto(b"x")
-        self.assertEqual(await asyncio.wait_for(protocol.came.get(), 5), (b"x", PEER))
+        self.assertEqual(await asyncio.wait_for(protocol.came.get(), 30), (b"x", PEER))
         with self.assertRaises(ValueError):
             transport.sendto(b"x", OTHER)
         transport.abort()
-        await asyncio.wait_for(protocol.lost, 5)
+        await asyncio.wait_for(protocol.lost, 30)
 
     async def test_a_peer_that_sends_first(self) -> None:
         endpoint = await self.serve(Server())
         transport, protocol = await yarrowdoor.create_datagram_endpoint(endpoint.uri, Echo, credentials=BOTH, peers=[PEER[0]])
         (client, allocation), = endpoint.server.allocations.items()
         endpoint.send(endpoint.server.from_peer(b"ask", PEER, client, 0.0), client, 0.0)
-        self.assertEqual(await asyncio.wait_for(protocol.came.get(), 5), (b"ask", PEER))
-        self.assertEqual(await asyncio.wait_for(protocol.came.get(), 5), (b"answer", PEER))  # sent back by the test's peer
+        self.assertEqual(await asyncio.wait_for(protocol.came.get(), 30), (b"ask", PEER))
+        self.assertEqual(await asyncio.wait_for(protocol.came.get(), 30), (b"answer", PEER))  # sent back by the test's peer
         transport.close()
-        await asyncio.wait_for(protocol.lost, 5)
+        await asyncio.wait_for(protocol.lost, 30)
 
     async def test_a_peer_that_is_denied(self) -> None:
         endpoint = await self.serve(Server(denied=(OTHER[0],)))
         transport, protocol = await yarrowdoor.create_datagram_endpoint(endpoint.uri, Echo, credentials=BOTH)
         transport.sendto(b"x", OTHER)
         transport.sendto(b"x", PEER)
-        self.assertEqual(await asyncio.wait_for(protocol.came.get(), 5), (b"x", PEER))
+        self.assertEqual(await asyncio.wait_for(protocol.came.get(), 30), (b"x", PEER))
         self.assertRegex(str(protocol.errors[0]), "^no data to 10.1.0.2:9: .*403")
         transport.sendto(b"x", OTHER)  # is not asked for again so soon
         await asyncio.sleep(0.1)
         self.assertEqual(len(protocol.errors), 1)
         transport.close()
-        await asyncio.wait_for(protocol.lost, 5)
+        await asyncio.wait_for(protocol.lost, 30)
         settings: List[Any] = [{"peers": [OTHER[0]]}, {"remote_addr": OTHER}]
         for wrong in settings:
             with self.assertRaises((PermissionFailed, yarrowdoor.ChannelFailed)):
@@ -117,21 +117,21 @@ class Datagrams(Case):
         transport, protocol = await yarrowdoor.create_datagram_endpoint(endpoint.uri, Echo, credentials=BOTH)
 
         async def refused(peer: Any) -> None:
-            raise Refused("expired", 5)
+            raise Refused("expired", 30)
 
         with unittest.mock.patch.object(transport.relay, "bind", refused):
             transport.sendto(b"x", PEER)
-            self.assertEqual(await asyncio.wait_for(protocol.came.get(), 5), (b"x", PEER))
+            self.assertEqual(await asyncio.wait_for(protocol.came.get(), 30), (b"x", PEER))
         (allocation,) = endpoint.server.allocations.values()
         self.assertEqual((allocation.channels, [*allocation.permissions]), ({}, [PEER[0]]))
         transport.close()
-        await asyncio.wait_for(protocol.lost, 5)
+        await asyncio.wait_for(protocol.lost, 30)
 
     async def test_a_relay_that_ends(self) -> None:
         endpoint = await self.serve(Server())
         transport, protocol = await yarrowdoor.create_datagram_endpoint(endpoint.uri, Echo, credentials=BOTH)
         transport.relay._session().breaks("gone", None)
-        self.assertIsInstance(await asyncio.wait_for(protocol.lost, 5), Ended)
+        self.assertIsInstance(await asyncio.wait_for(protocol.lost, 30), Ended)
         transport.sendto(b"x", PEER)  # as asyncio's own transports, it says nothing
 
     async def test_the_socket_to_the_server(self) -> None:
@@ -142,7 +142,7 @@ class Datagrams(Case):
                                                                         family=socket.AF_INET)
         self.assertEqual(transport.get_extra_info("related_address"), own)
         transport.close()
-        await asyncio.wait_for(protocol.lost, 5)
+        await asyncio.wait_for(protocol.lost, 30)
         with self.assertRaisesRegex(AllocationFailed, "no connection to "):
             await yarrowdoor.create_datagram_endpoint(endpoint.uri, Echo, credentials=BOTH, family=socket.AF_INET6)
 
@@ -153,11 +153,11 @@ class Datagrams(Case):
                     for _ in range(2)]
             (one, taker), (other, answerer) = made
             one.sendto(b"ask", other.get_extra_info("sockname"))
-            self.assertEqual(await asyncio.wait_for(answerer.came.get(), 5), (b"ask", one.get_extra_info("sockname")))
-            self.assertEqual(await asyncio.wait_for(taker.came.get(), 5), (b"answer", other.get_extra_info("sockname")))
+            self.assertEqual(await asyncio.wait_for(answerer.came.get(), 30), (b"ask", one.get_extra_info("sockname")))
+            self.assertEqual(await asyncio.wait_for(taker.came.get(), 30), (b"answer", other.get_extra_info("sockname")))
             for transport, protocol in made:
                 transport.close()
-                await asyncio.wait_for(protocol.lost, 5)
+                await asyncio.wait_for(protocol.lost, 30)
 
 
 @unittest.skipUnless(coturn_server.IS_HERE, coturn_server.WHY)
@@ -176,7 +176,7 @@ class Streams(Case):
             uri = at.uri("turn:127.0.0.1:{port}?transport=tcp")
             reader, writer = await yarrowdoor.open_connection(uri, "localhost", port, credentials=BOTH)
             writer.write(b"ping")
-            self.assertEqual(await asyncio.wait_for(reader.readexactly(4), 5), b"ping")
+            self.assertEqual(await asyncio.wait_for(reader.readexactly(4), 30), b"ping")
             self.assertEqual(len(yarrowdoor.connections._closing), 1)
             writer.close()
             while yarrowdoor.connections._closing:
@@ -207,7 +207,7 @@ class Streams(Case):
                 pairs = [await asyncio.open_connection(*server.address) for _ in range(2)]
                 for (reader, writer), asked in zip(pairs, (b"ping", b"fail")):
                     writer.write(asked)
-                self.assertEqual(await asyncio.wait_for(pairs[0][0].readexactly(4), 5), b"PING")
+                self.assertEqual(await asyncio.wait_for(pairs[0][0].readexactly(4), 30), b"PING")
                 while not problems:
                     await asyncio.sleep(0.01)
                 self.assertIsInstance(problems[0], KeyError)

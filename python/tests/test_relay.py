@@ -63,7 +63,7 @@ class Case(unittest.IsolatedAsyncioTestCase):
         self.addAsyncCleanup(relay.close)
         return relay, states
 
-    async def until(self, holds: Callable[[], Any], seconds: float = 20) -> None:
+    async def until(self, holds: Callable[[], Any], seconds: float = 60) -> None:
         async def wait() -> None:
             while not holds():
                 await asyncio.sleep(0.01)
@@ -72,7 +72,7 @@ class Case(unittest.IsolatedAsyncioTestCase):
 
     async def echo(self, relay: Relay, peer: Where = PEER) -> None:
         await relay.send(b"x", peer)
-        self.assertEqual(await asyncio.wait_for(relay.receive(), 5), (b"x", peer))
+        self.assertEqual(await asyncio.wait_for(relay.receive(), 30), (b"x", peer))
 
 
 class Returns(Case):
@@ -101,7 +101,7 @@ class Returns(Case):
             self.assertEqual(relay.address, states[2].address)
             for peer in (PEER, OTHER):
                 relay.sendto(b"again", peer)
-                self.assertEqual(await asyncio.wait_for(relay.receive(), 5), (b"again", peer))
+                self.assertEqual(await asyncio.wait_for(relay.receive(), 30), (b"again", peer))
             asked = [it for it in endpoint.server.asked if not it[1].startswith("192.0.2.")]
             self.assertEqual(sorted(set(asked)), [(CREATE_PERMISSION, OTHER[0]), (CHANNEL_BIND, PEER[0])])
             self.assertEqual(list(relay.lost), [])
@@ -156,7 +156,7 @@ class Returns(Case):
         with unittest.mock.patch.object(tries.Watched, "local_address", property(gone)):
             opening = asyncio.ensure_future(relay.open())
             await self.until(lambda: any(isinstance(it, Down) for it in states))
-        await asyncio.wait_for(opening, 5)
+        await asyncio.wait_for(opening, 30)
         await self.until(lambda: isinstance(relay.state, Up))
         await self.echo(relay)
 
@@ -221,8 +221,8 @@ class Returns(Case):
         relay, states = self.relay(endpoint)
         async with relay:
             with unittest.mock.patch.object(vigil, "has_address", lambda own: False):
-                await self.until(lambda: len(states) == 2, 5)
-            await self.until(lambda: isinstance(relay.state, Up), 5)
+                await self.until(lambda: len(states) == 2, 30)
+            await self.until(lambda: isinstance(relay.state, Up), 30)
             self.assertEqual(str(states[1].reason), "this host has the address 127.0.0.1 no longer")
             await self.echo(relay)
 

@@ -47,7 +47,7 @@ class Credentials(Case):
         endpoint = await self.serve(Restarting())
         relay, states = self.relay(endpoint, "user", "wrong")
         with self.assertRaises(WrongCredentials):
-            await asyncio.wait_for(relay.open(), 10)
+            await asyncio.wait_for(relay.open(), 40)
         self.assertTrue(relay.closed)
         self.assertIsInstance(states[-1], Down)
         traceback.clear_frames(states[-1].reason.__traceback__)
@@ -83,13 +83,13 @@ class Credentials(Case):
                 endpoint.server.key = hashlib.md5(b"user:realm:later").digest()
                 asking = asyncio.ensure_future(relay.permit(OTHER[0]))  # gets the first 401, and waits for the next client
                 if new == "later":
-                    await asyncio.wait_for(asking, 10)
+                    await asyncio.wait_for(asking, 40)
                     await self.until(lambda: len(states) == 3)
                     self.assertRegex(str(states[1].reason), "takes user name and password no longer")
                     await self.echo(relay)
                 else:
                     with self.assertRaisesRegex(Ended, "user name or password are wrong"):
-                        await asyncio.wait_for(asking, 10)
+                        await asyncio.wait_for(asking, 40)
                     with self.assertRaisesRegex(Ended, "user name or password are wrong"):
                         await relay.wait_closed()
             self.assertEqual(len(answers), 1)
@@ -118,7 +118,7 @@ class Ends(Case):
                 endpoint.server.refused = functools.partial(lambda code, message, life: code, code)
                 relay, states = self.relay(endpoint)
                 with self.assertRaises(AllocationFailed) as failed:
-                    await asyncio.wait_for(relay.open(), 10)
+                    await asyncio.wait_for(relay.open(), 40)
                 self.assertEqual((failed.exception.code, endpoint.server.asks), (code, asks))
 
     async def test_twice_486_and_then_room(self) -> None:
@@ -140,7 +140,7 @@ class Ends(Case):
         self.assertFalse(relay.closed)
         traceback.clear_frames(states[0].reason.__traceback__)  # as `assertRaises` does; it ends coroutines that wait
         endpoint.server.is_dead = False
-        await asyncio.wait_for(opening, 5)
+        await asyncio.wait_for(opening, 30)
         await self.echo(relay)
 
     async def test_opening_that_is_cancelled(self) -> None:
@@ -165,7 +165,7 @@ class Ends(Case):
         await self.until(lambda: isinstance(relay.state, Down))
         waiting = [asyncio.ensure_future(it) for it in (relay.send(b"x", PEER), relay.permit(PEER[0]), relay.receive())]
         await asyncio.sleep(0.1)
-        await asyncio.wait_for(relay.close(), 5)
+        await asyncio.wait_for(relay.close(), 30)
         for task in waiting:
             with self.assertRaisesRegex(Ended, "^the relay was closed$"):
                 await asyncio.wait_for(task, 1)

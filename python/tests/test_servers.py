@@ -117,7 +117,7 @@ class Families(Case):
             self.assertEqual(relay.address, relay.addresses[0])
             await relay.permit(PEER[0])
             relay.sendto(b"x", PEER)
-            self.assertEqual(await asyncio.wait_for(relay.receive(), 5), (b"x", PEER))
+            self.assertEqual(await asyncio.wait_for(relay.receive(), 30), (b"x", PEER))
 
     async def test_a_server_that_has_one_of_them(self) -> None:
         endpoint = await self.serve(Server())
@@ -129,7 +129,7 @@ class Families(Case):
     async def test_a_server_that_has_none(self) -> None:
         endpoint = await self.serve(Server(allocate_error=440))
         with self.assertRaises(AllocationFailed) as failed:
-            await asyncio.wait_for(TurnClient(endpoint.uri, *BOTH, family=(4, 6)).open(), 5)
+            await asyncio.wait_for(TurnClient(endpoint.uri, *BOTH, family=(4, 6)).open(), 30)
         self.assertEqual(failed.exception.code, 440)
 
 
@@ -167,7 +167,7 @@ class Redirects(Case):
         endpoints = await self.chain(2)
         for redirects in (0, 1):
             with self.assertRaises(AllocationFailed) as failed:
-                await asyncio.wait_for(TurnClient(endpoints[0].uri, *BOTH, redirects=redirects).open(), 5)
+                await asyncio.wait_for(TurnClient(endpoints[0].uri, *BOTH, redirects=redirects).open(), 30)
             self.assertEqual((failed.exception.code, failed.exception.alternate),
                              (300, endpoints[redirects + 1].transport.get_extra_info("sockname")))
         self.assertEqual(endpoints[2].server.allocations, {})
@@ -180,7 +180,7 @@ class Redirects(Case):
         for at in (1, 0):
             places.append(await self.serve(Redirecting(functools.partial(self.place, places, at))))
         with self.assertRaises(AllocationFailed):
-            await asyncio.wait_for(TurnClient(places[0].uri, *BOTH, redirects=50).open(), 5)
+            await asyncio.wait_for(TurnClient(places[0].uri, *BOTH, redirects=50).open(), 30)
         self.assertEqual([it.server.asks for it in places], [1, 1])
 
     async def test_another_name_over_tls(self) -> None:

@@ -44,7 +44,7 @@ class Coturn(unittest.TestCase):
 
     def echo(self, relay: sync.TurnClient) -> None:
         relay.send(b"hello", self.peer.where)
-        self.assertEqual(relay.receive(timeout=5), (b"hello", self.peer.where))
+        self.assertEqual(relay.receive(timeout=30), (b"hello", self.peer.where))
 
     def test_echoes(self) -> None:
         with server.coturn() as at:
@@ -77,7 +77,7 @@ class Coturn(unittest.TestCase):
             with sync.TurnClient(at.uri("turns:localhost:{tls_port}"), "user", "pass", ssl=context) as relay:
                 for _ in range(200):
                     relay.send(bytes(1000), self.peer.where)
-                self.assertEqual(len(relay.receive(timeout=5)[0]), 1000)
+                self.assertEqual(len(relay.receive(timeout=30)[0]), 1000)
             with self.assertRaisesRegex(AllocationFailed, "certificate"):
                 sync.TurnClient(at.uri("turns:localhost:{tls_port}"), "user", "pass").open()
 
@@ -89,7 +89,7 @@ class Coturn(unittest.TestCase):
             def work(name: int) -> None:
                 for number in range(50):
                     relay.send(b"%d-%d" % (name, number), self.peer.where)
-                    came.append(relay.receive(timeout=10)[0])
+                    came.append(relay.receive(timeout=30)[0])
 
             threads = [threading.Thread(target=work, args=(it,)) for it in range(4)]
             for thread in threads:
@@ -138,7 +138,7 @@ class Coturn(unittest.TestCase):
             relay = sync.TurnClient(at.uri(PORTS[1]), "user", "pass")
             relay.open()
         with self.assertRaisesRegex(Ended, "^the connection to the server has ended: "):
-            relay.receive(timeout=10)
+            relay.receive(timeout=30)
         self.assertTrue(relay.closed)
 
     def test_one_that_nobody_closes(self) -> None:
@@ -181,7 +181,7 @@ class Sockets(unittest.TestCase):
 
     def test_a_stream_that_ends(self) -> None:
         with socket.create_server(("127.0.0.1", 0)) as listener:
-            relay = sync.TurnClient(PORTS[1].format(port=listener.getsockname()[1]), "user", "pass", timeout=10)
+            relay = sync.TurnClient(PORTS[1].format(port=listener.getsockname()[1]), "user", "pass", timeout=30)
             threading.Thread(target=self.end_stream, args=(listener,), daemon=True).start()
             with self.assertRaisesRegex(AllocationFailed, "^no relayed address: .* the server closed it$"):
                 relay.open()
