@@ -1,6 +1,6 @@
 """A relay that comes back, in network namespaces: what tests/outage.py sees for each fault, over UDP and TCP.
 
-Each is run once. `YARROWDOOR_OUTAGES=20` runs each so many times, eight at a time.
+Each is run once. `YARROWDOOR_OUTAGES=20` runs each so many times, sixteen at a time.
 """
 import concurrent.futures
 import json
@@ -39,7 +39,7 @@ def run(transport: str, fault: str) -> Dict[str, Any]:
 class Outages(unittest.TestCase):
     def test_all(self) -> None:
         runs: List[Tuple[str, str]] = [(transport, fault) for transport in ("udp", "tcp") for fault in FAULTS] * RUNS
-        with concurrent.futures.ThreadPoolExecutor(8) as pool:
+        with concurrent.futures.ThreadPoolExecutor(len(runs) if RUNS == 1 else 16) as pool:
             for (transport, fault), seen in zip(runs, pool.map(lambda it: run(*it), runs)):
                 with self.subTest(transport=transport, fault=fault):
                     if RUNS > 1:

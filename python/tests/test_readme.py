@@ -48,6 +48,7 @@ def samples() -> List[str]:
 class Samples(unittest.TestCase):
     def test_each(self) -> None:
         peer, stream = Peer(), socket.create_server(("127.0.0.1", 0))
+        port = stream.getsockname()[1]
         threading.Thread(target=self.answer, args=(stream,), daemon=True).start()
         self.addCleanup(peer.close)
         options = {"async def credentials(": ("--use-auth-secret", "--static-auth-secret", "secret")}
@@ -55,7 +56,7 @@ class Samples(unittest.TestCase):
             with self.subTest(begins=begins), server.coturn(*options.get(begins, ())) as at:
                 (found,) = [it for it in samples() if it.startswith(begins)]
                 self.assertLessEqual(len([it for it in found.splitlines() if it]), 5)
-                self.assertRegex(self.run_sample(found, at, peer.where, stream.getsockname()[1]), f"^(INFO.*\n)*{prints}$")
+                self.assertRegex(self.run_sample(found, at, peer.where, port), f"^(INFO.*\n)*{prints}$")
 
     def answer(self, stream: socket.socket) -> None:
         with stream, stream.accept()[0] as own:
@@ -71,10 +72,16 @@ class Samples(unittest.TestCase):
         said = io.StringIO()
 
         async def run() -> None:
-            try:
-                await asyncio.wait_for(names["main"](), 3)
-            except asyncio.TimeoutError:  # One looks for further changes until it is ended.
-                self.assertIn("relay.states()", text)
+            task = asyncio.ensure_future(names["main"]())
+            for _ in range(1200):
+                await asyncio.wait([task], timeout=0.05)
+                if task.done():
+                    task.result()  # raises what it has raised
+                    return
+                if "relay.states()" in text and said.getvalue():
+                    break  # It looks for further changes until it is ended.
+            task.cancel()
+            await asyncio.wait([task])
 
         with redirect_stdout(said), unittest.mock.patch("logging.basicConfig"):
             asyncio.run(run())
