@@ -1,5 +1,6 @@
 """A relay that comes back: when another client follows, and what the peers keep."""
 import asyncio
+import types
 import unittest
 import unittest.mock
 from typing import Any, Callable, Dict, List, Optional, Tuple
@@ -153,7 +154,7 @@ class Returns(Case):
 
         endpoint = await self.serve(Restarting())
         relay, states = self.relay(endpoint)
-        with unittest.mock.patch.object(tries.Watched, "local_address", property(gone)):
+        with unittest.mock.patch.object(tries.Watched, "link", property(gone)):
             opening = asyncio.ensure_future(relay.open())
             await self.until(lambda: any(isinstance(it, Down) for it in states))
         await asyncio.wait_for(opening, 30)
@@ -216,11 +217,13 @@ class Returns(Case):
                 await relay.permit(OTHER[0])
 
     async def test_a_host_with_another_address(self) -> None:
-        self.assertEqual([vigil.has_address(Address(it, 1)) for it in ("127.0.0.1", "192.0.2.1")], [True, False])
+        server: Any = Address("127.0.0.1", 9)
+        links: List[Any] = [types.SimpleNamespace(local=Address(it, 1), remote=server) for it in ("127.0.0.1", "192.0.2.1")]
+        self.assertEqual([vigil.has_address(it) for it in links], [True, False])
         endpoint = await self.serve(Restarting(), StreamEndpoint)
         relay, states = self.relay(endpoint)
         async with relay:
-            with unittest.mock.patch.object(vigil, "has_address", lambda own: False):
+            with unittest.mock.patch.object(vigil, "has_address", lambda link: False):
                 await self.until(lambda: len(states) == 2, 30)
             await self.until(lambda: isinstance(relay.state, Up), 30)
             self.assertEqual(str(states[1].reason), "this host has the address 127.0.0.1 no longer")

@@ -11,6 +11,7 @@ from .credentials import Credentials, CredentialsLike, ask
 from .errors import AllocationFailed, LibraryError, WrongCredentials, because
 from .grants import About
 from .journal import Watcher
+from .link import Link
 from .session import Session
 from .settings import Times
 from .turn import TurnClient
@@ -43,6 +44,11 @@ class Watched(TurnClient):
         """Whose permissions and channels are renewed."""
         session = self._phase
         return sorted(session.grants.granted() - session.grants.released(), key=str) if isinstance(session, Session) else []
+
+    @property
+    def link(self) -> Link:
+        """The socket to the server. `Ended` where the client has ended."""
+        return self._session().link
 
     def watch(self, watcher: Optional[Watcher]) -> None:
         """Has each answer of the server told."""

@@ -4,12 +4,12 @@ from __future__ import annotations
 import asyncio
 import errno
 import itertools
-import socket
 from typing import Optional, Set
 
 from . import reasons
-from .address import SocketAddress
 from .errors import Ended, PermissionFailed, WrongCredentials, YarrowdoorError, because
+from .link import Link
+from .path import route_error
 from .requests import Key
 from .tries import Watched
 
@@ -29,14 +29,10 @@ UNSURE = (*UNKNOWN, 401, None)
 NOWHERE = {4: "192.0.2.{}", 6: "2001:db8::{:x}"}
 
 
-def has_address(own: SocketAddress) -> bool:
-    """Whether a socket may still be bound to the address of this one."""
-    try:
-        with socket.socket(socket.AF_INET6 if ":" in own.host else socket.AF_INET, socket.SOCK_DGRAM) as other:
-            other.bind((own.host, 0, *own[2:]))
-    except OSError as error:
-        return error.errno != errno.EADDRNOTAVAIL
-    return True
+def has_address(link: Link) -> bool:
+    """Whether this host still has the address of a link's socket."""
+    error = route_error(link)
+    return error is None or error.errno != errno.EADDRNOTAVAIL
 
 
 class Vigil:
@@ -80,12 +76,12 @@ class Vigil:
     async def _moved(self) -> Exception:
         """Waits until this host has another address. Not every socket is told so: a stream is silent then for half a minute."""
         try:
-            own = self._client.local_address
+            link = self._client.link
         except Ended as ended:
             return ended  # It has ended already.
-        while has_address(own):
+        while has_address(link):
             await asyncio.sleep(LOOK)
-        return Ended(f"this host has the address {own.host} no longer")
+        return Ended(f"this host has the address {link.local.host} no longer")
 
     # Doubts
 
