@@ -122,6 +122,21 @@ class Returns(Case):
                 self.assertRegex(str(states[1].reason), "^the server no longer knows the relayed address: .*437")
                 await self.echo(relay)
 
+    async def test_a_server_that_answers_no_check(self) -> None:
+        """It is asked by a signed request before it is given up."""
+        endpoint = await self.serve(Restarting())
+        endpoint.server.answers_bindings = False
+        relay, states = self.relay(endpoint, clock=Clock(rate=20), times=tries.TIMES, probe=0.1)
+        async with relay:
+            await self.until(lambda: len(endpoint.server.asked) >= 3)
+            await self.echo(relay)
+            self.assertEqual(len(states), 1)
+            endpoint.server.is_dead = True
+            await self.until(lambda: len(states) == 2)
+            self.assertEqual(str(states[1].reason), "the server answers no signed request: 3 in a row")
+            endpoint.server.is_dead = False
+            await self.until(lambda: isinstance(relay.state, Up))
+
     async def test_an_error_that_means_nothing(self) -> None:
         endpoint = await self.serve(Restarting())
         relay, states = self.relay(endpoint)

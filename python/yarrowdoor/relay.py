@@ -14,6 +14,7 @@ from .inbox import Inbox, Receiver
 from .notices import Notices, Told
 from .path import Check
 from .revival import Revival
+from .settings import check_seconds
 from .states import State, States
 from .tries import TIMES, Tries, Watched
 from .uri import TurnUri
@@ -37,31 +38,33 @@ class Relay(Told):
     Requests wait. `lost` and `on_lost` tell what the server did not grant again. `credentials` is as for a `TurnClient`, and asked
     at each try.
 
+    Every `probe` seconds the path is checked, or never with None. Where a check has no answer, the server is asked by a signed
+    request, so that one that answers no check, as coturn with `--no-stun`, does no harm. A server over UDP that was restarted
+    answers checks as before: it is noticed when a packet of this client met its closed port, and else at the next refresh, up to
+    two and a half minutes later where there is a permission.
+
     The relay ends where user name or password are refused twice in a row, by a server that answers nothing signed (with
     `credentials` as a function those of two calls), where the server refuses this user (403), has no room for it three times in
     a row (486), names another server that is not to be asked (300) or cannot do what is asked (440, 442), and when it is
-    closed. What `probe`, in seconds, `times` and the other arguments are, `TurnClient` says. It relays over UDP, and has no
-    streams.
-
-    A server over UDP that was restarted is noticed when a packet of this client met its closed port, and else at the next refresh,
-    up to two and a half minutes later where there is a permission: it answers the checks of `probe` as before.
+    closed. What the other arguments are, `TurnClient` says. It relays over UDP, and has no streams.
     """
 
     def __init__(self, uri: Union[str, TurnUri], user: Optional[Text] = None, password: Optional[Text] = None, *,
                  credentials: Optional[CredentialsLike] = None, backoff: Backoff = Backoff(), waits: bool = False,
-                 on_state: Optional[Callable[[State], None]] = None, probe: float = 5.0, times: Times = TIMES, queue: int = 1024,
-                 receiver: Optional[Receiver] = None, **settings: Any) -> None:
+                 on_state: Optional[Callable[[State], None]] = None, probe: Optional[float] = 5.0, times: Times = TIMES,
+                 queue: int = 1024, receiver: Optional[Receiver] = None, **settings: Any) -> None:
         Told.__init__(self, Inbox(queue, receiver), Notices())
         if settings.get("relay", "udp") != "udp":
             raise ValueError("a Relay has no streams: use a TurnClient with relay='tcp'")
         if settings.get("sock") is not None:
             raise ValueError("a Relay makes a socket for each try, so that none is given")
-        self._settings: Dict[str, Any] = {**settings, "probe": probe, "times": times, "receiver": self._inbox.put}
+        check_seconds(above_zero={"probe": probe}, from_zero={})
+        self._settings: Dict[str, Any] = {**settings, "times": times, "receiver": self._inbox.put}
         self._uri, self._waits, self._states = uri, waits, States(on_state)
         source = one_source(user, password, credentials)
         self._make(Credentials("", ""))  # says what is wrong with the arguments
         tries = Tries(self._make, source, backoff, lambda client: self._revival.leave(client))
-        self._revival = Revival(tries, self._states, self._inbox, self._notices)
+        self._revival = Revival(tries, self._states, self._inbox, self._notices, probe)
 
     def _make(self, credentials: Credentials) -> Watched:
         client = Watched(self._uri, credentials=credentials, **self._settings)

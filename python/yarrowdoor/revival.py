@@ -18,7 +18,8 @@ __all__ = ["Revival"]
 class Revival:
     """Has a client, and another one when it ends, until it is stopped, or no further one would do."""
 
-    def __init__(self, tries: Tries, states: States, inbox: Inbox, notices: Notices) -> None:
+    def __init__(self, tries: Tries, states: States, inbox: Inbox, notices: Notices, probe: Optional[float]) -> None:
+        self._probe = probe
         self._tries, self._states, self._inbox, self._notices = tries, states, inbox, notices
         self.client: Optional[Watched] = None
         """the client that is up, if one is"""
@@ -72,7 +73,7 @@ class Revival:
 
     async def _serve(self, client: Watched) -> Exception:
         """Has a client until it ends, and says why."""
-        vigil = self._vigil = Vigil(client)
+        vigil = self._vigil = Vigil(client, self._probe)
         gone, restoring = asyncio.ensure_future(vigil.until_gone()), asyncio.ensure_future(self._restore(client, vigil))
         client.on_lost = lambda lost: self._lost(client, vigil, lost)
         client.on_error = lambda error: self._error(vigil, error)

@@ -50,6 +50,11 @@ class Watched(TurnClient):
         """The socket to the server. `Ended` where the client has ended."""
         return self._session().link
 
+    @property
+    def heard(self) -> int:
+        """How much has come from the server. `Ended` where the client has ended."""
+        return self._session().count
+
     def watch(self, watcher: Optional[Watcher]) -> None:
         """Has each answer of the server told."""
         if isinstance(self._phase, Session):

@@ -2,6 +2,7 @@
 from __future__ import annotations
 
 import asyncio
+import contextlib
 import errno
 import itertools
 from typing import Optional, Set
@@ -36,14 +37,15 @@ def has_address(link: Link) -> bool:
 
 
 class Vigil:
-    """Watches a client that is open, until its relayed address is gone.
+    """Watches a client that is open, until its relayed address is gone. Every `probe` seconds it checks the path, or never.
 
-    A server that was restarted answers a check of the path as before, and drops data. So after an error of the socket, or a
-    refused renewal, a permission is asked for that is of no use: only a server that knows the relayed address grants or denies it.
+    A server that was restarted answers such a check as before, and drops data; others never answer one. So after an error of the
+    socket, a refused renewal, or a check without an answer, a permission is asked for that is of no use: only a server that knows
+    the relayed address grants or denies it.
     """
 
-    def __init__(self, client: Watched) -> None:
-        self._client = client
+    def __init__(self, client: Watched, probe: Optional[float]) -> None:
+        self._client, self._every = client, probe
         self._gone: asyncio.Future[Exception] = asyncio.get_running_loop().create_future()
         self._checking: Optional[asyncio.Future[bool]] = None
         self._is_doubted = False
@@ -55,6 +57,7 @@ class Vigil:
     async def until_gone(self) -> Exception:
         """Waits until the relayed address is gone, and says why."""
         watching: Set[asyncio.Future[Exception]] = {asyncio.ensure_future(it) for it in (self._closed(), self._moved())}
+        probing = asyncio.ensure_future(self._probe(self._every)) if self._every is not None else None
         try:
             done, _ = await asyncio.wait({*watching, self._gone}, return_when=asyncio.FIRST_COMPLETED)
             return done.pop().result()
@@ -62,7 +65,7 @@ class Vigil:
             self._client.watch(None)
             if self._grace is not None:
                 self._grace.cancel()
-            for task in (*watching, self._checking):
+            for task in (*watching, self._checking, probing):
                 if task is not None:
                     task.cancel()
 
@@ -82,6 +85,15 @@ class Vigil:
         while has_address(link):
             await asyncio.sleep(LOOK)
         return Ended(f"this host has the address {link.local.host} no longer")
+
+    async def _probe(self, every: float) -> None:
+        """Checks the path, up to the end of the client."""
+        with contextlib.suppress(Ended):
+            while True:
+                await asyncio.sleep(every)
+                seen = self._client.heard
+                if not (await self._client.check()).is_answered and self._client.heard == seen:
+                    await self.is_good()
 
     # Doubts
 
