@@ -1,6 +1,7 @@
 """What ends a relay that comes back, and what does not."""
 import asyncio
 import functools
+import gc
 import hashlib
 import socket
 import traceback
@@ -180,6 +181,15 @@ class Ends(Case):
         running.cancel()  # what asyncio.run does at its end
         await asyncio.wait([running], timeout=5)
         self.assertEqual(endpoint.server.allocations, {})
+
+    async def test_one_that_nobody_has_any_more(self) -> None:
+        endpoint = await self.serve(Restarting())
+        relay = Relay(endpoint.uri, "user", "pass")
+        await relay.open()
+        with self.assertWarnsRegex(ResourceWarning, "^unclosed Relay of turn:"):
+            del relay
+            gc.collect()
+        await self.until(lambda: not endpoint.server.allocations)
 
     async def test_states(self) -> None:
         endpoint = await self.serve(Restarting(), StreamEndpoint)

@@ -2,12 +2,15 @@
 from __future__ import annotations
 
 import copy
+import functools
+import warnings
 from types import TracebackType
 from typing import Any, AsyncIterator, Awaitable, Callable, Dict, Optional, Tuple, Type, Union
 
 from .address import Address, AddressLike, checked_ip, checked_peer
 from .backoff import Backoff
 from .client import Buffer, Times
+from .counters import Counters
 from .credentials import Credentials, CredentialsLike, Text, one_source
 from .errors import AllocationFailed, ChannelFailed, Ended, PermissionFailed, because
 from .inbox import Inbox, Receiver
@@ -21,6 +24,12 @@ from .uri import TurnUri
 from .vigil import UNSURE
 
 __all__ = ["Relay"]
+
+
+def _client(counters: Counters, uri: Union[str, TurnUri], settings: Dict[str, Any], credentials: Credentials) -> Watched:
+    client = Watched(uri, credentials=credentials, **settings)
+    client.count_in(counters)
+    return client
 
 
 class Relay(Told):
@@ -59,17 +68,20 @@ class Relay(Told):
         if settings.get("sock") is not None:
             raise ValueError("a Relay makes a socket for each try, so that none is given")
         check_seconds(above_zero={"probe": probe}, from_zero={})
-        self._settings: Dict[str, Any] = {**settings, "times": times, "receiver": self._inbox.put}
         self._uri, self._waits, self._states = uri, waits, States(on_state)
-        source = one_source(user, password, credentials)
-        self._make(Credentials("", ""))  # says what is wrong with the arguments
-        tries = Tries(self._make, source, backoff, lambda client: self._revival.leave(client))
+        settings.update(times=times, receiver=self._inbox.put)
+        # Nothing of this goes back to the relay, so that one that nobody has any more is collected.
+        make = functools.partial(_client, self._notices.counters, uri, settings)
+        make(Credentials("", ""))  # says what is wrong with the arguments
+        tries = Tries(make, one_source(user, password, credentials), backoff)
         self._revival = Revival(tries, self._states, self._inbox, self._notices, probe)
 
-    def _make(self, credentials: Credentials) -> Watched:
-        client = Watched(self._uri, credentials=credentials, **self._settings)
-        client.count_in(self._notices.counters)
-        return client
+    def __del__(self) -> None:
+        revival = getattr(self, "_revival", None)
+        if revival is not None and revival.is_begun and not revival.is_over:
+            revival.abandon()
+            why = f"unclosed Relay of {self._uri}: use `async with`, or `close`"
+            warnings.warn(why, ResourceWarning, stacklevel=2, source=self)
 
     # From opening to the end
 

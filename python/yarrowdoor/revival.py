@@ -48,6 +48,11 @@ class Revival:
         await self.wait()
         self._end(None)
 
+    def abandon(self) -> None:
+        """The user has lost the relay without closing it. It may be called in any thread."""
+        if self._running is not None and not self._running.get_loop().is_closed():
+            self._running.get_loop().call_soon_threadsafe(self._running.cancel)
+
     async def wait(self) -> None:
         """Waits for the end."""
         if self._running is not None:
@@ -56,7 +61,7 @@ class Revival:
     async def _run(self) -> None:
         try:
             while True:
-                client = await self._tries.client(self._down)
+                client = await self._tries.client(self._down, self._leave)
                 try:
                     reason = await self._serve(client)
                 finally:
@@ -95,9 +100,9 @@ class Revival:
         self._wanted.update(client.kept())
         self._notices.unsent += client.unsent
         client.on_pause = None
-        self.leave(client)
+        self._leave(client)
 
-    def leave(self, client: Watched) -> None:
+    def _leave(self, client: Watched) -> None:
         """Closes a client beside what goes on, since the server may not answer."""
         self._spawn(client.close())
 

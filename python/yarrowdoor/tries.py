@@ -88,18 +88,18 @@ class Failures:
 class Tries:
     """Makes clients, and opens them."""
 
-    def __init__(self, make: Callable[[Credentials], Watched], source: CredentialsLike, backoff: Backoff,
-                 leave: Callable[[Watched], None]) -> None:
-        self._make, self._source, self._backoff, self._leave = make, source, backoff, leave
+    def __init__(self, make: Callable[[Credentials], Watched], source: CredentialsLike, backoff: Backoff) -> None:
+        self._make, self._source, self._backoff = make, source, backoff
         self.failures = Failures()
 
-    async def client(self, tell: Callable[[Exception], None]) -> Watched:
-        """A client that is open. Raises what no other try would mend; of all else it tells, and tries again."""
+    async def client(self, tell: Callable[[Exception], None], leave: Callable[[Watched], None]) -> Watched:
+        """A client that is open. Raises what no other try would mend; of all else it tells, and tries again. `leave` closes the
+        clients that are not opened in time."""
         loop, waits = asyncio.get_running_loop(), self._backoff.waits()
         while True:
             began = loop.time()
             try:
-                return await self._try()
+                return await self._try(leave)
             except Exception as error:
                 if self.failures.is_final(error):
                     raise
@@ -108,7 +108,7 @@ class Tries:
                 _log.warning("no relayed address: %s. The next try is in %.1f s", error, wait)
             await asyncio.sleep(wait)
 
-    async def _try(self) -> Watched:
+    async def _try(self, leave: Callable[[Watched], None]) -> Watched:
         client = self._make(await self._ask())
         opening = asyncio.ensure_future(client.open())
         try:
@@ -119,7 +119,7 @@ class Tries:
             return client
         except BaseException:
             opening.add_done_callback(lambda it: it.cancelled() or it.exception())  # Nobody waits for it any more.
-            self._leave(client)
+            leave(client)
             raise
 
     async def _ask(self) -> Credentials:
