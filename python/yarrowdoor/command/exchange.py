@@ -1,0 +1,331 @@
+"""A client over a wire to the server: it does what is due, and keeps what the server has said to each request.
+
+`drive` lets several of them work until something holds, in this thread, without an event loop.
+"""
+from __future__ import annotations
+
+import errno
+import logging
+import selectors
+import time
+from dataclasses import dataclass, field
+from typing import Callable, Dict, List, Optional, Sequence, Set, Tuple, Union
+
+from .. import reasons
+from ..address import Address
+from ..answers import (
+    AllocateTcpSocket, AllocationCreated, AllocationCreateFailed, ChannelCreated, ChannelCreateFailed, Ignored, PeerData,
+    PermissionCreated, PermissionCreateFailed, TcpClose, WaitUntil,
+)
+from ..client import Client, Times
+from ..errors import Refused
+from .capture import Tap
+from .challenge import Challenge
+from .credentials import Credentials
+from .reach import Way
+from .wire import Wire, connect_stream, connect_udp
+
+__all__ = ["Exchange", "Said", "drive", "leave_all", "open_exchange"]
+
+log = logging.getLogger("yarrowdoor.command")
+
+_METHODS = {
+    reasons.BINDING: "BINDING", reasons.ALLOCATE: "ALLOCATE", reasons.REFRESH: "REFRESH",
+    reasons.CREATE_PERMISSION: "CREATE_PERMISSION", reasons.CHANNEL_BIND: "CHANNEL_BIND",
+}
+# Requests are sent again after 0.25, 0.75, 1.75 s and each second from then on: who waits for an answer sets the limit.
+PATIENT = Times(initial=250_000_000, longest=1_000_000_000, last=60_000_000_000, count=60)
+# How long a signed answer may still come after an error that is unsigned, in seconds: anyone may have sent that.
+GRACE = 0.4
+# How long the server's answer to a delete is waited for, in seconds.
+_LEAVING = 1.0
+# The longest wait between two looks at the clocks of the clients, in seconds.
+_MAX_WAIT = 10.0
+# What one look at a socket takes of it, so that no sender keeps this program from all else.
+_MAX_TAKEN = 64
+
+
+@dataclass(frozen=True)
+class Said:
+    """What the server has answered to a request."""
+
+    code: int
+    """the number of an error response, or 0 for a success"""
+    phrase: str
+    is_signed: bool
+    """whether the client took it; an error that it ignores may be anyone's"""
+    at: float
+
+
+@dataclass
+class _Request:
+    method: int
+    sent: float
+    answers: List[Said] = field(default_factory=list)
+
+
+class Exchange:
+    """A client and its wire. Without credentials it ends when the server has asked for some. Times are seconds of
+    `time.monotonic`."""
+
+    def __init__(self, wire: Wire, credentials: Optional[Credentials], relay: str = "udp", family: int = 4,
+                 times: Optional[Times] = PATIENT) -> None:
+        self.wire, self.relay, self.family, self._can_sign = wire, relay, family, credentials is not None
+        named = credentials or Credentials("check", "")
+        self.client = Client(wire.local, wire.remote, named.user, named.password, transport=wire.transport,
+                             allocation=relay, families=(family,), times=times, max_stale_nonces=256, pause=5_000_000,
+                             keepalive=15_000_000_000, refresh_ahead=150_000_000_000)
+        self.begun = time.monotonic()
+        self.judged = 0.0
+        """when an unsigned error counts as the answer"""
+        self.wakeup = 0.0
+        """when there is something to do next"""
+        self.is_over = False
+        self.error: Optional[OSError] = None
+        """the last error of the socket since the server was heard"""
+        self.address: Optional[Address] = None
+        self.mapped: Optional[Address] = None
+        self.lifetime: Optional[int] = None
+        """of the relayed address at first, in seconds"""
+        self.challenge: Optional[Challenge] = None
+        self.granted: Set[Union[str, Address]] = set()
+        """IP addresses with a permission, and peers with a channel"""
+        self.failed: Set[Union[str, Address]] = set()
+        self.has_no_address = False
+        self.stale = 0
+        """how often the server has said that the nonce is stale (438)"""
+        self.on_data: Callable[[bytes, Address], None] = lambda data, peer: None
+        self._requests: Dict[bytes, _Request] = {}
+        self._frames = reasons.Frames()
+
+    # What the server has said
+
+    def last(self, method: int) -> Optional[_Request]:
+        """The last request of this method."""
+        found = [it for it in self._requests.values() if it.method == method]
+        return found[-1] if found else None
+
+    def error_of(self, method: int) -> Optional[Said]:
+        """The error that the server has answered to the last request of a method, unless that is a challenge which was answered,
+        or a success came too."""
+        request = self.last(method)
+        if request is None or not request.answers or not request.answers[-1].code:
+            return None
+        return request.answers[-1]
+
+    def round_trip(self, method: int) -> float:
+        """How long the last answered request of a method waited for its answer, in seconds."""
+        found = [it for it in self._requests.values() if it.method == method and it.answers]
+        return found[-1].answers[0].at - found[-1].sent if found else 0.0
+
+    def is_refused(self, method: int) -> bool:
+        """Whether an error has answered the last request of a method, and nothing signed has come soon after an unsigned one."""
+        said = self.error_of(method)
+        return said is not None and (said.is_signed or time.monotonic() >= said.at + GRACE)
+
+    # Requests
+
+    def permit(self, ip: str) -> None:
+        """Asks for a permission. `Refused` where there is no relayed address of its family."""
+        self.failed.discard(ip)
+        try:
+            self.client.create_permission(ip, time.monotonic_ns())
+        except Refused as refusal:
+            if refusal.reason != "already-exists":
+                raise
+
+    def bind(self, peer: Address) -> None:
+        """Asks for a channel. `Refused` as the client does it."""
+        self.failed.discard(peer)
+        self.client.bind_channel(peer, time.monotonic_ns())
+
+    def send(self, data: bytes, peer: Address) -> None:
+        """Sends data to a peer. `Refused` without a permission."""
+        self._write(self.client.send_to(peer, data, time.monotonic_ns()).data)
+
+    def leave(self) -> None:
+        """Gives the relayed address back, where there may be one. Drive it until `is_over`."""
+        try:
+            self.client.delete(time.monotonic_ns())
+        except Refused:
+            self.is_over = True
+
+    def close(self) -> None:
+        """Closes the socket, and frees the client."""
+        self.is_over = True
+        self.wire.close()
+        self.client.close()
+
+    # What is due
+
+    def work(self) -> None:
+        """Does all that is due now."""
+        while not self.is_over:
+            now = time.monotonic_ns()
+            for packet in iter(lambda: self.client.poll_transmit(now), None):
+                self._sent(packet.data)
+                self._write(packet.data)
+            self._take_events()
+            rest = self.client.poll(now)
+            if isinstance(rest, WaitUntil):
+                if rest.time > now:
+                    self.wakeup = rest.time / 1e9
+                    return
+            elif isinstance(rest, AllocateTcpSocket):
+                self.client.allocated_tcp_socket(rest, None, now)  # A peer's connection, which nobody here wants.
+            elif not isinstance(rest, TcpClose):
+                self._take_events()
+                self.is_over = True
+
+    def take(self) -> None:
+        """Takes what has come."""
+        for _ in range(_MAX_TAKEN):
+            try:
+                data = self.wire.receive()
+            except OSError as error:
+                self._fails(error)
+                return
+            if data is None or self.is_over:
+                return
+            self._take(data)
+            if not data and self.wire.is_stream:
+                self._fails(ConnectionResetError(errno.ECONNRESET, "the server closed the connection"))
+                return
+
+    def _take(self, data: bytes) -> None:
+        answer = self.client.recv(data, time.monotonic_ns())
+        if isinstance(answer, PeerData):
+            self.on_data(answer.data, answer.peer)
+            if not self.wire.is_stream or answer.start == 4 and self._frames.is_one(data, len(answer.data)):
+                return  # Nothing else is in it.
+        for packet in self._frames.messages(data) if self.wire.is_stream else (data,):
+            message = reasons.read(packet)
+            if message is not None and message.is_response:
+                self._heard(message, packet, isinstance(answer, Ignored))
+        if self.wire.is_stream:
+            for more in iter(lambda: self.client.poll_recv(time.monotonic_ns()), None):
+                self.on_data(more.data, more.peer)
+
+    def _heard(self, message: reasons.Message, packet: bytes, is_ignored: bool) -> None:
+        request = self._requests.get(message.transaction)
+        if request is None:
+            return
+        self.error, now = None, time.monotonic()
+        code, phrase = message.error or (0, "")
+        told = f"{code} {phrase}" if code else "a success"
+        log.info("%s: %s answered by %s", self.wire.local, _METHODS.get(request.method, request.method), told)
+        self.stale += code == 438
+        if self.challenge is None and code == 401 and not is_ignored:
+            self.challenge = Challenge.of(packet)
+            self.is_over = not self._can_sign
+            return  # which is no refusal: the client asks again, and signs.
+        if code == 438 and not is_ignored:
+            return
+        request.answers.append(Said(code, phrase, not is_ignored, now))
+        self.judged = now + GRACE if code and is_ignored else self.judged
+        if request.method == reasons.ALLOCATE and not code and not is_ignored:
+            self.mapped, self.lifetime = message.mapped, _seconds(reasons.attribute(packet, reasons.LIFETIME))
+
+    def _sent(self, packet: bytes) -> None:
+        message = reasons.read(packet)
+        if message is not None and message.is_request and message.transaction not in self._requests:
+            self._requests[message.transaction] = _Request(message.method, time.monotonic())
+            log.info("%s: %s sent, %d bytes", self.wire.local, _METHODS.get(message.method, message.method), len(packet))
+
+    def _write(self, data: bytes) -> None:
+        try:
+            self.wire.send(data)
+        except OSError as error:
+            self._fails(error)
+
+    def _fails(self, error: OSError) -> None:
+        """The socket has an error. One over UDP does not end it: the network may come back."""
+        log.info("%s: %s", self.wire.local, error)
+        self.error = error
+        if self.wire.is_stream:
+            self.client.protocol_error()
+            self.is_over = True
+
+    def _take_events(self) -> None:
+        for event in iter(self.client.poll_event, None):
+            log.info("%s: %s", self.wire.local, event)
+            if isinstance(event, AllocationCreated):
+                self.address = event.address
+            elif isinstance(event, AllocationCreateFailed):
+                self.has_no_address = True
+            elif isinstance(event, (PermissionCreated, PermissionCreateFailed)):
+                self._settles(event.ip, isinstance(event, PermissionCreated))
+            elif isinstance(event, (ChannelCreated, ChannelCreateFailed)):
+                self._settles(event.peer, isinstance(event, ChannelCreated))
+
+    def _settles(self, about: Union[str, Address], is_granted: bool) -> None:
+        (self.granted if is_granted else self.failed).add(about)
+        (self.failed if is_granted else self.granted).discard(about)
+
+
+def open_exchange(way: Way, credentials: Optional[Credentials], tap: Tap, seconds: float, relay: str = "udp", family: int = 4,
+                  times: Optional[Times] = PATIENT) -> Exchange:
+    """A new client over a new socket. `OSError` where there is no connection within so many seconds."""
+    door = way.door
+    if door.transport == "udp":
+        wire = connect_udp(way.host, door.port, tap)
+    else:
+        wire = connect_stream(way.host, door.port, seconds, tap, door.context, door.name)
+    try:
+        return Exchange(wire, credentials, relay, family, times)
+    except BaseException:
+        wire.close()
+        raise
+
+
+def leave_all(exchanges: Sequence[Exchange]) -> None:
+    """Gives all relayed addresses back, and closes all sockets when the server has answered, or after a second."""
+    try:
+        for exchange in exchanges:
+            if not exchange.is_over:
+                exchange.leave()
+        drive(exchanges, lambda: all(it.is_over for it in exchanges), _LEAVING)
+    finally:
+        for exchange in exchanges:
+            exchange.close()
+
+
+def _seconds(value: Optional[bytes]) -> Optional[int]:
+    return int.from_bytes(value, "big") if value is not None and len(value) == 4 else None
+
+
+def drive(exchanges: Sequence[Exchange], holds: Callable[[], bool], seconds: float,
+          others: Sequence[Tuple[int, Callable[[], None]]] = ()) -> bool:
+    """Lets exchanges work until something holds, or so many seconds are over, and says whether it holds. `others` are further
+    files to be read, each with what reads it."""
+    deadline = time.monotonic() + seconds
+    with selectors.DefaultSelector() as selector:
+        for exchange in exchanges:
+            if not exchange.is_over:
+                selector.register(exchange.wire, selectors.EVENT_READ, exchange.take)
+        for number, taker in others:
+            selector.register(number, selectors.EVENT_READ, taker)
+        while True:
+            for exchange in exchanges:
+                exchange.work()
+                if exchange.is_over and exchange.wire in selector.get_map():
+                    selector.unregister(exchange.wire)
+            now = time.monotonic()
+            if holds():
+                return True
+            if now >= deadline or not selector.get_map():
+                return False
+            for key, _ in selector.select(_wait(exchanges, deadline, now)):
+                key.data()
+            for exchange in exchanges:
+                if not exchange.is_over and exchange.wire.has_more():
+                    exchange.take()
+
+
+def _wait(exchanges: Sequence[Exchange], deadline: float, now: float) -> float:
+    """How long nothing is to be done, unless something comes, in seconds."""
+    open_ones = [it for it in exchanges if not it.is_over]
+    if any(it.wire.has_more() for it in open_ones):
+        return 0.0
+    judged = [it.judged for it in open_ones if it.judged > now]
+    return max(0.0, min([deadline, now + _MAX_WAIT, *judged, *(it.wakeup for it in open_ones)]) - now)

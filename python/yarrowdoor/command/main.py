@@ -1,0 +1,104 @@
+"""The entry of the command: options in, exit status out."""
+from __future__ import annotations
+
+import argparse
+import contextlib
+import json
+import logging
+import os
+import ssl as tls
+import sys
+from typing import Iterator, List, Optional
+
+from ..errors import LibraryError, Refused
+from ..library import load
+from .arguments import parser
+from .bench import bench
+from .capture import Capture, NoCapture, Tap
+from .check import Plan, check
+from .credentials import Credentials, NoCredentials, resolve
+from .echo import echo
+from .output import JsonOutput, TextOutput
+from .pair import CannotRelay, Server
+from .relay import relay
+from .steps import status_of
+
+__all__ = ["main"]
+
+_FAILS, _CANNOT, _INTERRUPTED = 1, 2, 130
+
+
+def main(words: Optional[List[str]] = None) -> int:
+    """Runs the command with these words, by default those of the process, and gives its exit status."""
+    options = parser().parse_args(words)
+    if options.verbose:
+        logging.basicConfig(stream=sys.stderr, level=logging.INFO, format="%(relativeCreated)8.1f ms  %(message)s")
+    try:
+        load()
+        credentials = resolve(options.user, options.password_file, options.secret_file)
+        context = _context(options.ca)
+        with _tap(options.pcap) as tap:
+            return _run(options, credentials, context, tap)
+    except (LibraryError, NoCredentials, OSError, ValueError) as error:
+        return _tell(options, str(error), _CANNOT)
+    except CannotRelay as error:
+        return _tell(options, str(error), status_of([error.step]))
+    except Refused as refusal:
+        return _tell(options, f"the server no longer lets packets through ({refusal})", _FAILS)
+    except BrokenPipeError:
+        _discard_output()
+        return _FAILS
+    except KeyboardInterrupt:
+        return _INTERRUPTED
+
+
+def _run(options: argparse.Namespace, credentials: Optional[Credentials], context: Optional[tls.SSLContext], tap: Tap) -> int:
+    if options.command == "check":
+        output = JsonOutput(sys.stdout, str(options.uri)) if options.json else TextOutput(sys.stdout)
+        plan = Plan(options.uri, credentials, context, options.family, options.timeout, options.nonce, options.quota)
+        check(plan, output, tap)
+        return output.end()
+    if credentials is None:
+        raise NoCredentials("there are no credentials: name a user by --user NAME")
+    server = Server(options.uri, credentials, context, options.family, options.timeout, tap)
+    if options.command == "relay":
+        return relay(server, options.listen, options.peer, sys.stdout)
+    if options.command == "echo":
+        return echo(server, options.peer, options.count, options.size, options.pause, options.channel, options.json, sys.stdout,
+                    sys.stderr)
+    return bench(server, options.peer, options.seconds, options.size, options.rate, options.channel, options.json, sys.stdout,
+                 sys.stderr)
+
+
+def _context(authority: Optional[str]) -> Optional[tls.SSLContext]:
+    """The context of TLS. `ValueError` where the authority is no certificate, and `OSError` where it cannot be read."""
+    if authority is None:
+        return None
+    try:
+        return tls.create_default_context(cafile=authority)
+    except tls.SSLError as error:
+        raise ValueError(f"{authority} has no certificate in PEM: {error.reason}") from None
+    except OSError as error:
+        raise ValueError(f"{authority}: {error.strerror}") from None
+
+
+@contextlib.contextmanager
+def _tap(path: Optional[str]) -> Iterator[Tap]:
+    if path is None:
+        yield NoCapture()
+        return
+    with open(path, "wb") as file, Capture(file) as capture:
+        yield capture
+
+
+def _tell(options: argparse.Namespace, why: str, status: int) -> int:
+    if options.json:
+        print(json.dumps({"uri": str(options.uri), "status": status, "error": why}))
+    else:
+        print(f"yarrowdoor: {why}", file=sys.stderr)
+    return status
+
+
+def _discard_output() -> None:
+    """Nobody reads the output any more: what is left of it goes nowhere, also at the interpreter's end."""
+    os.dup2(os.open(os.devnull, os.O_WRONLY), sys.stdout.fileno())

@@ -1,0 +1,102 @@
+"""What is printed: a line for each step, in colour on a terminal, or one object of JSON; and a bar while something lasts."""
+from __future__ import annotations
+
+import json
+import os
+import sys
+import textwrap
+from typing import List, TextIO
+
+from .steps import Outcome, Step, status_of
+
+__all__ = ["Bar", "JsonOutput", "Output", "TextOutput"]
+
+_COLOURS = {Outcome.OK: "32", Outcome.NOTE: "33", Outcome.FAILED: "31", Outcome.UNTRIED: "35"}
+_BAR = 30
+
+
+class Bar:
+    """How far something is, on a terminal alone. It is gone when it is done."""
+
+    def __init__(self, file: TextIO, is_shown: bool, what: str, count: int) -> None:
+        self._file, self._what, self._count = file, what, max(1, count)
+        self._is_shown = is_shown and file.isatty()
+
+    def __call__(self, done: int) -> None:
+        """So much is done."""
+        if self._is_shown:
+            full = _BAR * min(done, self._count) // self._count
+            self._file.write(f"\r{self._what:<11} [{'#' * full}{' ' * (_BAR - full)}] {done}/{self._count}")
+            self.end() if done >= self._count else self._file.flush()
+
+    def end(self) -> None:
+        """Takes the bar away."""
+        if self._is_shown:
+            self._file.write(f"\r{' ' * (_BAR + 30)}\r")
+            self._file.flush()
+
+
+class Output:
+    """Takes the steps as they come."""
+
+    def __init__(self, file: TextIO) -> None:
+        self._file, self.steps = file, []  # type: TextIO, List[Step]
+
+    def add(self, step: Step) -> None:
+        """A step is done."""
+        self.steps.append(step)
+
+    def end(self) -> int:
+        """Nothing more comes: gives the exit status."""
+        return status_of(self.steps)
+
+    def bar(self, what: str, count: int) -> Bar:
+        """Shows how far something is."""
+        return Bar(sys.stderr, False, what, count)
+
+
+class TextOutput(Output):
+    """A line for each step, and indented below it what is to be done."""
+
+    def __init__(self, file: TextIO) -> None:
+        super().__init__(file)
+        self._is_terminal = file.isatty()
+        self._has_colour = self._is_terminal and "NO_COLOR" not in os.environ and os.environ.get("TERM") != "dumb"
+
+    def add(self, step: Step) -> None:
+        super().add(step)
+        word = f"{step.outcome.value:<7}"
+        if self._has_colour:
+            word = f"\033[{_COLOURS[step.outcome]}m{word}\033[0m"
+        print(f"{step.name:<11} {word} {step.seconds * 1e3:7.0f} ms  {step.said}", file=self._file)
+        if step.advice:
+            print(textwrap.fill(step.advice, 110, initial_indent=" " * 12, subsequent_indent=" " * 12, break_long_words=False,
+                                break_on_hyphens=False), file=self._file)
+        self._file.flush()
+
+    def end(self) -> int:
+        failed = [it.name for it in self.steps if it.outcome is Outcome.FAILED]
+        status = super().end()
+        if failed:
+            print(f"\nfails: {', '.join(failed)}", file=self._file)
+        else:
+            print("\nall is well" if status == 0 else "\ncannot be tried from here", file=self._file)
+        return status
+
+    def bar(self, what: str, count: int) -> Bar:
+        return Bar(sys.stderr, self._is_terminal, what, count)
+
+
+class JsonOutput(Output):
+    """One object, when all is done: `status`, and `steps` with `name`, `outcome`, `seconds`, `said`, `advice` and `facts`."""
+
+    def __init__(self, file: TextIO, uri: str) -> None:
+        super().__init__(file)
+        self._uri = uri
+
+    def end(self) -> int:
+        status = super().end()
+        steps = [{"name": it.name, "outcome": it.outcome.value, "seconds": round(it.seconds, 6), "said": it.said,
+                  "advice": it.advice, "facts": it.facts} for it in self.steps]
+        print(json.dumps({"uri": self._uri, "status": status, "steps": steps}, indent=2), file=self._file)
+        return status

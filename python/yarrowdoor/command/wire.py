@@ -1,0 +1,122 @@
+"""One socket to the server, which does not block: bytes out, bytes in, and each of both into a capture."""
+from __future__ import annotations
+
+import contextlib
+import select
+import socket
+import ssl as tls
+import time
+from typing import Any, Dict, Optional, Union
+
+from ..address import SocketAddress, of_socket
+from .capture import Tap
+
+__all__ = ["SocketError", "Wire", "connect_stream", "connect_udp"]
+
+# More than any datagram has, and any message of TURN.
+_MOST = 70_000
+# How long a stream may take no byte before it is given up, in seconds.
+_FULL = 2.0
+
+# What a socket, or TLS over it, raises: `ssl.SSLError` and `TimeoutError` are of it.
+SocketError = OSError
+
+
+class Wire:
+    """A socket to the server. `send` and `receive` raise `SocketError` where it refuses, and where a stream is broken."""
+
+    def __init__(self, sock: Union[socket.socket, tls.SSLSocket], tap: Tap) -> None:
+        sock.setblocking(False)
+        self._socket, self._tap = sock, tap
+        self.is_stream = sock.type == socket.SOCK_STREAM
+        self.local: SocketAddress = of_socket(sock.getsockname())
+        self.remote: SocketAddress = of_socket(sock.getpeername())
+        self.unsent = 0
+        """How many datagrams were dropped, since the socket was full."""
+        if self.is_stream:
+            tap.opened(self.local, self.remote, time.time())
+
+    @property
+    def transport(self) -> str:
+        """`"udp"` or `"tcp"`, as the client has it: TLS is over TCP."""
+        return "tcp" if self.is_stream else "udp"
+
+    def fileno(self) -> int:
+        """What `select` waits for."""
+        return self._socket.fileno()
+
+    def has_more(self) -> bool:
+        """Whether TLS holds bytes of which `select` does not know."""
+        return isinstance(self._socket, tls.SSLSocket) and self._socket.pending() > 0
+
+    def certificate(self) -> Optional[Dict[str, Any]]:
+        """The server's certificate, over TLS, as `ssl` gives it."""
+        return self._socket.getpeercert() if isinstance(self._socket, tls.SSLSocket) else None
+
+    def send(self, data: bytes) -> None:
+        """Sends a datagram, or drops it where the socket is full; of a stream it sends all, or raises `TimeoutError`."""
+        if not self.is_stream:
+            try:
+                self._socket.send(data)
+            except BlockingIOError:
+                self.unsent += 1
+                return
+            self._tap.datagram(self.local, self.remote, data, time.time())
+            return
+        self._tap.piece(self.local, self.remote, data, time.time())
+        deadline, rest = time.monotonic() + _FULL, memoryview(data)
+        while rest:
+            try:
+                rest = rest[self._socket.send(rest):]
+            except (BlockingIOError, tls.SSLWantWriteError, tls.SSLWantReadError):
+                if time.monotonic() > deadline:
+                    raise TimeoutError("the server reads nothing of the connection any more") from None
+                select.select([], [self._socket], [], 0.05)
+
+    def receive(self) -> Optional[bytes]:
+        """A datagram, or a piece of the stream; nothing at the end of a stream, and None where there is nothing now."""
+        try:
+            data = self._socket.recv(_MOST)
+        except (BlockingIOError, tls.SSLWantReadError, tls.SSLWantWriteError):
+            return None
+        except tls.SSLZeroReturnError:
+            data = b""
+        if not self.is_stream:
+            self._tap.datagram(self.remote, self.local, data, time.time())
+        elif data:
+            self._tap.piece(self.remote, self.local, data, time.time())
+        else:
+            self._tap.ended(self.remote, self.local, time.time())
+        return data
+
+    def close(self) -> None:
+        """Closes the socket."""
+        if self.is_stream and self._socket.fileno() >= 0:
+            self._tap.ended(self.local, self.remote, time.time())
+        with contextlib.suppress(OSError):
+            self._socket.close()
+
+
+def connect_udp(host: str, port: int, tap: Tap) -> Wire:
+    """A socket over UDP to an IP address. `OSError` where there is no way to it."""
+    family, kind, protocol, _, where = socket.getaddrinfo(host, port, type=socket.SOCK_DGRAM, flags=socket.AI_NUMERICHOST)[0]
+    sock = socket.socket(family, kind, protocol)
+    try:
+        sock.connect(where)
+        return Wire(sock, tap)
+    except BaseException:
+        sock.close()
+        raise
+
+
+def connect_stream(host: str, port: int, seconds: float, tap: Tap, context: Optional[tls.SSLContext] = None,
+                   name: str = "") -> Wire:
+    """A connection over TCP to an IP address, or with a context over TLS to a server of this name, within so many seconds.
+    `OSError` where there is none: `ssl.SSLCertVerificationError` where the certificate is the reason."""
+    sock = socket.create_connection((host, port), seconds)
+    try:
+        sock.setsockopt(socket.IPPROTO_TCP, socket.TCP_NODELAY, 1)
+        return Wire(sock if context is None else context.wrap_socket(sock, server_hostname=name), tap)
+    except BaseException:
+        sock.close()
+        raise
