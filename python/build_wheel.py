@@ -125,8 +125,14 @@ def check_processor(proof: str) -> None:
 
 def sources() -> Dict[str, bytes]:
     """The files of the package, by their names in it."""
-    return {f"yarrowdoor/{it.name}": it.read_bytes() for it in sorted((HERE / "yarrowdoor").iterdir())
+    return {it.relative_to(HERE).as_posix(): it.read_bytes() for it in sorted((HERE / "yarrowdoor").rglob("*"))
             if it.suffix == ".py" or it.name == "py.typed"}
+
+
+def entry_points() -> bytes:
+    """The commands of the package, as installers read them: the section `[project.scripts]` of pyproject.toml."""
+    found = re.search(r"^\[project\.scripts\]\n((?:.+\n)+)", (HERE / "pyproject.toml").read_text(), re.M)
+    return f"[console_scripts]\n{found[1]}".replace('"', "").encode() if found is not None else b""
 
 
 def licence() -> bytes:
@@ -159,6 +165,7 @@ def write_wheel(directory: str, version: str, tag: str, found: Dict[str, bytes])
     tags = "".join(f"Tag: py3-none-{it}\n" for it in tag.split("."))
     found[f"{info}/METADATA"] = metadata(version)
     found[f"{info}/LICENSE"] = licence()
+    found[f"{info}/entry_points.txt"] = entry_points()
     is_pure = "true" if tag == "any" else "false"
     found[f"{info}/WHEEL"] = f"Wheel-Version: 1.0\nGenerator: build_wheel\nRoot-Is-Purelib: {is_pure}\n{tags}".encode()
     record = "".join(f"{name},sha256={sum_of(data)},{len(data)}\n" for name, data in found.items())
