@@ -8,8 +8,12 @@ from typing import Optional
 from .credentials import Credentials, rest_expiry
 from .exchange import Said
 
-__all__ = ["about_address", "about_credentials", "about_family", "about_peer", "about_refusal", "about_streams", "same_network"]
+__all__ = [
+    "QUOTAS", "about_address", "about_credentials", "about_family", "about_peer", "about_refusal", "about_streams", "same_network",
+]
 
+# The errors of a limit: of a user, and of the server.
+QUOTAS = (486, 508)
 _BLOCKS = tuple(ipaddress.ip_network(it) for it in ("127.0.0.0/8", "10.0.0.0/8", "172.16.0.0/12", "192.168.0.0/16", "100.64.0.0/10",
                                                     "169.254.0.0/16", "::1/128", "fc00::/7", "fe80::/10"))
 
@@ -21,9 +25,9 @@ def about_credentials(credentials: Credentials, realm: str, said: Optional[Said]
         return (f"The user {credentials.user} has expired {_ago(now - expiry)} ago, on {_moment(expiry)}: fetch new credentials. "
                 "If they were made just now, the clock of the host that makes them, or of this one, is off.")
     if expiry is not None:
-        return (f"The realm {realm!r} refuses the user {credentials.user}, which expires on {_moment(expiry)} only: the secret "
-                "that made the password is not the server's (static-auth-secret), the server has no use-auth-secret, or its clock "
-                "is ahead.")
+        return (f"The user {credentials.user} is good until {_moment(expiry)}, and the realm {realm!r} refuses it: the secret that "
+                "made the password is not the server's (static-auth-secret), the server has no use-auth-secret, or its clock is "
+                "ahead.")
     hint = ""
     if said is not None and said.code == 400:
         hint = " This server says 400 for a wrong user or password, as pion does."
@@ -75,16 +79,18 @@ def same_network(one: str, other: str) -> bool:
 
 def about_family(family: int, said: Optional[Said]) -> str:
     """Why there is no relayed address of a family."""
-    told = f"({said.code} {said.phrase})".replace(" )", ")") if said is not None and said.code else "(without an error)"
+    if said is not None and said.code in QUOTAS:
+        return f"It was not tried whether the server has IPv{family} relayed addresses, since its limit is met."
+    told = _told(said) if said is None or said.code else "(it granted one of the other family)"
     return (f"The server gives no IPv{family} relayed address {told}: peers that have IPv{family} alone are not reached. It needs "
-            f"one of its own (coturn: another relay-ip=, and listening-ip=).")
+            "one of its own (coturn: another relay-ip=, and listening-ip=).")
 
 
 def about_peer(ip: str, said: Optional[Said]) -> str:
     """Why the server lets a peer's address not send."""
     if said is None:
         return f"The server has answered nothing to the permission for {ip}."
-    told = f"({said.code} {said.phrase})".replace(" )", ")") if said.code else "(an error without a code)"
+    told = _told(said) if said.code else "(an error without a code)"
     where = ipaddress.ip_address(ip)
     if where.is_loopback:
         return (f"The server refuses {ip} as a peer {told}: it forbids loopback addresses, as it should where others use it. So "
@@ -99,9 +105,15 @@ def about_peer(ip: str, said: Optional[Said]) -> str:
 
 def about_streams(said: Optional[Said]) -> str:
     """Why there is no relayed address for streams (RFC 6062)."""
-    told = f"({said.code} {said.phrase})".replace(" )", ")") if said is not None and said.code else "(without an answer)"
-    return (f"The server relays no TCP {told}, so that peers are not reached by streams (RFC 6062): pion and ejabberd's library "
-            "never do, coturn does without no-tcp-relay. Calls over UDP need it not.")
+    if said is not None and said.code in QUOTAS:
+        return "It was not tried whether the server relays TCP, since its limit is met."
+    return (f"The server relays no TCP {_told(said)}, so that peers are not reached by streams (RFC 6062): pion and ejabberd's "
+            "library never do, coturn does without no-tcp-relay. Calls over UDP need it not.")
+
+
+def _told(said: Optional[Said]) -> str:
+    """What the server has said, in brackets."""
+    return f"({said.code} {said.phrase})".replace(" )", ")") if said is not None and said.code else "(without an answer)"
 
 
 def _moment(seconds: float) -> str:

@@ -40,8 +40,8 @@ def parser() -> argparse.ArgumentParser:
     _check(add("check", "try all that a server does, and say what is wrong",
                "Tries all that a server does, a line for each, and says what is wrong and what to do."))
     _echo(add("echo", "send packets that come back, and count",
-              "Sends packets by a relayed address to a peer that sends them back, or to a second relayed address, and tells how many "
-              "came back, and how soon."))
+              "Sends packets by a relayed address to a peer that sends them back, or to a second relayed address, and tells how "
+              "many came back, and how soon."))
     _relay(add("relay", "a local UDP port that sends from the relayed address",
                "Packets to a local UDP port leave from the relayed address to a peer. What the peer sends goes to the program that "
                "has sent last."))

@@ -114,6 +114,8 @@ class _Relaying:
         yield messages
         step = grant_step((first, second), (other, one), self._seconds)
         yield step
+        if messages.facts.get("received") == 0:
+            return  # Nothing comes back, whatever the way.
         if step.outcome is Outcome.OK:
             yield echo_step(trip, "channels", COUNT, SIZE, PAUSE, self._output.bar("channels", COUNT))
         if messages.outcome is Outcome.OK:

@@ -116,12 +116,13 @@ def _closed(door: Door, heard: Heard, ways: Dict[str, Optional[Way]]) -> str:
     if door.transport == "udp" and ways.get("tcp") is not None and heard.verdict in (Verdict.SILENT, Verdict.REFUSED):
         return (f"UDP to {where} is blocked, and TCP is open: a firewall drops UDP, or the server has no-udp. Open UDP {door.port} "
                 f"and the relay ports (coturn: 49152-65535). Until then use {_over_tcp(door)}; the rest of this check does.")
+    layer = "UDP" if door.transport == "udp" else "TCP"
     if heard.verdict is Verdict.REFUSED:
-        return (f"Nothing listens at {where} over {door.transport.upper()}: is the server started, and is this its port "
-                "(coturn: listening-port=, listening-ip=)?")
+        return (f"Nothing listens at {where} over {layer}: is the server started, and is this its port (coturn: listening-port=, "
+                "listening-ip=)?")
     if heard.verdict is Verdict.SILENT:
         return (f"Nothing comes back from {where}: the host is down, has another address, or a firewall on the way drops what is "
-                f"sent to {door.transport.upper()} {door.port}.")
+                f"sent to {layer} {door.port}.")
     if heard.verdict is Verdict.UNREACHABLE:
         return f"There is no way from here to {heard.host} ({heard.error}): look at this host's network first."
     if heard.verdict is Verdict.NO_TLS:

@@ -76,7 +76,7 @@ def quota_step(make: Callable[[], Exchange], most: int, held: int, seconds: floa
 
 def _refused(exchange: Exchange, granted: int, spent: float) -> Step:
     said = exchange.error_of(reasons.ALLOCATE)
-    if said is not None and said.code in (486, 508):
+    if said is not None and said.code in advice.QUOTAS:
         whose = "of this user (coturn: user-quota=)" if said.code == 486 else "of the server (coturn: total-quota=, max-port=)"
         told = f"{granted} addresses at one time; the next one is refused: {said.code} {said.phrase}"
         limit = f"That is a limit {whose}: each call takes one address or two for each party."

@@ -6,6 +6,7 @@ import contextlib
 import json
 import logging
 import os
+import signal
 import ssl as tls
 import sys
 from typing import Iterator, List, Optional
@@ -33,21 +34,23 @@ def main(words: Optional[List[str]] = None) -> int:
     options = parser().parse_args(words)
     if options.verbose:
         logging.basicConfig(stream=sys.stderr, level=logging.INFO, format="%(relativeCreated)8.1f ms  %(message)s")
+    with contextlib.suppress(ValueError):  # In another thread than the first one there are no signals.
+        signal.signal(signal.SIGTERM, signal.default_int_handler)  # so that what the server has granted is given back
     try:
         load()
         credentials = resolve(options.user, options.password_file, options.secret_file)
         context = _context(options.ca)
         with _tap(options.pcap) as tap:
             return _run(options, credentials, context, tap)
+    except BrokenPipeError:
+        _discard_output()
+        return _FAILS
     except (LibraryError, NoCredentials, OSError, ValueError) as error:
         return _tell(options, str(error), _CANNOT)
     except CannotRelay as error:
         return _tell(options, str(error), status_of([error.step]))
     except Refused as refusal:
         return _tell(options, f"the server no longer lets packets through ({refusal})", _FAILS)
-    except BrokenPipeError:
-        _discard_output()
-        return _FAILS
     except KeyboardInterrupt:
         return _INTERRUPTED
 

@@ -54,7 +54,11 @@ def find_way(server: Server) -> Way:
 
 def open_relay(server: Server, way: Way, opened: List[Exchange], family: int = 4, times: Optional[Times] = PATIENT) -> Address:
     """Gets a relayed address, by an exchange that is added to `opened`. `CannotRelay` where the server gives none."""
-    exchange = open_exchange(way, server.credentials, server.tap, server.seconds, "udp", family, times)
+    try:
+        exchange = open_exchange(way, server.credentials, server.tap, server.seconds, "udp", family, times)
+    except OSError as error:
+        told = "The server answered before, and takes no further connection: see its log."
+        raise CannotRelay(Step("connection", Outcome.FAILED, str(error), 0.0, told)) from error
     opened.append(exchange)
     step = allocation_step(exchange, server.credentials, server.seconds)
     if exchange.address is None:

@@ -21,7 +21,7 @@ from ..client import Client
 from ..servers import interleaved
 from .capture import Tap
 from .certificate import Certificate, of_peer, read_refused
-from .wire import Wire, connect_stream, connect_udp
+from .wire import SilentHandshake, Wire, connect_stream, connect_udp
 
 __all__ = ["Door", "Heard", "Verdict", "Way", "knock", "lookup"]
 
@@ -137,6 +137,8 @@ def _not_connected(door: Door, host: str, seconds: float, begun: float, error: O
         verdict = Verdict.NO_TLS
     elif isinstance(error, ConnectionRefusedError):
         verdict = Verdict.REFUSED
+    elif isinstance(error, SilentHandshake):
+        verdict = Verdict.MUTE
     elif isinstance(error, TimeoutError) or error.errno in (errno.ETIMEDOUT, None):
         verdict = Verdict.SILENT
     else:

@@ -32,7 +32,7 @@ def challenge_step(exchange: Exchange, seconds: float) -> Step:
     request = exchange.last(reasons.ALLOCATE)
     if said is not None:
         refusal = advice.about_refusal(said, Credentials("", ""), "")
-        return Step("challenge", Outcome.FAILED, f"{said.code} {said.phrase}".strip(), spent, refusal)
+        return Step("challenge", Outcome.FAILED, f"refused: {said.code} {said.phrase}".strip(), spent, refusal)
     if request is not None and request.answers:
         return Step("challenge", Outcome.FAILED, "an address is granted to anyone", spent,
                     "The server asks for no credentials, so that anyone may send through it, and this client takes nothing that "
@@ -73,7 +73,7 @@ def _refused(exchange: Exchange, credentials: Credentials, realm: str, spent: fl
     said = exchange.error_of(reasons.ALLOCATE)
     if said is not None:
         told = advice.about_refusal(said, credentials, realm)
-        return Step("allocation", Outcome.FAILED, f"{said.code} {said.phrase}".strip(), spent, told, {"code": said.code})
+        return Step("allocation", Outcome.FAILED, f"refused: {said.code} {said.phrase}".strip(), spent, told, {"code": said.code})
     if exchange.error is not None:
         return Step("allocation", Outcome.FAILED, str(exchange.error), spent, "The connection to the server broke: see its log.")
     return Step("allocation", Outcome.FAILED, "no answer to the signed request", spent,
@@ -101,7 +101,7 @@ def permission_step(exchanges: Sequence[Exchange], addresses: Sequence[Address],
     if failed is None:
         return Step("permission", Outcome.OK, f"for {addresses[0].host}", spent)
     said = failed.error_of(reasons.CREATE_PERMISSION)
-    told = f"{said.code} {said.phrase}".strip() if said is not None else "no answer"
+    told = f"refused: {said.code or ''} {said.phrase}".strip(" :") if said is not None else "no answer"
     return Step("permission", Outcome.FAILED, told, spent, advice.about_peer(addresses[0].host, said))
 
 
@@ -112,7 +112,7 @@ def grant_step(exchanges: Sequence[Exchange], addresses: Sequence[Address], seco
     if failed is None:
         return Step("channel", Outcome.OK, f"to {addresses[0]}", spent)
     said = failed.error_of(reasons.CHANNEL_BIND)
-    told = f"{said.code} {said.phrase}".strip() if said is not None else "no answer"
+    told = f"refused: {said.code or ''} {said.phrase}".strip(" :") if said is not None else "no answer"
     return Step("channel", Outcome.FAILED, told, spent, "The server grants permissions, and no channels: see its log. Data goes by "
                 "messages of 36 bytes of header then, in place of 4.")
 

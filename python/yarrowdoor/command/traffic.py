@@ -147,7 +147,7 @@ def payload_step(trip: Trip, most: int, wait: float) -> Step:
         sizes = [passed + step * it for it in range(1, _ROUND + 1)] if failed - passed > _NEAR and step else \
             [*range(passed + 1, failed)] if failed - passed > _NEAR else []
     spent, facts = time.monotonic() - begun, {"bytes": passed}  # type: float, Facts
-    said = f"{passed:,} bytes pass" + (f", and {failed:,} do not" if failed <= most else "")
+    said = f"{passed:,} bytes pass" + (f", and {failed:,} do not" if failed <= most else "; longer ones were not tried")
     if passed >= _USUAL:
         return Step("payload", Outcome.OK, said, spent, "", facts)
     return Step("payload", Outcome.FAILED, said, spent,

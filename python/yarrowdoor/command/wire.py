@@ -11,19 +11,20 @@ from typing import Any, Dict, Optional, Union
 from ..address import SocketAddress, of_socket
 from .capture import Tap
 
-__all__ = ["SocketError", "Wire", "connect_stream", "connect_udp"]
+__all__ = ["SilentHandshake", "Wire", "connect_stream", "connect_udp"]
 
 # More than any datagram has, and any message of TURN.
 _MOST = 70_000
 # How long a stream may take no byte before it is given up, in seconds.
 _FULL = 2.0
 
-# What a socket, or TLS over it, raises: `ssl.SSLError` and `TimeoutError` are of it.
-SocketError = OSError
+
+class SilentHandshake(TimeoutError):
+    """The connection was accepted, and nothing answers to the beginning of TLS."""
 
 
 class Wire:
-    """A socket to the server. `send` and `receive` raise `SocketError` where it refuses, and where a stream is broken."""
+    """A socket to the server. `send` and `receive` raise `OSError` where it refuses, and where a stream is broken."""
 
     def __init__(self, sock: Union[socket.socket, tls.SSLSocket], tap: Tap) -> None:
         sock.setblocking(False)
@@ -112,11 +113,14 @@ def connect_udp(host: str, port: int, tap: Tap) -> Wire:
 def connect_stream(host: str, port: int, seconds: float, tap: Tap, context: Optional[tls.SSLContext] = None,
                    name: str = "") -> Wire:
     """A connection over TCP to an IP address, or with a context over TLS to a server of this name, within so many seconds.
-    `OSError` where there is none: `ssl.SSLCertVerificationError` where the certificate is the reason."""
+    `OSError` where there is none: `ssl.SSLCertVerificationError` where the certificate is the reason, and `SilentHandshake`."""
     sock = socket.create_connection((host, port), seconds)
     try:
         sock.setsockopt(socket.IPPROTO_TCP, socket.TCP_NODELAY, 1)
         return Wire(sock if context is None else context.wrap_socket(sock, server_hostname=name), tap)
+    except socket.timeout as error:
+        sock.close()
+        raise SilentHandshake(str(error)) from None
     except BaseException:
         sock.close()
         raise
