@@ -8,6 +8,8 @@ import time
 from dataclasses import dataclass
 from typing import Any, Dict, List, Optional, Tuple
 
+from .steps import printable
+
 __all__ = ["Certificate", "explain", "of_peer", "read_refused"]
 
 # Flags of OpenSSL: a certificate that is trusted itself needs no issuer, and one that is out of date can be read.
@@ -40,7 +42,8 @@ def of_peer(found: Dict[str, Any], is_for_name: bool = True) -> Certificate:
     common = tuple(value for part in found.get("subject", ()) for name, value in part if name == "commonName")
     issuer = [value for part in found.get("issuer", ()) for name, value in part if name in ("organizationName", "commonName")]
     begins, ends = (tls.cert_time_to_seconds(found[it]) for it in ("notBefore", "notAfter"))
-    return Certificate(names or common, " ".join(issuer[-2:]), begins, ends, is_for_name)
+    shown = tuple(printable(it) for it in names or common)
+    return Certificate(shown, printable(" ".join(issuer[-2:])), begins, ends, is_for_name)
 
 
 def read_refused(host: str, port: int, name: str, seconds: float) -> Optional[Certificate]:

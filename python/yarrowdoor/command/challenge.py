@@ -8,6 +8,7 @@ from dataclasses import dataclass
 from typing import List, Optional, Tuple
 
 from .. import reasons
+from .steps import printable
 
 __all__ = ["Challenge"]
 
@@ -37,7 +38,7 @@ class Challenge:
         """What an error response says."""
         realm, nonce, software = (reasons.attribute(packet, it) or b"" for it in (_REALM, _NONCE, _SOFTWARE))
         algorithms = reasons.attribute(packet, _ALGORITHMS)
-        return Challenge(_printable(realm), _algorithms(algorithms), bool(_features(nonce) & 1 << 22), _printable(software), nonce)
+        return Challenge(_text(realm), _algorithms(algorithms), bool(_features(nonce) & 1 << 22), _text(software), nonce)
 
 
 def _algorithms(value: Optional[bytes]) -> Tuple[str, ...]:
@@ -61,6 +62,5 @@ def _features(nonce: bytes) -> int:
         return 0
 
 
-def _printable(text: bytes) -> str:
-    """Text of the server, without what cannot be printed."""
-    return "".join(it for it in text.decode(errors="replace") if it.isprintable()).strip()
+def _text(value: bytes) -> str:
+    return printable(value.decode(errors="replace"))

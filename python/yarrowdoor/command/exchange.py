@@ -18,6 +18,7 @@ from ..answers import (
     PermissionCreated, PermissionCreateFailed, TcpClose, WaitUntil,
 )
 from ..client import Client, Times
+from ..clock import Clock
 from ..errors import Refused
 from .capture import Tap
 from .challenge import Challenge
@@ -75,6 +76,7 @@ class Exchange:
         self.client = Client(wire.local, wire.remote, named.user, named.password, transport=wire.transport,
                              allocation=relay, families=(family,), times=times, max_stale_nonces=256, pause=5_000_000,
                              keepalive=15_000_000_000, refresh_ahead=150_000_000_000)
+        self._clock = Clock()
         self.begun = time.monotonic()
         self.judged = 0.0
         """when an unsigned error counts as the answer"""
@@ -129,7 +131,7 @@ class Exchange:
         """Asks for a permission. `Refused` where there is no relayed address of its family."""
         self.failed.discard(ip)
         try:
-            self.client.create_permission(ip, time.monotonic_ns())
+            self.client.create_permission(ip, self._clock.now())
         except Refused as refusal:
             if refusal.reason != "already-exists":
                 raise
@@ -137,16 +139,16 @@ class Exchange:
     def bind(self, peer: Address) -> None:
         """Asks for a channel. `Refused` as the client does it."""
         self.failed.discard(peer)
-        self.client.bind_channel(peer, time.monotonic_ns())
+        self.client.bind_channel(peer, self._clock.now())
 
     def send(self, data: bytes, peer: Address) -> None:
         """Sends data to a peer. `Refused` without a permission."""
-        self._write(self.client.send_to(peer, data, time.monotonic_ns()).data)
+        self._write(self.client.send_to(peer, data, self._clock.now()).data)
 
     def leave(self) -> None:
         """Gives the relayed address back, where there may be one. Drive it until `is_over`."""
         try:
-            self.client.delete(time.monotonic_ns())
+            self.client.delete(self._clock.now())
         except Refused:
             self.is_over = True
 
@@ -161,7 +163,7 @@ class Exchange:
     def work(self) -> None:
         """Does all that is due now."""
         while not self.is_over:
-            now = time.monotonic_ns()
+            now = self._clock.now()
             for packet in iter(lambda: self.client.poll_transmit(now), None):
                 self._sent(packet.data)
                 self._write(packet.data)
@@ -169,7 +171,7 @@ class Exchange:
             rest = self.client.poll(now)
             if isinstance(rest, WaitUntil):
                 if rest.time > now:
-                    self.wakeup = rest.time / 1e9
+                    self.wakeup = time.monotonic() + self._clock.seconds(rest.time)
                     return
             elif isinstance(rest, AllocateTcpSocket):
                 self.client.allocated_tcp_socket(rest, None, now)  # A peer's connection, which nobody here wants.
@@ -193,7 +195,7 @@ class Exchange:
                 return
 
     def _take(self, data: bytes) -> None:
-        answer = self.client.recv(data, time.monotonic_ns())
+        answer = self.client.recv(data, self._clock.now())
         if isinstance(answer, PeerData):
             self.on_data(answer.data, answer.peer)
             if not self.wire.is_stream or answer.start == 4 and self._frames.is_one(data, len(answer.data)):
@@ -203,7 +205,7 @@ class Exchange:
             if message is not None and message.is_response:
                 self._heard(message, packet, isinstance(answer, Ignored))
         if self.wire.is_stream:
-            for more in iter(lambda: self.client.poll_recv(time.monotonic_ns()), None):
+            for more in iter(lambda: self.client.poll_recv(self._clock.now()), None):
                 self.on_data(more.data, more.peer)
 
     def _heard(self, message: reasons.Message, packet: bytes, is_ignored: bool) -> None:

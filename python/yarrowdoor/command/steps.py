@@ -5,7 +5,7 @@ import enum
 from dataclasses import dataclass, field
 from typing import Dict, List, Sequence, Union
 
-__all__ = ["Facts", "Outcome", "Step", "status_of"]
+__all__ = ["Facts", "Outcome", "Step", "printable", "status_of"]
 
 # What machines read of a step.
 Fact = Union[str, int, float, bool, None, List[str], List[int]]
@@ -36,6 +36,11 @@ class Step:
     advice: str = ""
     """what is wrong, and what to do"""
     facts: Facts = field(default_factory=dict)
+
+
+def printable(text: str) -> str:
+    """Text of a server, without what would steer a terminal."""
+    return "".join(it for it in text if it.isprintable()).strip()
 
 
 def status_of(steps: Sequence[Step]) -> int:
