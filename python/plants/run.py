@@ -46,6 +46,8 @@ def try_one(edit: pathlib.Path) -> Tuple[bool, str]:
         shutil.copytree(TOP, room, ignore=skipped)
         shutil.copy(TOP.parent / "LICENSE", folder)
         seen = plant(edit, room)
+        if (TOP.parent / "docs").exists():
+            shutil.copytree(TOP.parent / "docs", pathlib.Path(folder, "docs"))  # Tests compare runs with a page.
         words = [sys.executable, "-B", "-m", "unittest", seen]
         ends = []
         for at in (TOP, room):
