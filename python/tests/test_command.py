@@ -10,6 +10,7 @@ import tempfile
 import threading
 import time
 import unittest
+import zipfile
 from typing import Any, Dict, List, Optional, Tuple
 from unittest import mock
 
@@ -17,6 +18,7 @@ from yarrowdoor.command import credentials, main as entry, output
 from yarrowdoor.command.steps import Outcome, Step
 
 from .server import ALLOCATE, COOKIE, attribute, parse
+from .test_wheel import BACKEND, wheel_with
 from .threaded import Ipv4Server, Threaded
 
 QUIET = {"YARROWDOOR_PASSWORD": "pass"}
@@ -81,6 +83,18 @@ class Words(unittest.TestCase):
         self.assertEqual((status, errors), (2, ""))
         self.assertEqual(json.loads(out)["status"], 2)
         self.assertIn("--user NAME", json.loads(out)["error"])
+
+
+@unittest.skipUnless(BACKEND.exists(), "the sources are not here")
+class Installed(unittest.TestCase):
+    def test_a_wheel_has_the_command(self) -> None:
+        with tempfile.TemporaryDirectory() as room:
+            with zipfile.ZipFile(pathlib.Path(room, wheel_with("", room))) as wheel:
+                names = wheel.namelist()
+                [points] = [wheel.read(it).decode() for it in names if it.endswith(".dist-info/entry_points.txt")]
+        self.assertEqual(points, "[console_scripts]\nyarrowdoor = yarrowdoor.command.main:main\n")
+        own = {f"yarrowdoor/command/{it.name}" for it in pathlib.Path(entry.__file__).parent.glob("*.py")}
+        self.assertEqual({*names} & own, own)
 
 
 class Secrets(unittest.TestCase):
