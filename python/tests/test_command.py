@@ -15,6 +15,7 @@ from typing import Any, Dict, List, Optional, Tuple
 from unittest import mock
 
 from yarrowdoor.command import credentials, main as entry, output
+from yarrowdoor.command.challenge import Challenge
 from yarrowdoor.command.steps import Outcome, Step
 
 from .server import ALLOCATE, COOKIE, attribute, parse
@@ -95,6 +96,25 @@ class Installed(unittest.TestCase):
         self.assertEqual(points, "[console_scripts]\nyarrowdoor = yarrowdoor.command.main:main\n")
         own = {f"yarrowdoor/command/{it.name}" for it in pathlib.Path(entry.__file__).parent.glob("*.py")}
         self.assertEqual({*names} & own, own)
+
+
+class Challenges(unittest.TestCase):
+    def of(self, *rows: Tuple[int, bytes]) -> Challenge:
+        body = b"".join(attribute(*it) for it in rows)
+        return Challenge.of(struct.pack("!HH", ALLOCATE | 0x0110, len(body)) + COOKIE + bytes(12) + body)
+
+    def test_what_a_server_offers(self) -> None:
+        # The nonce is that of RFC 8489, appendix B.1, whose request hides the user name; the algorithms are MD5 and SHA-256
+        # (section 18.5.1), each without parameters.
+        found = self.of((0x0009, b"\0\0\4\1"), (0x0014, b"example.org"), (0x8002, b"\0\1\0\0\0\2\0\0"),
+                        (0x0015, b"obMatJos2AAACf//499k954d6OL34oL9FSTvy64sA"), (0x8022, b"a\x1b[31mb"))
+        self.assertEqual(found, Challenge("example.org", ("MD5", "SHA-256"), True, "a[31mb"))
+
+    def test_what_is_malformed_offers_nothing(self) -> None:
+        rows = [(b"obMatJos2", b"\0"), (b"obMatJos2????", b"\0\1\0"), (b"", b""), (b"AAACobMatJos2AAAC", b"\0\0\0")]
+        for nonce, algorithms in rows:
+            found = self.of((0x0009, b"\0\0\4\1"), (0x0014, b"\xff"), (0x8002, algorithms), (0x0015, nonce))
+            self.assertEqual((found.algorithms, found.takes_user_hash), ((), False))
 
 
 class Secrets(unittest.TestCase):

@@ -90,7 +90,7 @@ class Packets(unittest.TestCase):
                 peer.sendto(b"back " + data, relayed)
                 self.assertEqual(user.recvfrom(2000), (b"back " + data, (host, int(port))))
             program.send_signal(signal.SIGTERM)
-            self.assertEqual(program.wait(10), 130)
+            self.assertEqual(program.wait(10), 0)
 
     def test_a_relay_carries_both_ways(self) -> None:
         with coturn() as server:

@@ -7,7 +7,8 @@ from dataclasses import dataclass
 from typing import List, Optional, TextIO
 
 from ..address import Address
-from .exchange import Exchange, drive, leave_all
+from .driver import drive, leave_all
+from .exchange import Exchange
 from .output import Bar
 from .pair import Server, find_way, join
 from .traffic import Trip
@@ -59,7 +60,8 @@ def _run(trip: Trip, seconds: float, size: int, rate: float, told: Bar) -> Load:
 
     def take(data: bytes, peer: Address) -> None:
         nonlocal under_way, heard
-        load.received, under_way, heard = load.received + 1, max(0, under_way - 1), time.monotonic()
+        if peer == trip.peer and len(data) == size:
+            load.received, under_way, heard = load.received + 1, max(0, under_way - 1), time.monotonic()
 
     trip.sender.on_data = take
     begun, used = time.monotonic(), time.process_time()

@@ -18,6 +18,9 @@ _NAMES = {1: "MD5", 2: "SHA-256"}
 # The nonce of a server that has more than the long-term mechanism of RFC 5389 begins so, with four characters of Base64 for
 # the bits of what it has (RFC 8489, section 9.2.1).
 _COOKIE = b"obMatJos2"
+# Bits are counted from the least significant one on: the first is for password algorithms, the second for user names that are
+# hidden (RFC 8489, section 18.1).
+_USER_NAME_ANONYMITY = 1 << 1
 
 
 @dataclass(frozen=True)
@@ -31,14 +34,13 @@ class Challenge:
     """whether the user name may be hidden (USERHASH)"""
     software: str
     """the server's name for itself, which may be empty"""
-    nonce: bytes
 
     @staticmethod
     def of(packet: bytes) -> Challenge:
         """What an error response says."""
         realm, nonce, software = (reasons.attribute(packet, it) or b"" for it in (_REALM, _NONCE, _SOFTWARE))
         algorithms = reasons.attribute(packet, _ALGORITHMS)
-        return Challenge(_text(realm), _algorithms(algorithms), bool(_features(nonce) & 1 << 22), _text(software), nonce)
+        return Challenge(_text(realm), _algorithms(algorithms), bool(_features(nonce) & _USER_NAME_ANONYMITY), _text(software))
 
 
 def _algorithms(value: Optional[bytes]) -> Tuple[str, ...]:
@@ -52,8 +54,7 @@ def _algorithms(value: Optional[bytes]) -> Tuple[str, ...]:
 
 
 def _features(nonce: bytes) -> int:
-    """The 24 bits of the security features in a nonce: the first is for password algorithms, the second for user names that are
-    hidden (RFC 8489, section 18.1)."""
+    """The 24 bits of the security features in a nonce, or 0 where it has none."""
     if not nonce.startswith(_COOKIE):
         return 0
     try:

@@ -10,7 +10,8 @@ from ..uri import TurnUri
 from .capture import Tap
 from .credentials import Credentials
 from .doors import find_addresses, try_doors
-from .exchange import Exchange, leave_all, open_exchange
+from .driver import leave_all, open_exchange
+from .exchange import Exchange
 from .extras import nonce_step, quota_step, streams_step
 from .output import Output
 from .reach import Way

@@ -5,7 +5,8 @@ import json
 from typing import List, Optional, TextIO
 
 from ..address import Address
-from .exchange import Exchange, leave_all
+from .driver import leave_all
+from .exchange import Exchange
 from .output import Bar
 from .pair import Server, find_way, join
 from .traffic import measure

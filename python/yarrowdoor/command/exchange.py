@@ -1,15 +1,11 @@
-"""A client over a wire to the server: it does what is due, and keeps what the server has said to each request.
-
-`drive` lets several of them work until something holds, in this thread, without an event loop.
-"""
+"""A client over a wire to the server: it does what is due, and keeps what the server has said to each request."""
 from __future__ import annotations
 
 import errno
 import logging
-import selectors
 import time
 from dataclasses import dataclass, field
-from typing import Callable, Dict, List, Optional, Sequence, Set, Tuple, Union
+from typing import Callable, Dict, List, Optional, Set, Union
 
 from .. import reasons
 from ..address import Address
@@ -20,13 +16,11 @@ from ..answers import (
 from ..client import Client, Times
 from ..clock import Clock
 from ..errors import Refused
-from .capture import Tap
 from .challenge import Challenge
 from .credentials import Credentials
-from .reach import Way
-from .wire import Wire, connect_stream, connect_udp
+from .wire import Wire
 
-__all__ = ["Exchange", "Said", "drive", "leave_all", "open_exchange"]
+__all__ = ["Exchange", "PATIENT", "Said"]
 
 log = logging.getLogger("yarrowdoor.command")
 
@@ -38,10 +32,6 @@ _METHODS = {
 PATIENT = Times(initial=250_000_000, longest=1_000_000_000, last=60_000_000_000, count=60)
 # How long a signed answer may still come after an error that is unsigned, in seconds: anyone may have sent that.
 GRACE = 0.4
-# How long the server's answer to a delete is waited for, in seconds.
-_LEAVING = 1.0
-# The longest wait between two looks at the clocks of the clients, in seconds.
-_MAX_WAIT = 10.0
 # What one look at a socket takes of it, so that no sender keeps this program from all else.
 _MAX_TAKEN = 64
 
@@ -51,7 +41,7 @@ class Said:
     """What the server has answered to a request."""
 
     code: int
-    """the number of an error response, or 0 for a success"""
+    """the number of an error response, or 0 for a success, and for an error without a number"""
     phrase: str
     is_signed: bool
     """whether the client took it; an error that it ignores may be anyone's"""
@@ -107,13 +97,15 @@ class Exchange:
         found = [it for it in self._requests.values() if it.method == method]
         return found[-1] if found else None
 
-    def error_of(self, method: int) -> Optional[Said]:
-        """The error that the server has answered to the last request of a method, unless that is a challenge which was answered,
-        or a success came too."""
+    def answer_to(self, method: int) -> Optional[Said]:
+        """What the server has answered to the last request of a method, unless that is a challenge, which the client answers."""
         request = self.last(method)
-        if request is None or not request.answers or not request.answers[-1].code:
-            return None
-        return request.answers[-1]
+        return request.answers[-1] if request is not None and request.answers else None
+
+    def error_of(self, method: int) -> Optional[Said]:
+        """The same, where it is an error with a code."""
+        said = self.answer_to(method)
+        return said if said is not None and said.code else None
 
     def round_trip(self, method: int) -> float:
         """How long the last answered request of a method waited for its answer, in seconds."""
@@ -265,69 +257,5 @@ class Exchange:
         (self.failed if is_granted else self.granted).discard(about)
 
 
-def open_exchange(way: Way, credentials: Optional[Credentials], tap: Tap, seconds: float, relay: str = "udp", family: int = 4,
-                  times: Optional[Times] = PATIENT) -> Exchange:
-    """A new client over a new socket. `OSError` where there is no connection within so many seconds."""
-    door = way.door
-    if door.transport == "udp":
-        wire = connect_udp(way.host, door.port, tap)
-    else:
-        wire = connect_stream(way.host, door.port, seconds, tap, door.context, door.name)
-    try:
-        return Exchange(wire, credentials, relay, family, times)
-    except BaseException:
-        wire.close()
-        raise
-
-
-def leave_all(exchanges: Sequence[Exchange]) -> None:
-    """Gives all relayed addresses back, and closes all sockets when the server has answered, or after a second."""
-    try:
-        for exchange in exchanges:
-            if not exchange.is_over:
-                exchange.leave()
-        drive(exchanges, lambda: all(it.is_over for it in exchanges), _LEAVING)
-    finally:
-        for exchange in exchanges:
-            exchange.close()
-
-
 def _seconds(value: Optional[bytes]) -> Optional[int]:
     return int.from_bytes(value, "big") if value is not None and len(value) == 4 else None
-
-
-def drive(exchanges: Sequence[Exchange], holds: Callable[[], bool], seconds: float,
-          others: Sequence[Tuple[int, Callable[[], None]]] = ()) -> bool:
-    """Lets exchanges work until something holds, or so many seconds are over, and says whether it holds. `others` are further
-    files to be read, each with what reads it."""
-    deadline = time.monotonic() + seconds
-    with selectors.DefaultSelector() as selector:
-        for exchange in exchanges:
-            if not exchange.is_over:
-                selector.register(exchange.wire, selectors.EVENT_READ, exchange.take)
-        for number, taker in others:
-            selector.register(number, selectors.EVENT_READ, taker)
-        while True:
-            for exchange in exchanges:
-                exchange.work()
-                if exchange.is_over and exchange.wire in selector.get_map():
-                    selector.unregister(exchange.wire)
-            now = time.monotonic()
-            if holds():
-                return True
-            if now >= deadline or not selector.get_map():
-                return False
-            for key, _ in selector.select(_wait(exchanges, deadline, now)):
-                key.data()
-            for exchange in exchanges:
-                if not exchange.is_over and exchange.wire.has_more():
-                    exchange.take()
-
-
-def _wait(exchanges: Sequence[Exchange], deadline: float, now: float) -> float:
-    """How long nothing is to be done, unless something comes, in seconds."""
-    open_ones = [it for it in exchanges if not it.is_over]
-    if any(it.wire.has_more() for it in open_ones):
-        return 0.0
-    judged = [it.judged for it in open_ones if it.judged > now]
-    return max(0.0, min([deadline, now + _MAX_WAIT, *judged, *(it.wakeup for it in open_ones)]) - now)

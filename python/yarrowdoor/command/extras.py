@@ -8,7 +8,8 @@ from typing import Callable, List
 from .. import reasons
 from ..errors import Refused
 from . import advice
-from .exchange import Exchange, drive, leave_all
+from .driver import drive, leave_all
+from .exchange import Exchange
 from .relays import allocate
 from .steps import Outcome, Step
 

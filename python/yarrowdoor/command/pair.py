@@ -11,7 +11,8 @@ from ..uri import TurnUri
 from .capture import Tap
 from .credentials import Credentials
 from .doors import find_addresses, try_doors
-from .exchange import PATIENT, Exchange, open_exchange
+from .driver import open_exchange
+from .exchange import PATIENT, Exchange
 from .reach import Way
 from .relays import allocation_step, grant_step, permission_step
 from .steps import Outcome, Step

@@ -7,7 +7,8 @@ from typing import List, Optional, TextIO, Tuple
 
 from ..address import Address, of_socket
 from ..errors import Refused
-from .exchange import Exchange, drive, leave_all
+from .driver import drive, leave_all
+from .exchange import Exchange
 from .pair import CannotRelay, Server, find_way, open_relay
 from .relays import grant_step, permission_step
 from .steps import Outcome, Step
@@ -22,7 +23,7 @@ _LOOK = 5.0
 
 
 def relay(server: Server, listen: Address, peer: Address, out: TextIO) -> int:
-    """Carries packets until the server ends it, which is told by `CannotRelay`, or the user does."""
+    """Carries packets until the user ends it, with status 0, or the server does, which is told by `CannotRelay`."""
     opened: List[Exchange] = []
     with contextlib.closing(_listening(listen)) as local:
         try:
@@ -31,10 +32,11 @@ def relay(server: Server, listen: Address, peer: Address, out: TextIO) -> int:
                 if step.outcome is not Outcome.OK:
                     raise CannotRelay(step)
             print(f"packets to {of_socket(local.getsockname())} leave from {own} to {peer}, and back", file=out, flush=True)
-            _carry(opened[0], local, peer)
+            with contextlib.suppress(KeyboardInterrupt):
+                _carry(opened[0], local, peer)
+            return 0
         finally:
             leave_all(opened)
-    return 0
 
 
 def _listening(listen: Address) -> socket.socket:

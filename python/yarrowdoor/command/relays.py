@@ -10,7 +10,8 @@ from ..address import Address
 from ..errors import Refused
 from . import advice
 from .credentials import Credentials
-from .exchange import Exchange, drive
+from .driver import drive
+from .exchange import Exchange
 from .steps import Facts, Outcome, Step
 
 __all__ = ["allocate", "allocation_step", "challenge_step", "family_step", "grant_step", "permission_step"]
@@ -89,7 +90,7 @@ def family_step(exchange: Exchange, family: int, seconds: float) -> Step:
     if exchange.address is not None:
         facts: Facts = {"relayed": str(exchange.address)}
         return Step(name, Outcome.OK, f"{exchange.address}, for {exchange.lifetime} s", spent, "", facts)
-    said = exchange.error_of(reasons.ALLOCATE)
+    said = exchange.answer_to(reasons.ALLOCATE)
     return Step(name, Outcome.NOTE, f"no IPv{family} relayed address", spent, advice.about_family(family, said),
                 {"code": said.code if said is not None else None})
 
@@ -100,7 +101,7 @@ def permission_step(exchanges: Sequence[Exchange], addresses: Sequence[Address],
     failed, spent = _grants("permission", reasons.CREATE_PERMISSION, asks, lambda it, about: it.permit(str(about)), seconds)
     if failed is None:
         return Step("permission", Outcome.OK, f"for {addresses[0].host}", spent)
-    said = failed.error_of(reasons.CREATE_PERMISSION)
+    said = failed.answer_to(reasons.CREATE_PERMISSION)
     told = f"refused: {said.code or ''} {said.phrase}".strip(" :") if said is not None else "no answer"
     return Step("permission", Outcome.FAILED, told, spent, advice.about_peer(addresses[0].host, said))
 
@@ -111,7 +112,7 @@ def grant_step(exchanges: Sequence[Exchange], addresses: Sequence[Address], seco
     failed, spent = _grants("channel", reasons.CHANNEL_BIND, asks, _bind, seconds)
     if failed is None:
         return Step("channel", Outcome.OK, f"to {addresses[0]}", spent)
-    said = failed.error_of(reasons.CHANNEL_BIND)
+    said = failed.answer_to(reasons.CHANNEL_BIND)
     told = f"refused: {said.code or ''} {said.phrase}".strip(" :") if said is not None else "no answer"
     return Step("channel", Outcome.FAILED, told, spent, "The server grants permissions, and no channels: see its log. Data goes by "
                 "messages of 36 bytes of header then, in place of 4.")

@@ -10,7 +10,8 @@ from typing import Callable, Dict, List, Sequence
 
 from ..address import Address
 from ..errors import Refused
-from .exchange import Exchange, drive
+from .driver import drive
+from .exchange import Exchange
 from .steps import Facts, Outcome, Step
 
 __all__ = ["Echoes", "Trip", "echo_step", "payload_step", "send_back"]
