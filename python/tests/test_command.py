@@ -47,9 +47,9 @@ def check(server: Threaded, *words: str, env: Optional[Dict[str, str]] = None) -
 class Words(unittest.TestCase):
     def test_help_of_each_fits_a_screen(self) -> None:
         for words in ("", "check", "echo", "relay", "bench"):
-            status, out, _ = command(*words.split(), "--help")
+            status, out, _ = command(*words.split(), "--help", env={"COLUMNS": "80"})
             self.assertEqual(status, 0)
-            self.assertLessEqual(len(out.splitlines()), 50, words)
+            self.assertLessEqual(len(out.splitlines()), 32, words)
 
     def test_what_is_no_word_cannot_be_tried(self) -> None:
         rows = [("check", "URI"), ("check http://x", "'http://x' has not the form turn:"), ("ping", "ping"), ("", "COMMAND"),
@@ -68,7 +68,8 @@ class Words(unittest.TestCase):
 
     def test_what_lacks_cannot_be_tried(self) -> None:
         rows: List[Tuple[str, Dict[str, str], str]] = [
-            ("--user u", {}, "set YARROWDOOR_PASSWORD"), ("", QUIET, "there is a password and no user"),
+            ("--user u", {}, "set YARROWDOOR_PASSWORD"), ("--ask-secret", {}, "there is no secret"),
+            ("", QUIET, "there is a password and no user"),
             ("--user u --password-file /none", {}, "/none cannot be read"), ("--ca /none", {}, "/none"),
             ("--pcap /none/x", {}, "/none/x"),
         ]
@@ -118,7 +119,7 @@ class Challenges(unittest.TestCase):
 
 
 class Secrets(unittest.TestCase):
-    def resolve(self, *args: Optional[str], **env: str) -> Optional[credentials.Credentials]:
+    def resolve(self, *args: Any, **env: str) -> Optional[credentials.Credentials]:
         with mock.patch.dict(os.environ, env, clear=True):
             return credentials.resolve(*args)
 
@@ -134,8 +135,10 @@ class Secrets(unittest.TestCase):
                 self.resolve("user", str(path), None)
 
     def test_a_password_is_asked_on_a_terminal(self) -> None:
-        with mock.patch("sys.stdin.isatty", lambda: True, create=True), mock.patch("getpass.getpass", lambda text: "typed"):
-            self.assertEqual(self.resolve("user", None, None), credentials.Credentials("user", "typed"))
+        with mock.patch("sys.stdin.isatty", lambda: True, create=True), mock.patch("getpass.getpass", lambda text: "secret"):
+            self.assertEqual(self.resolve("user", None, None), credentials.Credentials("user", "secret"))
+            asked = self.resolve("1700000000:alice", None, None, True)
+        self.assertEqual(asked, self.resolve("1700000000:alice", None, None, YARROWDOOR_SECRET="secret"))
 
     def test_a_shared_secret(self) -> None:
         # printf %s 1700000000:alice | openssl dgst -sha1 -hmac secret -binary | base64

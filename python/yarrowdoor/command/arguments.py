@@ -12,9 +12,8 @@ __all__ = ["parser"]
 
 _ABOUT = "What a TURN server does, what is wrong with it, and packets through it."
 _STATUS = "exit status: 0 all is well, 1 something fails, 2 it cannot be tried"
-_SECRETS = (f"The password is that of the environment ({PASSWORD}), the first line of --password-file, or asked on the terminal. "
-            f"With a shared secret (coturn: use-auth-secret), in {SECRET} or the first line of --secret-file, user and password "
-            f"are made of it. {USER} is the user where --user is not given.")
+_SECRETS = (f"Password: {PASSWORD} in the environment, --password-file, or asked. Shared secret (coturn: use-auth-secret): "
+            f"{SECRET}, --secret-file or --ask-secret. User: --user or {USER}.")
 
 
 class _Parser(argparse.ArgumentParser):
@@ -33,7 +32,8 @@ def parser() -> argparse.ArgumentParser:
     commands = top.add_subparsers(dest="command", required=True, metavar="COMMAND", parser_class=_Parser)
 
     def add(name: str, short: str, long: str) -> argparse.ArgumentParser:
-        command = commands.add_parser(name, help=short, description=long, epilog=f"{_SECRETS} {_STATUS}")
+        command = commands.add_parser(name, help=short, description=long, epilog=f"{_SECRETS} {_STATUS.capitalize()}.",
+                                      usage=f"yarrowdoor {name} [options] URI")
         _common(command)
         return command
 
@@ -75,11 +75,12 @@ def _bench(command: argparse.ArgumentParser) -> None:
 
 
 def _common(command: argparse.ArgumentParser) -> None:
-    command.add_argument("uri", type=_uri, metavar="URI", help="turn:HOST[:PORT][?transport=tcp], or turns:HOST[:PORT]")
-    command.add_argument("--user", metavar="NAME")
-    command.add_argument("--password-file", metavar="FILE")
-    command.add_argument("--secret-file", metavar="FILE")
-    command.add_argument("--ca", metavar="FILE", help="the certificate of an authority that is trusted for turns:")
+    command.add_argument("uri", type=_uri, metavar="URI", help="turn:HOST[:PORT][?transport=tcp] or turns:HOST[:PORT]")
+    command.add_argument("--user", metavar="NAME", help="whose relayed addresses are asked for")
+    command.add_argument("--password-file", metavar="FILE", help="its first line is the password")
+    command.add_argument("--secret-file", metavar="FILE", help="its first line is the shared secret")
+    command.add_argument("--ask-secret", action="store_true", help="ask for the shared secret on the terminal")
+    command.add_argument("--ca", metavar="FILE", help="a certificate that is trusted for turns:")
     family = command.add_mutually_exclusive_group()
     family.add_argument("-4", dest="family", action="store_const", const=4, help="reach the server over IPv4 alone")
     family.add_argument("-6", dest="family", action="store_const", const=6, help="reach the server over IPv6 alone")

@@ -35,11 +35,12 @@ class Credentials:
     password: str = field(repr=False)
 
 
-def resolve(user: Optional[str], password_file: Optional[str], secret_file: Optional[str]) -> Optional[Credentials]:
-    """The credentials that options and environment give, or None where they name no user and no secret. `NoCredentials` where
-    something is missing, or a file cannot be read."""
+def resolve(user: Optional[str], password_file: Optional[str], secret_file: Optional[str],
+            asks_secret: bool = False) -> Optional[Credentials]:
+    """The credentials that options and environment give, or None where they name no user and no secret. With `asks_secret` the
+    secret is asked on the terminal. `NoCredentials` where something is missing, or a file cannot be read."""
     user = user or os.environ.get(USER)
-    secret = _read(secret_file) if secret_file else os.environ.get(SECRET)
+    secret = _read(secret_file) if secret_file else _ask("Shared secret: ", "secret") if asks_secret else os.environ.get(SECRET)
     if secret and not password_file:
         return _of_secret(user or "yarrowdoor", secret)
     password = _read(password_file) if password_file else os.environ.get(PASSWORD)
@@ -48,7 +49,7 @@ def resolve(user: Optional[str], password_file: Optional[str], secret_file: Opti
             raise NoCredentials(f"there is a password and no user: add --user NAME, or set {USER}")
         return None
     if password is None:
-        password = _ask(user)
+        password = _ask(f"Password of {user}: ", f"password for {user}")
     return Credentials(user, password)
 
 
@@ -77,8 +78,8 @@ def _read(path: str) -> str:
     return line
 
 
-def _ask(user: str) -> str:
+def _ask(prompt: str, what: str) -> str:
     if not sys.stdin.isatty():
-        raise NoCredentials(f"there is no password for {user}: set {PASSWORD}, or name a file with it by --password-file (or, for "
-                            f"a server with a shared secret, set {SECRET}, or name a file by --secret-file)")
-    return getpass.getpass(f"Password of {user}: ")
+        raise NoCredentials(f"there is no {what}, and no terminal to ask for it: set {PASSWORD}, or name a file by --password-file "
+                            f"(for a server with a shared secret {SECRET}, or --secret-file)")
+    return getpass.getpass(prompt)

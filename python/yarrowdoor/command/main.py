@@ -38,7 +38,7 @@ def main(words: Optional[List[str]] = None) -> int:
         signal.signal(signal.SIGTERM, signal.default_int_handler)  # so that what the server has granted is given back
     try:
         load()
-        credentials = resolve(options.user, options.password_file, options.secret_file)
+        credentials = resolve(options.user, options.password_file, options.secret_file, options.ask_secret)
         context = _context(options.ca)
         with _tap(options.pcap) as tap:
             return _run(options, credentials, context, tap)
