@@ -1,5 +1,6 @@
 """The command by itself: its words and its status, what it keeps secret, and what it says of servers that do one thing wrong."""
 import contextlib
+import errno
 import io
 import json
 import os
@@ -14,7 +15,7 @@ import zipfile
 from typing import Any, Dict, List, Optional, Tuple
 from unittest import mock
 
-from yarrowdoor.command import credentials, main as entry, output
+from yarrowdoor.command import credentials, main as entry, output, reach
 from yarrowdoor.command.challenge import Challenge
 from yarrowdoor.command.steps import Outcome, Step
 
@@ -303,6 +304,22 @@ class Silence(unittest.TestCase):
 class Terminal(io.StringIO):
     def isatty(self) -> bool:
         return True
+
+
+class Unreachable(unittest.TestCase):
+    def test_a_network_without_a_way_says_nothing_of_the_server(self) -> None:
+        with mock.patch.object(reach, "connect_udp", side_effect=OSError(errno.ENETUNREACH, "Network is unreachable")), \
+                mock.patch.object(reach, "connect_stream", side_effect=OSError(errno.ENETUNREACH, "Network is unreachable")):
+            status, out, _ = command("check", "turn:192.0.2.1:5000", env={})
+        self.assertEqual(status, 2)
+        self.assertIn("There is no way from here to 192.0.2.1", out)
+
+    @unittest.skipUnless(os.path.exists("/dev/full"), "there is no /dev/full")
+    def test_a_capture_that_cannot_be_written(self) -> None:
+        with Threaded(Ipv4Server()) as server:
+            status, _, errors = command("check", server.uri, "--pcap", "/dev/full", env={})
+        self.assertEqual(status, 2)
+        self.assertIn("the capture cannot be written", errors)
 
 
 class Printed(unittest.TestCase):

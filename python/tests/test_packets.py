@@ -82,6 +82,7 @@ class Packets(unittest.TestCase):
             assert program.stdout is not None
             words = program.stdout.readline().split()
             host, _, port = words[2].rpartition(":")
+            user.sendto(bytes(65_507), (host, int(port)))  # is too long for a message, and lost
             for data in (b"", b"hello", bytes(1200)):
                 user.sendto(data, (host, int(port)))
                 taken, relayed = peer.recvfrom(2000)

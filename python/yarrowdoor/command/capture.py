@@ -11,7 +11,7 @@ import threading
 from types import TracebackType
 from typing import BinaryIO, Dict, Optional, Sequence, Tuple, Type, Union
 
-__all__ = ["Capture", "NoCapture", "Tap"]
+__all__ = ["Capture", "CaptureError", "NoCapture", "Tap"]
 
 _MAGIC, _VERSION, _SNAP, _RAW_IP = 0xA1B2C3D4, (2, 4), 0x40000, 101
 _UDP, _TCP, _TTL, _DONT_FRAGMENT = 17, 6, 64, 0x4000
@@ -21,6 +21,10 @@ _MAX_PIECE = 65_000
 
 # A host and a port, and what else a socket says of its address.
 Where = Sequence[Union[str, int]]
+
+
+class CaptureError(Exception):
+    """The file cannot be written. It is no error of a socket."""
 
 
 class NoCapture:
@@ -46,7 +50,7 @@ class Capture(NoCapture):
         self._file, self._lock = file, threading.Lock()
         self._sent: Dict[Tuple[str, str], int] = {}
         """How many bytes went from one end of a connection to the other."""
-        file.write(struct.pack("!IHHiIII", _MAGIC, *_VERSION, 0, 0, _SNAP, _RAW_IP))
+        self._put(struct.pack("!IHHiIII", _MAGIC, *_VERSION, 0, 0, _SNAP, _RAW_IP))
 
     def __enter__(self) -> Capture:
         return self
@@ -83,9 +87,15 @@ class Capture(NoCapture):
         checksum = _checksum(ends.pseudo_header(protocol, size) + head + data) or 0xFFFF
         packet = ends.ip_header(protocol, size) + head[:checksum_at] + struct.pack("!H", checksum) + head[checksum_at + 2:] + data
         seconds, micros = divmod(int(now * 1e6), 1_000_000)
-        with self._lock:
-            self._file.write(struct.pack("!IIII", seconds, micros, len(packet), len(packet)) + packet)
-            self._file.flush()
+        self._put(struct.pack("!IIII", seconds, micros, len(packet), len(packet)) + packet)
+
+    def _put(self, data: bytes) -> None:
+        try:
+            with self._lock:
+                self._file.write(data)
+                self._file.flush()
+        except OSError as error:
+            raise CaptureError(f"the capture cannot be written: {error}") from error
 
 
 Tap = NoCapture

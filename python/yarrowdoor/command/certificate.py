@@ -48,7 +48,7 @@ def of_peer(found: Dict[str, Any], is_for_name: bool = True) -> Certificate:
 
 def read_refused(host: str, port: int, name: str, seconds: float) -> Optional[Certificate]:
     """The certificate of a server that was refused, or None where it cannot be read. Nothing is sent over such a connection."""
-    with contextlib.suppress(OSError, ValueError):
+    with contextlib.suppress(OSError, ValueError, KeyError):
         with _handshake(host, port, name, seconds, _context()) as first:
             encoded = first.getpeercert(True)
         if encoded is None:

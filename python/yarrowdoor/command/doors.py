@@ -80,8 +80,8 @@ def _judged(door: Door, heard: Dict[str, List[Heard]], is_wanted: bool, ways: Di
     if best.verdict is Verdict.ANSWERS:
         rest = [it for it in own if it.verdict is not Verdict.ANSWERS]
         said = f"port {door.port} answers{_seen(best)}"
-        advice = "".join(f"{it.host} does not answer ({it.verdict.value}): clients that try it first lose time. " for it in rest)
-        return Step(door.transport, Outcome.NOTE if rest else Outcome.OK, said, best.seconds, advice.strip(), facts)
+        advice = " ".join(_other(it) for it in rest)
+        return Step(door.transport, Outcome.NOTE if rest else Outcome.OK, said, best.seconds, advice, facts)
     said = f"port {door.port}: {best.verdict.value}"
     if not is_wanted:
         advice = _unwanted(door, best) if any(ways.values()) else ""  # Where nothing answers, that is what is to be mended.
@@ -95,6 +95,13 @@ def _seen(heard: Heard) -> str:
     if heard.certificate is not None:
         said += f"; certificate for {', '.join(heard.certificate.names)} until {heard.certificate.end}"
     return said
+
+
+def _other(heard: Heard) -> str:
+    """What it means that one of several addresses does not answer."""
+    if heard.verdict is Verdict.UNREACHABLE:
+        return f"There is no way from here to {heard.host} ({heard.error}), so that it was not tried."
+    return f"{heard.host} does not answer ({heard.verdict.value}): clients that try it first lose time."
 
 
 def _unwanted(door: Door, heard: Heard) -> str:

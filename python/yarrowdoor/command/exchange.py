@@ -30,6 +30,8 @@ _METHODS = {
 }
 # Requests are sent again after 0.25, 0.75, 1.75 s and each second from then on: who waits for an answer sets the limit.
 PATIENT = Times(initial=250_000_000, longest=1_000_000_000, last=60_000_000_000, count=60)
+# A datagram over IPv4 carries so many bytes, and coturn reads no longer message of a stream.
+_MAX_MESSAGE = 65_507
 # How long a signed answer may still come after an error that is unsigned, in seconds: anyone may have sent that.
 GRACE = 0.4
 # What one look at a socket takes of it, so that no sender keeps this program from all else.
@@ -134,8 +136,11 @@ class Exchange:
         self.client.bind_channel(peer, self._clock.now())
 
     def send(self, data: bytes, peer: Address) -> None:
-        """Sends data to a peer. `Refused` without a permission."""
-        self._write(self.client.send_to(peer, data, self._clock.now()).data)
+        """Sends data to a peer. `Refused` without a permission; `ValueError` for data that is too long for a message."""
+        packet = self.client.send_to(peer, data, self._clock.now()).data
+        if len(packet) > _MAX_MESSAGE:
+            raise ValueError(f"a message of {len(packet)} bytes does not fit")
+        self._write(packet)
 
     def leave(self) -> None:
         """Gives the relayed address back, where there may be one. Drive it until `is_over`."""

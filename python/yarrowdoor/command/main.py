@@ -15,7 +15,7 @@ from ..errors import LibraryError, Refused
 from ..library import load
 from .arguments import parser
 from .bench import bench
-from .capture import Capture, NoCapture, Tap
+from .capture import Capture, CaptureError, NoCapture, Tap
 from .check import Plan, check
 from .credentials import Credentials, NoCredentials, resolve
 from .echo import echo
@@ -45,7 +45,7 @@ def main(words: Optional[List[str]] = None) -> int:
     except BrokenPipeError:
         _discard_output()
         return _FAILS
-    except (LibraryError, NoCredentials, OSError, ValueError) as error:
+    except (CaptureError, LibraryError, NoCredentials, OSError, ValueError) as error:
         return _tell(options, str(error), _CANNOT)
     except CannotRelay as error:
         return _tell(options, str(error), status_of([error.step]))
@@ -90,7 +90,7 @@ def _tap(path: Optional[str]) -> Iterator[Tap]:
     if path is None:
         yield NoCapture()
         return
-    with open(path, "wb") as file, Capture(file) as capture:
+    with open(path, "wb", buffering=0) as file, Capture(file) as capture:
         yield capture
 
 

@@ -69,7 +69,7 @@ def _carry(exchange: Exchange, local: socket.socket, peer: Address) -> None:
                 return
             except OSError:
                 continue  # The program before is gone, says the system.
-            with contextlib.suppress(Refused):
+            with contextlib.suppress(Refused, ValueError):  # What is too long for a message is lost.
                 exchange.send(data, peer)
 
     exchange.on_data = from_peer
