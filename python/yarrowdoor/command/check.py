@@ -121,7 +121,7 @@ class _Relaying:
             yield echo_step(trip, "channels", COUNT, SIZE, PAUSE, self._output.bar("channels", COUNT))
         if messages.outcome is Outcome.OK:
             most = messages.facts.get("most")
-            wait = 0.05 + 2 * (most if isinstance(most, float) else 0.0)
+            wait = 0.1 + 2 * (most if isinstance(most, float) else 0.0)
             yield payload_step(trip, MOST_OF_STREAM if first.wire.is_stream else MOST, min(wait, 1.0))
 
     def _asked_for(self, first: Exchange) -> Iterator[Step]:

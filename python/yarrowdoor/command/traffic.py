@@ -6,7 +6,7 @@ import statistics
 import struct
 import time
 from dataclasses import dataclass, field
-from typing import Callable, Dict, List, Sequence
+from typing import Callable, Dict, List, Sequence, Tuple
 
 from ..address import Address
 from ..errors import Refused
@@ -20,9 +20,10 @@ __all__ = ["Echoes", "Trip", "echo_step", "payload_step", "send_back"]
 _HEAD = struct.Struct("!8sI")
 # How long the last packet is waited for, in seconds.
 _LAST_WAIT = 1.0
-# The sizes that are tried first for the longest payload, in bytes, and how many in each further round.
-_SIZES = (100, 500, 1000, 1200, 1300, 1400, 1450, 1500, 2000, 4000, 8000, 12000, 16000, 24000, 32000, 64000, 65468)
-_ROUND, _NEAR = 12, 1
+# The sizes that are tried first for the longest payload, those where all of these pass, in bytes, and how many in each further
+# round.
+_SIZES = (100, 500, 1000, 1200, 1300, 1400, 1450, 1500, 2000, 4000, 8000, 12000, 16000)
+_LONG_SIZES, _ROUND = (24000, 32000, 64000), 12
 # What WebRTC and QUIC expect to pass, in bytes.
 _USUAL = 1200
 
@@ -79,7 +80,8 @@ def send_back(exchange: Exchange) -> None:
 
 
 def send_all(trip: Trip, sizes: Sequence[int], pause: float, wait: float, told: Callable[[int], None]) -> Dict[int, List[float]]:
-    """Sends a packet of each size, with a pause after each, and waits for what comes back: by number, the round trips of each."""
+    """Sends a packet of each size, with a pause after each, and waits until nothing has come back for so many seconds: by number,
+    the round trips of each."""
     tag, left, back = os.urandom(8), {}, {}  # type: bytes, Dict[int, float], Dict[int, List[float]]
 
     def take(data: bytes, peer: Address) -> None:
@@ -98,7 +100,10 @@ def send_all(trip: Trip, sizes: Sequence[int], pause: float, wait: float, told: 
             told(number + 1)
             if any(it.is_over for it in trip.all):
                 break
-        drive(trip.all, lambda: len(back) == len(left) or any(it.is_over for it in trip.all), wait)
+        while len(back) < len(left) and not any(it.is_over for it in trip.all):
+            seen = len(back)
+            if not drive(trip.all, lambda: len(back) > seen or any(it.is_over for it in trip.all), wait):
+                break
         return back
     finally:
         trip.sender.on_data = before
@@ -138,15 +143,12 @@ def _nothing(trip: Trip) -> str:
 def payload_step(trip: Trip, most: int, wait: float) -> Step:
     """Looks for the longest payload that comes back, up to a limit in bytes."""
     begun = time.monotonic()
-    passed, failed, sizes = 0, most + 1, [it for it in _SIZES if it <= most]
-    while sizes:
-        back = send_all(trip, sizes, 0.002, wait, lambda number: None)
-        found = {sizes[it] for it in back}
-        passed = max(found | {passed})
-        failed = min([it for it in sizes if it > passed] + [failed])
-        step = (failed - passed) // (_ROUND + 1)
-        sizes = [passed + step * it for it in range(1, _ROUND + 1)] if failed - passed > _NEAR and step else \
-            [*range(passed + 1, failed)] if failed - passed > _NEAR else []
+    passed, failed = _narrow(trip, [it for it in _SIZES if it < most] + [min(most, _SIZES[-1])], 0, most + 1, wait)
+    if passed == _SIZES[-1] < most:
+        passed, failed = _narrow(trip, [it for it in _LONG_SIZES if it < most] + [most], passed, most + 1, wait)
+    while failed - passed > 1:
+        step = max(1, (failed - passed) // (_ROUND + 1))
+        passed, failed = _narrow(trip, [*range(passed + step, failed, step)], passed, failed, wait)
     spent, facts = time.monotonic() - begun, {"bytes": passed}  # type: float, Facts
     said = f"{passed:,} bytes pass" + (f", and {failed:,} do not" if failed <= most else "; longer ones were not tried")
     if passed >= _USUAL:
@@ -154,3 +156,12 @@ def payload_step(trip: Trip, most: int, wait: float) -> Step:
     return Step("payload", Outcome.FAILED, said, spent,
                 f"WebRTC and QUIC send up to {_USUAL:,} bytes: a tunnel on the way, or at the server, has a small MTU and drops "
                 "what is longer. Raise it, or let it answer with ICMP so that senders learn it.", facts)
+
+
+def _narrow(trip: Trip, sizes: Sequence[int], passed: int, failed: int, wait: float) -> Tuple[int, int]:
+    """Tries sizes, each twice, since one may be lost: the longest that has passed by now, and the shortest that is longer and has
+    failed."""
+    twice = [*sizes, *sizes]
+    back = {twice[it] for it in send_all(trip, twice, 0.002, wait, lambda number: None)}
+    passed = max(back | {passed})
+    return passed, min([it for it in sizes if it > passed] + [failed])
