@@ -93,7 +93,8 @@ CERTIFIED = ("a certificate for another name", "a certificate out of date")
 
 def make(name: str) -> Tuple[int, str, float]:
     """Makes a run: its status, what it printed with the usual ports in place of the drawn ones, and how many seconds it took."""
-    run, port, tls = RUNS[name], free_port(), free_port()
+    run, port = RUNS[name], free_port()
+    tls = free_port() if "{tls}" in run.words else 0
     with tempfile.TemporaryDirectory() as room, run.start(room, port, tls):
         words = run.words.format(port=port, tls=tls, room=room).split()
         env = {it: value for it, value in os.environ.items() if not it.startswith("YARROWDOOR_") or it == "YARROWDOOR_LIB"}
@@ -103,7 +104,8 @@ def make(name: str) -> Tuple[int, str, float]:
             status = main(words)
         spent = time.monotonic() - begun
         shown = run.words.format(port=3478, tls=5349, room=".")
-    said = re.sub(rf"\b{port}\b", "3478", re.sub(rf"\b{tls}\b", "5349", printed.getvalue()))
+    said = re.sub(rf"\b{port}\b", "3478", printed.getvalue())
+    said = re.sub(rf"\b{tls}\b", "5349", said) if tls else said
     return status, f"$ yarrowdoor {shown}\n{said}", spent
 
 

@@ -4,6 +4,7 @@ import io
 import json
 import os
 import shutil
+import socket
 import tempfile
 import unittest
 from typing import Any, Dict, Tuple
@@ -91,6 +92,19 @@ class Others(unittest.TestCase):
         with turn_servers.p1(port):
             self.check(port, udp=65_468, tcp=1500)
             self.wrong_password(port, 401)
+
+
+@unittest.skipUnless(coturn.IS_HERE, coturn.WHY)
+class Dropped(unittest.TestCase):
+    def test_udp_that_is_dropped_in_silence_is_blocked_too(self) -> None:
+        with tempfile.TemporaryDirectory() as room, socket.socket(type=socket.SOCK_DGRAM) as silent:
+            silent.bind(("127.0.0.1", 0))
+            port = silent.getsockname()[1]
+            with turn_servers.coturn(room, port, "--no-udp"):
+                status, steps = run(f"turn:127.0.0.1:{port}")
+        self.assertEqual((status, steps["udp"]["said"]), (1, f"port {port}: no answer"))
+        self.assertIn("is blocked, and TCP is open", steps["udp"]["advice"])
+        self.assertEqual((steps["messages"]["outcome"], steps["channels"]["outcome"]), ("ok", "ok"))
 
 
 @unittest.skipUnless(coturn.IS_HERE, coturn.WHY)

@@ -17,7 +17,7 @@ from .output import Output
 from .reach import Way
 from .relays import allocation_step, challenge_step, family_step, grant_step, permission_step
 from .steps import Outcome, Step
-from .traffic import Trip, echo_step, payload_step, send_back
+from .traffic import LAST_WAIT, Trip, echo_step, payload_step, send_back
 
 __all__ = ["Plan", "check"]
 
@@ -91,7 +91,8 @@ class _Relaying:
         if credentials is None:
             yield Step("allocation", Outcome.NOTE, "is not tried", 0.0, "There are no credentials: name a user by --user NAME.")
             return
-        yield allocation_step(first, credentials, self._seconds)
+        own = allocation_step(first, credentials, self._seconds)
+        yield own
         if first.address is None:
             return
         yield family_step(self._open(family=6), 6, self._seconds)
@@ -100,10 +101,12 @@ class _Relaying:
         if second.address is None:
             yield step  # The first one was granted, so that this one meets a quota.
         else:
-            yield from self._joining(first, first.address, second, second.address)
+            # Through an address that is known to be wrong nothing is likely to come: that is waited for less.
+            wait = LAST_WAIT if own.outcome is not Outcome.FAILED else LAST_WAIT / 4
+            yield from self._joining(first, first.address, second, second.address, wait)
         yield from self._asked_for(first)
 
-    def _joining(self, first: Exchange, one: Address, second: Exchange, other: Address) -> Iterator[Step]:
+    def _joining(self, first: Exchange, one: Address, second: Exchange, other: Address, wait: float) -> Iterator[Step]:
         """Two relayed addresses, and packets from the one to the other and back."""
         step = permission_step((first, second), (other, one), self._seconds)
         yield step
@@ -111,7 +114,7 @@ class _Relaying:
             return
         send_back(second)
         trip = Trip(first, other, (first, second))
-        messages = echo_step(trip, "messages", COUNT, SIZE, PAUSE, self._output.bar("messages", COUNT))
+        messages = echo_step(trip, "messages", COUNT, SIZE, PAUSE, self._output.bar("messages", COUNT), wait)
         yield messages
         step = grant_step((first, second), (other, one), self._seconds)
         yield step
@@ -121,8 +124,8 @@ class _Relaying:
             yield echo_step(trip, "channels", COUNT, SIZE, PAUSE, self._output.bar("channels", COUNT))
         if messages.outcome is Outcome.OK:
             most = messages.facts.get("most")
-            wait = 0.1 + 2 * (most if isinstance(most, float) else 0.0)
-            yield payload_step(trip, MOST_OF_STREAM if first.wire.is_stream else MOST, min(wait, 1.0))
+            pause = min(0.1 + 2 * (most if isinstance(most, float) else 0.0), LAST_WAIT)
+            yield payload_step(trip, MOST_OF_STREAM if first.wire.is_stream else MOST, pause)
 
     def _asked_for(self, first: Exchange) -> Iterator[Step]:
         """TCP allocations, where the server is reached over TCP, and what the options name."""

@@ -8,18 +8,19 @@ import time
 from dataclasses import dataclass, field
 from typing import Callable, Dict, List, Sequence, Tuple
 
+from .. import reasons
 from ..address import Address
 from ..errors import Refused
 from .driver import drive
 from .exchange import Exchange
 from .steps import Facts, Outcome, Step
 
-__all__ = ["Echoes", "Trip", "echo_step", "payload_step", "send_back"]
+__all__ = ["Echoes", "LAST_WAIT", "Trip", "echo_step", "payload_step", "send_back"]
 
 # A packet begins with what tells it from those of others, and its number.
 _HEAD = struct.Struct("!8sI")
-# How long the last packet is waited for, in seconds.
-_LAST_WAIT = 1.0
+# How long the last packet is waited for at least, in seconds, and for how many round trips of a request.
+LAST_WAIT, _TRIPS = 1.0, 4
 # The sizes that are tried first for the longest payload, those where all of these pass, in bytes, and how many in each further
 # round.
 _SIZES = (100, 500, 1000, 1200, 1300, 1400, 1450, 1500, 2000, 4000, 8000, 12000, 16000)
@@ -109,18 +110,21 @@ def send_all(trip: Trip, sizes: Sequence[int], pause: float, wait: float, told: 
         trip.sender.on_data = before
 
 
-def measure(trip: Trip, count: int, size: int, pause: float, told: Callable[[int], None]) -> Echoes:
-    """Sends packets of one size, and counts what comes back."""
-    back = send_all(trip, [max(size, _HEAD.size)] * count, pause, _LAST_WAIT, told)
+def measure(trip: Trip, count: int, size: int, pause: float, told: Callable[[int], None], wait: float = LAST_WAIT) -> Echoes:
+    """Sends packets of one size, and counts what comes back. The last one is waited for longer where the server is far away: a
+    packet goes there and back twice."""
+    longest = max(wait, _TRIPS * trip.sender.round_trip(reasons.ALLOCATE))
+    back = send_all(trip, [max(size, _HEAD.size)] * count, pause, longest, told)
     times = [it[0] for it in back.values()]
     return Echoes(count, times, sum(len(it) - 1 for it in back.values()))
 
 
-def echo_step(trip: Trip, way: str, count: int, size: int, pause: float, told: Callable[[int], None]) -> Step:
+def echo_step(trip: Trip, way: str, count: int, size: int, pause: float, told: Callable[[int], None],
+              wait: float = LAST_WAIT) -> Step:
     """Packets by messages, or by a channel: what came back."""
     begun = time.monotonic()
     try:
-        found = measure(trip, count, size, pause, told)
+        found = measure(trip, count, size, pause, told, wait)
     except Refused as refusal:
         said, spent = f"nothing can be sent: {refusal}", time.monotonic() - begun
         return Step(way, Outcome.FAILED, said, spent, "What the server had granted has ended.")
