@@ -1,4 +1,5 @@
 """`yarrowdoor echo`, `bench` and `relay`, and the command as a program: signals, and an output that nobody reads."""
+import io
 import json
 import os
 import pathlib
@@ -6,8 +7,17 @@ import signal
 import socket
 import subprocess
 import sys
+import threading
+import time
 import unittest
 from typing import Any, Dict, List
+
+from yarrowdoor import Address
+from yarrowdoor.command.capture import NoCapture
+from yarrowdoor.command.credentials import Credentials
+from yarrowdoor.command.pair import CannotRelay, Server
+from yarrowdoor.command.relay import relay
+from yarrowdoor.uri import parse
 
 from .coturn import IS_HERE, WHY, coturn
 from .threaded import Ipv4Server, Threaded
@@ -97,6 +107,34 @@ class Packets(unittest.TestCase):
         with coturn() as server:
             self.carry(server.uri())
             self.carry(server.uri("turn:127.0.0.1:{port}?transport=tcp"))
+
+    def test_a_relay_in_a_thread(self) -> None:
+        # The same in this process, where the lines that it takes are counted.
+        printed, ended = io.StringIO(), []  # type: io.StringIO, List[str]
+        with echoing() as peer, echoing() as user, coturn() as server:
+            asked = Server(parse(server.uri("turn:127.0.0.1:{port}?transport=tcp")), Credentials("user", "pass"), None, None, 1.5,
+                           NoCapture())
+
+            def carry() -> None:
+                try:
+                    relay(asked, Address("127.0.0.1", 0), Address(*peer.getsockname()), printed)
+                except CannotRelay as error:
+                    ended.append(str(error))
+
+            thread = threading.Thread(target=carry)
+            thread.start()
+            end = time.monotonic() + 10
+            while not printed.getvalue().endswith("\n") and time.monotonic() < end:
+                time.sleep(0.01)
+            local = printed.getvalue().split()[2].rpartition(":")
+            user.sendto(b"hello", (local[0], int(local[2])))
+            data, relayed = peer.recvfrom(2000)
+            peer.sendto(data, relayed)
+            self.assertEqual(user.recvfrom(2000)[0], b"hello")
+            os.kill(server.pid, signal.SIGKILL)
+            thread.join(10)
+        self.assertEqual(len(ended), 1)
+        self.assertIn("the relayed address is gone", ended[0])
 
     def test_a_relay_ends_with_its_server(self) -> None:
         with echoing() as peer:

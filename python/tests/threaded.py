@@ -22,10 +22,12 @@ class Ipv4Server(Server):
 
 
 class Threaded:
-    """A server over UDP. Relayed addresses of one client are peers of the others. `loss` is of data alone."""
+    """A server over UDP. Relayed addresses of one client are peers of the others. `loss` is of data alone, which is cut after
+    `cut` bytes."""
 
-    def __init__(self, server: Server, loss: float = 0.0, forger: Optional[Forger] = None, delay: float = 0.0) -> None:
-        self.server, self.loss, self.forger, self.delay = server, loss, forger, delay
+    def __init__(self, server: Server, loss: float = 0.0, forger: Optional[Forger] = None, delay: float = 0.0,
+                 cut: int = 65_536) -> None:
+        self.server, self.loss, self.forger, self.delay, self.cut = server, loss, forger, delay, cut
         self.draw = random.Random(1)
         self.received: List[bytes] = []
         self._socket = socket.socket(type=socket.SOCK_DGRAM)
@@ -59,7 +61,7 @@ class Threaded:
             sender = self.server.allocation_of(client, now)
             for other, allocation in [*self.server.allocations.items()]:
                 if sender is not None and allocation.relayed == where and self.draw.random() >= self.loss:
-                    self._send(self.server.from_peer(data, sender.relayed, other, now), other)
+                    self._send(self.server.from_peer(data[:self.cut], sender.relayed, other, now), other)
 
     def __enter__(self) -> "Threaded":
         self._thread.start()
