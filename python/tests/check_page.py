@@ -1,6 +1,6 @@
 """The runs of docs/CHECK.md: what each is, its server, and what it printed, without what differs from run to run.
 
-    python3 -m tests.check_page       makes each run, and writes the page anew where one prints something else
+    python3 -m tests.check_page [--all]     makes each run, and writes into the page those that print something else, or all
 """
 import contextlib
 import io
@@ -8,10 +8,11 @@ import os
 import pathlib
 import re
 import shutil
+import sys
 import tempfile
 import time
 from dataclasses import dataclass, field
-from typing import Callable, ContextManager, Dict, Iterator, List, Sequence, Tuple
+from typing import Callable, ContextManager, Dict, Iterator, List, Tuple
 from unittest import mock
 
 from yarrowdoor.command.main import main
@@ -126,20 +127,19 @@ def blocks() -> List[Tuple[str, str]]:
     return BLOCK.findall(PAGE.read_text())
 
 
-def write(names: Sequence[str]) -> None:
-    """Makes each run, and puts what differs into the page."""
+def write(is_all: bool) -> None:
+    """Makes each run, and puts what differs, or all, into the page."""
     text = PAGE.read_text()
     for name, before in blocks():
-        if name in names:
-            _, printed, _ = make(name)
-            if plain(printed) != plain(before):
-                head = f"<!-- run: {name} -->\n\n```text\n"
-                text = text.replace(f"{head}{before}```", f"{head}{printed}```")
-                print(f"written: {name}")
+        _, printed, _ = make(name)
+        if is_all or plain(printed) != plain(before):
+            head = f"<!-- run: {name} -->\n\n```text\n"
+            text = text.replace(f"{head}{before}```", f"{head}{printed}```")
+            print(f"written: {name}")
     PAGE.write_text(text)
 
 
 if __name__ == "__main__":
     if not IS_HERE:
         raise SystemExit("coturn is not installed")
-    write([*RUNS])
+    write(sys.argv[1:] == ["--all"])

@@ -83,7 +83,8 @@ def send_back(exchange: Exchange) -> None:
 def send_all(trip: Trip, sizes: Sequence[int], pause: float, wait: float, told: Callable[[int], None]) -> Dict[int, List[float]]:
     """Sends a packet of each size, with a pause after each, and waits until nothing has come back for so many seconds: by number,
     the round trips of each."""
-    tag, left, back = os.urandom(8), {}, {}  # type: bytes, Dict[int, float], Dict[int, List[float]]
+    # Wireshark takes a packet whose first byte is this for no RTP, whatever comes after it.
+    tag, left, back = b"\xff" + os.urandom(7), {}, {}  # type: bytes, Dict[int, float], Dict[int, List[float]]
 
     def take(data: bytes, peer: Address) -> None:
         if len(data) < _HEAD.size or peer != trip.peer:
