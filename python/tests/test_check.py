@@ -107,6 +107,36 @@ class Dropped(unittest.TestCase):
         self.assertEqual((steps["messages"]["outcome"], steps["channels"]["outcome"]), ("ok", "ok"))
 
 
+def has_ipv6() -> bool:
+    """Whether this host has a loopback address of IPv6."""
+    with contextlib.suppress(OSError), socket.socket(socket.AF_INET6, socket.SOCK_DGRAM) as it:
+        it.bind(("::1", 0))
+        return True
+    return False
+
+
+@unittest.skipUnless(coturn.IS_HERE, coturn.WHY)
+@unittest.skipUnless(has_ipv6(), "this host has no IPv6")
+class Families(unittest.TestCase):
+    def test_a_server_with_ipv6_alone(self) -> None:
+        with coturn.coturn(host="::1") as server:
+            for form in ("turn:[::1]:{port}", "turn:[::1]:{port}?transport=tcp"):
+                status, steps = run(server.uri(form))
+                failed = {name: it for name, it in steps.items() if it["outcome"] == "failed"}
+                self.assertEqual((status, failed, steps["ipv4"]["outcome"]), (0, {}, "note"))
+                self.assertRegex(steps["allocation"]["facts"]["relayed"], r"^\[::1\]:")
+                self.assertGreater(steps["channels"]["facts"]["received"], 95)
+            echoed = io.StringIO()
+            with mock.patch.dict(os.environ, {"YARROWDOOR_PASSWORD": "pass"}), contextlib.redirect_stdout(echoed):
+                self.assertEqual(main(["echo", server.uri("turn:[::1]:{port}"), "--user", "user", "--count", "5"]), 0)
+
+    def test_a_server_with_both(self) -> None:
+        with coturn.coturn("-L", "::1", "-E", "127.0.0.1", "-E", "::1") as server:
+            status, steps = run(server.uri())
+        self.assertEqual((status, steps["ipv6"]["outcome"]), (0, "ok"))
+        self.assertRegex(steps["ipv6"]["facts"]["relayed"], r"^\[::1\]:")
+
+
 @unittest.skipUnless(coturn.IS_HERE, coturn.WHY)
 class Certified(unittest.TestCase):
     @unittest.skipUnless(shutil.which("openssl"), "openssl is not installed, which makes a certificate")

@@ -15,7 +15,7 @@ from .exchange import Exchange
 from .extras import nonce_step, quota_step, streams_step
 from .output import Output
 from .reach import Way
-from .relays import allocation_step, challenge_step, family_step, grant_step, permission_step
+from .relays import NO_SUCH_FAMILY, allocation_step, challenge_step, family_step, grant_step, permission_step
 from .steps import Outcome, Step
 from .traffic import LAST_WAIT, Trip, echo_step, payload_step, send_back
 
@@ -64,7 +64,7 @@ class _Relaying:
 
     def __init__(self, plan: Plan, way: Way, stream_way: Optional[Way], output: Output, tap: Tap) -> None:
         self._plan, self._way, self._stream_way, self._output, self._tap = plan, way, stream_way, output, tap
-        self._seconds = plan.seconds
+        self._seconds, self._family = plan.seconds, 4
         self._all: List[Exchange] = []
 
     def steps(self) -> Iterator[Step]:
@@ -92,18 +92,26 @@ class _Relaying:
             yield Step("allocation", Outcome.NOTE, "is not tried", 0.0, "There are no credentials: name a user by --user NAME.")
             return
         own = allocation_step(first, credentials, self._seconds)
+        if own.facts.get("code") == NO_SUCH_FAMILY:
+            yield family_step(first, 4, self._seconds)
+            self._family, first = 6, self._open(family=6)
+            own = allocation_step(first, credentials, self._seconds)
         yield own
-        if first.address is None:
-            return
-        yield family_step(self._open(family=6), 6, self._seconds)
-        second = self._open()
+        if first.address is not None:
+            yield from self._granted(first, first.address, own, credentials)
+
+    def _granted(self, first: Exchange, address: Address, own: Step, credentials: Credentials) -> Iterator[Step]:
+        """What comes after a relayed address."""
+        if self._family == 4:
+            yield family_step(self._open(family=6), 6, self._seconds)
+        second = self._open(family=self._family)
         step = allocation_step(second, credentials, self._seconds)
         if second.address is None:
             yield step  # The first one was granted, so that this one meets a quota.
         else:
             # Through an address that is known to be wrong nothing is likely to come: that is waited for less.
             wait = LAST_WAIT if own.outcome is not Outcome.FAILED else LAST_WAIT / 4
-            yield from self._joining(first, first.address, second, second.address, wait)
+            yield from self._joining(first, address, second, second.address, wait)
         yield from self._asked_for(first)
 
     def _joining(self, first: Exchange, one: Address, second: Exchange, other: Address, wait: float) -> Iterator[Step]:
@@ -131,7 +139,7 @@ class _Relaying:
         """TCP allocations, where the server is reached over TCP, and what the options name."""
         plan = self._plan
         if self._stream_way is not None:
-            yield streams_step(self._open(relay="tcp", way=self._stream_way), self._seconds)
+            yield streams_step(self._open("tcp", self._family, self._stream_way), self._seconds)
         if plan.nonce:
             yield nonce_step(first, plan.nonce, self._output.bar("nonce", int(plan.nonce)))
         if plan.quota:
@@ -139,4 +147,4 @@ class _Relaying:
             yield quota_step(self._make_alone, plan.quota, held, self._seconds, self._output.bar("quota", plan.quota))
 
     def _make_alone(self) -> Exchange:
-        return open_exchange(self._way, self._plan.credentials, self._tap, self._seconds)
+        return open_exchange(self._way, self._plan.credentials, self._tap, self._seconds, family=self._family)

@@ -14,7 +14,7 @@ from .doors import find_addresses, try_doors
 from .driver import open_exchange
 from .exchange import PATIENT, Exchange
 from .reach import Way
-from .relays import allocation_step, grant_step, permission_step
+from .relays import NO_SUCH_FAMILY, allocation_step, grant_step, permission_step
 from .steps import Outcome, Step
 from .traffic import Trip, send_back
 
@@ -70,7 +70,14 @@ def open_relay(server: Server, way: Way, opened: List[Exchange], family: int = 4
 def join(server: Server, way: Way, opened: List[Exchange], peer: Optional[Address], has_channel: bool) -> Trip:
     """A relayed address that may send to this peer, or to a second one of the same server, which sends back. `CannotRelay`."""
     family = 6 if peer is not None and ":" in peer.host else 4
-    own = open_relay(server, way, opened, family)
+    try:
+        own = open_relay(server, way, opened, family)
+    except CannotRelay as error:
+        if peer is not None or error.step.facts.get("code") != NO_SUCH_FAMILY:
+            raise
+        opened.pop().close()
+        family = 6
+        own = open_relay(server, way, opened, family)
     addresses = [peer] if peer is not None else [open_relay(server, way, opened, family), own]
     if peer is None:
         send_back(opened[1])

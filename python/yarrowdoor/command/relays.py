@@ -14,7 +14,10 @@ from .driver import drive
 from .exchange import Exchange
 from .steps import Facts, Outcome, Step
 
-__all__ = ["allocate", "allocation_step", "challenge_step", "family_step", "grant_step", "permission_step"]
+__all__ = ["NO_SUCH_FAMILY", "allocate", "allocation_step", "challenge_step", "family_step", "grant_step", "permission_step"]
+
+# The error of a server that has no relayed addresses of a family (RFC 8656, section 19).
+NO_SUCH_FAMILY = 440
 
 
 def challenge_step(exchange: Exchange, seconds: float) -> Step:
