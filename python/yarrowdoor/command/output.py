@@ -5,7 +5,7 @@ import json
 import os
 import sys
 import textwrap
-from typing import List, TextIO
+from typing import List, Optional, TextIO
 
 from .steps import Outcome, Step, status_of
 
@@ -61,10 +61,14 @@ class TextOutput(Output):
     def __init__(self, file: TextIO) -> None:
         super().__init__(file)
         self._is_terminal = file.isatty()
+        self._bar: Optional[Bar] = None
         self._has_colour = self._is_terminal and "NO_COLOR" not in os.environ and os.environ.get("TERM") != "dumb"
 
     def add(self, step: Step) -> None:
         super().add(step)
+        if self._bar is not None:
+            self._bar.end()  # Where what it shows has ended early, it is still there.
+            self._bar = None
         word = f"{step.outcome.value:<7}"
         if self._has_colour:
             word = f"\033[{_COLOURS[step.outcome]}m{word}\033[0m"
@@ -84,7 +88,8 @@ class TextOutput(Output):
         return status
 
     def bar(self, what: str, count: int) -> Bar:
-        return Bar(sys.stderr, self._is_terminal, what, count)
+        self._bar = Bar(sys.stderr, self._is_terminal, what, count)
+        return self._bar
 
 
 class JsonOutput(Output):
