@@ -37,8 +37,8 @@ class Page(unittest.TestCase):
                 status, printed, spent = check_page.make(name)
                 self.assertEqual(check_page.plain(printed), check_page.plain(told[name]))
                 self.assertEqual(status, check_page.RUNS[name].status)
-                if status and os.getloadavg()[0] < (os.cpu_count() or 1):
-                    self.assertLess(spent, 3.0)
+                if status:
+                    self.assertLess(spent, turn_servers.limit(3.0))
 
     def test_a_run_of_each_is_on_the_page(self) -> None:
         self.assertEqual([it for it, _ in check_page.blocks()], [*check_page.RUNS])
@@ -67,7 +67,7 @@ class Others(unittest.TestCase):
             status, steps = run(f"turn:127.0.0.1:{port}?transport={end}")
             failed = {name: it["said"] for name, it in steps.items() if it["outcome"] == "failed"}
             self.assertEqual((status, failed), (0, {}))
-            self.assertEqual(steps["payload"]["facts"], {"bytes": most})
+            self.assertTrue(1_400 <= steps["payload"]["facts"]["bytes"] <= most, steps["payload"])
             self.assertEqual(steps["messages"]["facts"]["sent"], 100)
             self.assertEqual(steps["streams"]["outcome"], "note")
             self.assertIn("(442", steps["streams"]["advice"])

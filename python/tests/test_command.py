@@ -22,6 +22,7 @@ from yarrowdoor.command.steps import Outcome, Step
 from .server import ALLOCATE, COOKIE, attribute, parse
 from .test_wheel import BACKEND, wheel_with
 from .threaded import Ipv4Server, Threaded
+from .turn_servers import limit
 
 QUIET = {"YARROWDOOR_PASSWORD": "pass"}
 
@@ -164,7 +165,7 @@ class Servers(unittest.TestCase):
                     status, steps = check(server)
                 self.assertEqual((status, steps["allocation"]["outcome"]), (1, "failed"))
                 self.assertIn(said, steps["allocation"]["advice"])
-                self.assertLess(steps["allocation"]["seconds"], 1.0)
+                self.assertLess(steps["allocation"]["seconds"], limit(1.0))
 
     def test_a_forged_refusal_is_none(self) -> None:
         # Who sees the request may send an error for it, which nobody has signed: the server's own answer counts.
@@ -208,7 +209,7 @@ class Servers(unittest.TestCase):
                 begun = time.monotonic()
                 status, steps = check(threaded, "--timeout", "0.3")
             self.assertEqual(status, 1)
-            self.assertLess(time.monotonic() - begun, 5)
+            self.assertLess(time.monotonic() - begun, limit(5))
             self.assertIn("failed", [it["outcome"] for it in steps.values()])
 
     def test_without_credentials_nothing_is_signed(self) -> None:
@@ -261,7 +262,7 @@ class Names(unittest.TestCase):
                 begun = time.monotonic()
                 status, out, _ = command("check", "turn:silent.example", "--timeout", "0.5", env={})
             self.assertEqual(status, 2)
-            self.assertLess(time.monotonic() - begun, 3)
+            self.assertLess(time.monotonic() - begun, limit(3))
             self.assertIn("cannot be tried from here", out)
 
     def test_of_two_addresses_one_may_be_dead(self) -> None:
@@ -288,7 +289,7 @@ class Silence(unittest.TestCase):
             begun = time.monotonic()
             status, out, _ = command("check", "turn:127.0.0.1:%d" % silent.getsockname()[1], env={})
         self.assertEqual(status, 1)
-        self.assertLess(time.monotonic() - begun, 3)
+        self.assertLess(time.monotonic() - begun, limit(3))
         self.assertIn("Nothing comes back from 127.0.0.1", " ".join(out.split()))
 
     def test_a_stream_that_says_nothing(self) -> None:
@@ -297,7 +298,7 @@ class Silence(unittest.TestCase):
                 begun = time.monotonic()
                 status, out, _ = command("check", form % mute.getsockname()[1], "--timeout", "0.5", env={})
                 self.assertEqual(status, 1)
-                self.assertLess(time.monotonic() - begun, 3)
+                self.assertLess(time.monotonic() - begun, limit(3))
                 self.assertIn("it is no TURN server", " ".join(out.split()))
 
 

@@ -23,7 +23,7 @@ class Ipv4Server(Server):
 
 class Threaded:
     """A server over UDP. Relayed addresses of one client are peers of the others. `loss` is of data alone, which is cut after
-    `cut` bytes."""
+    `cut` bytes. An answer that is forged comes `delay` seconds before the server's own."""
 
     def __init__(self, server: Server, loss: float = 0.0, forger: Optional[Forger] = None, delay: float = 0.0,
                  cut: int = 65_536) -> None:
@@ -47,9 +47,10 @@ class Threaded:
             except (socket.timeout, ConnectionError):
                 continue
             self.received.append(data)
-            for forged in self.forger(data) if self.forger is not None else []:
-                self._socket.sendto(forged, source)
-            time.sleep(self.delay)
+            forged = self.forger(data) if self.forger is not None else []
+            for packet in forged:
+                self._socket.sendto(packet, source)
+            time.sleep(self.delay if forged else 0.0)
             self._send(self.server.receive(data, source, time.monotonic()), source)
 
     def _send(self, packets: List[Tuple[bytes, Where]], client: Where) -> None:

@@ -112,6 +112,11 @@ def other_service(answer: Optional[bytes], port: int) -> Iterator[None]:
             thread.join()
 
 
+def limit(seconds: float) -> float:
+    """A limit of time, which is wider where more programs than processors are running: then they wait for each other."""
+    return seconds if os.getloadavg()[0] < (os.cpu_count() or 1) else 10 * seconds
+
+
 def make_certificate(room: str, name: str, days: int = 2) -> List[str]:
     """A certificate for this name that signs itself, and its key: the names of two files. With no days it is out of date."""
     files = [os.path.join(room, f"{name}-{it}.pem") for it in ("cert", "key")]

@@ -64,7 +64,7 @@ class Exchange:
     def __init__(self, wire: Wire, credentials: Optional[Credentials], relay: str = "udp", family: int = 4,
                  times: Optional[Times] = PATIENT) -> None:
         self.wire, self.relay, self.family, self._can_sign = wire, relay, family, credentials is not None
-        named = credentials or Credentials("check", "")
+        named = credentials or Credentials("check", "check")
         self.client = Client(wire.local, wire.remote, named.user, named.password, transport=wire.transport,
                              allocation=relay, families=(family,), times=times, max_stale_nonces=256, pause=5_000_000,
                              keepalive=15_000_000_000, refresh_ahead=150_000_000_000)
