@@ -13,7 +13,7 @@ from .coturn import wait_for
 
 PION_SOURCE = pathlib.Path(__file__).resolve().parent / "pion" / "main.go"
 GO_PATH = "/usr/share/gocode"
-HAS_PION = shutil.which("go") is not None and os.path.exists(f"{GO_PATH}/src/github.com/pion/turn/v2")
+HAS_PION = shutil.which("go") is not None and os.path.exists(f"{GO_PATH}/src/github.com/pion/turn/v2") and PION_SOURCE.exists()
 HAS_P1 = shutil.which("erl") is not None and bool([*pathlib.Path("/usr/lib/erlang/lib").glob("p1_stun-*")])
 WHY_NO_PION = "Go or pion is missing (Debian's golang-go and golang-github-pion-turn.v2-dev)"
 WHY_NO_P1 = "ejabberd's library is missing (Debian's erlang-p1-stun)"
