@@ -1,0 +1,249 @@
+// How the calls of one client are made: its requests in the module, and what is thrown for answers that are errors.
+import { addressAt, parseIp, putAddress } from "./address.js";
+import { LibraryError, OutOfMemory, Refused } from "./errors.js";
+import { ANSWER, CALL, KIND, MAX_OVERHEAD, MAX_PACKET, MAX_PAYLOAD, REASONS, REQUEST, SETTINGS, SIZE } from "./layout.js";
+import { TRANSPORT, numberOf, putSettings } from "./settings.js";
+import { putTime, timeAt } from "./time.js";
+
+/** @typedef {import("./address.js").AddressLike} AddressLike */
+/** @typedef {import("./answers.js").Transport} Transport */
+/** @typedef {import("./time.js").Time} Time */
+/**
+ * What a call has beside its kind and its time.
+ * @typedef {{ id?: number, transport?: Transport, from?: AddressLike, to?: AddressLike, peer?: AddressLike,
+ *     local?: AddressLike }} Fields
+ */
+
+const OTHER = 0;
+/** The requests that a client keeps in the module, each with its kind: the calls for each packet, and one for all others. */
+const KEPT = Object.freeze([CALL.POLL, CALL.POLL_TRANSMIT, CALL.RECV, CALL.SEND_TO, CALL.POLL_RECV, CALL.READ, OTHER]);
+/** @type {readonly (readonly ["from" | "to" | "peer" | "local", number])[]} */
+const PLACES = [["from", REQUEST.FROM], ["to", REQUEST.TO], ["peer", REQUEST.PEER], ["local", REQUEST.LOCAL]];
+
+/** The calls of a client. */
+export class Calls {
+    /** Where its requests are, by their calls. @type {readonly number[]} */
+    #requests;
+    /** The peer that stands in the request for sending. */
+    #peer = { address: "", port: -1, flow: 0, scope: 0 };
+
+    /**
+     * Makes the client. TypeError, RangeError, OutOfMemory.
+     * @param {import("./settings.js").Settings} settings
+     * @param {import("./library.js").Library} library
+     */
+    constructor(settings, library) {
+        const block = library.alloc(KEPT.length * SIZE.REQUEST);
+        this.library = library;
+        /** @type {import("./library.js").Held} */
+        this.held = { client: 0, block };
+        this.#requests = makeRequests(library, block);
+        try {
+            const { user, password, seed, isStream, relay } = putSettings(library, settings), { view, settings: at } = library;
+            this.isStream = isStream;
+            this.relay = relay;
+            /** The addresses of its own socket. */
+            this.local = addressAt(view, at + SETTINGS.LOCAL);
+            this.remote = addressAt(view, at + SETTINGS.REMOTE);
+            this.#putOwn();
+            const { kind, client } = library.make(user, password, seed);
+            if (kind !== 0) {
+                throw kind === KIND.OUT_OF_MEMORY ? new OutOfMemory() : new RangeError(`the settings are refused (${kind})`);
+            }
+            this.held.client = client;
+        } catch (error) {
+            library.dealloc(block);
+            throw error;
+        }
+    }
+
+    /** Writes what the requests for data have in common. */
+    #putOwn() {
+        const [recv, send] = [this.#requests[CALL.RECV], this.#requests[CALL.SEND_TO]], { view } = this.library;
+        view.setUint32(recv + REQUEST.TRANSPORT, this.isStream ? TRANSPORT.tcp : TRANSPORT.udp, true);
+        this.#putAddress(recv + REQUEST.FROM, this.remote, "remote");
+        this.#putAddress(recv + REQUEST.TO, this.local, "local");
+        view.setUint32(send + REQUEST.TRANSPORT, this.relay, true);
+    }
+
+    /**
+     * Polls, and gives the kind of the answer.
+     * @param {Time} now
+     */
+    poll(now) {
+        const { library } = this;
+        putTime(library.view, this.#requests[CALL.POLL], now);
+        return this.checked(library.call(this.held, this.#requests[CALL.POLL], 0, 0, 0, 0), now);
+    }
+
+    /**
+     * Makes a call whose answer has bytes, into `library.output(MAX_PACKET)`.
+     * @param {number} call
+     * @param {Time} now
+     */
+    fetch(call, now) {
+        const { library } = this, buffer = library.output(MAX_PACKET);
+        putTime(library.view, this.#requests[call], now);
+        return this.checked(library.call(this.held, this.#requests[call], 0, 0, buffer, MAX_PACKET), now);
+    }
+
+    /** The bytes of the last answer, with those that did not fit. */
+    fetched() {
+        return this.library.takeBytes(this.held, this.#requests[CALL.READ], this.library.output(MAX_PACKET), MAX_PACKET);
+    }
+
+    /**
+     * Passes in bytes that stand at a place in the module.
+     * @param {number} place
+     * @param {number} len
+     * @param {Time} now
+     * @param {{ transport?: Transport, remote?: AddressLike, local?: AddressLike }} [from]
+     */
+    recv(place, len, now, from) {
+        const { library, isStream } = this, buffer = isStream ? library.output(MAX_PACKET) : 0;
+        let request = this.#requests[CALL.RECV];
+        if (from) {
+            const { transport = isStream ? "tcp" : "udp", remote = this.remote, local = this.local } = from;
+            request = this.#fill(CALL.RECV, now, { transport, from: remote, to: local });
+        } else {
+            putTime(library.view, request, now);
+        }
+        return this.checked(library.call(this.held, request, place, len, buffer, isStream ? MAX_PACKET : 0), now);
+    }
+
+    /**
+     * Makes the packet for data that stands at a place in the module, at another place, which has room for it.
+     * @param {AddressLike} peer
+     * @param {number} place
+     * @param {number} len
+     * @param {number} buffer
+     * @param {Time} now
+     * @param {Transport | undefined} transport
+     */
+    sendTo(peer, place, len, buffer, now, transport) {
+        const { library } = this, request = this.#requests[CALL.SEND_TO];
+        putTime(library.view, request, now);
+        if (transport !== undefined) {
+            library.view.setUint32(request + REQUEST.TRANSPORT, numberOf(TRANSPORT, transport, "transport"), true);
+        }
+        this.#putPeer(request, peer);
+        const kind = library.call(this.held, request, place, len, buffer, len + MAX_OVERHEAD);
+        if (transport !== undefined) {
+            library.view.setUint32(request + REQUEST.TRANSPORT, this.relay, true);
+        }
+        return this.checked(kind, now);
+    }
+
+    /**
+     * Writes the peer of the request for sending, unless it is the one of the last call.
+     * @param {number} request
+     * @param {AddressLike} peer
+     */
+    #putPeer(request, peer) {
+        const before = this.#peer, { address, port, flow = 0, scope = 0 } = peer ?? {};
+        if (before.address === address && before.port === port && before.flow === flow && before.scope === scope) {
+            return;
+        }
+        before.port = -1; // no port, until all of it is written
+        this.#putAddress(request + REQUEST.PEER, peer, "peer");
+        this.#peer = { address, port, flow, scope };
+    }
+
+    /**
+     * Makes a call that has no bytes, and gives the kind of its answer.
+     * @param {number} kind
+     * @param {Time} now
+     * @param {Fields} [fields]
+     */
+    ask(kind, now, fields) {
+        return this.checked(this.library.call(this.held, this.#fill(kind, now, fields), 0, 0, 0, 0), now);
+    }
+
+    /**
+     * Makes a call that only looks, and gives the kind of its answer.
+     * @param {number} kind
+     * @param {Fields} fields
+     */
+    look(kind, fields) {
+        return this.checked(this.library.look(this.held, this.#fill(kind, 0n, fields)), 0n);
+    }
+
+    /**
+     * Writes the request for a call that is not made for each packet.
+     * @param {number} kind
+     * @param {Time} now
+     * @param {Fields} [fields]
+     */
+    #fill(kind, now, { id = 0, transport, ...addresses } = {}) {
+        const { bytes, view } = this.library, request = this.#requests[OTHER];
+        bytes.fill(0, request, request + SIZE.REQUEST);
+        putTime(view, request, now);
+        view.setUint32(request + REQUEST.KIND, kind, true);
+        view.setUint32(request + REQUEST.ID, id, true);
+        if (transport !== undefined) {
+            view.setUint32(request + REQUEST.TRANSPORT, numberOf(TRANSPORT, transport, "transport"), true);
+        }
+        for (const [name, place] of PLACES) {
+            const address = addresses[name];
+            if (address !== undefined) {
+                this.#putAddress(request + place, address, name);
+            }
+        }
+        return request;
+    }
+
+    /**
+     * @param {number} place
+     * @param {AddressLike} address
+     * @param {string} name
+     */
+    #putAddress(place, address, name) {
+        putAddress(this.library.bytes, this.library.view, place, address, name);
+    }
+
+    /**
+     * The kind of an answer, or what it stands for, if that is an error.
+     * @param {number} kind
+     * @param {Time} now
+     */
+    checked(kind, now) {
+        if (kind >= KIND.DONE) {
+            return kind;
+        }
+        const { view, answer } = this.library;
+        switch (kind) {
+            case KIND.REFUSED:
+                throw new Refused(REASONS[view.getUint32(answer + ANSWER.ERROR, true)], timeAt(view, answer + ANSWER.TIME, now));
+            case KIND.OUT_OF_MEMORY: throw new OutOfMemory();
+            case KIND.BAD_PAYLOAD: throw new RangeError(`data has at most ${MAX_PAYLOAD} bytes`);
+            default: throw new LibraryError(`the module answers ${kind}`);
+        }
+    }
+}
+
+/**
+ * Writes the requests that a client keeps, and gives their places by their calls.
+ * @param {import("./library.js").Library} library
+ * @param {number} block
+ */
+function makeRequests(library, block) {
+    /** @type {number[]} */
+    const places = Array(CALL.READ + 1).fill(0);
+    library.bytes.fill(0, block, block + KEPT.length * SIZE.REQUEST);
+    KEPT.forEach((kind, at) => {
+        places[kind] = block + at * SIZE.REQUEST;
+        library.view.setUint32(places[kind] + REQUEST.KIND, kind, true);
+    });
+    return places;
+}
+
+/**
+ * An IP address alone, as the library takes it. TypeError where it is none.
+ * @param {string} ip
+ */
+export function hostOf(ip) {
+    if (!parseIp(ip)) {
+        throw new TypeError(`${String(ip)} is no IP address`);
+    }
+    return { address: ip, port: 0 };
+}

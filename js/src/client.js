@@ -1,0 +1,377 @@
+// The client without I/O: the caller has the sockets and the clock.
+import { addressAt } from "./address.js";
+import { eventOf, pollOf, transportAt } from "./answers.js";
+import { Calls, hostOf } from "./calls.js";
+import { ANSWER, CALL, KIND, MAX_OVERHEAD, TRANSPORTS } from "./layout.js";
+import { Library } from "./library.js";
+
+/** @typedef {import("./address.js").Address} Address */
+/** @typedef {import("./address.js").AddressLike} AddressLike */
+/** @typedef {import("./answers.js").Transport} Transport */
+/** @typedef {import("./time.js").Time} Time */
+
+/** The engine's symbol for `using`, where it has one. */
+const DISPOSE = /** @type {{ dispose?: symbol }} */ (Symbol).dispose ?? Symbol.for("Symbol.dispose");
+/** @type {import("./answers.js").Handled} */
+const HANDLED = Object.freeze({ kind: "handled" });
+/** @type {import("./answers.js").Ignored} */
+const IGNORED = Object.freeze({ kind: "ignored" });
+
+/**
+ * A TURN client (RFC 8656, 6062 and 6156). It opens nothing and has no timer: it is passed bytes and times, and gives packets to
+ * send, data of peers, events, and the time at which to call again.
+ *
+ *     for (;;) {
+ *         for (const packet of client.packets(now())) { socket.send(packet.data); }
+ *         for (const event of client.events()) { ... }      // request permissions and channels, send data
+ *         const rest = client.poll(now());                  // { kind: "wait-until", until }
+ *         ...                                               // wait for a packet up to then
+ *         const answer = client.recv(data, now());          // { kind: "peer-data", data, peer }, or another
+ *     }
+ *
+ * Errors: TypeError and RangeError where the arguments are no call, `Refused` where the client refuses one, `OutOfMemory`, `Ended`
+ * after `close`, and `LibraryError` after a fault of the module. A client that nothing refers to any more is freed.
+ */
+export class Client {
+    #calls;
+
+    /**
+     * A client over the library that is shared, which is loaded. LibraryError.
+     * @param {import("./settings.js").Settings} settings
+     */
+    static async create(settings) {
+        return new Client(settings, await Library.shared());
+    }
+
+    /**
+     * @param {import("./settings.js").Settings} settings
+     * @param {Library} library
+     */
+    constructor(settings, library) {
+        if (!(library instanceof Library)) {
+            throw new TypeError("a client needs a library: new Client(settings, await Library.load()), or await Client.create(settings)");
+        }
+        this.#calls = new Calls(settings, library);
+        library.watch(this, this.#calls.held);
+    }
+
+    /** Frees the client. It sends nothing: `delete` gives the allocation back to the server before. Later calls are `Ended`. */
+    close() {
+        this.#calls.library.free(this.#calls.held);
+    }
+
+    [DISPOSE]() {
+        this.close();
+    }
+
+    // What is due
+
+    /**
+     * What is to be done next. While an event is to be polled, it is to wait until `now`.
+     * @param {Time} now
+     * @returns {import("./answers.js").Poll}
+     */
+    poll(now) {
+        const kind = this.#calls.poll(now), { view, answer } = this.#calls.library;
+        return pollOf(kind, view, answer, now);
+    }
+
+    /**
+     * The next packet that is due.
+     * @param {Time} now
+     * @returns {import("./answers.js").Packet | undefined}
+     */
+    pollTransmit(now) {
+        if (this.#calls.fetch(CALL.POLL_TRANSMIT, now) !== KIND.PACKET) {
+            return undefined;
+        }
+        const { transport, local, remote } = this.#way();
+        return { data: this.#calls.fetched(), transport, local, remote };
+    }
+
+    /** What a packet says of its way. */
+    #way() {
+        const { view, answer } = this.#calls.library;
+        const [local, remote] = [ANSWER.FROM, ANSWER.TO].map((at) => addressAt(view, answer + at));
+        return { transport: transportAt(view, answer), local, remote };
+    }
+
+    /**
+     * All packets that are due.
+     * @param {Time} now
+     * @returns {Generator<import("./answers.js").Packet, void, void>}
+     */
+    *packets(now) {
+        for (let packet; (packet = this.pollTransmit(now)) !== undefined; ) {
+            yield packet;
+        }
+    }
+
+    /**
+     * The next event.
+     * @returns {import("./answers.js").Event | undefined}
+     */
+    pollEvent() {
+        const kind = this.#calls.ask(CALL.POLL_EVENT, 0n), { view, answer } = this.#calls.library;
+        return eventOf(kind, view, answer);
+    }
+
+    /**
+     * All events.
+     * @returns {Generator<import("./answers.js").Event, void, void>}
+     */
+    *events() {
+        for (let event; (event = this.pollEvent()) !== undefined; ) {
+            yield event;
+        }
+    }
+
+    // Data
+
+    /**
+     * Passes in one datagram, or what one read of a stream gave, or no bytes where the stream has ended. `remote` and `local` are
+     * the addresses of the socket that had it, unless it is the one to the server. Over TCP call `pollRecv` afterwards, until it
+     * gives nothing. Data of a peer is a part of the bytes that were passed in, where it lies in them as a whole.
+     *
+     * Bytes that lie in the memory of the library are not copied.
+     * @param {Uint8Array} data
+     * @param {Time} now
+     * @param {{ transport?: Transport, remote?: AddressLike, local?: AddressLike }} [from]
+     * @returns {import("./answers.js").Received}
+     */
+    recv(data, now, from) {
+        checkBytes(data);
+        const { library } = this.#calls, isThere = data.buffer === library.bytes.buffer, place = library.put(data);
+        const kind = this.#calls.recv(place, data.length, now, from);
+        if (kind === KIND.HANDLED || kind === KIND.IGNORED) {
+            return kind === KIND.HANDLED ? HANDLED : IGNORED;
+        }
+        if (kind !== KIND.PEER_DATA_RANGE) {
+            return kind === KIND.PEER_DATA ? this.#pieces() : this.#icmp();
+        }
+        const { view, answer, bytes } = library, start = view.getUint32(answer + ANSWER.START, true);
+        const end = start + view.getUint32(answer + ANSWER.LEN, true);
+        const found = isThere ? bytes.subarray(place + start, place + end) : data.subarray(start, end);
+        const peer = addressAt(view, answer + ANSWER.PEER);
+        return { kind: "peer-data", data: found, peer, transport: transportAt(view, answer), start };
+    }
+
+    /**
+     * Data of a peer that came in pieces, or behind another message.
+     * @returns {import("./answers.js").PeerData}
+     */
+    #pieces() {
+        const { view, answer } = this.#calls.library, peer = addressAt(view, answer + ANSWER.PEER), transport = transportAt(view, answer);
+        return { kind: "peer-data", data: this.#calls.fetched(), peer, transport, start: undefined };
+    }
+
+    /** @returns {import("./answers.js").PeerIcmp} */
+    #icmp() {
+        const { view, answer } = this.#calls.library, peer = addressAt(view, answer + ANSWER.PEER), transport = transportAt(view, answer);
+        const type = view.getUint8(answer + ANSWER.ICMP_TYPE), code = view.getUint8(answer + ANSWER.ICMP_CODE);
+        return { kind: "peer-icmp", peer, transport, type, code, data: view.getUint32(answer + ANSWER.ICMP_DATA, true) };
+    }
+
+    /**
+     * The next data of peers in the streams that were passed in. Over UDP there is none.
+     * @param {Time} now
+     * @returns {import("./answers.js").PeerData | undefined}
+     */
+    pollRecv(now) {
+        return this.#calls.fetch(CALL.POLL_RECV, now) === KIND.PEER_DATA ? this.#pieces() : undefined;
+    }
+
+    /**
+     * The packet that carries data to `peer`, which needs a permission, and over TCP a data connection too. It is put into `into`,
+     * which has 64 bytes more than the data, or into bytes of its own. `Refused`: `no-permission`, `no-socket`. RangeError for over
+     * 65,504 bytes where the allocation is over UDP.
+     * @param {AddressLike} peer
+     * @param {Uint8Array} data
+     * @param {Time} now
+     * @param {{ transport?: Transport, into?: Uint8Array }} [how]
+     * @returns {import("./answers.js").Packet}
+     */
+    sendTo(peer, data, now, { transport, into } = {}) {
+        checkBytes(data);
+        const { library, isStream, local, remote } = this.#calls, room = data.length + MAX_OVERHEAD;
+        if (into !== undefined && !(into instanceof Uint8Array && into.length >= room)) {
+            throw new RangeError(`into is a Uint8Array with ${room} bytes or more`);
+        }
+        const place = library.put(data), isThere = into !== undefined && into.buffer === library.bytes.buffer;
+        const buffer = isThere ? into.byteOffset : library.output(room);
+        this.#calls.sendTo(peer, place, data.length, buffer, now, transport);
+        const end = buffer + library.view.getUint32(library.answer + ANSWER.LEN, true);
+        const bytes = isThere ? library.bytes.subarray(buffer, end) : taken(library.bytes.subarray(buffer, end), into);
+        return isStream ? { data: bytes, ...this.#way() } : { data: bytes, transport: "udp", local, remote };
+    }
+
+    // Requests
+
+    /**
+     * Requests a permission for an IP address (RFC 8656, section 9). An event tells the outcome. `Refused`: `no-allocation`,
+     * `already-exists`.
+     * @param {string} ip
+     * @param {Time} now
+     * @param {{ transport?: Transport }} [how]
+     */
+    createPermission(ip, now, { transport } = {}) {
+        this.#calls.ask(CALL.CREATE_PERMISSION, now, { transport: this.#relay(transport), peer: hostOf(ip) });
+    }
+
+    /**
+     * Requests a channel, and with it a permission (RFC 8656, section 12). An event tells the outcome. `Refused`: `no-allocation`;
+     * `already-exists`, also where all 4,096 numbers are taken; `expired`, up to `until`.
+     * @param {AddressLike} peer
+     * @param {Time} now
+     * @param {{ transport?: Transport }} [how]
+     */
+    bindChannel(peer, now, { transport } = {}) {
+        this.#calls.ask(CALL.BIND_CHANNEL, now, { transport: this.#relay(transport), peer });
+    }
+
+    /**
+     * Says whether the permission of an IP address is refreshed, as each is at first. One that is not ends by itself, with its event.
+     * `Refused` (`not-granted`) where there is none.
+     * @param {string} ip
+     * @param {boolean} isKept
+     * @param {{ transport?: Transport }} [how]
+     */
+    setPermissionKept(ip, isKept, { transport } = {}) {
+        this.#calls.ask(CALL.SET_PERMISSION_KEPT, 0n, { transport: this.#relay(transport), peer: hostOf(ip), id: isKept ? 1 : 0 });
+    }
+
+    /**
+     * Says whether the channel of a peer is refreshed, as each is at first. One that is not ends by itself, with its event; its
+     * permission is another grant. `Refused` (`not-granted`) where there is none.
+     * @param {AddressLike} peer
+     * @param {boolean} isKept
+     * @param {{ transport?: Transport }} [how]
+     */
+    setChannelKept(peer, isKept, { transport } = {}) {
+        this.#calls.ask(CALL.SET_CHANNEL_KEPT, 0n, { transport: this.#relay(transport), peer, id: isKept ? 1 : 0 });
+    }
+
+    /**
+     * Requests that the server connect to `peer`, which needs a permission (RFC 6062, section 4.3). `poll` asks for a data
+     * connection then, or an event says that it failed. `Refused`: `no-allocation`, `no-permission`, `already-exists`.
+     * @param {AddressLike} peer
+     * @param {Time} now
+     */
+    tcpConnect(peer, now) {
+        this.#calls.ask(CALL.TCP_CONNECT, now, { peer });
+    }
+
+    /**
+     * Passes in the connection that `poll` asked for, by its local address, or undefined where there is none. An event says that it
+     * is bound, or that it failed; there is none without an address, nor where the connection ends before. `Refused`: `no-allocation`
+     * where no such connection is offered, `already-exists` where another has this address.
+     * @param {{ id: number, transport: Transport, local: AddressLike, remote: AddressLike, peer: AddressLike }} wanted
+     * @param {AddressLike | undefined} local
+     * @param {Time} now
+     */
+    allocatedTcpSocket({ id, transport, local: from, remote: to, peer }, local, now) {
+        this.#calls.ask(CALL.ALLOCATED_TCP_SOCKET, now, { id, transport, from, to, peer, local });
+    }
+
+    /**
+     * Reports that the data connection from `local` to `remote` was closed, or broke. Unless the client has ended, `poll` answers
+     * `tcp-close` for it then.
+     * @param {AddressLike} local
+     * @param {AddressLike} remote
+     * @param {Time} now
+     */
+    tcpClosed(local, remote, now) {
+        this.#calls.ask(CALL.TCP_CLOSED, now, { from: local, to: remote });
+    }
+
+    /**
+     * Requests that the server delete the allocations (RFC 8656, section 8): poll and transmit until `closed`, for as long as you
+     * care to wait: where the server answers with an error other than 437 it does not come. `Refused`: `no-allocation`.
+     * @param {Time} now
+     */
+    delete(now) {
+        this.#calls.ask(CALL.DELETE, now);
+    }
+
+    /**
+     * Reports an error of a layer between client and server, as TLS: each family that is still requested fails, and the client has
+     * ended.
+     */
+    protocolError() {
+        this.#calls.ask(CALL.PROTOCOL_ERROR, 0n);
+    }
+
+    // What there is
+
+    /**
+     * Whether an IP address has an active permission.
+     * @param {string} ip
+     * @param {{ transport?: Transport }} [how]
+     */
+    havePermission(ip, { transport } = {}) {
+        return this.#calls.look(CALL.HAVE_PERMISSION, { transport: this.#relay(transport), peer: hostOf(ip) }) === KIND.YES;
+    }
+
+    /**
+     * The relayed addresses, with their transports.
+     * @returns {{ address: Address, transport: Transport }[]}
+     */
+    relayedAddresses() {
+        return this.#list(CALL.RELAYED_ADDRESSES, {}, (view, answer) => (
+            { address: addressAt(view, answer + ANSWER.PEER), transport: transportAt(view, answer) }));
+    }
+
+    /**
+     * The IP addresses that have an active permission in the allocation of this relayed address.
+     * @param {AddressLike} relayed
+     * @param {{ transport?: Transport }} [how]
+     * @returns {string[]}
+     */
+    permissions(relayed, { transport } = {}) {
+        const fields = { transport: this.#relay(transport), from: relayed };
+        return this.#list(CALL.PERMISSIONS, fields, (view, answer) => addressAt(view, answer + ANSWER.PEER).address);
+    }
+
+    /**
+     * @template Item
+     * @param {number} kind
+     * @param {import("./calls.js").Fields} fields
+     * @param {(view: DataView, answer: number) => Item} make
+     * @returns {Item[]}
+     */
+    #list(kind, fields, make) {
+        const found = [];
+        while (this.#calls.look(kind, { ...fields, id: found.length }) === KIND.ADDRESS) {
+            found.push(make(this.#calls.library.view, this.#calls.library.answer));
+        }
+        return found;
+    }
+
+    /**
+     * The transport between server and peers, unless another is given.
+     * @param {Transport | undefined} transport
+     */
+    #relay(transport) {
+        return transport ?? TRANSPORTS[this.#calls.relay];
+    }
+}
+
+/**
+ * A copy of bytes of the module, in bytes of its own or at the front of others.
+ * @param {Uint8Array} bytes
+ * @param {Uint8Array | undefined} into
+ */
+function taken(bytes, into) {
+    if (into === undefined) {
+        return bytes.slice();
+    }
+    into.set(bytes);
+    return into.subarray(0, bytes.length);
+}
+
+/** @param {unknown} data */
+function checkBytes(data) {
+    if (!(data instanceof Uint8Array)) {
+        throw new TypeError(`data is a Uint8Array, as a Buffer is, and not ${typeof data}`);
+    }
+}

@@ -1,0 +1,334 @@
+// The module: its memory, and its calls. One is enough for all clients of a program.
+import { Ended, LibraryError, OutOfMemory } from "./errors.js";
+import { ANSWER, KIND, MAX_OVERHEAD, MAX_PAYLOAD, SIZE } from "./layout.js";
+import { bytesOf, textOf } from "./load.js";
+import { findRandom } from "./random.js";
+
+/**
+ * What the module exports.
+ * @typedef {{ memory: WebAssembly.Memory, alloc(len: number): number, dealloc(place: number): void, limit(bytes: number): void,
+ *     client_new(settings: number, user: number, userLen: number, password: number, passwordLen: number, seed: number,
+ *         seedLen: number, place: number): number,
+ *     client_call(client: number, request: number, bytes: number, len: number, buffer: number, room: number,
+ *         answer: number): number,
+ *     client_look(client: number, request: number, answer: number): number, client_free(client: number): void,
+ *     read_message(transport: number, bytes: number, len: number, message: number): number,
+ *     read_attribute(bytes: number, len: number, type: number, place: number): number }} Exports
+ */
+
+/** Where a client's data in the module is, for the time when the client is gone. @typedef {{ client: number, block: number }} Held */
+
+/** Bytes that each buffer has at first: a packet, or data with what a packet may have beside it. */
+const ROOM = MAX_PAYLOAD + 2 * MAX_OVERHEAD;
+
+/** @type {Promise<Library> | undefined} */
+let shared;
+
+/**
+ * The compiled module with its memory. Nothing of it can be shared between threads: each worker loads its own.
+ *
+ * Where an engine stops a call, as when its stack is used up, the memory may be left halfway: then all clients of the library are
+ * lost, and each later call is a LibraryError.
+ */
+export class Library {
+    /** @type {Exports} */
+    #exports;
+    /** @type {unknown} */
+    #fault;
+    /** @type {FinalizationRegistry<Held>} */
+    #registry;
+    /** The memory as it is now. Where it grows it is another one. */
+    bytes = new Uint8Array();
+    /** The same, for numbers. */
+    view = new DataView(new ArrayBuffer(0));
+    /** Room for settings, an answer, a message, and two numbers. */
+    settings = 0;
+    answer = 0;
+    message = 0;
+    pair = 0;
+    /** Where bytes are put that are passed in, and where packets and data come out. */
+    #input = { place: 0, len: 0 };
+    #output = { place: 0, len: 0 };
+
+    /**
+     * Compiles the module, by default that of the package. `source` is its bytes, a compiled module, a response or a URL. Its
+     * memory has at most `memoryLimit` bytes (over 1 MB): a call for more fails with OutOfMemory. LibraryError where it is none.
+     * @param {{ source?: BufferSource | WebAssembly.Module | Response | URL | string, memoryLimit?: number }} [options]
+     * @returns {Promise<Library>}
+     */
+    static async load({ source = new URL("../yarrowdoor.wasm", import.meta.url), memoryLimit = Infinity } = {}) {
+        if (typeof memoryLimit !== "number" || !(memoryLimit > 0)) {
+            throw new RangeError(`memoryLimit is a number of bytes, and not ${String(memoryLimit)}`);
+        }
+        try {
+            await findRandom();
+            const compiled = source instanceof WebAssembly.Module ? source : await WebAssembly.compile(await bytesOf(source));
+            const instance = await WebAssembly.instantiate(compiled, {});
+            return new Library(/** @type {Exports} */ (/** @type {unknown} */ (instance.exports)), memoryLimit);
+        } catch (error) {
+            throw error instanceof OutOfMemory ? error : new LibraryError(`the module cannot be loaded: ${textOf(error)}`, error);
+        }
+    }
+
+    /**
+     * The library that all share who load none: it is loaded once.
+     * @returns {Promise<Library>}
+     */
+    static shared() {
+        shared ??= Library.load().catch((error) => {
+            shared = undefined;
+            throw error;
+        });
+        return shared;
+    }
+
+    /**
+     * @param {Exports} exports
+     * @param {number} memoryLimit
+     */
+    constructor(exports, memoryLimit) {
+        this.#exports = exports;
+        this.#registry = new FinalizationRegistry((held) => this.release(held));
+        this.renew();
+        exports.limit(memoryLimit);
+        [this.settings, this.answer, this.message, this.pair] =
+            [SIZE.SETTINGS, SIZE.ANSWER, SIZE.MESSAGE, 8].map((len) => this.alloc(len));
+        this.#input = { place: this.alloc(ROOM), len: ROOM };
+        this.#output = { place: this.alloc(ROOM), len: ROOM };
+    }
+
+    /** Bytes that the memory of the module has. It never has less again. */
+    get memorySize() {
+        return this.#exports.memory.buffer.byteLength;
+    }
+
+    /** Takes the memory as it is, where it has grown. */
+    renew() {
+        if (this.bytes.length === 0) {
+            const { buffer } = this.#exports.memory;
+            this.bytes = new Uint8Array(buffer);
+            this.view = new DataView(buffer);
+        }
+    }
+
+    /** @param {unknown} error */
+    #stop(error) {
+        this.#fault ??= error;
+        throw new LibraryError(`the module has stopped: ${textOf(error)}`, error);
+    }
+
+    #check() {
+        if (this.#fault !== undefined) {
+            throw new LibraryError(`the module has stopped before: ${textOf(this.#fault)}`, this.#fault);
+        }
+    }
+
+    /**
+     * Memory of the module, at a multiple of 16. OutOfMemory.
+     * @param {number} len
+     */
+    alloc(len) {
+        this.#check();
+        const place = this.#exports.alloc(len);
+        this.renew();
+        if (place === 0) {
+            throw new OutOfMemory();
+        }
+        return place;
+    }
+
+    /** @param {number} place */
+    dealloc(place) {
+        if (this.#fault === undefined) {
+            this.#exports.dealloc(place);
+        }
+    }
+
+    /**
+     * Where bytes are in the module: as they lie there already, or copied.
+     * @param {Uint8Array} data
+     */
+    put(data) {
+        if (data.buffer === this.bytes.buffer) {
+            return data.byteOffset;
+        }
+        if (data.length > this.#input.len) {
+            this.#input = this.#larger(this.#input, data.length);
+        }
+        this.bytes.set(data, this.#input.place);
+        return this.#input.place;
+    }
+
+    /**
+     * A place for so many bytes that come out.
+     * @param {number} len
+     */
+    output(len) {
+        if (len > this.#output.len) {
+            this.#output = this.#larger(this.#output, len);
+        }
+        return this.#output.place;
+    }
+
+    /**
+     * @param {{ place: number, len: number }} before
+     * @param {number} len
+     */
+    #larger(before, len) {
+        const place = this.alloc(len);
+        this.dealloc(before.place);
+        return { place, len };
+    }
+
+    /**
+     * Makes a client by the settings that stand there.
+     * @param {Uint8Array} user
+     * @param {Uint8Array} password
+     * @param {Uint8Array} seed
+     * @returns {{ kind: number, client: number }}
+     */
+    make(user, password, seed) {
+        const len = user.length + password.length + seed.length, block = this.alloc(Math.max(len, 1));
+        this.bytes.set(user, block);
+        this.bytes.set(password, block + user.length);
+        this.bytes.set(seed, block + user.length + password.length);
+        let kind = 0;
+        try {
+            kind = this.#exports.client_new(this.settings, block, user.length, block + user.length, password.length,
+                block + user.length + password.length, seed.length, this.pair);
+        } catch (error) {
+            this.#stop(error);
+        }
+        this.renew();
+        this.bytes.fill(0, block, block + len);
+        this.dealloc(block);
+        return { kind, client: this.view.getUint32(this.pair, true) };
+    }
+
+    /**
+     * Makes a call, and gives the kind of its answer.
+     * @param {Held} held
+     * @param {number} request
+     * @param {number} bytes
+     * @param {number} len
+     * @param {number} buffer
+     * @param {number} room
+     */
+    call(held, request, bytes, len, buffer, room) {
+        if (held.client === 0 || this.#fault !== undefined) {
+            this.#check();
+            throw new Ended("the client was closed");
+        }
+        let kind = 0;
+        try {
+            kind = this.#exports.client_call(held.client, request, bytes, len, buffer, room, this.answer);
+        } catch (error) {
+            this.#stop(error);
+        }
+        if (this.bytes.length === 0) {
+            this.renew();
+        }
+        return kind;
+    }
+
+    /**
+     * Makes a call that only looks.
+     * @param {Held} held
+     * @param {number} request
+     */
+    look(held, request) {
+        if (held.client === 0 || this.#fault !== undefined) {
+            this.#check();
+            throw new Ended("the client was closed");
+        }
+        try {
+            return this.#exports.client_look(held.client, request, this.answer);
+        } catch (error) {
+            return this.#stop(error);
+        }
+    }
+
+    /**
+     * Reads the first frame of bytes into `message`.
+     * @param {number} transport
+     * @param {number} place
+     * @param {number} len
+     */
+    readMessage(transport, place, len) {
+        this.#check();
+        try {
+            return this.#exports.read_message(transport, place, len, this.message);
+        } catch (error) {
+            return this.#stop(error);
+        }
+    }
+
+    /**
+     * Finds an attribute, whose place and length are then at `pair`.
+     * @param {number} place
+     * @param {number} len
+     * @param {number} type
+     */
+    readAttribute(place, len, type) {
+        this.#check();
+        try {
+            return this.#exports.read_attribute(place, len, type, this.pair);
+        } catch (error) {
+            return this.#stop(error);
+        }
+    }
+
+    /**
+     * The bytes of the answer in the buffer, and those that did not fit, which are read.
+     * @param {Held} held
+     * @param {number} readRequest
+     * @param {number} buffer
+     * @param {number} room
+     */
+    takeBytes(held, readRequest, buffer, room) {
+        const { view } = this, len = view.getUint32(this.answer + ANSWER.LEN, true);
+        const left = view.getUint32(this.answer + ANSWER.LEFT, true);
+        if (left === 0) {
+            return this.bytes.slice(buffer, buffer + len);
+        }
+        const all = new Uint8Array(len + left);
+        for (let at = 0, more = len; ; more = this.view.getUint32(this.answer + ANSWER.LEN, true)) {
+            all.set(this.bytes.subarray(buffer, buffer + more), at);
+            at += more;
+            if (at >= all.length || this.call(held, readRequest, 0, 0, buffer, room) !== KIND.BYTES) {
+                return all;
+            }
+        }
+    }
+
+    /**
+     * Has a client freed when its object is collected.
+     * @param {object} client
+     * @param {Held} held
+     */
+    watch(client, held) {
+        this.#registry.register(client, { ...held }, held);
+    }
+
+    /**
+     * Frees a client that is closed.
+     * @param {Held} held
+     */
+    free(held) {
+        this.#registry.unregister(held);
+        this.release(held);
+        held.client = held.block = 0;
+    }
+
+    /** @param {Held} held */
+    release(held) {
+        if (this.#fault === undefined && held.client !== 0) {
+            try {
+                this.#exports.client_free(held.client);
+                this.#exports.dealloc(held.block);
+            } catch (error) {
+                this.#fault = error;
+            }
+        }
+    }
+}
