@@ -1,13 +1,78 @@
 // What the package uses of Node, for the check of its types: Debian has no package of Node's own.
 
-declare var process: { readonly versions: { readonly node?: string }, emitWarning(text: string, kind: string): void,
-    nextTick(what: (...words: any[]) => void, ...words: any[]): void };
+declare var process: { readonly versions: { readonly node?: string }, nextTick(what: (...words: any[]) => void, ...words: any[]): void };
+declare var Buffer: { from(bytes: Uint8Array): { toString(encoding: "latin1"): string }, concat(parts: Uint8Array[]): Uint8Array };
+declare function setTimeout(what: (...words: any[]) => void, milliseconds: number, ...words: any[]): { unref(): void };
+declare function clearTimeout(timer: { unref(): void } | undefined): void;
+declare function setImmediate(what: (value: any) => void): void;
+declare namespace NodeJS {
+    type ArrayBufferView = Uint8Array | DataView;
+}
 
 declare module "node:fs/promises" {
     export function readFile(file: URL | string): Promise<Uint8Array>;
 }
 
 declare module "node:crypto" {
-    export const webcrypto: Crypto;
-    export function randomBytes(len: number): Uint8Array;
+    export const webcrypto: unknown;
+}
+
+declare module "node:events" {
+    export class EventEmitter {
+        on(name: string, listener: (...words: any[]) => void): this;
+        once(name: string, listener: (...words: any[]) => void): this;
+        emit(name: string, ...words: unknown[]): boolean;
+        listenerCount(name: string): number;
+        removeAllListeners(name: string): this;
+    }
+}
+
+declare module "node:dgram" {
+    import { EventEmitter } from "node:events";
+    export interface Socket extends EventEmitter {
+        connect(port: number, host: string, connected: () => void): void;
+        send(data: Uint8Array, sent: (error: Error | null) => void): void;
+        address(): { address: string, port: number };
+        remoteAddress(): { address: string, port: number };
+        ref(): this;
+        unref(): this;
+        close(): void;
+    }
+    export function createSocket(type: "udp4" | "udp6"): Socket;
+    const dgram: { createSocket: typeof createSocket };
+    export default dgram;
+}
+
+declare module "node:net" {
+    import { EventEmitter } from "node:events";
+    export interface Socket extends EventEmitter {
+        readonly localAddress: string | undefined;
+        readonly localPort: number | undefined;
+        readonly remoteAddress: string | undefined;
+        readonly remotePort: number | undefined;
+        readonly writableNeedDrain: boolean;
+        setNoDelay(isOn: boolean): void;
+        setKeepAlive(isOn: boolean, milliseconds: number): void;
+        write(data: Uint8Array): boolean;
+        end(): void;
+        destroy(): void;
+        ref(): this;
+        unref(): this;
+    }
+    const net: { connect(options: { host: string, port: number }): Socket };
+    export default net;
+}
+
+declare module "node:tls" {
+    import { Socket } from "node:net";
+    export interface ConnectionOptions {
+        readonly [name: string]: unknown;
+    }
+    const tls: { connect(options: ConnectionOptions): Socket };
+    export default tls;
+}
+
+declare module "node:dns/promises" {
+    const dns: { lookup(host: string, options: { all: true, verbatim: true }): Promise<{ address: string, family: number }[]> };
+    export default dns;
 }

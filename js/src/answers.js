@@ -7,23 +7,41 @@ import { timeAt } from "./time.js";
 /** @typedef {import("./time.js").Time} Time */
 /** @typedef {"udp" | "tcp"} Transport */
 
-/** Nothing is due before `until`. Any other call may make it earlier. @typedef {{ kind: "wait-until", until: Time }} WaitUntil */
+/**
+ * Nothing is due before `until`. Any other call may make it earlier.
+ * @typedef {{ kind: "wait-until", until: Time }} WaitUntil
+ */
 /**
  * Open a connection to `remote` for data of `peer`, and pass it to `allocatedTcpSocket`.
  * @typedef {{ kind: "allocate-tcp-socket", id: number, transport: Transport, local: Address, remote: Address,
  *     peer: Address }} AllocateTcpSocket
  */
-/** Close the connection from `local` to `remote`. @typedef {{ kind: "tcp-close", local: Address, remote: Address }} TcpClose */
-/** The client has ended. An event may be left, that says so. @typedef {{ kind: "closed" }} Closed */
-/** What is to be done next. @typedef {WaitUntil | AllocateTcpSocket | TcpClose | Closed} Poll */
+/**
+ * Close the connection from `local` to `remote`.
+ * @typedef {{ kind: "tcp-close", local: Address, remote: Address }} TcpClose
+ */
+/**
+ * The client has ended. An event may be left, that says so.
+ * @typedef {{ kind: "closed" }} Closed
+ */
+/**
+ * What is to be done next.
+ * @typedef {WaitUntil | AllocateTcpSocket | TcpClose | Closed} Poll
+ */
 
 /**
  * Send these bytes over `transport`, from the socket at `local` to `remote`.
  * @typedef {{ data: Uint8Array, transport: Transport, local: Address, remote: Address }} Packet
  */
 
-/** The bytes were for the client itself: poll it. @typedef {{ kind: "handled" }} Handled */
-/** The bytes were not for this client, or nobody had to have signed them. @typedef {{ kind: "ignored" }} Ignored */
+/**
+ * The bytes were for the client itself: poll it.
+ * @typedef {{ kind: "handled" }} Handled
+ */
+/**
+ * The bytes were not for this client, or nobody had to have signed them.
+ * @typedef {{ kind: "ignored" }} Ignored
+ */
 /**
  * `peer` sent `data` over `transport`: what was passed in, from `start` on, or where `start` is undefined what came in pieces.
  * @typedef {{ kind: "peer-data", data: Uint8Array, peer: Address, transport: Transport, start: number | undefined }} PeerData
@@ -32,22 +50,43 @@ import { timeAt } from "./time.js";
  * An ICMP packet came for data to `peer` (RFC 8656, section 18.13).
  * @typedef {{ kind: "peer-icmp", peer: Address, transport: Transport, type: number, code: number, data: number }} PeerIcmp
  */
-/** What passing in bytes comes to. @typedef {Handled | Ignored | PeerData | PeerIcmp} Received */
+/**
+ * What passing in bytes comes to.
+ * @typedef {Handled | Ignored | PeerData | PeerIcmp} Received
+ */
 
-/** The server relays this address. @typedef {{ kind: "allocation-created", address: Address, transport: Transport }} AllocationCreated */
-/** There is no relayed address of this family. @typedef {{ kind: "allocation-create-failed", family: 4 | 6 }} AllocationCreateFailed */
-/** This IP address has a permission. @typedef {{ kind: "permission-created", ip: string, transport: Transport }} PermissionCreated */
+/**
+ * The server relays this address.
+ * @typedef {{ kind: "allocation-created", address: Address, transport: Transport }} AllocationCreated
+ */
+/**
+ * There is no relayed address of this family.
+ * @typedef {{ kind: "allocation-create-failed", family: 4 | 6 }} AllocationCreateFailed
+ */
+/**
+ * This IP address has a permission.
+ * @typedef {{ kind: "permission-created", ip: string, transport: Transport }} PermissionCreated
+ */
 /**
  * This IP address got no permission, or has it no longer.
  * @typedef {{ kind: "permission-create-failed", ip: string, transport: Transport }} PermissionCreateFailed
  */
-/** This peer has a channel. @typedef {{ kind: "channel-created", peer: Address, transport: Transport }} ChannelCreated */
+/**
+ * This peer has a channel.
+ * @typedef {{ kind: "channel-created", peer: Address, transport: Transport }} ChannelCreated
+ */
 /**
  * This peer got no channel, or has it no longer.
  * @typedef {{ kind: "channel-create-failed", peer: Address, transport: Transport }} ChannelCreateFailed
  */
-/** There is a data connection to this peer. @typedef {{ kind: "tcp-connected", peer: Address }} TcpConnected */
-/** There is no data connection to this peer. @typedef {{ kind: "tcp-connect-failed", peer: Address }} TcpConnectFailed */
+/**
+ * There is a data connection to this peer.
+ * @typedef {{ kind: "tcp-connected", peer: Address }} TcpConnected
+ */
+/**
+ * There is no data connection to this peer.
+ * @typedef {{ kind: "tcp-connect-failed", peer: Address }} TcpConnectFailed
+ */
 /**
  * What a client tells without being asked.
  * @typedef {AllocationCreated | AllocationCreateFailed | PermissionCreated | PermissionCreateFailed | ChannelCreated |

@@ -22,7 +22,10 @@ const PLACES = [["from", REQUEST.FROM], ["to", REQUEST.TO], ["peer", REQUEST.PEE
 
 /** The calls of a client. */
 export class Calls {
-    /** Where its requests are, by their calls. @type {readonly number[]} */
+    /**
+     * Where its requests are, by their calls.
+     * @type {readonly number[]}
+     */
     #requests;
     /** The peer that stands in the request for sending. */
     #peer = { address: "", port: -1, flow: 0, scope: 0 };
@@ -172,7 +175,7 @@ export class Calls {
      * Writes the request for a call that is not made for each packet.
      * @param {number} kind
      * @param {Time} now
-     * @param {Fields} [fields]
+     * @param {Fields} fields
      */
     #fill(kind, now, { id = 0, transport, ...addresses } = {}) {
         const { bytes, view } = this.library, request = this.#requests[OTHER];

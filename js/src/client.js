@@ -188,7 +188,7 @@ export class Client {
      * @param {AddressLike} peer
      * @param {Uint8Array} data
      * @param {Time} now
-     * @param {{ transport?: Transport, into?: Uint8Array }} [how]
+     * @param {{ transport?: Transport, into?: Uint8Array }} how
      * @returns {import("./answers.js").Packet}
      */
     sendTo(peer, data, now, { transport, into } = {}) {
@@ -212,7 +212,7 @@ export class Client {
      * `already-exists`.
      * @param {string} ip
      * @param {Time} now
-     * @param {{ transport?: Transport }} [how]
+     * @param {{ transport?: Transport }} how
      */
     createPermission(ip, now, { transport } = {}) {
         this.#calls.ask(CALL.CREATE_PERMISSION, now, { transport: this.#relay(transport), peer: hostOf(ip) });
@@ -223,7 +223,7 @@ export class Client {
      * `already-exists`, also where all 4,096 numbers are taken; `expired`, up to `until`.
      * @param {AddressLike} peer
      * @param {Time} now
-     * @param {{ transport?: Transport }} [how]
+     * @param {{ transport?: Transport }} how
      */
     bindChannel(peer, now, { transport } = {}) {
         this.#calls.ask(CALL.BIND_CHANNEL, now, { transport: this.#relay(transport), peer });
@@ -234,7 +234,7 @@ export class Client {
      * `Refused` (`not-granted`) where there is none.
      * @param {string} ip
      * @param {boolean} isKept
-     * @param {{ transport?: Transport }} [how]
+     * @param {{ transport?: Transport }} how
      */
     setPermissionKept(ip, isKept, { transport } = {}) {
         this.#calls.ask(CALL.SET_PERMISSION_KEPT, 0n, { transport: this.#relay(transport), peer: hostOf(ip), id: isKept ? 1 : 0 });
@@ -245,7 +245,7 @@ export class Client {
      * permission is another grant. `Refused` (`not-granted`) where there is none.
      * @param {AddressLike} peer
      * @param {boolean} isKept
-     * @param {{ transport?: Transport }} [how]
+     * @param {{ transport?: Transport }} how
      */
     setChannelKept(peer, isKept, { transport } = {}) {
         this.#calls.ask(CALL.SET_CHANNEL_KEPT, 0n, { transport: this.#relay(transport), peer, id: isKept ? 1 : 0 });
@@ -306,7 +306,7 @@ export class Client {
     /**
      * Whether an IP address has an active permission.
      * @param {string} ip
-     * @param {{ transport?: Transport }} [how]
+     * @param {{ transport?: Transport }} how
      */
     havePermission(ip, { transport } = {}) {
         return this.#calls.look(CALL.HAVE_PERMISSION, { transport: this.#relay(transport), peer: hostOf(ip) }) === KIND.YES;
@@ -324,7 +324,7 @@ export class Client {
     /**
      * The IP addresses that have an active permission in the allocation of this relayed address.
      * @param {AddressLike} relayed
-     * @param {{ transport?: Transport }} [how]
+     * @param {{ transport?: Transport }} how
      * @returns {string[]}
      */
     permissions(relayed, { transport } = {}) {

@@ -1,6 +1,9 @@
 // The errors of the package, by name. All of them are a YarrowdoorError, and have a reason.
 
-/** What an error response said: its code, and its words. @typedef {{ code: number, phrase: string }} Hint */
+/**
+ * What an error response said: its code, and its words.
+ * @typedef {{ code: number, phrase: string }} Hint
+ */
 
 /** What all errors of the package are. Wrong arguments are a TypeError or a RangeError. */
 export class YarrowdoorError extends Error {
@@ -15,7 +18,10 @@ export class YarrowdoorError extends Error {
         /** Why, in a word that stays the same. */
         this.reason = reason;
         if (cause !== undefined) {
-            /** What it comes from, as the error of a socket. @type {unknown} */
+            /**
+             * What it comes from, as the error of a socket.
+             * @type {unknown}
+             */
             this.cause = cause;
         }
     }

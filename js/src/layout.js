@@ -22,8 +22,11 @@ export const REASONS = Object.freeze([
     "", "already-exists", "no-allocation", "no-permission", "no-socket", "expired", "not-granted",
 ]);
 
-/** The transports by their numbers. @type {readonly ("udp" | "tcp")[]} */
-export const TRANSPORTS = Object.freeze(["udp", "tcp"]);
+/**
+ * The transports by their numbers.
+ * @type {readonly ("udp" | "tcp")[]}
+ */
+export const TRANSPORTS = ["udp", "tcp"];
 
 /** Bytes of each struct. */
 export const SIZE = Object.freeze({ ADDRESS: 28, SETTINGS: 160, REQUEST: 136, ANSWER: 160, MESSAGE: 112 });

@@ -16,7 +16,10 @@ import { findRandom } from "./random.js";
  *     read_attribute(bytes: number, len: number, type: number, place: number): number }} Exports
  */
 
-/** Where a client's data in the module is, for the time when the client is gone. @typedef {{ client: number, block: number }} Held */
+/**
+ * Where a client's data in the module is, for the time when the client is gone.
+ * @typedef {{ client: number, block: number }} Held
+ */
 
 /** Bytes that each buffer has at first: a packet, or data with what a packet may have beside it. */
 const ROOM = MAX_PAYLOAD + 2 * MAX_OVERHEAD;
@@ -53,7 +56,7 @@ export class Library {
     /**
      * Compiles the module, by default that of the package. `source` is its bytes, a compiled module, a response or a URL. Its
      * memory has at most `memoryLimit` bytes (over 1 MB): a call for more fails with OutOfMemory. LibraryError where it is none.
-     * @param {{ source?: BufferSource | WebAssembly.Module | Response | URL | string, memoryLimit?: number }} [options]
+     * @param {{ source?: BufferSource | WebAssembly.Module | Response | URL | string, memoryLimit?: number }} options
      * @returns {Promise<Library>}
      */
     static async load({ source = new URL("../yarrowdoor.wasm", import.meta.url), memoryLimit = Infinity } = {}) {
@@ -111,7 +114,10 @@ export class Library {
         }
     }
 
-    /** @param {unknown} error */
+    /**
+     * @param {unknown} error
+     * @returns {never}
+     */
     #stop(error) {
         this.#fault ??= error;
         throw new LibraryError(`the module has stopped: ${textOf(error)}`, error);

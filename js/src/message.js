@@ -11,8 +11,14 @@ import { TRANSPORT, numberOf } from "./settings.js";
  *     error: import("./errors.js").Hint | undefined, realm: string | undefined,
  *     mapped: import("./address.js").Address | undefined, alternate: import("./address.js").Address | undefined }} Message
  */
-/** ChannelData (RFC 8656, section 12.4). @typedef {{ kind: "channel-data", len: number, channel: number }} ChannelData */
-/** Bytes that begin neither, or a malformed message. @typedef {{ kind: "no-frame" }} NoFrame */
+/**
+ * ChannelData (RFC 8656, section 12.4).
+ * @typedef {{ kind: "channel-data", len: number, channel: number }} ChannelData
+ */
+/**
+ * Bytes that begin neither, or a malformed message.
+ * @typedef {{ kind: "no-frame" }} NoFrame
+ */
 
 /** @type {readonly MessageClass[]} */
 const CLASSES = Object.freeze(["request", "indication", "success", "error"]);

@@ -1,0 +1,261 @@
+// One socket to the server: bytes out, bytes in, whether it is full, and how it ends.
+import dgram from "node:dgram";
+import net from "node:net";
+import tls from "node:tls";
+import { abortable, Deferred } from "./deferred.js";
+
+/**
+ * What is told of a link.
+ * @typedef {{ received(data: Uint8Array): void, refused(error: Error): void, ended(error: Error | undefined): void,
+ *     drained(): void }} LinkUser
+ */
+/** @typedef {DatagramLink | StreamLink} Link */
+
+/** So many packets are handed to the system before it has told of the first. More may be lost there without a word. */
+const MOST_PENDING = 256;
+/** A stream on which nothing is sent is asked for a sign of life after so long, in milliseconds. */
+const KEEPALIVE = 15_000;
+
+/** @type {LinkUser} */
+const NOBODY = { received() {}, refused() {}, ended() {}, drained() {} };
+
+/**
+ * @param {{ address?: string, port?: number, family?: string | number }} found
+ * @returns {import("../address.js").AddressLike}
+ */
+function addressOf({ address = "", port = 0 }) {
+    return { address: address.split("%")[0], port };
+}
+
+/** A socket over UDP, that is connected: what comes is from the server. */
+export class DatagramLink {
+    isStream = false;
+    user = NOBODY;
+    isOver = false;
+    #socket;
+    #pending = 0;
+    /** @type {Deferred<void> | undefined} */
+    #room;
+
+    /**
+     * @param {string} host
+     * @param {number} port
+     * @param {AbortSignal | undefined} signal
+     */
+    static async connect(host, port, signal) {
+        const socket = dgram.createSocket(host.includes(":") ? "udp6" : "udp4"), connected = new Deferred();
+        socket.once("error", (error) => connected.reject(error));
+        try {
+            socket.connect(port, host, () => connected.resolve(undefined));
+            await abortable(connected.promise, signal);
+        } catch (error) {
+            socket.close();
+            throw error;
+        }
+        socket.removeAllListeners("error");
+        return new DatagramLink(socket);
+    }
+
+    /** @param {import("node:dgram").Socket} socket */
+    constructor(socket) {
+        this.#socket = socket;
+        this.local = addressOf(socket.address());
+        this.remote = addressOf(socket.remoteAddress());
+        socket.on("message", (data) => this.user.received(data));
+        socket.on("error", (error) => this.#refused(error));
+        socket.on("close", () => this.#closed());
+    }
+
+    /** Whether the system has not told yet of what was handed to it. */
+    get isFull() {
+        return this.#pending >= MOST_PENDING;
+    }
+
+    /** @param {Error} error */
+    #refused(error) {
+        if (!this.isOver) {
+            this.user.refused(error);
+        }
+    }
+
+    #closed() {
+        const wasOver = this.isOver;
+        this.isOver = true;
+        this.#room?.resolve();
+        if (!wasOver) {
+            this.user.ended(undefined);
+        }
+    }
+
+    /** @type {(error: Error | null) => void} */
+    #sent = (error) => {
+        const wasFull = this.isFull;
+        this.#pending--;
+        if (error) {
+            this.#refused(error);
+        }
+        if (wasFull && !this.isOver) {
+            this.#room?.resolve();
+            this.#room = undefined;
+            this.user.drained();
+        }
+    };
+
+    /**
+     * Sends a message of the client. One that is lost is retransmitted, or makes its request fail.
+     * @param {Uint8Array} data
+     */
+    send(data) {
+        if (!this.isOver) {
+            this.#pending++;
+            this.#socket.send(data, this.#sent);
+        }
+    }
+
+    /**
+     * Sends data, or drops it where the socket is full, and says whether it was handed over.
+     * @param {Uint8Array} data
+     */
+    sendData(data) {
+        if (this.isOver || this.isFull) {
+            return false;
+        }
+        this.send(data);
+        return true;
+    }
+
+    /** Waits until there is room, or the link has ended. */
+    async hasRoom() {
+        while (this.isFull && !this.isOver) {
+            this.#room ??= new Deferred();
+            await this.#room.promise;
+        }
+    }
+
+    /** @param {boolean} isKept */
+    setKept(isKept) {
+        isKept ? this.#socket.ref() : this.#socket.unref();
+    }
+
+    close() {
+        if (!this.isOver) {
+            this.isOver = true;
+            this.#room?.resolve();
+            this.#socket.close();
+        }
+    }
+}
+
+/** A connection over TCP or TLS. */
+export class StreamLink {
+    isStream = true;
+    user = NOBODY;
+    isOver = false;
+    #socket;
+    /** @type {Error | undefined} */
+    #error;
+    /** @type {Deferred<void> | undefined} */
+    #room;
+
+    /**
+     * @param {string} host
+     * @param {number} port
+     * @param {import("node:tls").ConnectionOptions | undefined} secure options of TLS, if that is used
+     * @param {AbortSignal | undefined} signal
+     */
+    static async connect(host, port, secure, signal) {
+        const socket = secure ? tls.connect({ ...secure, host, port }) : net.connect({ host, port });
+        const connected = new Deferred();
+        socket.once("error", (error) => connected.reject(error));
+        socket.once("close", () => connected.reject(new Error("the server closed the connection at once")));
+        socket.once(secure ? "secureConnect" : "connect", () => connected.resolve(undefined));
+        try {
+            await abortable(connected.promise, signal);
+        } catch (error) {
+            socket.on("error", () => {}); // it is told already
+            socket.destroy();
+            throw error;
+        }
+        socket.removeAllListeners("error");
+        socket.removeAllListeners("close");
+        return new StreamLink(socket);
+    }
+
+    /** @param {import("node:net").Socket} socket */
+    constructor(socket) {
+        this.#socket = socket;
+        this.local = addressOf({ address: socket.localAddress, port: socket.localPort });
+        this.remote = addressOf({ address: socket.remoteAddress, port: socket.remotePort });
+        socket.setNoDelay(true);
+        socket.setKeepAlive(true, KEEPALIVE);
+        socket.on("data", (data) => this.user.received(data));
+        socket.on("error", (error) => (this.#error = error));
+        socket.on("end", () => socket.destroy());
+        socket.on("drain", () => this.#drained());
+        socket.on("close", () => this.#closed());
+    }
+
+    get isFull() {
+        return this.#socket.writableNeedDrain;
+    }
+
+    #drained() {
+        this.#room?.resolve();
+        this.#room = undefined;
+        this.user.drained();
+    }
+
+    #closed() {
+        const wasOver = this.isOver;
+        this.isOver = true;
+        this.#room?.resolve();
+        if (!wasOver) {
+            this.user.ended(this.#error);
+        }
+    }
+
+    /**
+     * Sends a message of the client.
+     * @param {Uint8Array} data
+     */
+    send(data) {
+        if (!this.isOver) {
+            this.#socket.write(data);
+        }
+    }
+
+    /**
+     * Sends data, or drops it where the socket is full, and says whether it was handed over.
+     * @param {Uint8Array} data
+     */
+    sendData(data) {
+        if (this.isOver || this.isFull) {
+            return false;
+        }
+        this.#socket.write(data);
+        return true;
+    }
+
+    /** Waits until there is room, or the link has ended. */
+    async hasRoom() {
+        while (this.isFull && !this.isOver) {
+            this.#room ??= new Deferred();
+            await this.#room.promise;
+        }
+    }
+
+    /** @param {boolean} isKept */
+    setKept(isKept) {
+        isKept ? this.#socket.ref() : this.#socket.unref();
+    }
+
+    /** Closes the connection, when what was sent has left it, or soon where the server does not read. */
+    close() {
+        if (!this.isOver) {
+            this.isOver = true;
+            this.#room?.resolve();
+            this.#socket.end();
+            setTimeout(() => this.#socket.destroy(), 1_000).unref();
+        }
+    }
+}

@@ -1,0 +1,112 @@
+// Whether the path to the server still carries: it is asked by Binding requests, and errors of the socket are counted.
+import { randomBytes } from "../random.js";
+import { pause } from "./clock.js";
+import { Deferred } from "./deferred.js";
+import { METHOD, bindingRequest, idText } from "./reasons.js";
+
+/** @typedef {import("../address.js").Address} Address */
+/**
+ * What came of a check: whether the server has answered (one that answers no Binding request, as coturn with `--no-stun`, never
+ * does), and this client's address as the server sees it now. Where that is another one than `mappedAddress()`, a NAT has forgotten
+ * the client: the relayed address is lost (RFC 8656, section 3.2).
+ * @typedef {{ isAnswered: boolean, mapped: Address | undefined }} Check
+ */
+
+/** How long an answer is waited for, after each time that the request was sent, in milliseconds (RFC 8489, section 6.2.1). */
+const WAITS = Object.freeze([500, 1_000, 2_000]), ALL_WAITS = Object.freeze([3_500]);
+/** So many checks in a row without an answer end the relay, and so many errors in a row, each a second after the last one. */
+const RUN = 3, PAUSE = 1_000;
+
+/** The path to the server of a session. */
+export class Path {
+    /**
+     * By their transaction IDs.
+     * @type {Map<string, Deferred<Address | undefined>>}
+     */
+    #checks = new Map();
+    #errors = 0;
+    #isSuspicious = false;
+    #session;
+
+    /** @param {import("./session.js").Session} session */
+    constructor(session) {
+        this.#session = session;
+    }
+
+    /**
+     * Asks the server for a sign of life. `Ended` where the client has ended.
+     * @returns {Promise<Check>}
+     */
+    async check() {
+        const session = this.#session, id = randomBytes(12), key = idText(id);
+        /** @type {Deferred<Address | undefined>} */
+        const answer = new Deferred();
+        this.#checks.set(key, answer);
+        try {
+            for (const wait of session.link.isStream ? ALL_WAITS : WAITS) {
+                session.usable();
+                session.link.send(bindingRequest(id));
+                await Promise.race([answer.promise, session.over.promise, pause(session.clock, wait)]);
+                if (answer.isDone) {
+                    return { isAnswered: true, mapped: await answer.promise };
+                }
+            }
+            session.usable();
+            return { isAnswered: false, mapped: undefined };
+        } finally {
+            this.#checks.delete(key);
+        }
+    }
+
+    /**
+     * Whether a message of the server is the answer to a check, which then has it.
+     * @param {import("../message.js").Message} message
+     */
+    hears(message) {
+        const isResponse = message.class === "success" || message.class === "error";
+        const answer = isResponse && message.method === METHOD.BINDING ? this.#checks.get(idText(message.id)) : undefined;
+        answer?.resolve(message.class === "success" ? message.mapped : undefined);
+        return answer !== undefined;
+    }
+
+    /**
+     * Checks the path by itself, every so many milliseconds. The relay ends when three checks in a row have no answer, with nothing
+     * from the server in between.
+     * @param {number} every
+     */
+    async probe(every) {
+        const session = this.#session;
+        for (let unanswered = 0; unanswered < RUN && !session.isOver; ) {
+            await Promise.race([pause(session.clock, every), session.over.promise]);
+            const seen = session.count, answered = session.isOver || (await this.check().catch(() => ({ isAnswered: true }))).isAnswered;
+            unanswered = answered || session.count !== seen ? 0 : unanswered + 1;
+        }
+        session.breaks(`no answer from ${session.uri.text} to ${RUN} checks in a row`, undefined);
+    }
+
+    /**
+     * The socket has told an error. One may pass; several in a row, with nothing from the server between, end the relay.
+     * @param {Error} error
+     */
+    refused(error) {
+        this.#errors++;
+        if (!this.#isSuspicious) {
+            this.#isSuspicious = true;
+            this.#suspect(error).finally(() => (this.#isSuspicious = false));
+        }
+    }
+
+    /** @param {Error} error */
+    async #suspect(error) {
+        const session = this.#session;
+        for (let run = 0; run < RUN && !session.isOver; run++) {
+            const seen = session.count, errors = this.#errors;
+            session.link.send(bindingRequest(randomBytes(12)));
+            await Promise.race([pause(session.clock, PAUSE), session.over.promise]);
+            if (session.count !== seen || this.#errors === errors) {
+                return;
+            }
+        }
+        session.breaks(error.message, error);
+    }
+}

@@ -1,0 +1,157 @@
+// A TURN server by its URI: the addresses of its name, and connections to one of them.
+import dns from "node:dns/promises";
+import { AllocationFailed, YarrowdoorError } from "../errors.js";
+import { parseIp } from "../address.js";
+import { abortable } from "./deferred.js";
+import { DatagramLink, StreamLink } from "./link.js";
+
+/** How long an attempt is alone before one with the next address begins beside it, in milliseconds (RFC 8305, section 5). */
+const STAGGER = 250;
+
+/**
+ * The server's IP addresses, in the order in which they are tried. AllocationFailed where its name has none.
+ * @param {import("./uri.js").TurnUri} uri
+ * @param {(host: string) => Promise<string[]>} lookup
+ */
+export async function addressesOf(uri, lookup) {
+    try {
+        const found = parseIp(uri.host) ? [uri.host] : await lookup(uri.host);
+        return interleaved(found);
+    } catch (error) {
+        throw new AllocationFailed(`no connection to ${uri.text}: ${textOf(error)}`, undefined, error);
+    }
+}
+
+/**
+ * All addresses of a name, as the system gives them.
+ * @param {string} host
+ */
+export async function lookupAll(host) {
+    return (await dns.lookup(host, { all: true, verbatim: true })).map(({ address }) => address);
+}
+
+/**
+ * A new socket to the server at this address of it.
+ * @param {import("./uri.js").TurnUri} uri
+ * @param {string} host
+ * @param {import("node:tls").ConnectionOptions | undefined} options of TLS
+ * @param {AbortSignal} signal
+ */
+export function connect(uri, host, options, signal) {
+    if (uri.transport === "udp") {
+        return DatagramLink.connect(host, uri.port, signal);
+    }
+    const named = parseIp(uri.host) ? {} : { servername: uri.host.replace(/\.$/, "") };
+    return StreamLink.connect(host, uri.port, uri.isSecure ? { ...named, ...options } : undefined, signal);
+}
+
+/**
+ * Each address once, and IPv6 and IPv4 by turns, the family of the first one first (RFC 8305, section 4).
+ * @param {string[]} hosts
+ */
+export function interleaved(hosts) {
+    const unique = [...new Set(hosts)], isFirst = (/** @type {string} */ host) => host.includes(":") === unique[0].includes(":");
+    const columns = [unique.filter(isFirst), unique.filter((host) => !isFirst(host))];
+    return unique.flatMap((_, row) => columns.flatMap((column) => column.slice(row, row + 1)));
+}
+
+/** Each address has failed, for a reason of its own. */
+export class NoneSucceeded extends Error {
+    /** @param {Map<string, unknown>} failures */
+    constructor(failures) {
+        super("no address can be used");
+        this.failures = failures;
+    }
+}
+
+/**
+ * Attempts one address after the other, each 250 ms after the last one began, or at once where that one has failed. Gives what the
+ * first one found that succeeds; the other attempts are given up, and what one of them finds meanwhile is discarded. NoneSucceeded
+ * where all fail.
+ * @template T
+ * @param {string[]} hosts
+ * @param {(host: string, signal: AbortSignal) => Promise<T>} attempt
+ * @param {(found: T) => void} discard
+ * @param {AbortSignal | undefined} signal
+ * @returns {Promise<T>}
+ */
+export async function firstOf(hosts, attempt, discard, signal) {
+    /** @type {Map<string, unknown>} */
+    const failures = new Map();
+    /** @type {Map<string, Promise<{ host: string, found?: T, error?: unknown }>>} */
+    const running = new Map();
+    const others = new AbortController(), waiting = [...hosts];
+    try {
+        while (waiting.length > 0 || running.size > 0) {
+            const host = waiting.shift();
+            if (host !== undefined) {
+                running.set(host, attempt(host, others.signal).then((found) => ({ host, found }), (error) => ({ host, error })));
+            }
+            const done = await abortable(soonest([...running.values()], waiting.length > 0), signal);
+            if (done) {
+                running.delete(done.host);
+                if (!("error" in done)) {
+                    return /** @type {T} */ (done.found);
+                }
+                failures.set(done.host, checked(done.error));
+            }
+        }
+        throw new NoneSucceeded(failures);
+    } finally {
+        others.abort(new Error("another address was used"));
+        for (const other of running.values()) {
+            other.then((it) => "error" in it || discard(/** @type {T} */ (it.found)));
+        }
+    }
+}
+
+/**
+ * What is done first, or undefined where the next attempt is to begin.
+ * @template T
+ * @param {Promise<T>[]} running
+ * @param {boolean} isStaggered
+ * @returns {Promise<T | undefined>}
+ */
+async function soonest(running, isStaggered) {
+    /** @type {ReturnType<typeof setTimeout> | undefined} */
+    let timer;
+    /** @type {Promise<undefined>} */
+    const staggered = new Promise((resolve) => {
+        timer = isStaggered ? setTimeout(() => resolve(undefined), STAGGER) : undefined;
+    });
+    try {
+        return await Promise.race([...running, staggered]);
+    } finally {
+        clearTimeout(timer);
+    }
+}
+
+/**
+ * An error that is about an address: of the system, or of a server. Another one is a fault, and thrown.
+ * @param {unknown} error
+ */
+function checked(error) {
+    if (error instanceof TypeError || error instanceof RangeError) {
+        throw error;
+    }
+    return error;
+}
+
+/** @param {unknown} error */
+function textOf(error) {
+    return error instanceof Error ? error.message : String(error);
+}
+
+/**
+ * What says of each address why it could not be used.
+ * @param {import("./uri.js").TurnUri} uri
+ * @param {Map<string, unknown>} failures
+ */
+export function unreachable(uri, failures) {
+    const last = [...failures.values()].pop();
+    if (failures.size === 1 && last instanceof YarrowdoorError) {
+        return last;
+    }
+    const tried = [...failures].map(([host, error]) => (host === uri.host ? textOf(error) : `${host}: ${textOf(error)}`)).join("; ");
+    return new AllocationFailed(`no connection to ${uri.text}: ${tried}`, undefined, last);
+}

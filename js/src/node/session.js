@@ -1,0 +1,437 @@
+// One client over one link: it transmits, takes what comes, tells the events, and sets the timer. Its state is one word.
+import { AllocationFailed, Ended, LibraryError, OutOfMemory, Refused } from "../errors.js";
+import { parse } from "../message.js";
+import { Alarm } from "./clock.js";
+import { Deferred } from "./deferred.js";
+import { Diagnosis, refusal } from "./diagnosis.js";
+import { Grants } from "./grants.js";
+import { Path } from "./path.js";
+import { Frames, METHOD, channelKey, permissionKey } from "./reasons.js";
+import { Requests } from "./requests.js";
+
+/** @typedef {import("../address.js").Address} Address */
+/**
+ * Who has a session, and is told what happens: data of peers, what is lost, errors of the socket that do not end it, that there is
+ * room again, and the end: why, or undefined where the user has closed it.
+ * @typedef {{ put(data: Uint8Array, peer: Address): void, lost(lost: import("./grants.js").Lost): void, socketError(error: Error): void,
+ *     drained(): void, ended(why: Ended | undefined): void }} SessionUser
+ */
+/**
+ * `opening`: the server was asked for a relayed address; `open`: there is one; `leaving`: it is given back; `over`: the client has
+ * ended.
+ * @typedef {"opening" | "open" | "leaving" | "over"} State
+ */
+
+/** How long a signed answer may still come after one that said, unsigned, why it fails, in milliseconds. */
+const GRACE = 1_000;
+/** How long the server's answer to a delete is waited for, in milliseconds. */
+const DELETE_WAIT = 2_000;
+/** How long a call that found no memory is put off, in milliseconds. */
+const SHORTAGE_WAIT = 100;
+
+/** A client over a link to the server, which asks for a relayed address at once. */
+export class Session {
+    /** @type {State} */
+    state = "opening";
+    /**
+     * Settled when the server has answered anything, or cannot be reached.
+     * @type {Deferred<void>}
+     */
+    heard = new Deferred();
+    /**
+     * Settled when there is a relayed address, or none.
+     * @type {Deferred<void>}
+     */
+    ready = new Deferred();
+    /**
+     * Settled when the client has ended.
+     * @type {Deferred<void>}
+     */
+    over = new Deferred();
+    /**
+     * The relayed address, or the last one.
+     * @type {Address | undefined}
+     */
+    address;
+    /**
+     * This client's address as the server saw it at the beginning.
+     * @type {Address | undefined}
+     */
+    mapped;
+    /** How many packets, or pieces of the stream, have come. */
+    count = 0;
+    /** @type {Ended | undefined} */
+    #why;
+    /**
+     * That the module had no memory for the last call.
+     * @type {OutOfMemory | undefined}
+     */
+    #shortage;
+    #isDriving = false;
+    #frames = new Frames();
+
+    /**
+     * @param {import("../client.js").Client} client
+     * @param {import("./link.js").Link} link
+     * @param {import("./uri.js").TurnUri} uri
+     * @param {{ library: import("../library.js").Library, clock: import("./clock.js").Clock, maxStaleNonces: number }} what
+     * @param {SessionUser} user
+     */
+    constructor(client, link, uri, { library, clock, maxStaleNonces }, user) {
+        this.client = client;
+        this.link = link;
+        this.uri = uri;
+        this.library = library;
+        this.clock = clock;
+        this.user = user;
+        this.alarm = new Alarm(clock, () => this.#wake());
+        this.requests = new Requests(library);
+        this.diagnosis = new Diagnosis(uri.text, maxStaleNonces, clock, this.requests, library);
+        this.grants = new Grants(() => this.usable(), () => this.drive(), clock, this.requests, (lost) => this.user.lost(lost));
+        this.path = new Path(this);
+        link.user = this;
+        this.drive();
+    }
+
+    get isOver() {
+        return this.state === "over";
+    }
+
+    // The link
+
+    /** @param {Uint8Array} data */
+    received(data) {
+        if (this.isOver) {
+            return;
+        }
+        this.count++;
+        this.#orEnd(() => this.#receive(data));
+    }
+
+    /** @param {Uint8Array} data */
+    #receive(data) {
+        const answer = this.#guarded(() => this.client.recv(data, this.clock.now()));
+        if (answer?.kind === "peer-data") {
+            this.user.put(answer.data, answer.peer);
+            // A datagram, or a piece that is one ChannelData message, has nothing else in it. Data makes nothing due.
+            if (!this.link.isStream || (answer.start === 4 && this.#frames.isOne(data, answer.data.length))) {
+                return;
+            }
+        }
+        this.#hear(data, answer?.kind === "ignored");
+        if (this.link.isStream) {
+            this.#takeRest();
+        }
+        this.drive();
+    }
+
+    /** Takes all data that the stream still has. */
+    #takeRest() {
+        for (let more; !this.isOver && (more = this.#guarded(() => this.client.pollRecv(this.clock.now()))); ) {
+            this.user.put(more.data, more.peer);
+        }
+    }
+
+    /**
+     * What a call gives, or undefined where the module has no memory left: the client may have ended then, which `drive` sees.
+     * @template T
+     * @param {() => T} call
+     */
+    #guarded(call) {
+        try {
+            return call();
+        } catch (error) {
+            if (!(error instanceof OutOfMemory)) {
+                throw error;
+            }
+            this.#shortage = error;
+            return undefined;
+        }
+    }
+
+    /**
+     * Does something, or ends where the module has stopped.
+     * @param {() => void} what
+     */
+    #orEnd(what) {
+        try {
+            what();
+        } catch (error) {
+            if (!(error instanceof LibraryError)) {
+                throw error;
+            }
+            this.end(new Ended(error.message, error));
+        }
+    }
+
+    /**
+     * Reads what the server's messages say, after the client has taken them, or ignored the first one.
+     * @param {Uint8Array} data
+     * @param {boolean} isIgnored
+     */
+    #hear(data, isIgnored) {
+        this.diagnosis.begins();
+        for (const { message, packet } of this.link.isStream ? this.#frames.messages(this.library, data) : this.#oneOf(data)) {
+            if (!this.path.hears(message)) {
+                this.#hearOne(message, packet, isIgnored);
+            }
+        }
+    }
+
+    /** @param {Uint8Array} packet */
+    #oneOf(packet) {
+        const message = parse(this.library, packet);
+        return message?.kind === "message" ? [{ message, packet }] : [];
+    }
+
+    /**
+     * @param {import("../message.js").Message} message
+     * @param {Uint8Array} packet
+     * @param {boolean} isIgnored
+     */
+    #hearOne(message, packet, isIgnored) {
+        const asked = this.requests.answered(message);
+        if (!asked) {
+            return;
+        }
+        this.diagnosis.hears(message, packet, isIgnored);
+        this.heard.resolve();
+        if (asked.key.method !== METHOD.ALLOCATE) {
+            return;
+        }
+        if (message.class === "error" && message.error && isIgnored) {
+            this.#failSoon(refusal(message.error));
+        } else if (message.class === "success" && !isIgnored) {
+            this.mapped = message.mapped;
+        }
+    }
+
+    /** @param {Error} error */
+    refused(error) {
+        if (this.isOver) {
+            return;
+        }
+        this.diagnosis.socketError = error;
+        this.user.socketError(error);
+        if (this.state === "opening") {
+            this.#failSoon(new AllocationFailed(`no answer from ${this.uri.text}: ${error.message}`, undefined, error));
+        } else {
+            this.path.refused(error);
+        }
+    }
+
+    /** @param {Error | undefined} error */
+    ended(error) {
+        if (this.isOver) {
+            return;
+        }
+        if (this.link.isStream) {
+            this.#orEnd(() => {
+                this.#guarded(() => this.client.recv(new Uint8Array(), this.clock.now()));
+                this.#takeRest();
+            });
+        }
+        this.breaks(error?.message ?? (this.link.isStream ? "the server closed it" : "its socket was closed"), error);
+    }
+
+    drained() {
+        this.user.drained();
+    }
+
+    /**
+     * The connection has ended, or the path to the server is gone: nothing can be done any more.
+     * @param {string} what
+     * @param {unknown} error
+     */
+    breaks(what, error) {
+        if (!this.isOver) {
+            this.diagnosis.breaks(`the connection to the server has ended: ${what}`, error);
+            this.#orEnd(() => this.client.protocolError());
+            this.drive();
+        }
+    }
+
+    // The client
+
+    /** Does all that is due, and sets the timer for the next time. */
+    drive() {
+        if (this.#isDriving) {
+            return;
+        }
+        this.#isDriving = true;
+        try {
+            this.#orEnd(() => {
+                while (!this.isOver && this.#step()) {
+                    // until it is to wait
+                }
+            });
+        } finally {
+            this.#isDriving = false;
+        }
+    }
+
+    /** Does what is due now, and says whether more may be. */
+    #step() {
+        const now = this.clock.now();
+        for (let packet; !this.isOver && (packet = this.#guarded(() => this.client.pollTransmit(now))); ) {
+            this.#transmit(packet.data);
+        }
+        this.#takeEvents();
+        const rest = this.isOver ? undefined : this.#guarded(() => this.client.poll(now)), shortage = this.#shortage;
+        this.#shortage = undefined;
+        if (rest?.kind === "closed") {
+            this.#takeEvents();
+            this.diagnosis.breaks(shortage?.message ?? "", shortage);
+            this.end(this.state === "leaving" ? undefined : this.diagnosis.ended());
+            return false;
+        }
+        const until = shortage ? now + SHORTAGE_WAIT : rest?.kind === "wait-until" ? Number(rest.until) : now;
+        if (until > now) {
+            this.alarm.set(until);
+        }
+        return until <= now;
+    }
+
+    /** @param {Uint8Array} packet */
+    #transmit(packet) {
+        const message = parse(this.library, packet);
+        if (message?.kind === "message") {
+            this.requests.sent(packet, message);
+        }
+        this.link.send(packet);
+    }
+
+    #wake() {
+        this.diagnosis.begins();
+        this.drive();
+    }
+
+    #takeEvents() {
+        for (let event; !this.isOver && (event = this.client.pollEvent()); ) {
+            this.#takeEvent(event);
+        }
+    }
+
+    /** @param {import("../answers.js").Event} event */
+    #takeEvent(event) {
+        switch (event.kind) {
+            case "allocation-created": return this.#allocated(event.address);
+            case "allocation-create-failed": return this.#fail(this.diagnosis.noAddress());
+            case "permission-created": return this.grants.created(permissionKey(event.ip));
+            case "permission-create-failed": return this.#lost(permissionKey(event.ip));
+            case "channel-created": return this.grants.created(channelKey(event.peer));
+            case "channel-create-failed": return this.#lost(channelKey(event.peer));
+        }
+    }
+
+    /** @param {Address} address */
+    #allocated(address) {
+        if (this.state === "leaving") {
+            this.#delete();
+        } else if (this.state === "opening") {
+            this.address = address;
+            this.state = "open";
+            this.heard.resolve();
+            this.ready.resolve();
+        }
+    }
+
+    /** @param {import("./reasons.js").Key} key */
+    #lost(key) {
+        if (this.grants.failed(key) && this.link.isStream) {
+            // TCP repeats what is lost, so the server does not read, or its answers do not come
+            this.breaks(`no answer from ${this.uri.text} to a refresh`, undefined);
+        }
+    }
+
+    // The end
+
+    /** @param {AllocationFailed} error */
+    #fail(error) {
+        if (this.state === "opening") {
+            this.heard.reject(error);
+            this.ready.reject(error);
+        }
+    }
+
+    /**
+     * Gives up the allocation, unless a signed answer comes soon.
+     * @param {AllocationFailed} error
+     */
+    #failSoon(error) {
+        if (this.state === "opening") {
+            setTimeout(() => this.#fail(error), GRACE);
+        }
+    }
+
+    /** Gives the relayed address back to the server, and ends when it has answered, or after two seconds. */
+    async leave() {
+        if (this.state === "opening" && this.requests.allocates < 2) {
+            this.end(undefined); // no signed request has left, so that the server cannot have granted one
+        } else if (this.state === "opening" || this.state === "open") {
+            const wasOpen = this.state === "open";
+            this.#fail(new AllocationFailed("the client was closed"));
+            this.state = "leaving";
+            if (wasOpen) {
+                this.#delete();
+            }
+            this.drive();
+        }
+        /** @type {ReturnType<typeof setTimeout> | undefined} */
+        let timer;
+        const late = new Promise((resolve) => (timer = setTimeout(resolve, DELETE_WAIT)));
+        await Promise.race([this.over.promise, late]);
+        clearTimeout(timer);
+        this.end(undefined);
+    }
+
+    #delete() {
+        try {
+            this.client.delete(this.clock.now());
+        } catch (error) {
+            if (!(error instanceof Refused)) {
+                throw error;
+            }
+            this.end(undefined);
+        }
+    }
+
+    /**
+     * Closes all, with why it has ended by itself, or undefined where the user has closed it.
+     * @param {Ended | undefined} why
+     */
+    end(why) {
+        if (this.isOver) {
+            return;
+        }
+        this.#fail(why ? this.diagnosis.noAddress() : new AllocationFailed("the client was closed"));
+        this.state = "over";
+        this.#why = why;
+        this.alarm.clear();
+        this.link.close();
+        this.client.close();
+        this.requests.end(() => this.ending());
+        this.over.resolve();
+        this.user.ended(why);
+    }
+
+    /** The client, for a call of the user. `Ended` where it has ended, or gives its relayed address back. */
+    usable() {
+        if (this.state === "leaving" || this.state === "over") {
+            throw this.ending();
+        }
+        return this.client;
+    }
+
+    /** `Ended` where it has ended by itself. */
+    checkEnd() {
+        if (this.#why) {
+            throw this.ending();
+        }
+    }
+
+    /** Why a call is not made any more, as a new error for each. */
+    ending() {
+        return this.#why ? new Ended(this.#why.message, this.#why.cause) : new Ended("the client was closed");
+    }
+}
