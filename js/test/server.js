@@ -1,0 +1,132 @@
+// A TURN server for tests, on 127.0.0.1: it relays nothing, and answers as it is told.
+import dgram from "node:dgram";
+import net from "node:net";
+import { ATTRIBUTE, CLASS, METHOD, errorCode, isSigned, keyOf, message, number32, read, unxored, xored } from "./stun.js";
+
+const REALM = "realm", NONCE = "nonce";
+export const USER = "user", PASSWORD = "pass";
+/** The relayed address that the server says to have. */
+export const RELAYED = { address: "127.0.0.1", port: 40_000, family: "IPv4" };
+
+/**
+ * A server over UDP or TCP. `answer(request, server)` may decide for a request what is answered: `"drop"`, `{ code, phrase }`, or
+ * nothing, where it is as servers do. `requests` has all that came.
+ */
+export class Server {
+    requests = [];
+    /** Data that came in ChannelData or SEND, with its peer or its channel. */
+    data = [];
+    /** Where clients are, by the text of their addresses: a function that sends them bytes. */
+    clients = new Map();
+    lifetime = 600;
+    /** What the server says of a client's address. */
+    mapped = ({ address, port }) => ({ address, port });
+    answer = () => undefined;
+    #key = keyOf(USER, REALM, PASSWORD);
+    #close = () => {};
+
+    static async udp(address = "127.0.0.1", port = 0) {
+        const server = new Server(), socket = dgram.createSocket("udp4");
+        socket.on("message", (bytes, from) => server.#took(bytes, from, (answer) => socket.send(answer, from.port, from.address)));
+        await new Promise((resolve) => socket.bind(port, address, resolve));
+        server.#close = () => socket.close();
+        server.port = socket.address().port;
+        return server;
+    }
+
+    static async tcp() {
+        const server = new Server(), sockets = new Set(), listener = net.createServer((socket) => {
+            const from = { address: socket.remoteAddress, port: socket.remotePort };
+            let rest = Buffer.alloc(0);
+            sockets.add(socket);
+            socket.on("error", () => {});
+            socket.on("data", (piece) => {
+                rest = server.#cut(Buffer.concat([rest, piece]), (frame) => server.#took(frame, from, (answer) => socket.write(answer)));
+            });
+        });
+        await new Promise((resolve) => listener.listen(0, "127.0.0.1", resolve));
+        server.sockets = sockets;
+        server.#close = () => {
+            sockets.forEach((socket) => socket.destroy());
+            listener.close();
+        };
+        server.port = listener.address().port;
+        return server;
+    }
+
+    close() {
+        this.#close();
+    }
+
+    /** How many requests of a method came. */
+    count(method) {
+        return this.requests.filter((request) => request.method === method).length;
+    }
+
+    /** Sends a client data of a peer, by an indication. */
+    sendData(peer, data) {
+        const attributes = [[ATTRIBUTE.XOR_PEER_ADDRESS, xored(peer.address, peer.port)], [ATTRIBUTE.DATA, Buffer.from(data)]];
+        this.clients.forEach((send) => send(message(METHOD.DATA, CLASS.INDICATION, Buffer.alloc(12, 1), attributes)));
+    }
+
+    #cut(bytes, took) {
+        while (bytes.length >= 4) {
+            const isData = bytes[0] >= 0x40, len = bytes.readUInt16BE(2) + (isData ? 4 : 20), whole = isData ? (len + 3) & ~3 : len;
+            if (bytes.length < whole) {
+                break;
+            }
+            took(bytes.subarray(0, len));
+            bytes = bytes.subarray(whole);
+        }
+        return bytes;
+    }
+
+    #took(bytes, from, send) {
+        this.clients.set(`${from.address}:${from.port}`, send);
+        if (bytes[0] >= 0x40) {
+            this.data.push({ channel: bytes.readUInt16BE(0), data: bytes.subarray(4) });
+            return;
+        }
+        const request = { ...read(bytes), bytes, from };
+        if (request.class === CLASS.INDICATION) {
+            const data = request.attributes.get(ATTRIBUTE.DATA);
+            data && this.data.push({ peer: unxored(request.attributes.get(ATTRIBUTE.XOR_PEER_ADDRESS)), data });
+            return;
+        }
+        this.requests.push(request);
+        const what = this.answer(request, this);
+        what === "drop" || send(this.#answerTo(request, what));
+    }
+
+    #answerTo({ method, id, bytes, from }, error) {
+        if (method === METHOD.BINDING) {
+            return message(method, CLASS.SUCCESS, id, [[ATTRIBUTE.XOR_MAPPED_ADDRESS, this.#mapped(from)]]);
+        }
+        const challenge = [[ATTRIBUTE.REALM, Buffer.from(REALM)], [ATTRIBUTE.NONCE, Buffer.from(NONCE)]];
+        if (!isSigned(bytes, this.#key)) {
+            return message(method, CLASS.ERROR, id, [[ATTRIBUTE.ERROR_CODE, errorCode(401, "Unauthorized")], ...challenge]);
+        }
+        if (error) {
+            return message(method, CLASS.ERROR, id, [[ATTRIBUTE.ERROR_CODE, errorCode(error.code, error.phrase)]], this.#key);
+        }
+        return message(method, CLASS.SUCCESS, id, this.#success(method, from), this.#key);
+    }
+
+    #mapped(from) {
+        const { address, port } = this.mapped(from);
+        return xored(address, port);
+    }
+
+    #success(method, from) {
+        const lifetime = [ATTRIBUTE.LIFETIME, number32(this.lifetime)];
+        switch (method) {
+            case METHOD.ALLOCATE: return [[ATTRIBUTE.XOR_RELAYED_ADDRESS, xored(RELAYED.address, RELAYED.port)],
+                [ATTRIBUTE.XOR_MAPPED_ADDRESS, this.#mapped(from)], lifetime];
+            case METHOD.REFRESH: {
+                const asked = this.requests[this.requests.length - 1].attributes.get(ATTRIBUTE.LIFETIME);
+                return [asked?.readUInt32BE(0) === 0 ? [ATTRIBUTE.LIFETIME, number32(0)] : lifetime];
+            }
+            default: return [];
+        }
+    }
+}
