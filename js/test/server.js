@@ -16,6 +16,8 @@ export class Server {
     requests = [];
     /** Data that came in ChannelData or SEND, with its peer or its channel. */
     data = [];
+    /** How many indications came that have no data. */
+    indications = 0;
     /** Where clients are, by the text of their addresses: a function that sends them bytes. */
     clients = new Map();
     lifetime = 600;
@@ -90,7 +92,11 @@ export class Server {
         const request = { ...read(bytes), bytes, from };
         if (request.class === CLASS.INDICATION) {
             const data = request.attributes.get(ATTRIBUTE.DATA);
-            data && this.data.push({ peer: unxored(request.attributes.get(ATTRIBUTE.XOR_PEER_ADDRESS)), data });
+            if (data) {
+                this.data.push({ peer: unxored(request.attributes.get(ATTRIBUTE.XOR_PEER_ADDRESS)), data });
+            } else {
+                this.indications++;
+            }
             return;
         }
         this.requests.push(request);

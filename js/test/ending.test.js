@@ -1,0 +1,176 @@
+// How a relay ends, and what is lost on the way: servers that go, NATs, hours, and the program's own end.
+import assert from "node:assert/strict";
+import { spawn } from "node:child_process";
+import test from "node:test";
+import { fileURLToPath } from "node:url";
+import { Ended } from "../src/node/index.js";
+import { fastClock, next, openRelay, tcp, udp, until, urlOf, withServer } from "./relays.js";
+import { PASSWORD, RELAYED, USER } from "./server.js";
+import { ATTRIBUTE, METHOD } from "./stun.js";
+
+const PEER = { address: "127.0.0.1", port: 3480 }, SCRIPTS = fileURLToPath(new URL("scripts/", import.meta.url));
+
+test("over TCP a server that goes ends the relay at once, and who waits is told", async () => {
+    await withServer(tcp, async (server, relay) => {
+        server.answer = ({ method }) => (method === METHOD.CREATE_PERMISSION ? "drop" : undefined);
+        const waiting = assert.rejects(relay.permit("10.0.0.1"), Ended), told = next(relay, "error"), closed = next(relay, "close");
+        server.close();
+        const [error] = await told;
+        await Promise.all([waiting, closed]);
+        assert.equal(error.reason, "ended");
+        assert.match(error.message, /the connection to the server has ended/);
+        assert.equal(relay.closed, true);
+        assert.deepEqual(relay.address(), RELAYED);
+        await assert.rejects(async () => relay.send("x", PEER), Ended);
+        assert.throws(() => relay.sendTo("x", PEER), Ended);
+    });
+});
+
+test("an end by itself ends for await with its reason, and without a listener nothing else", async () => {
+    await withServer(tcp, async (server, relay) => {
+        const taking = (async () => {
+            for await (const _ of relay) {
+                // nothing comes
+            }
+        })();
+        await new Promise((resolve) => setImmediate(resolve));
+        server.close();
+        await assert.rejects(taking, { reason: "ended" });
+    });
+});
+
+test("close ends for await without an error", async () => {
+    await withServer(udp, async (server, relay) => {
+        const taking = (async () => {
+            for await (const _ of relay) {
+                // nothing comes
+            }
+            return "done";
+        })();
+        await new Promise((resolve) => setImmediate(resolve));
+        const closed = next(relay, "close");
+        await relay.close();
+        assert.equal(await taking, "done");
+        await closed;
+    });
+});
+
+test("over UDP a port that is closed ends the relay after a few errors, with the last one as its cause", async () => {
+    const server = await udp(), relay = await openRelay(server, { clock: fastClock(10) }), errors = [], told = next(relay, "error");
+    relay.on("socketError", (error) => errors.push(error.code));
+    server.close();
+    relay.permit("127.0.0.1").catch(() => {});
+    const [error] = await told;
+    assert.equal(error.cause.code, "ECONNREFUSED");
+    assert.ok(errors.length >= 3, String(errors));
+});
+
+test("over UDP a server that is silent ends the relay by probe, and one that answers does not", async () => {
+    await withServer(udp, async (server, relay) => {
+        await new Promise((resolve) => setTimeout(resolve, 500));
+        assert.equal(relay.closed, false);
+        assert.ok(server.count(METHOD.BINDING) >= 2);
+        const told = next(relay, "error");
+        server.answer = () => "drop";
+        const [error] = await told;
+        assert.match(error.message, /no answer from turn:.* to 3 checks in a row/);
+    }, { clock: fastClock(50), probe: 5_000 });
+});
+
+test("a NAT that has forgotten the client: check says the other address", async () => {
+    await withServer(udp, async (server, relay) => {
+        const before = await relay.check();
+        assert.deepEqual(before, { isAnswered: true, mapped: relay.mappedAddress() });
+        server.mapped = () => ({ address: "192.0.2.1", port: 7 });
+        assert.deepEqual(await relay.check(), { isAnswered: true, mapped: { address: "192.0.2.1", port: 7, family: "IPv4" } });
+        server.answer = () => "drop";
+        assert.deepEqual(await relay.check(), { isAnswered: false, mapped: undefined });
+    }, { clock: fastClock(20) });
+});
+
+test("two hours pass: permissions and channels are refreshed, and a restarted server is told by lost", async () => {
+    await withServer(udp, async (server, relay) => {
+        await relay.bind(PEER);
+        await until(() => server.count(METHOD.CHANNEL_BIND) >= 5 && server.count(METHOD.REFRESH) >= 3, 15_000);
+        assert.deepEqual(relay.lost, []);
+        const lost = next(relay, "lost");
+        server.answer = ({ method }) => (method === METHOD.REFRESH ? undefined : { code: 437, phrase: "Allocation Mismatch" });
+        const [first] = await lost;
+        assert.ok(first.what === "permission" || first.what === "channel");
+        await until(() => relay.lost.length === 2, 15_000);
+        assert.deepEqual(relay.lost.map(({ what }) => what).sort(), ["channel", "permission"]);
+    }, { clock: fastClock(1_000) });
+});
+
+test("a server that no longer knows the relayed address: the reason says so", async () => {
+    await withServer(udp, async (server, relay) => {
+        const told = next(relay, "error");
+        server.answer = ({ method, attributes }) => (
+            method === METHOD.REFRESH && attributes.get(ATTRIBUTE.LIFETIME)?.readUInt32BE(0) !== 0 ? { code: 437, phrase: "Allocation Mismatch" } : undefined);
+        const [error] = await told;
+        assert.match(error.message, /does not renew the relayed address \(437 Allocation Mismatch\): it no longer knows it/);
+    }, { clock: fastClock(2_000) });
+});
+
+test("what is released ends by itself, and lost does not tell", async () => {
+    await withServer(udp, async (server, relay) => {
+        await relay.permit("127.0.0.1");
+        relay.release("127.0.0.1");
+        await new Promise((resolve) => setTimeout(resolve, 500)); // over eight minutes
+        assert.deepEqual(relay.lost, []);
+        assert.throws(() => relay.sendTo("x", PEER), { reason: "no-permission" });
+        assert.equal(server.count(METHOD.CREATE_PERMISSION), 1);
+    }, { clock: fastClock(1_000) });
+});
+
+test("a keepalive is sent where nothing else is", async () => {
+    await withServer(udp, async (server, relay) => {
+        const before = relay.closed;
+        await new Promise((resolve) => setTimeout(resolve, 300));
+        assert.equal(before, false);
+        assert.ok(server.indications >= 3, `${server.indications} indications`);
+    }, { clock: fastClock(200), keepalive: 15_000 });
+});
+
+test("closing a relay whose server is silent takes two seconds", async () => {
+    await withServer(udp, async (server, relay) => {
+        server.answer = () => "drop";
+        const start = performance.now();
+        await Promise.all([relay.close(), relay.close()]);
+        const took = performance.now() - start;
+        assert.ok(took > 1_900 && took < 3_000, `${took} ms`);
+    });
+});
+
+test("asyncDispose closes the relay", { skip: Symbol.asyncDispose ? false : "this engine has no Symbol.asyncDispose" }, async () => {
+    await withServer(udp, async (server, relay) => {
+        await relay[Symbol.asyncDispose]();
+        assert.equal(relay.closed, true);
+        assert.equal(server.count(METHOD.REFRESH), 1);
+    });
+});
+
+/** Runs a script of test/scripts with a server, and gives its status and what it printed. */
+async function runScript(name, server, most) {
+    const child = spawn(process.execPath, [`${SCRIPTS}${name}`, urlOf(server), USER, PASSWORD], { stdio: ["ignore", "pipe", "inherit"] });
+    const timer = setTimeout(() => child.kill("SIGKILL"), most);
+    let text = "";
+    child.stdout.on("data", (data) => (text += data));
+    const [status, signal] = await next(child, "close");
+    clearTimeout(timer);
+    return { status, signal, text };
+}
+
+test("a program whose relay is closed ends, and so does one whose relay may be left open", async () => {
+    const server = await udp();
+    assert.deepEqual(await runScript("closed.js", server, 8_000), { status: 0, signal: null, text: "closed\n" });
+    assert.equal(server.count(METHOD.REFRESH), 1);
+    assert.deepEqual(await runScript("unref.js", server, 8_000), { status: 0, signal: null, text: "opened\n" });
+    server.close();
+});
+
+test("a program with an open relay goes on, as with a socket", async () => {
+    const server = await udp();
+    assert.deepEqual(await runScript("open.js", server, 1_500), { status: null, signal: "SIGKILL", text: "opened\n" });
+    server.close();
+});

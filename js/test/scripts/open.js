@@ -1,0 +1,4 @@
+import { opened } from "./opened.js";
+
+await opened();
+console.log("opened");

@@ -1,0 +1,4 @@
+import { opened } from "./opened.js";
+
+(await opened()).unref();
+console.log("opened");

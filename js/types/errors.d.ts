@@ -1,0 +1,126 @@
+/**
+ * What an error response said: its code, and its words.
+ * @typedef {{ code: number, phrase: string }} Hint
+ */
+/** What all errors of the package are. Wrong arguments are a TypeError or a RangeError. */
+export class YarrowdoorError extends Error {
+    /**
+     * @param {string} reason
+     * @param {string} message
+     * @param {unknown} [cause]
+     */
+    constructor(reason: string, message: string, cause?: unknown);
+    /** Why, in a word that stays the same. */
+    reason: string;
+    /**
+     * What it comes from, as the error of a socket.
+     * @type {unknown}
+     */
+    cause: unknown;
+}
+/** The module is not found, is none, or has stopped by a fault: `library`. After a fault no client of it can be used. */
+export class LibraryError extends YarrowdoorError {
+    /**
+     * @param {string} message
+     * @param {unknown} [cause]
+     */
+    constructor(message: string, cause?: unknown);
+}
+/**
+ * The module's memory is used up, or its limit reached: `out-of-memory`. The client is valid, and may have ended: poll it. What a
+ * stream still held is gone.
+ */
+export class OutOfMemory extends YarrowdoorError {
+    /** @param {string} [message] */
+    constructor(message?: string | undefined);
+}
+/**
+ * The client refuses a call, and is as it was (but that `no-allocation` for an allocation past its expiry marks it: it is not used
+ * again).
+ *
+ * `reason` is one of `already-exists` (it is active, or requested already), `no-allocation`, `no-permission` (the peer has none),
+ * `no-socket` (there is no data connection to the peer), `expired` (the peer had a channel, and may have another only after
+ * `until`; RFC 8656, section 12) and `not-granted` (there is no such permission or channel).
+ */
+export class Refused extends YarrowdoorError {
+    /**
+     * @param {string} reason
+     * @param {import("./time.js").Time} [until]
+     * @param {string} [detail]
+     */
+    constructor(reason: string, until?: import("./time.js").Time | undefined, detail?: string | undefined);
+    /** Of `expired`: the time of the client from which on another channel can be had. */
+    until: import("./time.js").Time;
+}
+/**
+ * The client has ended, is being closed, was closed or was not opened: `ended`. The text says why, and `cause` is the error of the
+ * socket, if there was one. The relayed address is gone. Make a new client, from another local port.
+ */
+export class Ended extends YarrowdoorError {
+    /**
+     * @param {string} message
+     * @param {unknown} [cause]
+     */
+    constructor(message: string, cause?: unknown);
+}
+/**
+ * An error of the server. `code` and `phrase` are what an error response said, if one was seen. Nobody has to have signed that
+ * response, so it is a hint: anyone who knows the addresses can send such a packet.
+ */
+export class ServerError extends YarrowdoorError {
+    /**
+     * @param {string} reason
+     * @param {string} message
+     * @param {Hint | undefined} [hint]
+     * @param {unknown} [cause]
+     */
+    constructor(reason: string, message: string, hint?: Hint | undefined, cause?: unknown);
+    /** The number of the error response (RFC 8656, section 19; RFC 8489, section 14.8). */
+    code: number | undefined;
+    /** The server's words for it, for people to read. They may be empty. */
+    phrase: string;
+}
+/** The server gives no relayed address, cannot be reached, or does not answer: `allocation-failed`. */
+export class AllocationFailed extends ServerError {
+    /**
+     * @param {string} message
+     * @param {Hint | undefined} [hint]
+     * @param {unknown} [cause]
+     * @param {string} [reason]
+     */
+    constructor(message: string, hint?: Hint | undefined, cause?: unknown, reason?: string | undefined);
+}
+/**
+ * The server gives no relayed address, and a packet said that user name or password are wrong: `wrong-credentials`. `code` is 401,
+ * or 400 with some servers.
+ */
+export class WrongCredentials extends AllocationFailed {
+    /**
+     * @param {string} message
+     * @param {Hint | undefined} [hint]
+     */
+    constructor(message: string, hint?: Hint | undefined);
+}
+/** The server does not let the peer's IP address send (RFC 8656, section 9), or did not answer: `permission-failed`. */
+export class PermissionFailed extends ServerError {
+    /**
+     * @param {string} message
+     * @param {Hint | undefined} [hint]
+     */
+    constructor(message: string, hint?: Hint | undefined);
+}
+/** The server gives the peer no channel (RFC 8656, section 12), or did not answer: `channel-failed`. */
+export class ChannelFailed extends ServerError {
+    /**
+     * @param {string} message
+     * @param {Hint | undefined} [hint]
+     */
+    constructor(message: string, hint?: Hint | undefined);
+}
+/**
+ * What an error response said: its code, and its words.
+ */
+export type Hint = {
+    code: number;
+    phrase: string;
+};

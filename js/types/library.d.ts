@@ -1,0 +1,143 @@
+/**
+ * The compiled module with its memory. Nothing of it can be shared between threads: each worker loads its own.
+ *
+ * Where an engine stops a call, as when its stack is used up, the memory may be left halfway: then all clients of the library are
+ * lost, and each later call is a LibraryError.
+ */
+export class Library {
+    /**
+     * Compiles the module, by default that of the package. `source` is its bytes, a compiled module, a response or a URL. Its
+     * memory has at most `memoryLimit` bytes (over 1 MB): a call for more fails with OutOfMemory. LibraryError where it is none.
+     * @param {{ source?: BufferSource | WebAssembly.Module | Response | URL | string, memoryLimit?: number }} options
+     * @returns {Promise<Library>}
+     */
+    static load({ source, memoryLimit }?: {
+        source?: BufferSource | WebAssembly.Module | Response | URL | string;
+        memoryLimit?: number;
+    }): Promise<Library>;
+    /**
+     * The library that all share who load none: it is loaded once.
+     * @returns {Promise<Library>}
+     */
+    static shared(): Promise<Library>;
+    /**
+     * @param {Exports} exports
+     * @param {number} memoryLimit
+     */
+    constructor(exports: Exports, memoryLimit: number);
+    /** The memory as it is now. Where it grows it is another one. */
+    bytes: Uint8Array;
+    /** The same, for numbers. */
+    view: DataView;
+    /** Room for settings, an answer, a message, and two numbers. */
+    settings: number;
+    answer: number;
+    message: number;
+    pair: number;
+    /** Bytes that the memory of the module has. It never has less again. */
+    get memorySize(): number;
+    /** Takes the memory as it is, where it has grown. */
+    renew(): void;
+    /**
+     * Memory of the module, at a multiple of 16. OutOfMemory.
+     * @param {number} len
+     */
+    alloc(len: number): number;
+    /** @param {number} place */
+    dealloc(place: number): void;
+    /**
+     * Where bytes are in the module: as they lie there already, or copied.
+     * @param {Uint8Array} data
+     */
+    put(data: Uint8Array): number;
+    /**
+     * A place for so many bytes that come out.
+     * @param {number} len
+     */
+    output(len: number): number;
+    /**
+     * Makes a client by the settings that stand there.
+     * @param {Uint8Array} user
+     * @param {Uint8Array} password
+     * @param {Uint8Array} seed
+     * @returns {{ kind: number, client: number }}
+     */
+    make(user: Uint8Array, password: Uint8Array, seed: Uint8Array): {
+        kind: number;
+        client: number;
+    };
+    /**
+     * Makes a call, and gives the kind of its answer.
+     * @param {Held} held
+     * @param {number} request
+     * @param {number} bytes
+     * @param {number} len
+     * @param {number} buffer
+     * @param {number} room
+     */
+    call(held: Held, request: number, bytes: number, len: number, buffer: number, room: number): number;
+    /**
+     * Makes a call that only looks.
+     * @param {Held} held
+     * @param {number} request
+     */
+    look(held: Held, request: number): number;
+    /**
+     * Reads the first frame of bytes into `message`.
+     * @param {number} transport
+     * @param {number} place
+     * @param {number} len
+     */
+    readMessage(transport: number, place: number, len: number): number;
+    /**
+     * Finds an attribute, whose place and length are then at `pair`.
+     * @param {number} place
+     * @param {number} len
+     * @param {number} type
+     */
+    readAttribute(place: number, len: number, type: number): number;
+    /**
+     * The bytes of the answer in the buffer, and those that did not fit, which are read.
+     * @param {Held} held
+     * @param {number} readRequest
+     * @param {number} buffer
+     * @param {number} room
+     */
+    takeBytes(held: Held, readRequest: number, buffer: number, room: number): Uint8Array;
+    /**
+     * Has a client freed when its object is collected.
+     * @param {object} client
+     * @param {Held} held
+     */
+    watch(client: object, held: Held): void;
+    /**
+     * Frees a client that is closed.
+     * @param {Held} held
+     */
+    free(held: Held): void;
+    /** @param {Held} held */
+    release(held: Held): void;
+    #private;
+}
+/**
+ * What the module exports.
+ */
+export type Exports = {
+    memory: WebAssembly.Memory;
+    alloc(len: number): number;
+    dealloc(place: number): void;
+    limit(bytes: number): void;
+    client_new(settings: number, user: number, userLen: number, password: number, passwordLen: number, seed: number, seedLen: number, place: number): number;
+    client_call(client: number, request: number, bytes: number, len: number, buffer: number, room: number, answer: number): number;
+    client_look(client: number, request: number, answer: number): number;
+    client_free(client: number): void;
+    read_message(transport: number, bytes: number, len: number, message: number): number;
+    read_attribute(bytes: number, len: number, type: number, place: number): number;
+};
+/**
+ * Where a client's data in the module is, for the time when the client is gone.
+ */
+export type Held = {
+    client: number;
+    block: number;
+};

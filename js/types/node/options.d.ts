@@ -1,0 +1,72 @@
+/// <reference path="../../checks/node.d.ts" />
+/**
+ * The options with their defaults. TypeError and RangeError where one is none.
+ * @param {RelayOptions & Hooks} options
+ */
+export function checkOptions({ urls, family, queue, probe, keepalive, pause, refreshAhead, ...rest }: RelayOptions & Hooks): {
+    uris: import("./uri.js").TurnUri[];
+    family: 4 | 6;
+    queue: number;
+    probe: number | undefined;
+    username: string | Uint8Array;
+    credential: string | Uint8Array;
+    tls: import("node:tls").ConnectionOptions | undefined;
+    times: import("../settings.js").Times | undefined;
+    anonymous: "required" | "auto" | "disabled" | undefined;
+    signal: AbortSignal | undefined;
+    library: import("../library.js").Library | undefined;
+    keepalive: number;
+    pause: number;
+    refreshAhead: number;
+    maxStaleNonces: number;
+    clock: import("./clock.js").Clock;
+    lookup: (host: string) => Promise<string[]>;
+};
+/**
+ * A peer: an IP address and a port, or both in an object. TypeError where it is none, RangeError where its port is none.
+ * @param {unknown} port
+ * @param {unknown} address
+ * @returns {import("../address.js").Address}
+ */
+export function peerOf(port: unknown, address: unknown): import("../address.js").Address;
+/**
+ * Data to send as bytes. TypeError where it is none.
+ * @param {unknown} data
+ */
+export function dataOf(data: unknown): Uint8Array;
+/**
+ * `urls`, `username` and `credential` are those of WebRTC's RTCIceServer: one URI of RFC 7065 or several, tried one after the other.
+ * `family` is that of the relayed address, which reaches peers of this family only. `tls` are options of `tls.connect` for `turns:`,
+ * as `ca`; certificates are checked unless they say otherwise. `times` is how long a request waits for its answer. `queue` packets
+ * of peers wait to be taken where there is no listener for `message`; a further one is dropped and counted. The path to the server
+ * is checked every `probe` milliseconds: three checks in a row without an answer, with nothing from the server in between, end the
+ * relay; by default none is made. When nothing was sent for `keepalive` milliseconds, something is, so that a NAT in between keeps
+ * its mapping; with 0 never. Between two requests lies a `pause`, and permissions and channels are refreshed `refreshAhead` before
+ * they expire, in milliseconds. `anonymous` hides the user name (RFC 8489, section 14.4). `maxStaleNonces` challenges in a row are
+ * answered. `signal` gives up the opening. `library` is the module, by default the one that all share.
+ */
+export type RelayOptions = {
+    readonly urls: string | readonly string[];
+    readonly username: string | Uint8Array;
+    readonly credential: string | Uint8Array;
+    readonly family?: 4 | 6;
+    readonly tls?: import("node:tls").ConnectionOptions;
+    readonly times?: import("../settings.js").Times;
+    readonly queue?: number;
+    readonly probe?: number;
+    readonly keepalive?: number;
+    readonly pause?: number;
+    readonly refreshAhead?: number;
+    readonly anonymous?: "auto" | "required" | "disabled";
+    readonly maxStaleNonces?: number;
+    readonly signal?: AbortSignal;
+    readonly library?: import("../library.js").Library;
+};
+/**
+ * For tests: another clock, and other addresses of names.
+ */
+export type Hooks = {
+    readonly clock?: import("./clock.js").Clock | undefined;
+    readonly lookup?: ((host: string) => Promise<string[]>) | undefined;
+};
+export type Checked = ReturnType<typeof checkOptions>;

@@ -1,0 +1,136 @@
+/// <reference path="../../checks/node.d.ts" />
+/**
+ * A relayed address of a TURN server: peers send to it, and see data come from it.
+ *
+ *     const relay = await Relay.open({ urls: "turn:turn.example.org", username: "user", credential: "pass" });
+ *     relay.on("message", (data, { address, port }) => { ... });
+ *     await relay.send("hello", 9000, "192.0.2.7");
+ *     await relay.close();
+ *
+ * Peers are IP addresses with ports; names are not resolved. Permissions and channels are refreshed until they are released, or the
+ * relay ends. Events:
+ *
+ * - `message` (data, peer): a peer sent data. Without a listener it waits for `for await`.
+ * - `error` (an `Ended`): the relay has ended by itself. As with all emitters an error that nobody listens to is thrown, unless a
+ *   `for await` has it.
+ * - `close`: it has ended, by `close` or by itself. Nothing comes any more.
+ * - `lost` (`{ what, ip }` or `{ what, peer }`): the server no longer renews a permission or a channel. It may have been restarted.
+ * - `socketError` (an error): of a socket over UDP, which does not end the relay, as when a network goes.
+ * - `drain`: the socket was full, so that `sendTo` dropped data, and is no longer.
+ */
+export class Relay extends EventEmitter {
+    /**
+     * Connects to the server, and waits for a relayed address. TypeError and RangeError for options that are none; AllocationFailed
+     * where there is no relayed address, and WrongCredentials where it is for user name or password; the reason of `signal`, after
+     * which what the server may have granted is given back.
+     * @param {import("./options.js").RelayOptions} options
+     */
+    static open(options: import("./options.js").RelayOptions): Promise<Relay>;
+    /**
+     * Use `Relay.open`.
+     * @param {{ queue: number, family: 4 | 6 }} options
+     */
+    constructor({ queue, family }: {
+        queue: number;
+        family: 4 | 6;
+    });
+    /**
+     * The last 1,024 permissions and channels that the server no longer renews.
+     * @type {import("./grants.js").Lost[]}
+     */
+    lost: import("./grants.js").Lost[];
+    /** How many packets to peers the socket did not take. What is lost further on, nobody counts. */
+    unsent: number;
+    /**
+     * The relayed address: peers send to it, and see data come from it. It stays what it was after the end.
+     * @returns {Address}
+     */
+    address(): Address;
+    /** This client's own address as the server saw it at the beginning, if it said it (RFC 8489, section 14.2). */
+    mappedAddress(): import("../address.js").Address | undefined;
+    /** The address of the socket to the server. */
+    localAddress(): import("../address.js").AddressLike;
+    /** Whether the relay has ended, by `close` or by itself. */
+    get closed(): boolean;
+    /** How many packets of peers were dropped, since so many were waiting as `queue` says. */
+    get dropped(): number;
+    /**
+     * Lets an IP address send to the relayed address, and get data (RFC 8656, section 9). Waits for the server's answer.
+     * PermissionFailed, `Ended`; TypeError where it is no IP address; `Refused` (`no-allocation`) where it has another family than
+     * the relayed address. A signal gives up the waiting.
+     * @param {string} ip
+     * @param {{ signal?: AbortSignal }} how
+     */
+    permit(ip: string, { signal }?: {
+        signal?: AbortSignal;
+    }): Promise<void>;
+    /**
+     * Gives a peer a channel, and a permission: its packets then have 4 bytes of header (RFC 8656, section 12). Waits for the
+     * server's answer. ChannelFailed, PermissionFailed, `Ended`; `Refused` where the peer's earlier channel is still reserved
+     * (`expired`), where all 4,096 numbers are taken (`already-exists`), and where it has another family than the relayed address
+     * (`no-allocation`). A signal gives up the waiting.
+     * @param {number | AddressLike} port
+     * @param {string} [address]
+     * @param {{ signal?: AbortSignal }} how
+     */
+    bind(port: number | AddressLike, address?: string | undefined, { signal }?: {
+        signal?: AbortSignal;
+    }): Promise<void>;
+    /**
+     * Lets go what a peer was granted: of an IP address its permission, of a peer its channel. It is used as before, and refreshed
+     * no more, so that it ends after 5 or 10 minutes, which `lost` does not tell. `Refused` (`not-granted`) where there is none.
+     * @param {string | AddressLike} about
+     */
+    release(about: string | AddressLike): void;
+    /**
+     * Takes `release` back, while the grant has not ended. `Refused` (`not-granted`) where there is none.
+     * @param {string | AddressLike} about
+     */
+    keep(about: string | AddressLike): void;
+    /**
+     * Asks the server for a sign of life, and this client's address as it sees it now: a Binding request (RFC 8489, section 3), which
+     * is sent three times over UDP, and is unanswered after 3.5 s. `Ended`.
+     */
+    check(): Promise<import("./path.js").Check>;
+    /**
+     * Sends data to a peer: requests its permission first, and waits where the socket is full. It does not wait for the data to
+     * arrive. Where nothing was received since the last call, it lets the program read first. A peer whose permission the server has
+     * refused is left alone for five seconds, then for ten, up to 80: until then PermissionFailed comes at once. PermissionFailed,
+     * `Ended`; `Refused` (`no-allocation`) for another family than that of the relayed address; RangeError for data that does not
+     * fit. With a callback it gives no promise, and errors go there, as with `dgram`.
+     * @param {string | NodeJS.ArrayBufferView} data
+     * @param {number | AddressLike} port
+     * @param {string | ((error: Error | null) => void)} [address]
+     * @param {(error: Error | null) => void} [callback]
+     * @returns {Promise<void> | undefined}
+     */
+    send(data: string | NodeJS.ArrayBufferView, port: number | AddressLike, address?: string | ((error: Error | null) => void) | undefined, callback?: ((error: Error | null) => void) | undefined): Promise<void> | undefined;
+    /**
+     * Sends data to a peer that has a permission, at once, as a datagram: where the socket is full, it is dropped and counted, and
+     * false is returned. With its header a message has at most 65,507 bytes: data has up to 65,500 for a peer with a channel, else
+     * 65,468, and for an IPv6 peer 65,456. `Refused` (`no-permission`; `no-allocation` for another family), `Ended`; RangeError.
+     * @param {string | NodeJS.ArrayBufferView} data
+     * @param {number | AddressLike} port
+     * @param {string} [address]
+     */
+    sendTo(data: string | NodeJS.ArrayBufferView, port: number | AddressLike, address?: string | undefined): boolean;
+    /**
+     * Gives the relayed address back, closes the socket, and returns when the server has answered, or after two seconds. A second
+     * time it waits for the first.
+     */
+    close(): Promise<void>;
+    /** Has the relay keep the program running, as it does at first. */
+    ref(): Relay;
+    /** Lets the program end although the relay is open. The server then keeps the relayed address for up to ten minutes. */
+    unref(): Relay;
+    /**
+     * The data of peers that no listener had, in order. It ends when the relay is closed; `Ended` where it ended by itself.
+     * @returns {AsyncGenerator<[data: Uint8Array, peer: Address], void, void>}
+     */
+    [Symbol.asyncIterator](): AsyncGenerator<[data: Uint8Array, peer: Address], void, void>;
+    #private;
+}
+export type Address = import("../address.js").Address;
+export type AddressLike = import("../address.js").AddressLike;
+export type Session = import("./session.js").Session;
+import { EventEmitter } from "node:events";

@@ -1,0 +1,51 @@
+/**
+ * The server's IP addresses, in the order in which they are tried. AllocationFailed where its name has none.
+ * @param {import("./uri.js").TurnUri} uri
+ * @param {(host: string) => Promise<string[]>} lookup
+ */
+export function addressesOf(uri: import("./uri.js").TurnUri, lookup: (host: string) => Promise<string[]>): Promise<string[]>;
+/**
+ * All addresses of a name, as the system gives them.
+ * @param {string} host
+ */
+export function lookupAll(host: string): Promise<string[]>;
+/**
+ * A new socket to the server at this address of it.
+ * @param {import("./uri.js").TurnUri} uri
+ * @param {string} host
+ * @param {import("node:tls").ConnectionOptions | undefined} options of TLS
+ * @param {AbortSignal} signal
+ */
+export function connect(uri: import("./uri.js").TurnUri, host: string, options: import("node:tls").ConnectionOptions | undefined, signal: AbortSignal): Promise<DatagramLink> | Promise<StreamLink>;
+/**
+ * Each address once, and IPv6 and IPv4 by turns, the family of the first one first (RFC 8305, section 4).
+ * @param {string[]} hosts
+ */
+export function interleaved(hosts: string[]): string[];
+/**
+ * Attempts one address after the other, each 250 ms after the last one began, or at once where that one has failed. Gives what the
+ * first one found that succeeds; the other attempts are given up, and what one of them finds meanwhile is discarded. NoneSucceeded
+ * where all fail.
+ * @template T
+ * @param {string[]} hosts
+ * @param {(host: string, signal: AbortSignal) => Promise<T>} attempt
+ * @param {(found: T) => void} discard
+ * @param {AbortSignal | undefined} signal
+ * @returns {Promise<T>}
+ */
+export function firstOf<T>(hosts: string[], attempt: (host: string, signal: AbortSignal) => Promise<T>, discard: (found: T) => void, signal: AbortSignal | undefined): Promise<T>;
+/**
+ * What says of each address why it could not be used.
+ * @param {import("./uri.js").TurnUri} uri
+ * @param {Map<string, unknown>} failures
+ */
+export function unreachable(uri: import("./uri.js").TurnUri, failures: Map<string, unknown>): YarrowdoorError;
+/** Each address has failed, for a reason of its own. */
+export class NoneSucceeded extends Error {
+    /** @param {Map<string, unknown>} failures */
+    constructor(failures: Map<string, unknown>);
+    failures: Map<string, unknown>;
+}
+import { DatagramLink } from "./link.js";
+import { StreamLink } from "./link.js";
+import { YarrowdoorError } from "../errors.js";

@@ -1,0 +1,109 @@
+/** A client over a link to the server, which asks for a relayed address at once. */
+export class Session {
+    /**
+     * @param {import("../client.js").Client} client
+     * @param {import("./link.js").Link} link
+     * @param {import("./uri.js").TurnUri} uri
+     * @param {{ library: import("../library.js").Library, clock: import("./clock.js").Clock, maxStaleNonces: number }} what
+     * @param {SessionUser} user
+     */
+    constructor(client: import("../client.js").Client, link: import("./link.js").Link, uri: import("./uri.js").TurnUri, { library, clock, maxStaleNonces }: {
+        library: import("../library.js").Library;
+        clock: import("./clock.js").Clock;
+        maxStaleNonces: number;
+    }, user: SessionUser);
+    /** @type {State} */
+    state: State;
+    /**
+     * Settled when the server has answered anything, or cannot be reached.
+     * @type {Deferred<void>}
+     */
+    heard: Deferred<void>;
+    /**
+     * Settled when there is a relayed address, or none.
+     * @type {Deferred<void>}
+     */
+    ready: Deferred<void>;
+    /**
+     * Settled when the client has ended.
+     * @type {Deferred<void>}
+     */
+    over: Deferred<void>;
+    /**
+     * The relayed address, or the last one.
+     * @type {Address | undefined}
+     */
+    address: Address | undefined;
+    /**
+     * This client's address as the server saw it at the beginning.
+     * @type {Address | undefined}
+     */
+    mapped: Address | undefined;
+    /** How many packets, or pieces of the stream, have come. */
+    count: number;
+    client: import("../client.js").Client;
+    link: import("./link.js").Link;
+    uri: import("./uri.js").TurnUri;
+    library: import("../library.js").Library;
+    clock: import("./clock.js").Clock;
+    user: SessionUser;
+    alarm: Alarm;
+    requests: Requests;
+    diagnosis: Diagnosis;
+    grants: Grants;
+    path: Path;
+    get isOver(): boolean;
+    /** @param {Uint8Array} data */
+    received(data: Uint8Array): void;
+    /** @param {Error} error */
+    refused(error: Error): void;
+    /** @param {Error | undefined} error */
+    ended(error: Error | undefined): void;
+    drained(): void;
+    /**
+     * The connection has ended, or the path to the server is gone: nothing can be done any more.
+     * @param {string} what
+     * @param {unknown} error
+     */
+    breaks(what: string, error: unknown): void;
+    /** Does all that is due, and sets the timer for the next time. */
+    drive(): void;
+    /** Gives the relayed address back to the server, and ends when it has answered, or after two seconds. */
+    leave(): Promise<void>;
+    /**
+     * Closes all, with why it has ended by itself, or undefined where the user has closed it.
+     * @param {Ended | undefined} why
+     */
+    end(why: Ended | undefined): void;
+    /** The client, for a call of the user. `Ended` where it has ended, or gives its relayed address back. */
+    usable(): import("../client.js").Client;
+    /** `Ended` where it has ended by itself. */
+    checkEnd(): void;
+    /** Why a call is not made any more, as a new error for each. */
+    ending(): Ended;
+    #private;
+}
+export type Address = import("../address.js").Address;
+/**
+ * Who has a session, and is told what happens: data of peers, what is lost, errors of the socket that do not end it, that there is
+ * room again, and the end: why, or undefined where the user has closed it.
+ */
+export type SessionUser = {
+    put(data: Uint8Array, peer: Address): void;
+    lost(lost: import("./grants.js").Lost): void;
+    socketError(error: Error): void;
+    drained(): void;
+    ended(why: Ended | undefined): void;
+};
+/**
+ * `opening`: the server was asked for a relayed address; `open`: there is one; `leaving`: it is given back; `over`: the client has
+ * ended.
+ */
+export type State = "opening" | "open" | "leaving" | "over";
+import { Deferred } from "./deferred.js";
+import { Alarm } from "./clock.js";
+import { Requests } from "./requests.js";
+import { Diagnosis } from "./diagnosis.js";
+import { Grants } from "./grants.js";
+import { Path } from "./path.js";
+import { Ended } from "../errors.js";

@@ -1,0 +1,22 @@
+/**
+ * Writes a time, or a length of time up to `most`, as a number of 64 bits. RangeError where it is none.
+ * @param {DataView} view
+ * @param {number} place
+ * @param {Time} time
+ * @param {string} [name]
+ * @param {bigint} [most]
+ */
+export function putTime(view: DataView, place: number, time: Time, name?: string | undefined, most?: bigint | undefined): void;
+/**
+ * Reads a time, in the unit of another one. In milliseconds it is not before the time that stands there.
+ * @param {DataView} view
+ * @param {number} place
+ * @param {Time} like
+ * @returns {Time}
+ */
+export function timeAt(view: DataView, place: number, like: Time): Time;
+/**
+ * A time of a clock that never goes back: milliseconds as `performance.now()` gives them, or nanoseconds as a bigint, as
+ * `process.hrtime.bigint()` does. Each is at most 2^62 ns, 146 years. What a call answers is in the unit of its time.
+ */
+export type Time = number | bigint;
