@@ -148,3 +148,24 @@ export function eventOf(kind, view, answer) {
         default: return { kind: "tcp-connect-failed", peer };
     }
 }
+
+/**
+ * Data of a peer that came in pieces, or behind another message.
+ * @param {import("./calls.js").Calls} calls
+ * @returns {PeerData}
+ */
+export function dataOf(calls) {
+    const { view, answer } = calls.library, peer = addressAt(view, answer + ANSWER.PEER), transport = transportAt(view, answer);
+    return { kind: "peer-data", data: calls.fetched(), peer, transport, start: undefined };
+}
+
+/**
+ * @param {DataView} view
+ * @param {number} answer
+ * @returns {PeerIcmp}
+ */
+export function icmpAt(view, answer) {
+    const type = view.getUint8(answer + ANSWER.ICMP_TYPE), code = view.getUint8(answer + ANSWER.ICMP_CODE);
+    const data = view.getUint32(answer + ANSWER.ICMP_DATA, true);
+    return { kind: "peer-icmp", peer: addressAt(view, answer + ANSWER.PEER), transport: transportAt(view, answer), type, code, data };
+}

@@ -1,6 +1,7 @@
 // The client without I/O: the caller has the sockets and the clock.
 import { addressAt } from "./address.js";
-import { eventOf, pollOf, transportAt } from "./answers.js";
+import { dataOf, eventOf, icmpAt, pollOf, transportAt } from "./answers.js";
+import { checkBytes, taken } from "./bytes.js";
 import { Calls, hostOf } from "./calls.js";
 import { ANSWER, CALL, KIND, MAX_OVERHEAD, TRANSPORTS } from "./layout.js";
 import { Library } from "./library.js";
@@ -146,30 +147,17 @@ export class Client {
         if (kind === KIND.HANDLED || kind === KIND.IGNORED) {
             return kind === KIND.HANDLED ? HANDLED : IGNORED;
         }
-        if (kind !== KIND.PEER_DATA_RANGE) {
-            return kind === KIND.PEER_DATA ? this.#pieces() : this.#icmp();
+        const { view, answer, bytes } = library;
+        if (kind === KIND.PEER_ICMP) {
+            return icmpAt(view, answer);
         }
-        const { view, answer, bytes } = library, start = view.getUint32(answer + ANSWER.START, true);
-        const end = start + view.getUint32(answer + ANSWER.LEN, true);
+        if (kind === KIND.PEER_DATA) {
+            return dataOf(this.#calls);
+        }
+        const start = view.getUint32(answer + ANSWER.START, true), end = start + view.getUint32(answer + ANSWER.LEN, true);
         const found = isThere ? bytes.subarray(place + start, place + end) : data.subarray(start, end);
         const peer = addressAt(view, answer + ANSWER.PEER);
         return { kind: "peer-data", data: found, peer, transport: transportAt(view, answer), start };
-    }
-
-    /**
-     * Data of a peer that came in pieces, or behind another message.
-     * @returns {import("./answers.js").PeerData}
-     */
-    #pieces() {
-        const { view, answer } = this.#calls.library, peer = addressAt(view, answer + ANSWER.PEER), transport = transportAt(view, answer);
-        return { kind: "peer-data", data: this.#calls.fetched(), peer, transport, start: undefined };
-    }
-
-    /** @returns {import("./answers.js").PeerIcmp} */
-    #icmp() {
-        const { view, answer } = this.#calls.library, peer = addressAt(view, answer + ANSWER.PEER), transport = transportAt(view, answer);
-        const type = view.getUint8(answer + ANSWER.ICMP_TYPE), code = view.getUint8(answer + ANSWER.ICMP_CODE);
-        return { kind: "peer-icmp", peer, transport, type, code, data: view.getUint32(answer + ANSWER.ICMP_DATA, true) };
     }
 
     /**
@@ -178,7 +166,7 @@ export class Client {
      * @returns {import("./answers.js").PeerData | undefined}
      */
     pollRecv(now) {
-        return this.#calls.fetch(CALL.POLL_RECV, now) === KIND.PEER_DATA ? this.#pieces() : undefined;
+        return this.#calls.fetch(CALL.POLL_RECV, now) === KIND.PEER_DATA ? dataOf(this.#calls) : undefined;
     }
 
     /**
@@ -353,25 +341,5 @@ export class Client {
      */
     #relay(transport) {
         return transport ?? TRANSPORTS[this.#calls.relay];
-    }
-}
-
-/**
- * A copy of bytes of the module, in bytes of its own or at the front of others.
- * @param {Uint8Array} bytes
- * @param {Uint8Array | undefined} into
- */
-function taken(bytes, into) {
-    if (into === undefined) {
-        return bytes.slice();
-    }
-    into.set(bytes);
-    return into.subarray(0, bytes.length);
-}
-
-/** @param {unknown} data */
-function checkBytes(data) {
-    if (!(data instanceof Uint8Array)) {
-        throw new TypeError(`data is a Uint8Array, as a Buffer is, and not ${typeof data}`);
     }
 }

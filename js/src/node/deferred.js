@@ -65,3 +65,22 @@ export async function abortable(promise, signal) {
         signal.removeEventListener("abort", onAbort);
     }
 }
+
+/**
+ * Waits for a promise, or for so many milliseconds.
+ * @param {Promise<unknown>} promise
+ * @param {number} milliseconds
+ */
+export async function within(promise, milliseconds) {
+    /** @type {ReturnType<typeof setTimeout> | undefined} */
+    let timer;
+    /** @type {Promise<void>} */
+    const late = new Promise((resolve) => {
+        timer = setTimeout(() => resolve(), milliseconds);
+    });
+    try {
+        await Promise.race([promise, late]);
+    } finally {
+        clearTimeout(timer);
+    }
+}

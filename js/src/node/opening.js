@@ -53,7 +53,7 @@ async function openOne(options, library, uri, user) {
         throw error instanceof NoneSucceeded ? unreachable(uri, error.failures) : error;
     }
     try {
-        await abortable(session.ready.promise, options.signal);
+        await abortable(session.waiting.ready.promise, options.signal);
         return session;
     } catch (error) {
         discard(session);
@@ -81,7 +81,7 @@ async function attempt(options, library, uri, host, user, signal) {
         }, library);
         session = new Session(client, link, uri, { library, clock, maxStaleNonces }, user);
         if (!link.isStream) {
-            await abortable(session.heard.promise, signal); // a stream has answered when it was connected
+            await abortable(session.waiting.heard.promise, signal); // a stream has answered when it was connected
         }
         return session;
     } catch (error) {

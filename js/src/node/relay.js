@@ -1,9 +1,8 @@
 // A relayed address for Node, used like a socket of dgram.
-import { EventEmitter } from "node:events";
 import { Ended, Refused } from "../errors.js";
 import { parseIp } from "../address.js";
 import { abortable } from "./deferred.js";
-import { Inbox } from "./inbox.js";
+import { Messages } from "./messages.js";
 import { openSession } from "./opening.js";
 import { checkOptions, dataOf, peerOf } from "./options.js";
 
@@ -36,7 +35,7 @@ const ASYNC_DISPOSE = /** @type {{ asyncDispose?: symbol }} */ (Symbol).asyncDis
  * - `socketError` (an error): of a socket over UDP, which does not end the relay, as when a network goes.
  * - `drain`: the socket was full, so that `sendTo` dropped data, and is no longer.
  */
-export class Relay extends EventEmitter {
+export class Relay extends Messages {
     /**
      * The last 1,024 permissions and channels that the server no longer renews.
      * @type {import("./grants.js").Lost[]}
@@ -44,13 +43,11 @@ export class Relay extends EventEmitter {
     lost = [];
     /** How many packets to peers the socket did not take. What is lost further on, nobody counts. */
     unsent = 0;
-    #inbox;
     #family;
     /** @type {Session | undefined} */
     #session;
     /** How much had come when `send` was called last. */
     #count = -1;
-    #isIterated = false;
 
     /**
      * Connects to the server, and waits for a relayed address. TypeError and RangeError for options that are none; AllocationFailed
@@ -76,14 +73,8 @@ export class Relay extends EventEmitter {
      * @param {{ queue: number, family: 4 | 6 }} options
      */
     constructor({ queue, family }) {
-        super();
-        this.#inbox = new Inbox(queue);
+        super(queue);
         this.#family = family;
-        this.on("newListener", (name) => {
-            if (name === "message") {
-                process.nextTick(() => this.#emitWaiting());
-            }
-        });
     }
 
     /**
@@ -92,78 +83,36 @@ export class Relay extends EventEmitter {
      */
     #user() {
         return {
-            put: (data, peer) => this.#put(data, peer),
-            lost: (lost) => this.#tellLost(lost),
-            socketError: (error) => this.#emitLater("socketError", error),
-            drained: () => this.#emitLater("drain"),
-            ended: (why) => this.#ended(why),
+            put: (data, peer) => this.put(data, peer),
+            lost: (of, lost) => this.#tellLost(of, lost),
+            socketError: (of, error) => this.#tell(of, "socketError", error),
+            drained: (of) => this.#tell(of, "drain"),
+            ended: (of, why) => of === this.#session && this.end(why),
         };
     }
 
     /**
-     * @param {Uint8Array} data
-     * @param {Address} peer
+     * @param {Session} of
+     * @param {import("./grants.js").Lost} lost
      */
-    #put(data, peer) {
-        if (this.listenerCount("message") > 0) {
-            this.#emitWaiting();
-            this.#emitNow(data, peer);
-        } else {
-            this.#inbox.put(data, peer);
-        }
-    }
-
-    /** Emits what came before there was a listener. */
-    #emitWaiting() {
-        for (let packet; this.listenerCount("message") > 0 && (packet = this.#inbox.takeNow()); ) {
-            this.#emitNow(...packet);
-        }
-    }
-
-    /**
-     * Tells data. What a listener throws is thrown where it cannot stop the client.
-     * @param {Uint8Array} data
-     * @param {Address} peer
-     */
-    #emitNow(data, peer) {
-        try {
-            this.emit("message", data, peer);
-        } catch (error) {
-            process.nextTick(() => {
-                throw error;
-            });
-        }
-    }
-
-    /**
-     * @param {string} name
-     * @param {unknown[]} words
-     */
-    #emitLater(name, ...words) {
-        if (this.#session) {
-            process.nextTick(() => this.emit(name, ...words));
-        }
-    }
-
-    /** @param {import("./grants.js").Lost} lost */
-    #tellLost(lost) {
+    #tellLost(of, lost) {
         this.lost.push(lost);
         if (this.lost.length > MOST_LOST) {
             this.lost.shift();
         }
-        this.#emitLater("lost", lost);
+        this.#tell(of, "lost", lost);
     }
 
-    /** @param {Ended | undefined} why */
-    #ended(why) {
-        if (!this.#session) {
-            return; // it was not opened, which `open` tells
+    /**
+     * Tells something of its session.
+     * @param {Session} of
+     * @param {string} name
+     * @param {unknown[]} words
+     */
+    #tell(of, name, ...words) {
+        if (of === this.#session) {
+            this.emitLater(name, ...words);
         }
-        this.#inbox.end();
-        if (why && (this.listenerCount("error") > 0 || !this.#isIterated)) {
-            this.#emitLater("error", why);
-        }
-        this.#emitLater("close");
     }
 
     #open() {
@@ -200,11 +149,6 @@ export class Relay extends EventEmitter {
     /** Whether the relay has ended, by `close` or by itself. */
     get closed() {
         return this.#session?.isOver ?? true;
-    }
-
-    /** How many packets of peers were dropped, since so many were waiting as `queue` says. */
-    get dropped() {
-        return this.#inbox.dropped;
     }
 
     // Requests
@@ -350,18 +294,6 @@ export class Relay extends EventEmitter {
             const detail = `the relayed address is IPv${this.#family}, and ${ip} is IPv${found.family}`;
             throw new Refused("no-allocation", 0, `${detail} (family: ${found.family} gets such an address)`);
         }
-    }
-
-    /**
-     * The data of peers that no listener had, in order. It ends when the relay is closed; `Ended` where it ended by itself.
-     * @returns {AsyncGenerator<[data: Uint8Array, peer: Address], void, void>}
-     */
-    async *[Symbol.asyncIterator]() {
-        this.#isIterated = true;
-        for (let packet; (packet = await this.#inbox.take()); ) {
-            yield packet;
-        }
-        this.#session?.checkEnd();
     }
 
     // The end

@@ -2,19 +2,22 @@
 import { AllocationFailed, Ended, LibraryError, OutOfMemory, Refused } from "../errors.js";
 import { parse } from "../message.js";
 import { Alarm } from "./clock.js";
-import { Deferred } from "./deferred.js";
-import { Diagnosis, refusal } from "./diagnosis.js";
+import { Deferred, within } from "./deferred.js";
+import { Diagnosis } from "./diagnosis.js";
 import { Grants } from "./grants.js";
 import { Path } from "./path.js";
-import { Frames, METHOD, channelKey, permissionKey } from "./reasons.js";
+import { Hearing } from "./hearing.js";
+import { channelKey, permissionKey } from "./reasons.js";
 import { Requests } from "./requests.js";
+import { Waiting } from "./waiting.js";
 
 /** @typedef {import("../address.js").Address} Address */
 /**
  * Who has a session, and is told what happens: data of peers, what is lost, errors of the socket that do not end it, that there is
  * room again, and the end: why, or undefined where the user has closed it.
- * @typedef {{ put(data: Uint8Array, peer: Address): void, lost(lost: import("./grants.js").Lost): void, socketError(error: Error): void,
- *     drained(): void, ended(why: Ended | undefined): void }} SessionUser
+ * @typedef {{ put(data: Uint8Array, peer: Address): void, lost(of: Session, lost: import("./grants.js").Lost): void,
+ *     socketError(of: Session, error: Error): void, drained(of: Session): void,
+ *     ended(of: Session, why: Ended | undefined): void }} SessionUser
  */
 /**
  * `opening`: the server was asked for a relayed address; `open`: there is one; `leaving`: it is given back; `over`: the client has
@@ -22,8 +25,6 @@ import { Requests } from "./requests.js";
  * @typedef {"opening" | "open" | "leaving" | "over"} State
  */
 
-/** How long a signed answer may still come after one that said, unsigned, why it fails, in milliseconds. */
-const GRACE = 1_000;
 /** How long the server's answer to a delete is waited for, in milliseconds. */
 const DELETE_WAIT = 2_000;
 /** How long a call that found no memory is put off, in milliseconds. */
@@ -33,16 +34,8 @@ const SHORTAGE_WAIT = 100;
 export class Session {
     /** @type {State} */
     state = "opening";
-    /**
-     * Settled when the server has answered anything, or cannot be reached.
-     * @type {Deferred<void>}
-     */
-    heard = new Deferred();
-    /**
-     * Settled when there is a relayed address, or none.
-     * @type {Deferred<void>}
-     */
-    ready = new Deferred();
+    /** Who waits for a relayed address. */
+    waiting = new Waiting();
     /**
      * Settled when the client has ended.
      * @type {Deferred<void>}
@@ -68,7 +61,6 @@ export class Session {
      */
     #shortage;
     #isDriving = false;
-    #frames = new Frames();
 
     /**
      * @param {import("../client.js").Client} client
@@ -87,8 +79,9 @@ export class Session {
         this.alarm = new Alarm(clock, () => this.#wake());
         this.requests = new Requests(library);
         this.diagnosis = new Diagnosis(uri.text, maxStaleNonces, clock, this.requests, library);
-        this.grants = new Grants(() => this.usable(), () => this.drive(), clock, this.requests, (lost) => this.user.lost(lost));
+        this.grants = new Grants(() => this.usable(), () => this.drive(), clock, this.requests, (lost) => this.user.lost(this, lost));
         this.path = new Path(this);
+        this.hearing = new Hearing(this);
         link.user = this;
         this.drive();
     }
@@ -114,11 +107,11 @@ export class Session {
         if (answer?.kind === "peer-data") {
             this.user.put(answer.data, answer.peer);
             // A datagram, or a piece that is one ChannelData message, has nothing else in it. Data makes nothing due.
-            if (!this.link.isStream || (answer.start === 4 && this.#frames.isOne(data, answer.data.length))) {
+            if (!this.link.isStream || (answer.start === 4 && this.hearing.isOne(data, answer.data.length))) {
                 return;
             }
         }
-        this.#hear(data, answer?.kind === "ignored");
+        this.hearing.hear(data, answer?.kind === "ignored");
         if (this.link.isStream) {
             this.#takeRest();
         }
@@ -164,57 +157,15 @@ export class Session {
         }
     }
 
-    /**
-     * Reads what the server's messages say, after the client has taken them, or ignored the first one.
-     * @param {Uint8Array} data
-     * @param {boolean} isIgnored
-     */
-    #hear(data, isIgnored) {
-        this.diagnosis.begins();
-        for (const { message, packet } of this.link.isStream ? this.#frames.messages(this.library, data) : this.#oneOf(data)) {
-            if (!this.path.hears(message)) {
-                this.#hearOne(message, packet, isIgnored);
-            }
-        }
-    }
-
-    /** @param {Uint8Array} packet */
-    #oneOf(packet) {
-        const message = parse(this.library, packet);
-        return message?.kind === "message" ? [{ message, packet }] : [];
-    }
-
-    /**
-     * @param {import("../message.js").Message} message
-     * @param {Uint8Array} packet
-     * @param {boolean} isIgnored
-     */
-    #hearOne(message, packet, isIgnored) {
-        const asked = this.requests.answered(message);
-        if (!asked) {
-            return;
-        }
-        this.diagnosis.hears(message, packet, isIgnored);
-        this.heard.resolve();
-        if (asked.key.method !== METHOD.ALLOCATE) {
-            return;
-        }
-        if (message.class === "error" && message.error && isIgnored) {
-            this.#failSoon(refusal(message.error));
-        } else if (message.class === "success" && !isIgnored) {
-            this.mapped = message.mapped;
-        }
-    }
-
     /** @param {Error} error */
     refused(error) {
         if (this.isOver) {
             return;
         }
         this.diagnosis.socketError = error;
-        this.user.socketError(error);
+        this.user.socketError(this, error);
         if (this.state === "opening") {
-            this.#failSoon(new AllocationFailed(`no answer from ${this.uri.text}: ${error.message}`, undefined, error));
+            this.failSoon(new AllocationFailed(`no answer from ${this.uri.text}: ${error.message}`, undefined, error));
         } else {
             this.path.refused(error);
         }
@@ -235,7 +186,7 @@ export class Session {
     }
 
     drained() {
-        this.user.drained();
+        this.user.drained(this);
     }
 
     /**
@@ -316,7 +267,7 @@ export class Session {
     #takeEvent(event) {
         switch (event.kind) {
             case "allocation-created": return this.#allocated(event.address);
-            case "allocation-create-failed": return this.#fail(this.diagnosis.noAddress());
+            case "allocation-create-failed": return this.waiting.fail(this.diagnosis.noAddress());
             case "permission-created": return this.grants.created(permissionKey(event.ip));
             case "permission-create-failed": return this.#lost(permissionKey(event.ip));
             case "channel-created": return this.grants.created(channelKey(event.peer));
@@ -331,8 +282,7 @@ export class Session {
         } else if (this.state === "opening") {
             this.address = address;
             this.state = "open";
-            this.heard.resolve();
-            this.ready.resolve();
+            this.waiting.succeed();
         }
     }
 
@@ -346,21 +296,13 @@ export class Session {
 
     // The end
 
-    /** @param {AllocationFailed} error */
-    #fail(error) {
-        if (this.state === "opening") {
-            this.heard.reject(error);
-            this.ready.reject(error);
-        }
-    }
-
     /**
      * Gives up the allocation, unless a signed answer comes soon.
      * @param {AllocationFailed} error
      */
-    #failSoon(error) {
+    failSoon(error) {
         if (this.state === "opening") {
-            setTimeout(() => this.#fail(error), GRACE);
+            this.waiting.failSoon(error);
         }
     }
 
@@ -370,18 +312,14 @@ export class Session {
             this.end(undefined); // no signed request has left, so that the server cannot have granted one
         } else if (this.state === "opening" || this.state === "open") {
             const wasOpen = this.state === "open";
-            this.#fail(new AllocationFailed("the client was closed"));
+            this.waiting.fail(new AllocationFailed("the client was closed"));
             this.state = "leaving";
             if (wasOpen) {
                 this.#delete();
             }
             this.drive();
         }
-        /** @type {ReturnType<typeof setTimeout> | undefined} */
-        let timer;
-        const late = new Promise((resolve) => (timer = setTimeout(resolve, DELETE_WAIT)));
-        await Promise.race([this.over.promise, late]);
-        clearTimeout(timer);
+        await within(this.over.promise, DELETE_WAIT);
         this.end(undefined);
     }
 
@@ -404,7 +342,7 @@ export class Session {
         if (this.isOver) {
             return;
         }
-        this.#fail(why ? this.diagnosis.noAddress() : new AllocationFailed("the client was closed"));
+        this.waiting.fail(why ? this.diagnosis.noAddress() : new AllocationFailed("the client was closed"));
         this.state = "over";
         this.#why = why;
         this.alarm.clear();
@@ -412,7 +350,7 @@ export class Session {
         this.client.close();
         this.requests.end(() => this.ending());
         this.over.resolve();
-        this.user.ended(why);
+        this.user.ended(this, why);
     }
 
     /** The client, for a call of the user. `Ended` where it has ended, or gives its relayed address back. */
@@ -421,13 +359,6 @@ export class Session {
             throw this.ending();
         }
         return this.client;
-    }
-
-    /** `Ended` where it has ended by itself. */
-    checkEnd() {
-        if (this.#why) {
-            throw this.ending();
-        }
     }
 
     /** Why a call is not made any more, as a new error for each. */

@@ -1,0 +1,104 @@
+// Data of peers for who listens, or who takes it: the events of a relay.
+import { EventEmitter } from "node:events";
+import { Inbox } from "./inbox.js";
+
+/** @typedef {import("../address.js").Address} Address */
+
+/** An emitter whose `message` events can be taken by `for await` too, where nobody listens. */
+export class Messages extends EventEmitter {
+    #inbox;
+    /** @type {import("../errors.js").Ended | undefined} */
+    #why;
+    #isIterated = false;
+
+    /** @param {number} queue */
+    constructor(queue) {
+        super();
+        this.#inbox = new Inbox(queue);
+        this.on("newListener", (name) => {
+            if (name === "message") {
+                process.nextTick(() => this.#emitWaiting());
+            }
+        });
+    }
+
+    /** How many packets of peers were dropped, since so many were waiting as `queue` says. */
+    get dropped() {
+        return this.#inbox.dropped;
+    }
+
+    /**
+     * Data has come.
+     * @param {Uint8Array} data
+     * @param {Address} peer
+     * @protected
+     */
+    put(data, peer) {
+        if (this.listenerCount("message") > 0) {
+            this.#emitWaiting();
+            this.#emitNow(data, peer);
+        } else {
+            this.#inbox.put(data, peer);
+        }
+    }
+
+    /** Emits what came before there was a listener. */
+    #emitWaiting() {
+        for (let packet; this.listenerCount("message") > 0 && (packet = this.#inbox.takeNow()); ) {
+            this.#emitNow(...packet);
+        }
+    }
+
+    /**
+     * Tells data. What a listener throws is thrown where it cannot stop the client.
+     * @param {Uint8Array} data
+     * @param {Address} peer
+     */
+    #emitNow(data, peer) {
+        try {
+            this.emit("message", data, peer);
+        } catch (error) {
+            process.nextTick(() => {
+                throw error;
+            });
+        }
+    }
+
+    /**
+     * Emits something when what is under way is done.
+     * @param {string} name
+     * @param {unknown[]} words
+     * @protected
+     */
+    emitLater(name, ...words) {
+        process.nextTick(() => this.emit(name, ...words));
+    }
+
+    /**
+     * No more comes: `close`, and `error` before it where it has ended by itself.
+     * @param {import("../errors.js").Ended | undefined} why
+     * @protected
+     */
+    end(why) {
+        this.#why = why;
+        this.#inbox.end();
+        if (why && (this.listenerCount("error") > 0 || !this.#isIterated)) {
+            this.emitLater("error", why);
+        }
+        this.emitLater("close");
+    }
+
+    /**
+     * The data of peers that no listener had, in order. It ends when the relay is closed; `Ended` where it ended by itself.
+     * @returns {AsyncGenerator<[data: Uint8Array, peer: Address], void, void>}
+     */
+    async *[Symbol.asyncIterator]() {
+        this.#isIterated = true;
+        for (let packet; (packet = await this.#inbox.take()); ) {
+            yield packet;
+        }
+        if (this.#why) {
+            throw this.#why;
+        }
+    }
+}
