@@ -41,7 +41,7 @@ for (const [name, make] of [["UDP", udp], ["TCP", tcp]]) {
             assert.equal(relay.sendTo("again", PEER), true);
             await until(() => server.data.length === 2);
             assert.deepEqual(server.data.map(({ channel, data }) => [channel, String(data)]), [[0x4000, "hello"], [0x4000, "again"]]);
-            assert.deepEqual([METHOD.CHANNEL_BIND, METHOD.CREATE_PERMISSION].map((method) => server.count(method)), [1, 1]);
+            assert.deepEqual([METHOD.CHANNEL_BIND, METHOD.CREATE_PERMISSION].map((method) => server.count(method)), [1, 0]);
         });
     });
 }

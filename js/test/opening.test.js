@@ -44,7 +44,7 @@ test("nobody answers: it fails when the times are over, and says so", async () =
         server.answer = () => "drop";
         const times = { initial: 50, longest: 100, last: 100, count: 2 };
         await assert.rejects(openRelay(server, { times }), { reason: "allocation-failed", message: /no answer from turn:127.0.0.1/ });
-        assert.equal(server.count(METHOD.ALLOCATE), 2);
+        assert.equal(server.requests.length, 2);
     }, null);
 });
 
@@ -81,7 +81,7 @@ test("a name with two addresses, of which the first is closed: the second is use
 
 test("an attempt that was given up does not close the relay, and has nothing to give back", async () => {
     const late = await Server.udp("127.0.0.2"), good = await Server.udp("127.0.0.1", late.port);
-    late.answer = () => (late.count(METHOD.ALLOCATE) === 1 ? "drop" : undefined); // it answers the second transmission
+    late.answer = () => (late.requests.length === 1 ? "drop" : undefined); // it answers the second transmission
     const relay = await openRelay(good, { urls: `turn:two.example:${late.port}`, lookup: async () => ["127.0.0.2", "127.0.0.1"] });
     await new Promise((resolve) => setTimeout(resolve, 700));
     assert.deepEqual([relay.closed, late.count(METHOD.ALLOCATE), late.count(METHOD.REFRESH)], [false, 1, 0]);

@@ -60,9 +60,9 @@ export class Server {
         this.#close();
     }
 
-    /** How many requests of a method came. */
+    /** How many requests of a method came, each counted once however often it was transmitted. */
     count(method) {
-        return this.requests.filter((request) => request.method === method).length;
+        return new Set(this.requests.filter((request) => request.method === method).map(({ id }) => id.toString("hex"))).size;
     }
 
     /** Sends a client data of a peer, by an indication. */
