@@ -103,6 +103,18 @@ export function pollOf(kind: number, view: DataView, answer: number, now: Time):
  * @returns {Event | undefined}
  */
 export function eventOf(kind: number, view: DataView, answer: number): Event | undefined;
+/**
+ * Data of a peer that came in pieces, or behind another message.
+ * @param {import("./calls.js").Calls} calls
+ * @returns {PeerData}
+ */
+export function dataOf(calls: import("./calls.js").Calls): PeerData;
+/**
+ * @param {DataView} view
+ * @param {number} answer
+ * @returns {PeerIcmp}
+ */
+export function icmpAt(view: DataView, answer: number): PeerIcmp;
 export type Address = import("./address.js").Address;
 export type Time = import("./time.js").Time;
 export type Transport = "udp" | "tcp";

@@ -7,7 +7,7 @@ import { NoneSucceeded, addressesOf, connect, firstOf, unreachable } from "./ser
 import { Session } from "./session.js";
 
 /** @typedef {import("./options.js").Checked} Checked */
-/** @typedef {import("./session.js").SessionUser} SessionUser */
+/** @typedef {import("./state.js").SessionUser} SessionUser */
 
 /**
  * A session with a relayed address, by the first URI that gives one. What a server may have granted to one that is given up, it is

@@ -79,7 +79,7 @@ export class Relay extends Messages {
 
     /**
      * What its session tells it. A session that was given up tells nobody.
-     * @returns {import("./session.js").SessionUser}
+     * @returns {import("./state.js").SessionUser}
      */
     #user() {
         return {

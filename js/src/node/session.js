@@ -1,29 +1,18 @@
 // One client over one link: it transmits, takes what comes, tells the events, and sets the timer. Its state is one word.
-import { AllocationFailed, Ended, LibraryError, OutOfMemory, Refused } from "../errors.js";
+import { AllocationFailed, Ended, LibraryError, OutOfMemory, YarrowdoorError } from "../errors.js";
 import { parse } from "../message.js";
 import { Alarm } from "./clock.js";
 import { Deferred, within } from "./deferred.js";
 import { Diagnosis } from "./diagnosis.js";
 import { Grants } from "./grants.js";
-import { Path } from "./path.js";
 import { Hearing } from "./hearing.js";
+import { Path } from "./path.js";
 import { channelKey, permissionKey } from "./reasons.js";
 import { Requests } from "./requests.js";
-import { Waiting } from "./waiting.js";
+import { Waiting } from "./state.js";
 
 /** @typedef {import("../address.js").Address} Address */
-/**
- * Who has a session, and is told what happens: data of peers, what is lost, errors of the socket that do not end it, that there is
- * room again, and the end: why, or undefined where the user has closed it.
- * @typedef {{ put(data: Uint8Array, peer: Address): void, lost(of: Session, lost: import("./grants.js").Lost): void,
- *     socketError(of: Session, error: Error): void, drained(of: Session): void,
- *     ended(of: Session, why: Ended | undefined): void }} SessionUser
- */
-/**
- * `opening`: the server was asked for a relayed address; `open`: there is one; `leaving`: it is given back; `over`: the client has
- * ended.
- * @typedef {"opening" | "open" | "leaving" | "over"} State
- */
+/** @typedef {import("./state.js").SessionUser} SessionUser */
 
 /** How long the server's answer to a delete is waited for, in milliseconds. */
 const DELETE_WAIT = 2_000;
@@ -32,7 +21,7 @@ const SHORTAGE_WAIT = 100;
 
 /** A client over a link to the server, which asks for a relayed address at once. */
 export class Session {
-    /** @type {State} */
+    /** @type {import("./state.js").State} */
     state = "opening";
     /** Who waits for a relayed address. */
     waiting = new Waiting();
@@ -327,10 +316,10 @@ export class Session {
         try {
             this.client.delete(this.clock.now());
         } catch (error) {
-            if (!(error instanceof Refused)) {
+            if (!(error instanceof YarrowdoorError)) {
                 throw error;
             }
-            this.end(undefined);
+            this.end(undefined); // there is nothing to give back, or no way
         }
     }
 

@@ -7,6 +7,12 @@
  */
 export function abortable<T>(promise: Promise<T>, signal: AbortSignal | undefined): Promise<T>;
 /**
+ * Waits for a promise, or for so many milliseconds.
+ * @param {Promise<unknown>} promise
+ * @param {number} milliseconds
+ */
+export function within(promise: Promise<unknown>, milliseconds: number): Promise<void>;
+/**
  * A promise that is settled from outside, once.
  * @template T
  */

@@ -1,4 +1,3 @@
-/// <reference path="../../checks/node.d.ts" />
 /**
  * A relayed address of a TURN server: peers send to it, and see data come from it.
  *
@@ -18,7 +17,7 @@
  * - `socketError` (an error): of a socket over UDP, which does not end the relay, as when a network goes.
  * - `drain`: the socket was full, so that `sendTo` dropped data, and is no longer.
  */
-export class Relay extends EventEmitter {
+export class Relay extends Messages {
     /**
      * Connects to the server, and waits for a relayed address. TypeError and RangeError for options that are none; AllocationFailed
      * where there is no relayed address, and WrongCredentials where it is for user name or password; the reason of `signal`, after
@@ -52,8 +51,6 @@ export class Relay extends EventEmitter {
     localAddress(): import("../address.js").AddressLike;
     /** Whether the relay has ended, by `close` or by itself. */
     get closed(): boolean;
-    /** How many packets of peers were dropped, since so many were waiting as `queue` says. */
-    get dropped(): number;
     /**
      * Lets an IP address send to the relayed address, and get data (RFC 8656, section 9). Waits for the server's answer.
      * PermissionFailed, `Ended`; TypeError where it is no IP address; `Refused` (`no-allocation`) where it has another family than
@@ -123,14 +120,9 @@ export class Relay extends EventEmitter {
     ref(): Relay;
     /** Lets the program end although the relay is open. The server then keeps the relayed address for up to ten minutes. */
     unref(): Relay;
-    /**
-     * The data of peers that no listener had, in order. It ends when the relay is closed; `Ended` where it ended by itself.
-     * @returns {AsyncGenerator<[data: Uint8Array, peer: Address], void, void>}
-     */
-    [Symbol.asyncIterator](): AsyncGenerator<[data: Uint8Array, peer: Address], void, void>;
     #private;
 }
 export type Address = import("../address.js").Address;
 export type AddressLike = import("../address.js").AddressLike;
 export type Session = import("./session.js").Session;
-import { EventEmitter } from "node:events";
+import { Messages } from "./messages.js";

@@ -12,18 +12,10 @@ export class Session {
         clock: import("./clock.js").Clock;
         maxStaleNonces: number;
     }, user: SessionUser);
-    /** @type {State} */
-    state: State;
-    /**
-     * Settled when the server has answered anything, or cannot be reached.
-     * @type {Deferred<void>}
-     */
-    heard: Deferred<void>;
-    /**
-     * Settled when there is a relayed address, or none.
-     * @type {Deferred<void>}
-     */
-    ready: Deferred<void>;
+    /** @type {import("./state.js").State} */
+    state: import("./state.js").State;
+    /** Who waits for a relayed address. */
+    waiting: Waiting;
     /**
      * Settled when the client has ended.
      * @type {Deferred<void>}
@@ -46,12 +38,13 @@ export class Session {
     uri: import("./uri.js").TurnUri;
     library: import("../library.js").Library;
     clock: import("./clock.js").Clock;
-    user: SessionUser;
+    user: import("./state.js").SessionUser;
     alarm: Alarm;
     requests: Requests;
     diagnosis: Diagnosis;
     grants: Grants;
     path: Path;
+    hearing: Hearing;
     get isOver(): boolean;
     /** @param {Uint8Array} data */
     received(data: Uint8Array): void;
@@ -68,6 +61,11 @@ export class Session {
     breaks(what: string, error: unknown): void;
     /** Does all that is due, and sets the timer for the next time. */
     drive(): void;
+    /**
+     * Gives up the allocation, unless a signed answer comes soon.
+     * @param {AllocationFailed} error
+     */
+    failSoon(error: AllocationFailed): void;
     /** Gives the relayed address back to the server, and ends when it has answered, or after two seconds. */
     leave(): Promise<void>;
     /**
@@ -77,33 +75,19 @@ export class Session {
     end(why: Ended | undefined): void;
     /** The client, for a call of the user. `Ended` where it has ended, or gives its relayed address back. */
     usable(): import("../client.js").Client;
-    /** `Ended` where it has ended by itself. */
-    checkEnd(): void;
     /** Why a call is not made any more, as a new error for each. */
     ending(): Ended;
     #private;
 }
 export type Address = import("../address.js").Address;
-/**
- * Who has a session, and is told what happens: data of peers, what is lost, errors of the socket that do not end it, that there is
- * room again, and the end: why, or undefined where the user has closed it.
- */
-export type SessionUser = {
-    put(data: Uint8Array, peer: Address): void;
-    lost(lost: import("./grants.js").Lost): void;
-    socketError(error: Error): void;
-    drained(): void;
-    ended(why: Ended | undefined): void;
-};
-/**
- * `opening`: the server was asked for a relayed address; `open`: there is one; `leaving`: it is given back; `over`: the client has
- * ended.
- */
-export type State = "opening" | "open" | "leaving" | "over";
+export type SessionUser = import("./state.js").SessionUser;
+import { Waiting } from "./state.js";
 import { Deferred } from "./deferred.js";
 import { Alarm } from "./clock.js";
 import { Requests } from "./requests.js";
 import { Diagnosis } from "./diagnosis.js";
 import { Grants } from "./grants.js";
 import { Path } from "./path.js";
+import { Hearing } from "./hearing.js";
+import { AllocationFailed } from "../errors.js";
 import { Ended } from "../errors.js";
