@@ -9,6 +9,7 @@ import { PASSWORD, RELAYED, USER } from "./server.js";
 import { ATTRIBUTE, METHOD } from "./stun.js";
 
 const PEER = { address: "127.0.0.1", port: 3480 }, SCRIPTS = fileURLToPath(new URL("scripts/", import.meta.url));
+const MOST_TIME = 20_000;
 
 test("over TCP a server that goes ends the relay at once, and who waits is told", async () => {
     await withServer(tcp, async (server, relay) => {
@@ -150,12 +151,16 @@ test("asyncDispose closes the relay", { skip: Symbol.asyncDispose ? false : "thi
     });
 });
 
-/** Runs a script of test/scripts with a server, and gives its status and what it printed. */
+/** Runs a script of test/scripts with a server, and gives its status and what it printed. It is stopped so long after that. */
 async function runScript(name, server, most) {
     const child = spawn(process.execPath, [`${SCRIPTS}${name}`, urlOf(server), USER, PASSWORD], { stdio: ["ignore", "pipe", "inherit"] });
-    const timer = setTimeout(() => child.kill("SIGKILL"), most);
-    let text = "";
-    child.stdout.on("data", (data) => (text += data));
+    const stop = () => child.kill("SIGKILL");
+    let timer = setTimeout(stop, MOST_TIME), text = "";
+    child.stdout.on("data", (data) => {
+        text += data;
+        clearTimeout(timer);
+        timer = setTimeout(stop, most);
+    });
     const [status, signal] = await next(child, "close");
     clearTimeout(timer);
     return { status, signal, text };

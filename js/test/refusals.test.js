@@ -50,13 +50,26 @@ function refuseEach(library, exports, trace) {
     }
 }
 
+/** Whether there can be such a client: some traces are of bad heads. */
+function isGood(library, { head, bad }) {
+    if (bad) {
+        return false;
+    }
+    try {
+        new Client(head, library).close();
+        return true;
+    } catch {
+        return false;
+    }
+}
+
 async function traces() {
     if (!FOLDER) {
         return [HANDSHAKE];
     }
     const names = (await readdir(path.join(FOLDER, "traces"))).filter((name) => name.startsWith("repository")).sort();
     const texts = await Promise.all(names.map((name) => readFile(path.join(FOLDER, "traces", name), "latin1")));
-    return [HANDSHAKE, ...texts.filter((text) => text.split("\n").length <= MOST_LINES)].slice(0, MOST_TRACES);
+    return [HANDSHAKE, ...texts.filter((text) => text.split("\n").length <= MOST_LINES)];
 }
 
 test("each allocation is refused in turn, and nothing leaks", async (t) => {
@@ -64,7 +77,7 @@ test("each allocation is refused in turn, and nothing leaks", async (t) => {
     let refused = 0, count = 0;
     for (const text of await traces()) {
         const trace = parseTrace(text);
-        if (!trace.bad) {
+        if (count < MOST_TRACES && isGood(library, trace)) {
             refused += refuseEach(library, exports, trace);
             count++;
         }

@@ -86,7 +86,7 @@ export class Server {
     #took(bytes, from, send) {
         this.clients.set(`${from.address}:${from.port}`, send);
         if (bytes[0] >= 0x40) {
-            this.data.push({ channel: bytes.readUInt16BE(0), data: bytes.subarray(4) });
+            this.data.push({ channel: bytes.readUInt16BE(0), data: bytes.subarray(4, 4 + bytes.readUInt16BE(2)) });
             return;
         }
         const request = { ...read(bytes), bytes, from };

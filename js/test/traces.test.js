@@ -18,6 +18,6 @@ test("each trace gets what turn_replay answers", { skip: FOLDER ? false : "YARRO
         assert.equal(found, wanted, name);
         lines += wanted.split("\n").length - 1;
     }
-    assert.ok(names.length >= 300, `${names.length} traces`);
+    assert.ok(names.length >= 250, `${names.length} traces`);
     t.diagnostic(`${names.length} traces, ${lines} lines`);
 });
