@@ -149,6 +149,33 @@ export function addressAt(view, place) {
     return flow || scope ? { address, port, family, flow, scope } : { address, port, family };
 }
 
+/** Addresses that are read one after the other, and mostly are the same one: it is made once. */
+export class LastAddress {
+    #bits = -1;
+    #port = -1;
+    /** @type {Address} */
+    #found = Object.freeze({ address: "0.0.0.0", port: 0, family: "IPv4" });
+
+    /**
+     * The address at a place.
+     * @param {DataView} view
+     * @param {number} place
+     * @returns {Address}
+     */
+    at(view, place) {
+        if (view.getUint8(place + ADDRESS.FAMILY) !== 4) {
+            return addressAt(view, place);
+        }
+        const bits = view.getUint32(place, false), port = view.getUint16(place + ADDRESS.PORT, true);
+        if (bits !== this.#bits || port !== this.#port) {
+            this.#found = Object.freeze(addressAt(view, place));
+            this.#bits = bits;
+            this.#port = port;
+        }
+        return this.#found;
+    }
+}
+
 /**
  * Whether an address stands at a place.
  * @param {DataView} view

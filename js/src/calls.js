@@ -1,5 +1,5 @@
 // How the calls of one client are made: its requests in the module, and what is thrown for answers that are errors.
-import { addressAt, parseIp, putAddress } from "./address.js";
+import { LastAddress, addressAt, parseIp, putAddress } from "./address.js";
 import { LibraryError, OutOfMemory, Refused } from "./errors.js";
 import { ANSWER, CALL, KIND, MAX_OVERHEAD, MAX_PACKET, MAX_PAYLOAD, REASONS, REQUEST, SETTINGS, SIZE } from "./layout.js";
 import { TRANSPORT, numberOf, putSettings } from "./settings.js";
@@ -27,6 +27,8 @@ export class Calls {
      * @type {readonly number[]}
      */
     #requests;
+    /** The peers that answers have. */
+    peers = new LastAddress();
     /** The peer that stands in the request for sending. */
     #peer = { address: "", port: -1, flow: 0, scope: 0 };
 

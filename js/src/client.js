@@ -155,8 +155,8 @@ export class Client {
             return dataOf(this.#calls);
         }
         const start = view.getUint32(answer + ANSWER.START, true), end = start + view.getUint32(answer + ANSWER.LEN, true);
-        const found = isThere ? bytes.subarray(place + start, place + end) : data.subarray(start, end);
-        const peer = addressAt(view, answer + ANSWER.PEER);
+        const found = isThere ? new Uint8Array(bytes.buffer, place + start, end - start) : data.subarray(start, end);
+        const peer = this.#calls.peers.at(view, answer + ANSWER.PEER);
         return { kind: "peer-data", data: found, peer, transport: transportAt(view, answer), start };
     }
 
@@ -189,7 +189,7 @@ export class Client {
         const buffer = isThere ? into.byteOffset : library.output(room);
         this.#calls.sendTo(peer, place, data.length, buffer, now, transport);
         const end = buffer + library.view.getUint32(library.answer + ANSWER.LEN, true);
-        const bytes = isThere ? library.bytes.subarray(buffer, end) : taken(library.bytes.subarray(buffer, end), into);
+        const found = new Uint8Array(library.bytes.buffer, buffer, end - buffer), bytes = isThere ? found : taken(found, into);
         return isStream ? { data: bytes, ...this.#way() } : { data: bytes, transport: "udp", local, remote };
     }
 

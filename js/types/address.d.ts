@@ -29,6 +29,17 @@ export function isAddressAt(view: DataView, place: number): boolean;
  * @param {string} name
  */
 export function putAddress(memory: Uint8Array, view: DataView, place: number, address: AddressLike, name: string): void;
+/** Addresses that are read one after the other, and mostly are the same one: it is made once. */
+export class LastAddress {
+    /**
+     * The address at a place.
+     * @param {DataView} view
+     * @param {number} place
+     * @returns {Address}
+     */
+    at(view: DataView, place: number): Address;
+    #private;
+}
 /**
  * An IP address with its port, as sockets of Node have it. IPv6 addresses are written as RFC 5952 says; `flow` and `scope` are
  * there where they are not 0.

@@ -14,6 +14,8 @@ export class Calls {
      * @param {import("./library.js").Library} library
      */
     constructor(settings: import("./settings.js").Settings, library: import("./library.js").Library);
+    /** The peers that answers have. */
+    peers: LastAddress;
     library: import("./library.js").Library;
     /** @type {import("./library.js").Held} */
     held: import("./library.js").Held;
@@ -92,3 +94,4 @@ export type Fields = {
     peer?: AddressLike;
     local?: AddressLike;
 };
+import { LastAddress } from "./address.js";
