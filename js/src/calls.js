@@ -149,7 +149,6 @@ export class Calls {
         if (before.address === address && before.port === port && before.flow === flow && before.scope === scope) {
             return;
         }
-        before.port = -1; // no port, until all of it is written
         this.#putAddress(request + REQUEST.PEER, peer, "peer");
         this.#peer = { address, port, flow, scope };
     }

@@ -9,6 +9,8 @@ import { openRelay, tcp, udp, until, urlOf, withServer } from "./relays.js";
 import { PASSWORD, RELAYED, Server, USER } from "./server.js";
 import { METHOD } from "./stun.js";
 
+const PEER = { address: "127.0.0.1", port: 3480 };
+
 for (const [name, make] of [["UDP", udp], ["TCP", tcp]]) {
     test(`over ${name}: a relayed address, the own one as the server sees it, and both are given back`, async () => {
         await withServer(make, async (server, relay) => {
@@ -85,6 +87,10 @@ test("an attempt that was given up does not close the relay, and has nothing to 
     const relay = await openRelay(good, { urls: `turn:two.example:${late.port}`, lookup: async () => ["127.0.0.2", "127.0.0.1"] });
     await new Promise((resolve) => setTimeout(resolve, 700));
     assert.deepEqual([relay.closed, late.count(METHOD.ALLOCATE), late.count(METHOD.REFRESH)], [false, 1, 0]);
+    await relay.permit("127.0.0.1");
+    const taking = relay[Symbol.asyncIterator]().next();
+    good.sendData(PEER, "still");
+    assert.equal(Buffer.from((await taking).value?.[0] ?? "nothing").toString(), "still");
     await relay.close();
     late.close();
     good.close();
