@@ -1,4 +1,3 @@
-/// <reference path="../../checks/node.d.ts" />
 /** @typedef {import("../address.js").Address} Address */
 /** An emitter whose `message` events can be taken by `for await` too, where nobody listens. */
 export class Messages extends EventEmitter {

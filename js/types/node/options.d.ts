@@ -1,4 +1,3 @@
-/// <reference path="../../checks/node.d.ts" />
 /**
  * The options with their defaults. TypeError and RangeError where one is none.
  * @param {RelayOptions & Hooks} options
