@@ -5,6 +5,7 @@ import { setTimeout as pause } from "node:timers/promises";
 import { setFlagsFromString } from "node:v8";
 import { runInNewContext } from "node:vm";
 import { Client, Ended, Library, LibraryError, OutOfMemory, Refused, attribute, parse } from "../src/index.js";
+import { timeAt } from "../src/time.js";
 import { LOCAL_ADDRESS, NOW, PEER, SERVER_ADDRESS, boundClient, channelData } from "./handshake.js";
 import { library, newLibrary, testLibrary } from "./module.js";
 
@@ -34,6 +35,15 @@ test("times are exact in nanoseconds, and never read as earlier", async () => {
         assert.ok(BigInt(Math.round(until * 1e6)) >= exact, `${now}: ${until} is before ${exact}`);
         assert.equal(client.poll(exact - 1n).until, exact);
         client.close();
+    }
+});
+
+test("a time as milliseconds is no nanosecond before it, from now to 146 years", () => {
+    const view = new DataView(new ArrayBuffer(8));
+    for (let at = 0n, time = 1n; time < 2n ** 62n; at++, time += time / 1_000n + at) {
+        view.setBigUint64(0, time, true);
+        assert.ok(BigInt(Math.round(timeAt(view, 0, 0) * 1e6)) >= time, `${time}`);
+        assert.equal(timeAt(view, 0, 0n), time);
     }
 });
 
