@@ -77,7 +77,7 @@ def check_other_library() -> None:
 
 def is_proved(proof: str) -> bool:
     """Whether PROOF has the `logic=proved` of `rt lib`, or ends with a gate that passed, and has nothing that says otherwise."""
-    if re.search(r"NOT PROVED|\bproved=no\b", proof):
+    if re.search(r"NOT PROVED|UNPROVED|\bproved=no\b", proof):
         return False
     has_passed = re.search(r"^(?:the gate: )?[1-9][0-9]* passed, 0 failed\s*\Z", proof, re.M)
     return bool(has_passed or re.search(r"(?<!\S)logic=proved(?!\S)", proof))

@@ -68,6 +68,7 @@ class Versions(unittest.TestCase):
         "NOT PROVED\nlogic=proved\n",
         HEAD + "out/libturn_c.a\n" + NO_GATE,
         HEAD + "logic=proved-in-part\n" + NO_GATE,
+        HEAD + "logic=proved functions=0 UNPROVED, for a test\n" + NO_GATE,
         HEAD + "the gate:\n30 passed, 1 failed\n",
         HEAD + "the gate: 30 passed, 1 failed\n",
         HEAD + "the gate:\n31 passed, 0 failed\nstopped\n",
