@@ -1,0 +1,50 @@
+# SPDX-License-Identifier: MIT OR Apache-2.0
+# Part of tools/library: fills the folder $dist from $room/yarrowdoor.o.
+
+# The shared library names no C library, so that it is loaded under each: what it needs, every C library has. The name that a
+# linker looks for is no link, since `rt ci` refuses links everywhere below the top, ignored files too.
+share() {
+    local name=libyarrowdoor.so.$version
+    "$cc" -shared -nostdlib -o "$name" -Wl,-soname,"$name" -Wl,-z,relro,-z,now -Wl,-z,noexecstack -Wl,--build-id=sha1 \
+        "$room/yarrowdoor.o"
+    if "${tools}objdump" -p "$name" | grep -w NEEDED; then
+        echo "tools/library: the shared library names another one" >&2
+        exit 1
+    fi
+    cp "$name" libyarrowdoor.so
+}
+
+share_for_windows() {
+    "$cc" -shared -static-libgcc -o yarrowdoor.dll -Wl,--out-implib,libyarrowdoor.dll.a -Wl,--no-insert-timestamp \
+        "$room/yarrowdoor.o"
+    echo "Outside of the verdict: the prover has no Windows among its targets. The proved functions were compiled for it by hand, \
+from the module that the prover's compiler got for Linux, and are tested under wine." > OUTSIDE-OF-THE-VERDICT
+}
+
+# What is the same in each build of these sources.
+proof() {
+    echo "target: $target$([ "$target" != x86_64-windows ] || echo ', outside of the verdict')"
+    echo "processor: $cpu"
+    echo "proved with: $(rt version 2>&1 | head -n 1)"
+    echo "sources: $(git -C "$top" describe --always --dirty --abbrev=40 --exclude '*' 2> /dev/null || echo unknown)"
+    echo "what compiled crates/turn_c:"
+    grep '^logic=proved ' "$room/rt.log"
+    echo "the gate: $([ -n "$gate" ] && tail -n 1 "$gate" || echo 'no log was given')"
+}
+
+fill() {
+    mkdir -p "$dist"
+    cd "$dist"
+    cp "$top/include/yarrowdoor.h" "$top/LICENSE" .
+    "$top/tools/layout" yarrowdoor.h > yarrowdoor.json
+    if ! grep -q "^ \"version\": \"$release\"," yarrowdoor.json; then
+        echo "tools/library: the version of include/yarrowdoor.h is not $release, that of rust/Cargo.toml" >&2
+        exit 1
+    fi
+    "${tools}ar" rcsD libyarrowdoor.a "$room/yarrowdoor.o"
+    if [ "$target" = x86_64-windows ]; then share_for_windows; else share; fi
+    proof > PROOF
+    "$parts/configure" . . . '${pcfiledir}' '${prefix}' '${prefix}' . .
+    find . -maxdepth 1 -type f ! -name SHA256SUMS -printf '%P\n' | LC_ALL=C sort | xargs sha256sum > SHA256SUMS
+    cd "$top"
+}
