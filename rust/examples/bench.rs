@@ -15,7 +15,7 @@ const UDP: TransportType = TransportType::Udp;
 /// What peers send, and what is sent to them, in bytes.
 const PAYLOAD: usize = 1200;
 
-/// A challenge, and the successes of ALLOCATE and CHANNEL_BIND, each with the time at which it is received, in
+/// A challenge, and the successes of ALLOCATE and `CHANNEL_BIND`, each with the time at which it is received, in
 /// milliseconds.
 const REPLIES: [(u64, &str); 3] = [
     (0, "011300202112a44276b8e0ada0f13d90405d6ae50009000400000401001400057265616c6d000000001500056e6f6e6365000000"),
@@ -64,7 +64,7 @@ fn time(name: &str, mut call: impl FnMut() -> bool) {
     for _ in 0..300 {
         let start = std::time::Instant::now();
         let all = (0..1000).fold(true, |all, _| call() && all);
-        least = least.min(start.elapsed().as_nanos() as f64 / 1000.0);
+        least = least.min(start.elapsed().as_secs_f64() * 1e6);
         assert!(all, "{name}: another answer");
     }
     println!("{name:52} {least:9.0}");

@@ -10,10 +10,10 @@ use crate::types::AddressFamily;
 use std::net::{IpAddr, Ipv4Addr, Ipv6Addr, SocketAddr, SocketAddrV6};
 use std::time::Duration;
 
-/// A time: one under 0 is over 2^62 there, and so refused.
+/// A time: one under 0 is given as one over 2^62, which is refused.
 #[inline]
 pub(crate) fn nanos(now: Instant) -> u64 {
-    now.as_nanos() as u64
+    u64::try_from(now.as_nanos()).unwrap_or(u64::MAX)
 }
 
 pub(crate) fn instant(nanos: u64) -> Instant {

@@ -43,7 +43,7 @@ impl Handle {
                 password.len(),
                 seed.as_ptr(),
                 seed.len(),
-                &mut place,
+                &raw mut place,
             )
         };
         match NonNull::new(place) {

@@ -42,6 +42,7 @@ pub mod agent {
 
     impl Transmit<Data<'_>> {
         /// The packet with bytes of its own.
+        #[must_use]
         pub fn into_owned(self) -> Transmit<Data<'static>> {
             Transmit::new(self.data.into_owned(), self.transport, self.from, self.to)
         }
@@ -102,6 +103,7 @@ pub mod types {
 
         impl Data<'_> {
             /// The bytes, copied only where they are borrowed.
+            #[must_use]
             pub fn into_owned(self) -> Data<'static> {
                 match self {
                     Data::Borrowed(bytes) => Data::Owned(bytes.into()),

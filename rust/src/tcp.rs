@@ -45,6 +45,7 @@ impl TurnClientTcp {
     /// assert_eq!(client.remote_addr(), remote_addr);
     /// assert_eq!(client.relayed_addresses().count(), 0);
     /// ```
+    #[must_use]
     pub fn allocate(
         local_addr: SocketAddr,
         remote_addr: SocketAddr,
@@ -55,6 +56,8 @@ impl TurnClientTcp {
 
     /// The same, with this seed: 32 bytes that nobody else knows, new for each client. The same seed and the same calls
     /// give the same packets.
+    #[must_use]
+    #[allow(clippy::needless_pass_by_value)] // as the original's `allocate`
     pub fn allocate_with_seed(
         local_addr: SocketAddr,
         remote_addr: SocketAddr,

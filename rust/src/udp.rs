@@ -43,6 +43,7 @@ impl TurnClientUdp {
     /// assert_eq!(client.remote_addr(), remote_addr);
     /// assert_eq!(client.relayed_addresses().count(), 0);
     /// ```
+    #[must_use]
     pub fn allocate(
         local_addr: SocketAddr,
         remote_addr: SocketAddr,
@@ -57,6 +58,8 @@ impl TurnClientUdp {
     /// # Panics
     ///
     /// The configuration requests an allocation over TCP.
+    #[must_use]
+    #[allow(clippy::needless_pass_by_value)] // as the original's `allocate`
     pub fn allocate_with_seed(
         local_addr: SocketAddr,
         remote_addr: SocketAddr,

@@ -18,9 +18,7 @@ fn folder(name: &str, has_library: bool) -> PathBuf {
     folder
 }
 
-fn installed() -> Option<String> {
-    Some("-L/opt/lib -lyarrowdoor -pthread".to_owned())
-}
+const INSTALLED: &str = "-L/opt/lib -lyarrowdoor -pthread";
 
 /// What is linked or warned of.
 fn told(lines: &[String]) -> Vec<&str> {
@@ -32,7 +30,7 @@ fn told(lines: &[String]) -> Vec<&str> {
 #[test]
 fn the_folder_that_is_named_comes_first() {
     let (named, built) = (folder("named_1", true), folder("built_1", true));
-    let lines = build::instructions(Some(named.clone()), &built, installed);
+    let lines = build::instructions(Some(named.clone()), &built, || Some(INSTALLED.to_owned()));
     let search = format!("rustc-link-search=native={}", named.display());
     assert_eq!(
         told(&lines),
@@ -43,7 +41,7 @@ fn the_folder_that_is_named_comes_first() {
 #[test]
 fn what_was_built_comes_before_what_is_installed() {
     let built = folder("built_2", true);
-    let lines = build::instructions(None, &built, installed);
+    let lines = build::instructions(None, &built, || Some(INSTALLED.to_owned()));
     let search = format!("rustc-link-search=native={}", built.display());
     assert_eq!(
         told(&lines),
@@ -53,7 +51,9 @@ fn what_was_built_comes_before_what_is_installed() {
 
 #[test]
 fn what_is_installed_comes_last() {
-    let lines = build::instructions(None, &folder("built_3", false), installed);
+    let lines = build::instructions(None, &folder("built_3", false), || {
+        Some(INSTALLED.to_owned())
+    });
     assert_eq!(
         told(&lines),
         [
@@ -66,7 +66,7 @@ fn what_is_installed_comes_last() {
 #[test]
 fn no_other_library_is_linked_than_the_one_that_is_named() {
     let (named, built) = (folder("named_4", false), folder("built_4", true));
-    let lines = build::instructions(Some(named), &built, installed);
+    let lines = build::instructions(Some(named), &built, || Some(INSTALLED.to_owned()));
     let told = told(&lines);
     assert!(
         told.len() == 1 && told[0].starts_with("warning=YARROWDOOR_DIST is "),

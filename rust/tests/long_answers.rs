@@ -31,7 +31,7 @@ fn client() -> TurnClientTcp {
     client
 }
 
-/// The CONNECTION_BIND of a data connection that the server offers.
+/// The `CONNECTION_BIND` of a data connection that the server offers.
 fn bind(client: &mut TurnClientTcp) -> server::Sent {
     client.tcp_connect(PEER.parse().unwrap(), at(3)).unwrap();
     let request = next(client, at(3)).unwrap();
@@ -60,7 +60,7 @@ fn bind(client: &mut TurnClientTcp) -> server::Sent {
 fn all_of_a_long_answer_is_read() {
     for len in [1, 65_555, 65_556, 65_557, 131_112, 131_113, 400_000] {
         let data: Vec<u8> = (0..len)
-            .map(|at: usize| (at % 251 + at / 251) as u8)
+            .map(|at: usize| (at % 251 + at / 251).to_le_bytes()[0])
             .collect();
         let mut client = client();
         let bind = bind(&mut client);

@@ -9,7 +9,7 @@ use yarrowdoor::stun::Instant;
 use yarrowdoor::types::TurnCredentials;
 use yarrowdoor::udp::TurnClientUdp;
 
-/// The memory that this process has for data, in bytes (proc(5), VmData).
+/// The memory that this process has for data, in bytes (proc(5), `VmData`).
 fn memory() -> u64 {
     let status = fs::read_to_string("/proc/self/status").unwrap();
     let line = status

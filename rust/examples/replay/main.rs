@@ -102,11 +102,13 @@ fn sent(
 /// Makes a call, and returns its line.
 fn answer(client: &mut TurnClient, call: &Call, now: Instant) -> String {
     match call {
-        Call::Poll => poll_text(client.poll(now)),
+        Call::Poll => poll_text(&client.poll(now)),
         Call::Transmit => client
             .poll_transmit(now)
             .map_or("none".into(), |it| packet(&it)),
-        Call::Event => client.poll_event().map_or("none".into(), event_text),
+        Call::Event => client
+            .poll_event()
+            .map_or("none".into(), |event| event_text(&event)),
         Call::Recv(ends, bytes) => {
             let transmit = Transmit::new(bytes.as_slice(), ends.transport, ends.from, ends.to);
             received(client.recv(transmit, now))

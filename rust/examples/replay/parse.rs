@@ -73,6 +73,10 @@ fn decimal(text: &str, most: u64) -> Option<u64> {
     (value <= most).then_some(value)
 }
 
+fn number(text: &str) -> Option<u32> {
+    u32::try_from(decimal(text, u64::from(u32::MAX))?).ok()
+}
+
 fn hex(text: &str) -> Option<Vec<u8>> {
     let is_lower = text
         .bytes()
@@ -96,7 +100,7 @@ fn ip_of(text: &str) -> Option<IpAddr> {
     }
     let parts: Option<Vec<u8>> = text
         .split('.')
-        .map(|part| decimal(part, 255).map(|it| it as u8))
+        .map(|part| u8::try_from(decimal(part, 255)?).ok())
         .collect();
     let octets: [u8; 4] = parts?.try_into().ok()?;
     Some(Ipv4Addr::from(octets).into())
@@ -104,7 +108,8 @@ fn ip_of(text: &str) -> Option<IpAddr> {
 
 fn address_of(text: &str) -> Option<SocketAddr> {
     let (ip, port) = text.split_once(':')?;
-    Some(SocketAddr::new(ip_of(ip)?, decimal(port, 65_535)? as u16))
+    let port = u16::try_from(decimal(port, 65_535)?).ok()?;
+    Some(SocketAddr::new(ip_of(ip)?, port))
 }
 
 impl Fields<'_> {
@@ -140,10 +145,11 @@ impl Fields<'_> {
         }
     }
 
-    fn address_or_none(&mut self) -> Option<Option<SocketAddr>> {
-        match self.0.next()? {
-            "-" => Some(None),
-            text => Some(Some(address_of(text)?)),
+    /// An address, or none; `Err` is neither.
+    fn address_or_none(&mut self) -> Result<Option<SocketAddr>, ()> {
+        match self.0.next().ok_or(())? {
+            "-" => Ok(None),
+            text => address_of(text).map(Some).ok_or(()),
         }
     }
 }
@@ -184,7 +190,7 @@ fn set_waits(config: &mut TurnConfig, text: &str) -> Option<()> {
         return None;
     };
     let wait = |text| decimal(text, u64::MAX).map(Duration::from_nanos);
-    let count = decimal(count, u64::from(u32::MAX))? as u32;
+    let count = number(count)?;
     config.set_request_retransmits(wait(initial)?, wait(max)?, count, wait(last)?);
     Some(())
 }
@@ -226,10 +232,10 @@ fn parse_arguments(name: &str, fields: &mut Fields<'_>) -> Option<Call> {
         "bind" => Call::Bind(fields.transport()?, fields.address()?),
         "connect" => Call::Connect(fields.address()?),
         "socket" => Call::Socket(
-            decimal(fields.0.next()?, u64::from(u32::MAX))? as u32,
+            number(fields.0.next()?)?,
             fields.ends()?,
             fields.address()?,
-            fields.address_or_none()?,
+            fields.address_or_none().ok()?,
         ),
         "delete" => Call::Delete,
         "closed" => Call::Closed(fields.address()?, fields.address()?),
@@ -279,7 +285,7 @@ fn parse_call(allocation: TransportType, line: &str) -> Result<(Instant, Call), 
     let time = fields
         .0
         .next()
-        .and_then(|text| decimal(text, 1 << 62))
+        .and_then(|text| i64::try_from(decimal(text, 1 << 62)?).ok())
         .ok_or("moment")?;
     let name = fields
         .0
@@ -291,7 +297,7 @@ fn parse_call(allocation: TransportType, line: &str) -> Result<(Instant, Call), 
         Call::Send(_, _, data) if allocation == TransportType::Udp && data.len() > MAX_PAYLOAD => {
             Err("payload")
         }
-        _ => Ok((Instant::from_nanos(time as i64), call)),
+        _ => Ok((Instant::from_nanos(time), call)),
     }
 }
 

@@ -1,6 +1,7 @@
 //! Answers as text.
 
 use crate::parse::Ends;
+use std::fmt::Write;
 use std::net::{IpAddr, SocketAddr};
 use yarrowdoor::api::{
     BindChannelError, CreatePermissionError, DeleteError, KeepError, SendError, TcpAllocateError,
@@ -14,7 +15,11 @@ pub trait Text {
 }
 
 fn hex(bytes: &[u8]) -> String {
-    bytes.iter().map(|byte| format!("{byte:02x}")).collect()
+    bytes.iter().fold(String::new(), |mut text, byte| {
+        // a string takes all that is written
+        let _ = write!(text, "{byte:02x}");
+        text
+    })
 }
 
 /// Bytes, or `-` for none.
@@ -97,8 +102,8 @@ impl Text for BindChannelError {
     }
 }
 
-pub fn poll_text(polled: TurnPollRet) -> String {
-    match polled {
+pub fn poll_text(polled: &TurnPollRet) -> String {
+    match *polled {
         TurnPollRet::WaitUntil(time) => format!("wait {}", time.as_nanos()),
         TurnPollRet::AllocateTcpSocket {
             id,
@@ -120,11 +125,11 @@ pub fn poll_text(polled: TurnPollRet) -> String {
     }
 }
 
-pub fn event_text(event: TurnEvent) -> String {
+pub fn event_text(event: &TurnEvent) -> String {
     let about = |word: &str, transport: TransportType, peer: &dyn Text| {
         format!("{word} {} {}", transport.text(), peer.text())
     };
-    match event {
+    match *event {
         TurnEvent::AllocationCreated(transport, relayed) => about("allocated", transport, &relayed),
         TurnEvent::AllocationCreateFailed(AddressFamily::IPV4) => "allocate-failed 4".into(),
         TurnEvent::AllocationCreateFailed(AddressFamily::IPV6) => "allocate-failed 6".into(),

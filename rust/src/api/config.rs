@@ -64,6 +64,7 @@ impl TurnConfig {
     /// assert_eq!(config.allocation_transport(), TransportType::Udp);
     /// assert_eq!(config.address_families(), &[AddressFamily::IPV4]);
     /// ```
+    #[must_use]
     pub fn new(credentials: TurnCredentials) -> TurnConfig {
         TurnConfig {
             allocation_transport: TransportType::Udp,
@@ -95,6 +96,7 @@ impl TurnConfig {
     }
 
     /// What the server is to relay over.
+    #[must_use]
     pub fn allocation_transport(&self) -> TransportType {
         self.allocation_transport
     }
@@ -132,11 +134,13 @@ impl TurnConfig {
     }
 
     /// The families of the addresses that are requested.
+    #[must_use]
     pub fn address_families(&self) -> &[AddressFamily] {
         &self.address_families
     }
 
     /// The credentials.
+    #[must_use]
     pub fn credentials(&self) -> &TurnCredentials {
         &self.credentials
     }
@@ -152,6 +156,7 @@ impl TurnConfig {
     }
 
     /// The algorithms that the client accepts. In any order it uses SHA-256 if the server offers that, and else SHA-1.
+    #[must_use]
     pub fn supported_integrity(&self) -> &[IntegrityAlgorithm] {
         &self.supported_integrity
     }
@@ -162,6 +167,7 @@ impl TurnConfig {
     }
 
     /// Whether requests hide the user name.
+    #[must_use]
     pub fn anonymous_username(&self) -> Feature {
         self.anonymous_username
     }
@@ -201,6 +207,7 @@ impl TurnConfig {
     }
 
     /// How many challenges in a row the client answers.
+    #[must_use]
     pub fn max_stale_nonces(&self) -> NonZeroU16 {
         self.max_stale_nonces
     }
@@ -218,6 +225,7 @@ impl TurnConfig {
     }
 
     /// The pause between two requests.
+    #[must_use]
     pub fn request_cadence(&self) -> Duration {
         self.request_cadence
     }
@@ -235,6 +243,7 @@ impl TurnConfig {
     }
 
     /// After how long without a packet the client keeps its path to the server alive, or `None` where it never does.
+    #[must_use]
     pub fn keepalive(&self) -> Option<Duration> {
         self.keepalive
     }
@@ -251,6 +260,7 @@ impl TurnConfig {
     }
 
     /// How long before its expiry a grant is refreshed.
+    #[must_use]
     pub fn refresh_ahead(&self) -> Duration {
         self.refresh_ahead
     }

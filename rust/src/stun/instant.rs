@@ -30,26 +30,31 @@ impl Instant {
     pub const ZERO: Instant = Instant { nanos: 0 };
 
     /// The time that many nanoseconds after the start.
+    #[must_use]
     pub fn from_nanos(nanos: i64) -> Instant {
         Instant { nanos }
     }
 
     /// The nanoseconds since the start.
+    #[must_use]
     pub fn as_nanos(&self) -> i64 {
         self.nanos
     }
 
     /// The time now, on a clock that started at `base`.
+    #[must_use]
     pub fn from_std(base: std::time::Instant) -> Instant {
         Instant::ZERO + base.elapsed()
     }
 
     /// This time on the system's clock, where this clock started at `base`.
+    #[must_use]
     pub fn to_std(self, base: std::time::Instant) -> std::time::Instant {
         base + self.saturating_duration_since(Instant::ZERO)
     }
 
     /// How long after `earlier` this time is, or zero if it is before it.
+    #[must_use]
     pub fn duration_since(&self, earlier: Instant) -> Duration {
         self.saturating_duration_since(earlier)
     }
@@ -61,6 +66,7 @@ impl Instant {
     }
 
     /// How long after `earlier` this time is, or zero if it is before it.
+    #[must_use]
     pub fn saturating_duration_since(&self, earlier: Instant) -> Duration {
         self.checked_duration_since(earlier).unwrap_or_default()
     }

@@ -84,11 +84,13 @@ impl TurnCredentials {
     }
 
     /// The user name.
+    #[must_use]
     pub fn username(&self) -> &[u8] {
         &self.username
     }
 
     /// The password.
+    #[must_use]
     pub fn password(&self) -> &[u8] {
         &self.password
     }

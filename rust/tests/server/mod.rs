@@ -84,9 +84,9 @@ pub fn xor_address(kind: u16, address: &str) -> Vec<u8> {
 
 /// An error response that is not signed, with a realm and this nonce: a challenge where the code is 401 or 438.
 pub fn challenge(request: &Sent, code: u16, nonce: &str) -> Vec<u8> {
-    let code = [0, 0, (code / 100) as u8, (code % 100) as u8];
+    let [class, number] = [code / 100, code % 100].map(|it| u8::try_from(it).unwrap());
     let attributes = [
-        attribute(0x0009, &code),
+        attribute(0x0009, &[0, 0, class, number]),
         attribute(0x0014, b"realm"),
         attribute(0x0015, nonce.as_bytes()),
     ];

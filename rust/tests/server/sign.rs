@@ -33,7 +33,13 @@ fn sha1(data: &[u8]) -> [u8; 20] {
     padded.push(0x80);
     padded.resize((padded.len() + 8).next_multiple_of(64) - 8, 0);
     padded.extend((data.len() as u64 * 8).to_be_bytes());
-    let mut state = [0x67452301, 0xefcdab89, 0x98badcfe, 0x10325476, 0xc3d2e1f0];
+    let mut state = [
+        0x6745_2301,
+        0xefcd_ab89,
+        0x98ba_dcfe,
+        0x1032_5476,
+        0xc3d2_e1f0,
+    ];
     for block in padded.chunks_exact(64) {
         compress(&mut state, block);
     }
@@ -44,6 +50,7 @@ fn sha1(data: &[u8]) -> [u8; 20] {
     digest
 }
 
+#[allow(clippy::many_single_char_names)] // those of FIPS 180-4, section 6.1.2
 fn compress(state: &mut [u32; 5], block: &[u8]) {
     let mut words = [0u32; 80];
     for (word, bytes) in words.iter_mut().zip(block.chunks_exact(4)) {
@@ -55,10 +62,10 @@ fn compress(state: &mut [u32; 5], block: &[u8]) {
     let [mut a, mut b, mut c, mut d, mut e] = *state;
     for (t, word) in words.into_iter().enumerate() {
         let (mixed, constant) = match t / 20 {
-            0 => ((b & c) | (!b & d), 0x5a827999),
-            1 => (b ^ c ^ d, 0x6ed9eba1),
-            2 => ((b & c) | (b & d) | (c & d), 0x8f1bbcdc),
-            _ => (b ^ c ^ d, 0xca62c1d6),
+            0 => ((b & c) | (!b & d), 0x5a82_7999),
+            1 => (b ^ c ^ d, 0x6ed9_eba1),
+            2 => ((b & c) | (b & d) | (c & d), 0x8f1b_bcdc),
+            _ => (b ^ c ^ d, 0xca62_c1d6),
         };
         let next = [a.rotate_left(5), mixed, e, constant, word]
             .into_iter()
@@ -74,6 +81,9 @@ fn compress(state: &mut [u32; 5], block: &[u8]) {
 #[test]
 fn the_digest_is_that_of_the_rfc() {
     let found = hmac_sha1(&[0x0b; 20], b"Hi There");
-    let hex: String = found.iter().map(|byte| format!("{byte:02x}")).collect();
-    assert_eq!(hex, "b617318655057264e28bc0b6fb378c8ef146be00");
+    let wanted = [
+        0xb6, 0x17, 0x31, 0x86, 0x55, 0x05, 0x72, 0x64, 0xe2, 0x8b, 0xc0, 0xb6, 0xfb, 0x37, 0x8c,
+        0x8e, 0xf1, 0x46, 0xbe, 0x00,
+    ];
+    assert_eq!(found, wanted);
 }
