@@ -5,17 +5,21 @@ use std::alloc::{handle_alloc_error, Layout};
 use std::fmt;
 use std::ptr::{self, NonNull};
 
-/// A client of the library for C.
-///
-/// It is not `Sync`: two calls of one client must not overlap, and those that only look take a `&self`.
+/// A client of the library for C. Calls that may change it take a `&mut self`, and those that only look a `&self`.
 pub(crate) struct Handle {
     client: NonNull<sys::Client>,
 }
 
 // SAFETY: what the pointer leads to is memory of `malloc`, which this value alone owns, and which any thread may use and
-// free. The library has no other state: `tools/library` refuses one with variables. Calls do not overlap, since there
-// is one owner and it is not `Sync`. This is an argument, and no proof: Rattle does not know a client as `Send`.
+// free. The library has no other state: `tools/library` refuses one with variables. A call that may change the client
+// overlaps no other, since it takes a `&mut self`. This is an argument, and no proof: Rattle does not know a client as `Send`.
 unsafe impl Send for Handle {}
+
+// SAFETY: a `&Handle` makes no call but `yarrowdoor_look`. That only reads what the pointer leads to: the code that looks is
+// proved over a session that it cannot write to. It takes no memory, and writes to the answer alone, which its caller has to
+// itself. So calls of several threads do not meet, and none that changes the client is made while a `&Handle` lives. This too
+// is an argument: the contract of that export has the whole session for as long as the call lasts.
+unsafe impl Sync for Handle {}
 
 impl fmt::Debug for Handle {
     fn fmt(&self, f: &mut fmt::Formatter<'_>) -> fmt::Result {
@@ -73,9 +77,9 @@ impl Handle {
     /// Makes a call that only looks: one for which the client is the same afterwards.
     pub(crate) fn look(&self, request: &sys::Request) -> sys::Answer {
         let mut answer = sys::Answer::default();
-        let buffer: &mut [u8] = &mut [];
-        // SAFETY: the pointer and the length are those of a slice, which is borrowed mutably.
-        unsafe { self.call_at(request, &[], buffer.as_mut_ptr(), 0, &mut answer) };
+        // SAFETY: the client came from `yarrowdoor_new` and is freed only by `drop`. Calls that overlap this one look too, since
+        // others take a `&mut self`. Each other pointer is that of a reference, and `answer` is borrowed mutably.
+        unsafe { sys::yarrowdoor_look(self.client.as_ptr(), request, &raw mut answer) };
         answer
     }
 
@@ -108,15 +112,15 @@ impl Handle {
     ///
     /// The `len` bytes at `buffer` may be written, and overlap nothing else that is passed.
     unsafe fn call_at(
-        &self,
+        &mut self,
         request: &sys::Request,
         bytes: &[u8],
         buffer: *mut u8,
         len: usize,
         answer: &mut sys::Answer,
     ) {
-        // SAFETY: the client came from `yarrowdoor_new` and is freed only by `drop`. This is the only call of it: it is
-        // not `Sync`, and the library calls nothing back. Each other pointer is that of a reference or a slice, or
+        // SAFETY: the client came from `yarrowdoor_new` and is freed only by `drop`. This is the only call of it: `self` is
+        // borrowed mutably, and the library calls nothing back. Each other pointer is that of a reference or a slice, or
         // `buffer`, so it is not null, and is valid for its length; `answer` is borrowed mutably, so it overlaps nothing.
         unsafe {
             sys::yarrowdoor_call(

@@ -37,12 +37,8 @@
 //!   [`api::DelayedMessageOrChannelSend`], are left out.
 //! - What a client does differently is in the repository's `docs/DIFFERENCES.md`, under *Behaviour*.
 //! - Where memory allocation fails the process ends, as everywhere in Rust (`std::alloc::handle_alloc_error`).
-//! - A client is `Send`, by an argument that nothing proves (`handle.rs`), and not `Sync`:
-//!
-//! ```compile_fail,E0277
-//! fn share<T: Sync>() {}
-//! share::<yarrowdoor::udp::TurnClientUdp>();
-//! ```
+//! - A client is `Send` and `Sync`, by arguments that nothing proves (`handle.rs`): it moves to another thread, and a `&client`,
+//!   with which several threads may look at once, is held across an await.
 
 pub mod api;
 pub mod client;

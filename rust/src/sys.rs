@@ -222,6 +222,12 @@ extern "C" {
         answer: *mut Answer,
     ) -> u32;
 
+    pub(crate) fn yarrowdoor_look(
+        client: *const Client,
+        request: *const Request,
+        answer: *mut Answer,
+    ) -> u32;
+
     pub(crate) fn yarrowdoor_free(client: *mut Client);
 }
 
