@@ -45,7 +45,7 @@ pub use error::{
 };
 pub use event::{Socket5Tuple, TurnEvent, TurnPollRet};
 pub use receive::{DataRangeOrOwned, TurnPeerData, TurnRecvRet};
-pub use send::DelayedMessageOrChannelSend;
+pub use send::{DelayedMessageOrChannelSend, DelayedTransmit};
 
 use crate::stun::types::TransportType;
 use crate::stun::Instant;

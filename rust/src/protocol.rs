@@ -215,13 +215,13 @@ impl Protocol {
             peer: address(to),
             ..request(sys::CALL_SEND_TO, now)
         };
-        let data = data.as_ref();
-        let room = data.len().saturating_add(sys::MAX_OVERHEAD);
+        let bytes = data.as_ref();
+        let room = bytes.len().saturating_add(sys::MAX_OVERHEAD);
         let mut answer = sys::Answer::default();
-        let packet = self.handle.call_into(&request, data, room, &mut answer);
+        let packet = self.handle.call_into(&request, bytes, room, &mut answer);
         match answer.kind {
             sys::PACKET => Ok(Some(TransmitBuild::new(
-                DelayedMessageOrChannelSend::OwnedData(packet),
+                answers::built(relayed, data, packet),
                 transport(answer.transport),
                 socket(&answer.from),
                 socket(&answer.to),

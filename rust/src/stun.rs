@@ -90,6 +90,7 @@ pub mod types {
 
     /// Bytes, borrowed or owned.
     pub mod data {
+        use std::borrow::Cow;
         use std::ops::Deref;
 
         /// Bytes, borrowed or owned.
@@ -138,6 +139,25 @@ pub mod types {
         impl From<Vec<u8>> for Data<'static> {
             fn from(bytes: Vec<u8>) -> Data<'static> {
                 Data::Owned(bytes.into())
+            }
+        }
+
+        /// The bytes, copied only where they are borrowed.
+        impl From<Data<'_>> for Vec<u8> {
+            fn from(data: Data<'_>) -> Vec<u8> {
+                match data {
+                    Data::Borrowed(bytes) => bytes.to_vec(),
+                    Data::Owned(bytes) => bytes.into(),
+                }
+            }
+        }
+
+        impl<'a> From<Cow<'a, [u8]>> for Data<'a> {
+            fn from(bytes: Cow<'a, [u8]>) -> Data<'a> {
+                match bytes {
+                    Cow::Borrowed(bytes) => Data::Borrowed(bytes),
+                    Cow::Owned(bytes) => Data::Owned(bytes.into()),
+                }
             }
         }
 

@@ -9,6 +9,7 @@ mod credentials;
 pub mod transmit;
 
 use std::fmt;
+use std::net::{IpAddr, SocketAddr};
 
 /// The traits that a caller needs.
 pub mod prelude {
@@ -22,6 +23,33 @@ pub enum AddressFamily {
     IPV4,
     /// IPv6.
     IPV6,
+}
+
+/// The IP version of an address.
+///
+/// # Examples
+///
+/// ```
+/// use std::net::SocketAddr;
+/// use yarrowdoor::types::AddressFamily;
+/// let peer: SocketAddr = "[2001:db8::1]:9000".parse().unwrap();
+/// assert_eq!(AddressFamily::from(peer), AddressFamily::IPV6);
+/// assert_eq!(AddressFamily::from(std::net::IpAddr::from([10, 0, 0, 1])), AddressFamily::IPV4);
+/// ```
+impl From<IpAddr> for AddressFamily {
+    fn from(ip: IpAddr) -> AddressFamily {
+        match ip {
+            IpAddr::V4(_) => AddressFamily::IPV4,
+            IpAddr::V6(_) => AddressFamily::IPV6,
+        }
+    }
+}
+
+/// The IP version of a socket's address.
+impl From<SocketAddr> for AddressFamily {
+    fn from(address: SocketAddr) -> AddressFamily {
+        AddressFamily::from(address.ip())
+    }
 }
 
 impl fmt::Display for AddressFamily {

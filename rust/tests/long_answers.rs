@@ -2,58 +2,10 @@
 
 mod server;
 
-use server::{answer, at, grant, next};
-use yarrowdoor::api::{TurnConfig, TurnEvent, TurnPollRet, TurnRecvRet};
+use server::tcp::{bind, client, PEER};
+use server::{answer, at};
+use yarrowdoor::api::{TurnEvent, TurnRecvRet};
 use yarrowdoor::prelude::*;
-use yarrowdoor::tcp::TurnClientTcp;
-use yarrowdoor::types::{TransportType, TurnCredentials};
-
-const PEER: &str = "10.0.0.7:9000";
-
-/// A client with a permission for the peer in an allocation over TCP (RFC 6062).
-fn client() -> TurnClientTcp {
-    let (local, remote) = (
-        "10.0.0.1:4000".parse().unwrap(),
-        "10.0.0.9:3478".parse().unwrap(),
-    );
-    let mut config = TurnConfig::new(TurnCredentials::new("user", "pass"));
-    config.set_allocation_transport(TransportType::Tcp);
-    let mut client = TurnClientTcp::allocate_with_seed(local, remote, config, [0; 32]);
-    server::allocate(&mut client);
-    let peer: std::net::SocketAddr = PEER.parse().unwrap();
-    client
-        .create_permission(TransportType::Tcp, peer.ip(), at(2))
-        .unwrap();
-    let request = next(&mut client, at(2)).unwrap();
-    assert_eq!(request.kind, server::CREATE_PERMISSION);
-    grant(&mut client, &request, &[], at(2));
-    client.poll_event().unwrap();
-    client
-}
-
-/// The `CONNECTION_BIND` of a data connection that the server offers.
-fn bind(client: &mut TurnClientTcp) -> server::Sent {
-    client.tcp_connect(PEER.parse().unwrap(), at(3)).unwrap();
-    let request = next(client, at(3)).unwrap();
-    assert_eq!(request.kind, server::CONNECT);
-    grant(client, &request, &[server::connection(77)], at(3));
-    let TurnPollRet::AllocateTcpSocket {
-        id,
-        socket,
-        peer_addr,
-    } = client.poll(at(3))
-    else {
-        panic!("no connection is offered")
-    };
-    assert_eq!((id, peer_addr), (77, PEER.parse().unwrap()));
-    let local = "10.0.0.1:4001".parse().unwrap();
-    client
-        .allocated_tcp_socket(id, socket, peer_addr, Some(local), at(3))
-        .unwrap();
-    let bind = next(client, at(4)).unwrap();
-    assert_eq!((bind.kind, bind.from), (server::CONNECTION_BIND, local));
-    bind
-}
 
 // The data lies behind the response in one piece, so that the library has to keep it. No two of its rows of 251 are the same.
 #[test]

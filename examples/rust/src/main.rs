@@ -48,10 +48,7 @@ impl Caller {
         let socket = connect(server)?;
         let mut config = TurnConfig::new(TurnCredentials::try_new(user, password)?);
         // the relayed address has the peer's IP version
-        config.set_address_family(match peer {
-            SocketAddr::V4(_) => AddressFamily::IPV4,
-            SocketAddr::V6(_) => AddressFamily::IPV6,
-        });
+        config.set_address_family(AddressFamily::from(peer));
         Ok(Caller {
             client: TurnClientUdp::allocate(socket.local_addr()?, server, config),
             socket,
@@ -73,9 +70,9 @@ impl Caller {
         }
     }
 
-    fn handle_event(&mut self, event: TurnEvent) -> Result<()> {
+    fn handle_event(&mut self, event: &TurnEvent) -> Result<()> {
         let now = self.now();
-        match event {
+        match *event {
             TurnEvent::AllocationCreated(transport, relayed) => {
                 println!("relayed at port {}", relayed.port());
                 self.client
@@ -106,7 +103,7 @@ impl Caller {
                 self.send(&packet.data);
             }
             if let Some(event) = self.client.poll_event() {
-                self.handle_event(event)?;
+                self.handle_event(&event)?;
                 continue;
             }
             match self.client.poll(self.now()) {
@@ -120,7 +117,7 @@ impl Caller {
 
     /// Waits for a packet of the server, up to a time.
     fn receive(&mut self, until: Instant) -> Result<()> {
-        let mut bytes = [0; 65_536];
+        let mut bytes = vec![0; 65_536];
         let wait = (until - self.now()).max(Duration::from_millis(1));
         self.socket.set_read_timeout(Some(wait))?;
         let len = match self.socket.recv(&mut bytes) {

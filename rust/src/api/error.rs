@@ -4,6 +4,7 @@
 use crate::stun::Instant;
 use std::error::Error;
 use std::fmt;
+use std::io;
 
 /// Declares an error, with the text of each variant.
 macro_rules! error {
@@ -24,6 +25,13 @@ macro_rules! error {
         }
 
         impl Error for $name {}
+
+        /// An error of the kind `Other`, with this one in it.
+        impl From<$name> for io::Error {
+            fn from(error: $name) -> io::Error {
+                io::Error::other(error)
+            }
+        }
     };
 }
 

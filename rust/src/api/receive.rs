@@ -64,6 +64,16 @@ impl<T: AsRef<[u8]> + Debug> AsRef<[u8]> for TurnPeerData<T> {
     }
 }
 
+/// The data, copied only where it is a range of other bytes.
+impl<T: AsRef<[u8]> + Debug> From<TurnPeerData<T>> for Vec<u8> {
+    fn from(peer_data: TurnPeerData<T>) -> Vec<u8> {
+        match peer_data.data {
+            DataRangeOrOwned::Owned(bytes) => bytes,
+            range @ DataRangeOrOwned::Range { .. } => range.as_ref().to_vec(),
+        }
+    }
+}
+
 /// A range of the bytes of a caller, or bytes of its own.
 #[derive(Debug)]
 #[must_use = "it is data of a peer"]

@@ -1,9 +1,12 @@
 //! What answers of the library mean.
 
 use super::unexpected;
-use crate::api::{SendError, Socket5Tuple, TurnEvent, TurnPollRet};
+use crate::api::{DelayedMessageOrChannelSend, SendError, Socket5Tuple, TurnEvent, TurnPollRet};
 use crate::convert::{family, instant, socket, transport};
+use crate::stun::types::TransportType;
 use crate::sys;
+use crate::types::transmit::{DelayedChannel, DelayedMessage};
+use std::fmt::Debug;
 
 /// The result of a call that is done or refused: `error_of` knows the errors of this call.
 pub(super) fn done<E>(
@@ -31,6 +34,21 @@ pub(super) fn send_error(answer: &sys::Answer) -> SendError {
         sys::ERROR_NO_PERMISSION => SendError::NoPermission,
         sys::ERROR_NO_SOCKET => SendError::NoTcpSocket,
         _ => unexpected(answer),
+    }
+}
+
+/// The packet that carries data to a peer, over an allocation of this transport. A `ChannelData` message begins with the bits 01, and
+/// a Send indication with 00 (RFC 8656, section 12.4).
+pub(super) fn built<T: AsRef<[u8]> + Debug>(
+    relayed: TransportType,
+    data: T,
+    packet: Vec<u8>,
+) -> DelayedMessageOrChannelSend<T> {
+    match (relayed, packet.first()) {
+        // nothing stands around the data of a data connection
+        (TransportType::Tcp, _) => DelayedMessageOrChannelSend::Data(data),
+        (_, Some(0x40..=0x7f)) => DelayedMessageOrChannelSend::Channel(DelayedChannel::of(packet)),
+        _ => DelayedMessageOrChannelSend::Message(DelayedMessage::of(packet)),
     }
 }
 

@@ -3,6 +3,7 @@
 use crate::stun::agent::Transmit;
 use crate::stun::types::TransportType;
 use std::fmt::Debug;
+use std::marker::PhantomData;
 use std::net::SocketAddr;
 
 /// The bytes of a packet that is still to be built.
@@ -26,8 +27,58 @@ pub trait DelayedTransmitBuild {
     fn write_into(self, data: &mut [u8]) -> usize;
 }
 
+/// Declares a packet to the server that the client has built.
+macro_rules! built {
+    ($(#[$doc:meta])* $name:ident) => {
+        $(#[$doc])*
+        #[derive(Debug)]
+        pub struct $name<T: AsRef<[u8]> + Debug> {
+            bytes: Vec<u8>,
+            of: PhantomData<T>,
+        }
+
+        impl<T: AsRef<[u8]> + Debug> $name<T> {
+            pub(crate) fn of(bytes: Vec<u8>) -> $name<T> {
+                $name { bytes, of: PhantomData }
+            }
+        }
+
+        impl<T: AsRef<[u8]> + Debug> AsRef<[u8]> for $name<T> {
+            fn as_ref(&self) -> &[u8] {
+                &self.bytes
+            }
+        }
+
+        impl<T: AsRef<[u8]> + Debug> DelayedTransmitBuild for $name<T> {
+            fn build(self) -> Vec<u8> {
+                self.bytes
+            }
+
+            fn len(&self) -> usize {
+                self.bytes.len()
+            }
+
+            fn write_into(self, data: &mut [u8]) -> usize {
+                data[..self.bytes.len()].copy_from_slice(&self.bytes);
+                self.bytes.len()
+            }
+        }
+    };
+}
+
+built! {
+    /// Data for a peer as a `ChannelData` message (RFC 8656, section 12.4), built by a client.
+    DelayedChannel
+}
+
+built! {
+    /// Data for a peer in a Send indication (RFC 8656, section 11.1), built by a client.
+    DelayedMessage
+}
+
 /// A packet whose bytes are still to be built.
 #[derive(Debug)]
+#[must_use = "the packet is to be sent"]
 pub struct TransmitBuild<T: DelayedTransmitBuild + Debug> {
     /// The bytes.
     pub data: T,

@@ -3,6 +3,7 @@
 #![allow(dead_code)] // each test uses a part of it
 
 pub mod sign;
+pub mod tcp;
 
 use std::net::SocketAddr;
 use std::time::Duration;
