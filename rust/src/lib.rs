@@ -23,18 +23,28 @@
 //! let client = TurnClientUdp::allocate(local_address, turn_server_address, config);
 //! ```
 //!
+//! # In place of the original crate
+//!
+//! In a program that uses `turn-client-proto` one line of `Cargo.toml` changes. The original's own paths stay; those of the
+//! crates below it are under [`types`] and [`stun`].
+//!
+//! ```toml
+//! turn-client-proto = { package = "yarrowdoor", path = "CLONE/rust" }
+//! ```
+//!
 //! # Differences from the original crate
 //!
 //! - Times are from 0 to 2^62 ns, and each call panics at others. A user name has 1 to 508 bytes and a password at most
 //!   65,535, and [`types::TurnCredentials::new`] panics at others; `try_new` returns an error.
 //! - [`api::SendError`] has the variant `PayloadTooLong`: data of over 65,504 bytes fits into no datagram to the server.
-//! - A packet of `send_to` is built by the call: [`api::DelayedMessageOrChannelSend`] holds its bytes.
+//! - A packet of `send_to` is built by the call: [`api::DelayedMessageOrChannelSend`] holds its bytes. Neither
+//!   [`types::transmit::DelayedChannel`] nor [`types::transmit::DelayedMessage`] is made otherwise.
 //! - [`api::TurnConfig`] has four setters more: `set_max_stale_nonces`, `set_request_cadence`, `set_keepalive` and
 //!   `set_refresh_ahead`. Each client has `set_permission_kept` and `set_channel_kept` beside the trait, with the error
 //!   [`api::KeepError`].
 //! - `allocate_with_seed` takes the seed of the transaction IDs; `allocate` draws one from the system.
-//! - [`stun`] and [`types`] have only what a caller of a client uses. `DelayedTransmit`, and two variants of
-//!   [`api::DelayedMessageOrChannelSend`], are left out.
+//! - [`stun`] and [`types`] have only what a caller of a client uses, and nothing that reads or writes messages: [`hints`] reads
+//!   what a server says.
 //! - What a client does differently is in the repository's `docs/DIFFERENCES.md`, under *Behaviour*.
 //! - Where memory allocation fails the process ends, as everywhere in Rust (`std::alloc::handle_alloc_error`).
 //! - A client is `Send` and `Sync`, by arguments that nothing proves (`handle.rs`): it moves to another thread, and a `&client`,
@@ -44,6 +54,7 @@ pub mod api;
 pub mod client;
 mod convert;
 mod handle;
+pub mod hints;
 mod protocol;
 pub mod stun;
 mod sys;

@@ -81,6 +81,13 @@ numbers! {
     TCP_CONNECTED: u32 = 29;
     TCP_CONNECT_FAILED: u32 = 30;
 
+    MESSAGE: u32 = 35;
+    CHANNEL_DATA: u32 = 36;
+
+    CLASS_REQUEST: u16 = 0;
+    CLASS_INDICATION: u16 = 1;
+    CLASS_SUCCESS: u16 = 2;
+
     ERROR_ALREADY_EXISTS: u32 = 1;
     ERROR_NO_ALLOCATION: u32 = 2;
     ERROR_NO_PERMISSION: u32 = 3;
@@ -170,8 +177,35 @@ pub(crate) struct Answer {
     pub(crate) reserved_places: [u64; 2],
 }
 
+#[derive(Clone, Copy, Default)]
+#[repr(C)]
+pub(crate) struct Message {
+    pub(crate) len: u64,
+    pub(crate) kind: u32,
+    pub(crate) method: u16,
+    pub(crate) class: u16,
+    pub(crate) id: [u8; 12],
+    pub(crate) channel: u16,
+    pub(crate) code: u16,
+    pub(crate) reason_at: u32,
+    pub(crate) reason_len: u32,
+    pub(crate) realm_at: u32,
+    pub(crate) realm_len: u32,
+    pub(crate) mapped: Address,
+    pub(crate) alternate: Address,
+    pub(crate) reserved: [u8; 8],
+}
+
 const _: () = {
     assert!(size_of::<usize>() == 8);
+    assert!(
+        size_of::<Message>() == 112
+            && offset_of!(Message, class) == 14
+            && offset_of!(Message, channel) == 28
+            && offset_of!(Message, realm_len) == 44
+            && offset_of!(Message, mapped) == 48
+            && offset_of!(Message, alternate) == 76
+    );
     assert!(
         size_of::<Address>() == 28
             && offset_of!(Address, port) == 24
@@ -226,6 +260,21 @@ extern "C" {
         client: *const Client,
         request: *const Request,
         answer: *mut Answer,
+    ) -> u32;
+
+    pub(crate) fn yarrowdoor_read_message(
+        transport: u32,
+        bytes: *const u8,
+        len: usize,
+        message: *mut Message,
+    ) -> u32;
+
+    pub(crate) fn yarrowdoor_read_attribute(
+        bytes: *const u8,
+        len: usize,
+        kind: u16,
+        start: *mut usize,
+        value_len: *mut usize,
     ) -> u32;
 
     pub(crate) fn yarrowdoor_free(client: *mut Client);
