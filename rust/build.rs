@@ -1,5 +1,6 @@
 //! Links the library that `tools/library` builds: that in the folder `YARROWDOOR_DIST`; else that in `dist`, at the top of the
-//! repository; else the one that pkg-config finds.
+//! repository, or for another target than this machine's that in a folder below it; else that in `lib`, beside this package in
+//! a tarball; else the one that pkg-config finds.
 //!
 //! Where there is none it only warns, since `cargo check`, `cargo doc` and `cargo clippy` link nothing. A program is not
 //! linked then.
@@ -17,29 +18,46 @@ fn main() {
     let named = env::var_os("YARROWDOOR_DIST").map(PathBuf::from);
     let package =
         PathBuf::from(env::var_os("CARGO_MANIFEST_DIR").expect("cargo names the package"));
-    for line in instructions(named, &package.join("../dist"), ask_pkg_config) {
+    let [host, target] = ["HOST", "TARGET"].map(|name| env::var(name).unwrap_or_default());
+    let top = package.join("..");
+    let built = [dist(&top, &host, &target), top.join("lib")];
+    for line in instructions(named.as_ref(), &built, ask_pkg_config) {
         println!("cargo:{line}");
+    }
+}
+
+/// Where `tools/library` puts the library of a target. C libraries do not count: it serves each of them.
+pub(crate) fn dist(top: &Path, host: &str, target: &str) -> PathBuf {
+    let system_of = |triple: &str| {
+        let processor = triple.split('-').next().unwrap_or_default().to_owned();
+        let names = ["linux", "windows"];
+        let system = names.into_iter().find(|system| triple.contains(system));
+        format!("{processor}-{}", system.unwrap_or("other"))
+    };
+    let (dist, system) = (top.join("dist"), system_of(target));
+    if system == system_of(host) {
+        dist
+    } else {
+        dist.join(system)
     }
 }
 
 /// What cargo is told. `ask` gives the linker's flags of an installed library, if there is one.
 pub(crate) fn instructions(
-    named: Option<PathBuf>,
-    built: &Path,
+    named: Option<&PathBuf>,
+    built: &[PathBuf],
     ask: impl FnOnce() -> Option<String>,
 ) -> Vec<String> {
-    let is_named = named.is_some();
-    let folder = named.unwrap_or_else(|| built.to_owned());
-    // it is looked at again once there is one
-    let mut lines = vec![format!(
-        "rerun-if-changed={}",
-        folder.join(ARCHIVE).display()
-    )];
-    if folder.join(ARCHIVE).exists() {
+    // no other library than the one that was asked for
+    let folders = named.map_or(built, std::slice::from_ref);
+    // they are looked at again once there is one
+    let watched = |folder: &PathBuf| format!("rerun-if-changed={}", folder.join(ARCHIVE).display());
+    let mut lines: Vec<String> = folders.iter().map(watched).collect();
+    let mut folders = folders.iter();
+    if let Some(folder) = folders.find(|folder| folder.join(ARCHIVE).exists()) {
         lines.push(format!("rustc-link-search=native={}", folder.display()));
         lines.push("rustc-link-lib=static=yarrowdoor".to_owned());
-    } else if is_named {
-        // no other library than the one that was asked for
+    } else if let Some(folder) = named {
         let folder = folder.display();
         lines.push(format!(
             "warning=YARROWDOOR_DIST is {folder}, which has no {ARCHIVE}"

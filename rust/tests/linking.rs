@@ -6,6 +6,7 @@ mod build;
 
 use std::fs;
 use std::path::{Path, PathBuf};
+use std::slice;
 
 /// A folder of this test, with a library in it or without.
 fn folder(name: &str, has_library: bool) -> PathBuf {
@@ -30,7 +31,7 @@ fn told(lines: &[String]) -> Vec<&str> {
 #[test]
 fn the_folder_that_is_named_comes_first() {
     let (named, built) = (folder("named_1", true), folder("built_1", true));
-    let lines = build::instructions(Some(named.clone()), &built, || Some(INSTALLED.to_owned()));
+    let lines = build::instructions(Some(&named), &[built], || Some(INSTALLED.to_owned()));
     let search = format!("rustc-link-search=native={}", named.display());
     assert_eq!(
         told(&lines),
@@ -41,7 +42,7 @@ fn the_folder_that_is_named_comes_first() {
 #[test]
 fn what_was_built_comes_before_what_is_installed() {
     let built = folder("built_2", true);
-    let lines = build::instructions(None, &built, || Some(INSTALLED.to_owned()));
+    let lines = build::instructions(None, slice::from_ref(&built), || Some(INSTALLED.to_owned()));
     let search = format!("rustc-link-search=native={}", built.display());
     assert_eq!(
         told(&lines),
@@ -49,9 +50,43 @@ fn what_was_built_comes_before_what_is_installed() {
     );
 }
 
+// In a tarball there is no `dist`.
+#[test]
+fn the_second_folder_serves_where_the_first_has_none() {
+    let (built, packed) = (folder("built_7", false), folder("packed_7", true));
+    let lines = build::instructions(None, &[built, packed.clone()], || {
+        Some(INSTALLED.to_owned())
+    });
+    let search = format!("rustc-link-search=native={}", packed.display());
+    assert_eq!(
+        told(&lines),
+        [search.as_str(), "rustc-link-lib=static=yarrowdoor"]
+    );
+}
+
+#[test]
+fn each_target_has_a_folder() {
+    let dist = |host, target| build::dist(Path::new("top"), host, target);
+    let (glibc, musl) = ("x86_64-unknown-linux-gnu", "x86_64-unknown-linux-musl");
+    assert_eq!(dist(glibc, glibc), Path::new("top/dist"));
+    assert_eq!(dist(glibc, musl), Path::new("top/dist"));
+    assert_eq!(
+        dist(glibc, "aarch64-unknown-linux-gnu"),
+        Path::new("top/dist/aarch64-linux")
+    );
+    assert_eq!(
+        dist(glibc, "x86_64-pc-windows-gnu"),
+        Path::new("top/dist/x86_64-windows")
+    );
+    assert_eq!(
+        dist("aarch64-unknown-linux-gnu", musl),
+        Path::new("top/dist/x86_64-linux")
+    );
+}
+
 #[test]
 fn what_is_installed_comes_last() {
-    let lines = build::instructions(None, &folder("built_3", false), || {
+    let lines = build::instructions(None, &[folder("built_3", false)], || {
         Some(INSTALLED.to_owned())
     });
     assert_eq!(
@@ -66,7 +101,7 @@ fn what_is_installed_comes_last() {
 #[test]
 fn no_other_library_is_linked_than_the_one_that_is_named() {
     let (named, built) = (folder("named_4", false), folder("built_4", true));
-    let lines = build::instructions(Some(named), &built, || Some(INSTALLED.to_owned()));
+    let lines = build::instructions(Some(&named), &[built], || Some(INSTALLED.to_owned()));
     let told = told(&lines);
     assert!(
         told.len() == 1 && told[0].starts_with("warning=YARROWDOOR_DIST is "),
@@ -76,7 +111,7 @@ fn no_other_library_is_linked_than_the_one_that_is_named() {
 
 #[test]
 fn where_there_is_none_it_warns() {
-    let lines = build::instructions(None, &folder("built_5", false), || None);
+    let lines = build::instructions(None, &[folder("built_5", false)], || None);
     let told = told(&lines);
     assert!(
         told.len() == 1 && told[0].starts_with("warning=no library"),
@@ -88,7 +123,7 @@ fn where_there_is_none_it_warns() {
 #[test]
 fn the_file_is_watched() {
     let built = folder("built_6", false);
-    let lines = build::instructions(None, &built, || None);
+    let lines = build::instructions(None, slice::from_ref(&built), || None);
     let watched = format!(
         "rerun-if-changed={}",
         built.join("libyarrowdoor.a").display()
