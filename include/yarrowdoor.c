@@ -1,3 +1,4 @@
+/* SPDX-License-Identifier: MIT OR Apache-2.0 */
 /* What the library has beside the proved functions: the functions that the header has inline, as symbols, so that languages
    which find functions at run time can call them; the version; the symbol of the layout; and that a client which is NULL is
    not freed. Nothing here is proved. */

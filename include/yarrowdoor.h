@@ -1,3 +1,4 @@
+/* SPDX-License-Identifier: MIT OR Apache-2.0 */
 /* Yarrowdoor: a TURN client that does no I/O (RFC 8656, 6062 and 6156; messages by RFC 8489), for C99 and C++.
 
    The caller owns the sockets and the clock. It passes in bytes and times, and gets packets to send, data of peers,
