@@ -17,8 +17,7 @@ compile_c() {
 
 join() {
     compile_c
-    "${tools}objcopy" --redefine-sym yarrowdoor_free=free_client "$room/proved.a" "$room/renamed.a"
-    "$cc" -r -nostdlib -o "$room/all.o" -Wl,--whole-archive "$room/renamed.a" "$heap" "$room/header.o"
+    "$cc" -r -nostdlib -o "$room/all.o" -Wl,--whole-archive "$room/proved.a" "$heap" "$room/header.o"
     "${tools}objcopy" --wildcard --keep-global-symbol 'yarrowdoor_*' "$room/all.o" "$room/yarrowdoor.o"
     check_needs
     check_variables
