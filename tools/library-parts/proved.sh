@@ -46,23 +46,18 @@ keep_module() {
 for word; do
     case \$word in *.bc) cp "\$word" "$room/module.bc" ;; esac
 done
-exec "$(realpath "$kit/toolchain/bin/clang")" "\$@"
+exec "$kit/toolchain/bin/clang" "\$@"
 END
 }
 
 # The kit has no Windows among its targets. The module that it hands to its compiler for Linux is kept, and compiled for Windows:
 # by hand, so the verdict, which names Linux, does not cover it.
 prove_for_windows() {
-    keep_module > "$room/clang"
-    chmod +x "$room/clang"
-    # a folder of its own, with links to single files: nothing is written or removed through a link
-    mkdir -p "$room/toolchain/bin"
-    ln -s "$(realpath "$kit/toolchain/lib")" "$room/toolchain/lib"
-    local tool
-    for tool in "$kit"/toolchain/bin/*; do
-        [ "${tool##*/}" = clang ] || ln -s "$tool" "$room/toolchain/bin/${tool##*/}"
-    done
-    mv -n "$room/clang" "$room/toolchain/bin/clang"
+    # a copy, links followed, so that nothing is written into the kit
+    cp -rL "$kit/toolchain" "$room/toolchain"
+    rm "$room/toolchain/bin/clang"
+    keep_module > "$room/toolchain/bin/clang"
+    chmod +x "$room/toolchain/bin/clang"
     shown over_gate x86_64-unknown-linux-gnu "$room/toolchain" "$room/linux.a"
     "$kit/toolchain/bin/clang" -S -emit-llvm -x ir "$room/module.bc" -o "$room/module.ll"
     # Windows has its own layout, triple and probe of the stack
