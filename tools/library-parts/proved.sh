@@ -39,25 +39,25 @@ prove() {
     cd "$top"
 }
 
-# A script in place of the kit's clang, which keeps the module that it is given.
-keep_module() {
-    cat << END
+# A copy of the kit's toolchain, links followed, so that nothing is written into the kit, with a script in place of its clang,
+# which keeps the module that it is given.
+copy_toolchain() {
+    cp -rL "$kit/toolchain" "$room/toolchain"
+    rm "$room/toolchain/bin/clang"
+    cat > "$room/toolchain/bin/clang" << END
 #!/bin/sh
 for word; do
     case \$word in *.bc) cp "\$word" "$room/module.bc" ;; esac
 done
 exec "$kit/toolchain/bin/clang" "\$@"
 END
+    chmod +x "$room/toolchain/bin/clang"
 }
 
 # The kit has no Windows among its targets. The module that it hands to its compiler for Linux is kept, and compiled for Windows:
 # by hand, so the verdict, which names Linux, does not cover it.
 prove_for_windows() {
-    # a copy, links followed, so that nothing is written into the kit
-    cp -rL "$kit/toolchain" "$room/toolchain"
-    rm "$room/toolchain/bin/clang"
-    keep_module > "$room/toolchain/bin/clang"
-    chmod +x "$room/toolchain/bin/clang"
+    copy_toolchain
     shown over_gate x86_64-unknown-linux-gnu "$room/toolchain" "$room/linux.a"
     "$kit/toolchain/bin/clang" -S -emit-llvm -x ir "$room/module.bc" -o "$room/module.ll"
     # Windows has its own layout, triple and probe of the stack

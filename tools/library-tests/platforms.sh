@@ -101,7 +101,28 @@ test_windows() {
     fi
 }
 
+# The toolchain in which a script stands for the compiler is a copy: what is written there is not written into the kit, whose files
+# may be links, also to one another.
+check_copied_toolchain() (
+    kit=$room/kit room=$room/copied
+    mkdir -p "$kit/toolchain/bin" "$kit/toolchain/lib" "$room"
+    echo 'echo "$0 $*"' > "$kit/compiler"
+    chmod +x "$kit/compiler"
+    ln -s ../../compiler "$kit/toolchain/bin/clang"
+    ln -s clang "$kit/toolchain/bin/ld.lld"
+    cp -a "$kit" "$room/before"
+    . tools/library-parts/proved.sh
+    copy_toolchain
+    echo module > "$room/one.bc"
+    [ "$(timeout 10 "$room/toolchain/bin/clang" -c "$room/one.bc")" = "$kit/toolchain/bin/clang -c $room/one.bc" ]
+    cmp "$room/one.bc" "$room/module.bc"
+    [ -z "$(find "$room/toolchain" -type l)" ]
+    find "$room/toolchain" -type f -exec cp "$room/one.bc" {} ';'
+    diff -r --no-dereference "$room/before" "$kit"
+)
+
 test_platforms() {
+    step "the kit's toolchain is copied" check_copied_toolchain
     step "the heap, as the kit's" check_heap "$tests/heap_calls.c"
     if has rt "the heap of the kit"; then
         step "the heap of the kit" check_heap -DHEAP_OF_KIT -Wl,--wrap=malloc,--wrap=realloc,--wrap=free \
