@@ -35,9 +35,10 @@ check_needs() {
 }
 
 # A client may move to another thread between two calls only if the library has no variables. The one that stands there is
-# the heap's, of which only the address is used. A name that begins with a dot is that of a section.
+# the heap's, of which only the address is used. A name that begins with a dot is that of a section, which may be empty.
 check_variables() {
-    if "${tools}nm" "$room/yarrowdoor.o" | grep -E ' [bBdDsS] ' | grep -Ev ' b (nothing|\..*)$' ||
+    if "${tools}nm" "$room/yarrowdoor.o" | grep -E ' [bBdDsS] ' | grep -Ev ' b nothing$| [bd] \.' ||
+        "${tools}objdump" -h "$room/yarrowdoor.o" | awk '$2 ~ /^\.data($|\.[^r])/ && $3 !~ /^0*$/' | grep . ||
         "${tools}objdump" -h "$room/yarrowdoor.o" | grep -E '\.t(data|bss|ls)'; then
         echo "tools/library: the library has variables, or memory of a thread" >&2
         exit 1
