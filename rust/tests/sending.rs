@@ -77,7 +77,8 @@ fn a_peer_with_a_channel_gets_channel_data() {
     grant(&mut client, &request, &[], at(2));
     let packet = send(&mut client, TransportType::Udp).data;
     assert!(matches!(packet, DelayedMessageOrChannelSend::Channel(_)));
-    let wanted = b"\x40\x00\x00\x05hello";
+    // padded to a multiple of four, which is allowed over UDP (RFC 8656, section 12.5)
+    let wanted = b"\x40\x00\x00\x05hello\0\0\0";
     assert_eq!(bytes_of(packet), wanted);
     let built = send(&mut client, TransportType::Udp).build();
     assert_eq!(built.data, wanted);
