@@ -92,6 +92,7 @@ static void *look_often(void *unused)
 static void *end(void *unused)
 {
     yarrowdoor_answer answer;
+    check("the permission", yarrowdoor_poll_event(client, &answer), YARROWDOOR_PERMISSION_CREATED);
     check("the end", yarrowdoor_protocol_error(client, &answer), YARROWDOOR_DONE);
     check("closed", yarrowdoor_poll(client, 100000000, &answer), YARROWDOOR_CLOSED);
     yarrowdoor_free(client);
