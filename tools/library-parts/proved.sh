@@ -59,7 +59,7 @@ END
 prove_for_windows() {
     copy_toolchain
     shown over_gate x86_64-unknown-linux-gnu "$room/toolchain" "$room/linux.a"
-    "$kit/toolchain/bin/clang" -S -emit-llvm -x ir "$room/module.bc" -o "$room/module.ll"
+    "$kit/toolchain/bin/clang" -S -emit-llvm -Wno-override-module -x ir "$room/module.bc" -o "$room/module.ll"
     # Windows has its own layout, triple and probe of the stack
     sed -E -i '/^target (datalayout|triple) = /d; s/"probe-stack"="[^"]*"//g' "$room/module.ll"
     "$kit/toolchain/bin/clang" --target="$triple" -march="$cpu" -O3 -Wno-override-module -c -x ir "$room/module.ll" \
