@@ -1,6 +1,6 @@
 //! The packet that carries data to a peer.
 
-use crate::types::transmit::{DelayedChannel, DelayedMessage, DelayedTransmitBuild};
+use crate::types::transmit::{write, DelayedChannel, DelayedMessage, DelayedTransmitBuild};
 use std::fmt::Debug;
 use std::ops::Range;
 
@@ -75,12 +75,6 @@ impl<T: AsRef<[u8]> + Debug> DelayedTransmitBuild for DelayedTransmit<T> {
     fn write_into(self, data: &mut [u8]) -> usize {
         write(self.as_ref(), data)
     }
-}
-
-/// Writes bytes to the front of `data`, and returns how many these are.
-fn write(bytes: &[u8], data: &mut [u8]) -> usize {
-    data[..bytes.len()].copy_from_slice(bytes);
-    bytes.len()
 }
 
 #[test]

@@ -27,6 +27,12 @@ pub trait DelayedTransmitBuild {
     fn write_into(self, data: &mut [u8]) -> usize;
 }
 
+/// Writes bytes to the front of `data`, and returns how many these are.
+pub(crate) fn write(bytes: &[u8], data: &mut [u8]) -> usize {
+    data[..bytes.len()].copy_from_slice(bytes);
+    bytes.len()
+}
+
 /// Declares a packet to the server that the client has built.
 macro_rules! built {
     ($(#[$doc:meta])* $name:ident) => {
@@ -59,8 +65,7 @@ macro_rules! built {
             }
 
             fn write_into(self, data: &mut [u8]) -> usize {
-                data[..self.bytes.len()].copy_from_slice(&self.bytes);
-                self.bytes.len()
+                write(&self.bytes, data)
             }
         }
     };
