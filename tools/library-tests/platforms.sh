@@ -2,19 +2,22 @@
 # Part of tools/test-library: the traces and the bad requests on each platform that the library is built for, by the programs
 # that run natively, built for that platform. What is not there is named.
 
+# How the names of programs end: of Windows alone by something.
+exe=""
+
 # Notes what is not tested, and why.
 lacking() {
     missing+="not tested: $1, since $2"$'\n'
     return 1
 }
 
-# Builds both programs into a folder, over the library in another one, by a compiler with its words.
+# Builds both programs into a folder, over the library in another one, by a compiler with its words. Their names end with $exe.
 build_for() {
     local to=$1 from=$2
     shift 2
     mkdir -p "$to"
-    "$@" -std=c99 -O1 $warnings -I "$from" "$tests"/{replay,parse,make,print}.c "$from/libyarrowdoor.a" -o "$to/replay"
-    "$@" -std=c99 -O1 $warnings -I "$from" "$tests/fields.c" "$from/libyarrowdoor.a" -o "$to/fields"
+    "$@" -std=c99 -O1 $warnings -I "$from" "$tests"/{replay,parse,make,print}.c "$from/libyarrowdoor.a" -o "$to/replay$exe"
+    "$@" -std=c99 -O1 $warnings -I "$from" "$tests/fields.c" "$from/libyarrowdoor.a" -o "$to/fields$exe"
 }
 
 # The same over the shared library, which is found where it was linked.
@@ -22,7 +25,7 @@ build_shared_for() {
     local to=$1 from=$2
     shift 2
     "$@" -std=c99 -O1 $warnings -I "$from" "$tests"/{replay,parse,make,print}.c -L "$from" -lyarrowdoor -Wl,-rpath,"$from" \
-        -o "$to/replay_shared"
+        -o "$to/replay_shared$exe"
 }
 
 # The heap of the header's folder, and with more words that of the kit, does what the library expects of it.
@@ -36,8 +39,8 @@ test_on() {
     local name=$1 folder=$2
     shift 2
     choose_all
-    step "${#chosen[@]} traces in C: $name" agree "$@" "$folder/replay"
-    step "bad requests: $name" "$@" "$folder/fields"
+    step "${#chosen[@]} traces in C: $name" agree "$@" "$folder/replay$exe"
+    step "bad requests: $name" "$@" "$folder/fields$exe"
 }
 
 # Whether the library of a target is there, and of the sources that dist/ is of.
@@ -87,17 +90,18 @@ check_heap_of_aarch64() {
     "$@" "$room/aarch64/heap_calls"
 }
 
-# Wine keeps what it needs below its prefix, and a server of its own runs for a while after the last program.
+# Wine keeps what it needs below its prefix, and a server of its own runs on there, which would write while that is removed.
 test_windows() {
-    local to=$room/windows from=$dist/x86_64-windows gcc=x86_64-w64-mingw32-gcc PATH=$PATH:/usr/lib/wine
+    local exe=.exe to=$room/windows from=$dist/x86_64-windows gcc=x86_64-w64-mingw32-gcc PATH=$PATH:/usr/lib/wine
     if has "$gcc" x86_64-windows && has wine64 x86_64-windows && has_target x86_64-windows; then
         export WINEPREFIX=$room/wine WINEDEBUG=-all DISPLAY=
+        trap '/usr/lib/wine/wineserver64 -k || true; rm -rf "$room"' EXIT
         step "dist/x86_64-windows is whole" check_sums "$from"
         step "programs for x86_64-windows" build_for "$to" "$from" "$gcc" -D__USE_MINGW_ANSI_STDIO=1
         test_on "x86_64-windows, under wine" "$to" wine64
         step "a program over yarrowdoor.dll" build_shared_for "$to" "$from" "$gcc" -D__USE_MINGW_ANSI_STDIO=1
         cp "$from/yarrowdoor.dll" "$to"
-        step "${#chosen[@]} traces in C: x86_64-windows, over yarrowdoor.dll" agree wine64 "$to/replay_shared"
+        step "${#chosen[@]} traces in C: x86_64-windows, over yarrowdoor.dll" agree wine64 "$to/replay_shared$exe"
     fi
 }
 
