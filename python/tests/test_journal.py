@@ -95,7 +95,7 @@ class Log(Case):
     async def test_a_loss(self) -> None:
         endpoint = await self.serve(Server())
         with self.assertLogs("yarrowdoor", "WARNING") as logs:
-            async with TurnClient(endpoint.uri, "user", "pass", clock=Clock(rate=200)) as relay:
+            async with TurnClient(endpoint.uri, "user", "pass", clock=Clock(rate=30)) as relay:
                 await relay.permit(PEER[0])
                 endpoint.server.denied = (PEER[0],)
                 while not relay.lost:

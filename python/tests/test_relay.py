@@ -59,7 +59,7 @@ class Case(unittest.IsolatedAsyncioTestCase):
         """A relay that is quick, and its states."""
         states: List[Any] = []
         who = credentials or ("user", "pass")
-        quick: Dict[str, Any] = {"backoff": QUICK, "times": SHORT, **settings}
+        quick: Dict[str, Any] = {"backoff": QUICK, **settings}
         relay = Relay(endpoint.uri, *who, on_state=states.append, **quick)
         self.addAsyncCleanup(relay.close)
         return relay, states
@@ -113,7 +113,7 @@ class Returns(Case):
         """It shows at the next refresh."""
         endpoint = await self.serve(Restarting())
         for grants in (True, False):
-            relay, states = self.relay(endpoint, clock=Clock(rate=100), probe=1500)
+            relay, states = self.relay(endpoint, clock=Clock(rate=100), probe=1500, times=Times())
             async with relay:
                 if grants:
                     await relay.permit(PEER[0])
@@ -126,7 +126,7 @@ class Returns(Case):
         """It is asked by a signed request before it is given up."""
         endpoint = await self.serve(Restarting())
         endpoint.server.answers_bindings = False
-        relay, states = self.relay(endpoint, clock=Clock(rate=20), times=tries.TIMES, probe=0.1)
+        relay, states = self.relay(endpoint, clock=Clock(rate=20), times=Times(), probe=0.1)
         async with relay:
             await self.until(lambda: len(endpoint.server.asked) >= 3)
             await self.echo(relay)

@@ -12,7 +12,7 @@ from yarrowdoor import AllocationFailed, Backoff, Down, Ended, Relay, Up, WrongC
 
 from .network import StreamEndpoint
 from .server import CREATE_PERMISSION, Where, parse
-from .test_relay import OTHER, PEER, Case, Restarting
+from .test_relay import OTHER, PEER, SHORT, Case, Restarting
 
 
 class Credentials(Case):
@@ -134,7 +134,7 @@ class Ends(Case):
     async def test_a_server_that_is_not_there_yet(self) -> None:
         endpoint = await self.serve(Restarting())
         endpoint.server.is_dead = True
-        relay, states = self.relay(endpoint)
+        relay, states = self.relay(endpoint, times=SHORT)
         opening = asyncio.ensure_future(relay.open())
         await self.until(lambda: states)
         self.assertIsInstance(states[0], Down)
@@ -147,7 +147,7 @@ class Ends(Case):
     async def test_opening_that_is_cancelled(self) -> None:
         endpoint = await self.serve(Restarting())
         endpoint.server.is_dead = True
-        relay, _ = self.relay(endpoint)
+        relay, _ = self.relay(endpoint, times=SHORT)
         with self.assertRaises(asyncio.TimeoutError):
             await asyncio.wait_for(relay.open(), 1)
         self.assertTrue(relay.closed)

@@ -10,7 +10,7 @@ import struct
 import time
 import unittest
 import unittest.mock
-from typing import Any, List, Tuple
+from typing import Any, List, Set, Tuple
 
 import yarrowdoor
 from yarrowdoor import AllocationFailed, Credentials, Refused, TurnClient, WrongCredentials
@@ -138,10 +138,11 @@ class Redirecting(Server):
 
     def __init__(self, to: Any, **settings: Any) -> None:
         super().__init__(**settings)
-        self.to, self.asks = to, 0
+        self.to = to
+        self.asked: Set[bytes] = set()  # the IDs of requests, each of which may be sent again
 
     def answer(self, message: Any, source: Where, allocation: Any, now: float) -> bytes:
-        self.asks += 1
+        self.asked.add(message.transaction)
         host, port = self.to()
         body = attribute(0x0009, struct.pack("!HBB", 0, 3, 0) + b"elsewhere")
         body += attribute(0x8023, b"\0\1" + struct.pack("!H", port) + socket.inet_aton(host))
@@ -160,7 +161,7 @@ class Redirects(Case):
     async def test_followed_where_asked_for(self) -> None:
         endpoints = await self.chain(2)
         async with TurnClient(endpoints[0].uri, *BOTH, redirects=2):
-            self.assertEqual([it.server.asks for it in endpoints[:2]], [1, 1])
+            self.assertEqual([len(it.server.asked) for it in endpoints[:2]], [1, 1])
             self.assertEqual(len(endpoints[2].server.allocations), 1)
 
     async def test_not_followed_further(self) -> None:
@@ -181,7 +182,7 @@ class Redirects(Case):
             places.append(await self.serve(Redirecting(functools.partial(self.place, places, at))))
         with self.assertRaises(AllocationFailed):
             await asyncio.wait_for(TurnClient(places[0].uri, *BOTH, redirects=50).open(), 30)
-        self.assertEqual([it.server.asks for it in places], [1, 1])
+        self.assertEqual([len(it.server.asked) for it in places], [1, 1])
 
     async def test_another_name_over_tls(self) -> None:
         """The certificate has to be for the name of the first URI."""
