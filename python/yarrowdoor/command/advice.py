@@ -46,8 +46,9 @@ def about_refusal(said: Said, credentials: Credentials, realm: str) -> str:
         440: "The server has no relayed address of this family.",
         441: "The server knows this local port under other credentials: try again, another port is taken then.",
         442: "The server relays not over this transport.",
-        486: f"The user {credentials.user!r} has as many relayed addresses as the server allows (quota). Old ones end by "
-             "themselves after 10 minutes if nobody gives them back; or raise the limit (coturn: user-quota=).",
+        486: f"The user {credentials.user!r} has as many relayed addresses as the server allows (quota). Those that nobody gives "
+             "back end by themselves, of most clients after 10 minutes, of this one after 30; or raise the limit (coturn: "
+             "user-quota=).",
         508: "The server has no room: its ports for relayed addresses, or its limit for all users, are used up (coturn: min-port=, "
              "max-port=, total-quota=).",
         300: "The server sends its clients to another one (300): check that one.",
