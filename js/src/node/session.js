@@ -1,5 +1,5 @@
 // One client over one link: it transmits, takes what comes, tells the events, and sets the timer. Its state is one word.
-import { AllocationFailed, Ended, LibraryError, OutOfMemory, YarrowdoorError } from "../errors.js";
+import { AllocationFailed, Ended, LibraryError, YarrowdoorError } from "../errors.js";
 import { parse } from "../message.js";
 import { Alarm } from "./clock.js";
 import { Deferred, within } from "./deferred.js";
@@ -9,6 +9,7 @@ import { Hearing } from "./hearing.js";
 import { Path } from "./path.js";
 import { channelKey, permissionKey } from "./reasons.js";
 import { Requests } from "./requests.js";
+import { SHORTAGE_WAIT, Shortage } from "./shortage.js";
 import { Waiting } from "./state.js";
 
 /** @typedef {import("../address.js").Address} Address */
@@ -16,8 +17,6 @@ import { Waiting } from "./state.js";
 
 /** How long the server's answer to a delete is waited for, in milliseconds. */
 const DELETE_WAIT = 2_000;
-/** How long a call that found no memory is put off, in milliseconds. */
-const SHORTAGE_WAIT = 100;
 
 /** A client over a link to the server, which asks for a relayed address at once. */
 export class Session {
@@ -44,11 +43,7 @@ export class Session {
     count = 0;
     /** @type {Ended | undefined} */
     #why;
-    /**
-     * That the module had no memory for the last call.
-     * @type {OutOfMemory | undefined}
-     */
-    #shortage;
+    #shortage = new Shortage();
     #isDriving = false;
 
     /**
@@ -92,7 +87,7 @@ export class Session {
 
     /** @param {Uint8Array} data */
     #receive(data) {
-        const answer = this.#guarded(() => this.client.recv(data, this.clock.now()));
+        const answer = this.#shortage.guarded(() => this.client.recv(data, this.clock.now()));
         if (answer?.kind === "peer-data") {
             this.user.put(answer.data, answer.peer);
             // A datagram, or a piece that is one ChannelData message, has nothing else in it. Data makes nothing due.
@@ -109,25 +104,8 @@ export class Session {
 
     /** Takes all data that the stream still has. */
     #takeRest() {
-        for (let more; !this.isOver && (more = this.#guarded(() => this.client.pollRecv(this.clock.now()))); ) {
+        for (let more; !this.isOver && (more = this.#shortage.guarded(() => this.client.pollRecv(this.clock.now()))); ) {
             this.user.put(more.data, more.peer);
-        }
-    }
-
-    /**
-     * What a call gives, or undefined where the module has no memory left: the client may have ended then, which `drive` sees.
-     * @template T
-     * @param {() => T} call
-     */
-    #guarded(call) {
-        try {
-            return call();
-        } catch (error) {
-            if (!(error instanceof OutOfMemory)) {
-                throw error;
-            }
-            this.#shortage = error;
-            return undefined;
         }
     }
 
@@ -167,7 +145,7 @@ export class Session {
         }
         if (this.link.isStream) {
             this.#orEnd(() => {
-                this.#guarded(() => this.client.recv(new Uint8Array(), this.clock.now()));
+                this.#shortage.guarded(() => this.client.recv(new Uint8Array(), this.clock.now()));
                 this.#takeRest();
             });
         }
@@ -213,12 +191,11 @@ export class Session {
     /** Does what is due now, and says whether more may be. */
     #step() {
         const now = this.clock.now();
-        for (let packet; !this.isOver && (packet = this.#guarded(() => this.client.pollTransmit(now))); ) {
+        for (let packet; !this.isOver && (packet = this.#shortage.guarded(() => this.client.pollTransmit(now))); ) {
             this.#transmit(packet.data);
         }
         this.#takeEvents();
-        const rest = this.isOver ? undefined : this.#guarded(() => this.client.poll(now)), shortage = this.#shortage;
-        this.#shortage = undefined;
+        const rest = this.isOver ? undefined : this.#shortage.guarded(() => this.client.poll(now)), shortage = this.#shortage.take();
         if (rest?.kind === "closed") {
             this.#takeEvents();
             this.diagnosis.breaks(shortage?.message ?? "", shortage);
