@@ -3,6 +3,7 @@ import assert from "node:assert/strict";
 import { spawn } from "node:child_process";
 import test from "node:test";
 import { fileURLToPath } from "node:url";
+import { pause } from "../src/node/clock.js";
 import { Ended } from "../src/node/index.js";
 import { fastClock, next, openRelay, tcp, udp, until, urlOf, withServer } from "./relays.js";
 import { PASSWORD, RELAYED, USER } from "./server.js";
@@ -68,14 +69,54 @@ test("over UDP a port that is closed ends the relay after a few errors, with the
 
 test("over UDP a server that is silent ends the relay by probe, and one that answers does not", async () => {
     await withServer(udp, async (server, relay) => {
-        await new Promise((resolve) => setTimeout(resolve, 500));
+        await until(() => server.count(METHOD.BINDING) >= 4, 60_000);
         assert.equal(relay.closed, false);
-        assert.ok(server.count(METHOD.BINDING) >= 2);
         const told = next(relay, "error");
         server.answer = () => "drop";
         const [error] = await told;
         assert.match(error.message, /no answer from turn:.* to 3 checks in a row/);
     }, { clock: fastClock(50), probe: 5_000 });
+});
+
+test("over TCP a server that is silent ends the relay within a minute without any option, and with probe: 0 nothing is asked", async () => {
+    const clock = fastClock(25);
+    await withServer(tcp, async (server, relay) => {
+        await until(() => server.count(METHOD.BINDING) >= 2, 60_000);
+        assert.equal(relay.closed, false);
+        const told = next(relay, "error"), start = clock.now();
+        server.answer = () => "drop";
+        const [error] = await told, took = clock.now() - start;
+        assert.match(error.message, /no answer from turn:.* to 3 checks in a row/);
+        assert.ok(took < 60_000, `${took} ms`);
+    }, { clock });
+    await withServer(tcp, async (server) => {
+        await pause(clock, 40_000);
+        assert.equal(server.count(METHOD.BINDING), 0);
+    }, { clock, probe: 0 });
+});
+
+test("a server that answers no Binding request is asked otherwise, and the relay goes on", async () => {
+    await withServer(tcp, async (server, relay) => {
+        server.answer = ({ method }) => (method === METHOD.BINDING ? "drop" : undefined);
+        await until(() => relay.closed || server.requests.length >= 8, 60_000);
+        assert.deepEqual([relay.closed, server.count(METHOD.BINDING)], [false, 1]);
+        assert.ok(server.count(METHOD.CREATE_PERMISSION) >= 4);
+    }, { clock: fastClock(50) });
+});
+
+test("what comes between two checks counts: only silence ends the relay", async () => {
+    const clock = fastClock(20);
+    await withServer(tcp, async (server, relay) => {
+        let count = 0;
+        server.answer = () => {
+            count++;
+            pause(clock, 6_000).then(() => server.sendData(PEER, "x")); // the check waits for 3.5 s, and the next one comes after 8.5
+            return "drop";
+        };
+        await until(() => relay.closed || count >= 6, 60_000);
+        assert.equal(relay.closed, false);
+        server.answer = () => undefined;
+    }, { clock, probe: 5_000 });
 });
 
 test("a NAT that has forgotten the client: check says the other address", async () => {
@@ -92,13 +133,13 @@ test("a NAT that has forgotten the client: check says the other address", async 
 test("two hours pass: permissions and channels are refreshed, and a restarted server is told by lost", async () => {
     await withServer(udp, async (server, relay) => {
         await relay.bind(PEER);
-        await until(() => server.count(METHOD.CHANNEL_BIND) >= 5 && server.count(METHOD.REFRESH) >= 3, 15_000);
+        await until(() => server.count(METHOD.CHANNEL_BIND) >= 5 && server.count(METHOD.REFRESH) >= 3, 60_000);
         assert.deepEqual(relay.lost, []);
         const lost = next(relay, "lost");
         server.answer = ({ method }) => (method === METHOD.REFRESH ? undefined : { code: 437, phrase: "Allocation Mismatch" });
         const [first] = await lost;
         assert.ok(first.what === "permission" || first.what === "channel");
-        await until(() => relay.lost.length === 2, 15_000);
+        await until(() => relay.lost.length === 2, 60_000);
         assert.deepEqual(relay.lost.map(({ what }) => what).sort(), ["channel", "permission"]);
     }, { clock: fastClock(1_000) });
 });
@@ -114,23 +155,24 @@ test("a server that no longer knows the relayed address: the reason says so", as
 });
 
 test("what is released ends by itself, and lost does not tell", async () => {
+    const clock = fastClock(1_000);
     await withServer(udp, async (server, relay) => {
         await relay.permit("127.0.0.1");
         relay.release("127.0.0.1");
-        await new Promise((resolve) => setTimeout(resolve, 500)); // over eight minutes
+        await pause(clock, 500_000); // over eight minutes
         assert.deepEqual(relay.lost, []);
         assert.throws(() => relay.sendTo("x", PEER), { reason: "no-permission" });
         assert.equal(server.count(METHOD.CREATE_PERMISSION), 1);
-    }, { clock: fastClock(1_000) });
+    }, { clock });
 });
 
 test("a keepalive is sent where nothing else is", async () => {
+    const clock = fastClock(200);
     await withServer(udp, async (server, relay) => {
-        const before = relay.closed;
-        await new Promise((resolve) => setTimeout(resolve, 300));
-        assert.equal(before, false);
+        await pause(clock, 60_000);
+        assert.equal(relay.closed, false);
         assert.ok(server.indications >= 3, `${server.indications} indications`);
-    }, { clock: fastClock(200), keepalive: 15_000 });
+    }, { clock, keepalive: 15_000 });
 });
 
 test("closing a relay whose server is silent takes two seconds", async () => {

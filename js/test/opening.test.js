@@ -5,7 +5,7 @@ import { AllocationFailed, Relay, WrongCredentials } from "../src/node/index.js"
 import { interleaved } from "../src/node/servers.js";
 import { parseUri } from "../src/node/uri.js";
 import { library } from "./module.js";
-import { openRelay, tcp, udp, until, urlOf, withServer } from "./relays.js";
+import { openRelay, quickest, tcp, udp, until, urlOf, withServer } from "./relays.js";
 import { PASSWORD, RELAYED, Server, USER } from "./server.js";
 import { METHOD } from "./stun.js";
 
@@ -24,12 +24,11 @@ for (const [name, make] of [["UDP", udp], ["TCP", tcp]]) {
         });
     });
 
-    test(`over ${name}: a wrong password is named about a second after the answer`, async () => {
+    test(`over ${name}: a wrong password is named within a second`, async () => {
         await withServer(make, async (server) => {
-            const start = performance.now();
-            await assert.rejects(openRelay(server, { credential: "other" }),
-                (error) => error instanceof WrongCredentials && error.reason === "wrong-credentials" && error.code === 401);
-            assert.ok(performance.now() - start < 5_000);
+            const took = await quickest(() => assert.rejects(openRelay(server, { credential: "other" }),
+                (error) => error instanceof WrongCredentials && error.reason === "wrong-credentials" && error.code === 401));
+            assert.ok(took < 1_000, `${took} ms`);
         }, null);
     });
 }
@@ -144,7 +143,7 @@ test("options that are none are refused before anything is opened", async () => 
     const wrong = [
         { urls: [] }, { urls: "http://example.org" }, { urls: "turn:" }, { urls: "turn:a:0" }, { urls: "turn:a:65536" }, { family: 5 },
         { urls: "turns:a?transport=udp" }, { urls: "turn:a?transport=sctp" }, { urls: "turn:[::g]" }, { urls: `turn:${"a".repeat(64)}` },
-        { urls: "turn:%ff" }, { queue: 0 }, { probe: 0 }, { keepalive: -1 }, { pause: NaN }, { refreshAhead: "5" },
+        { urls: "turn:%ff" }, { queue: 0 }, { probe: -1 }, { keepalive: -1 }, { pause: NaN }, { refreshAhead: "5" },
         { username: "" }, { credential: 5 }, { anonymous: "never" }, { maxStaleNonces: 70_000 }, { times: { count: -1 } },
     ];
     for (const options of wrong) {

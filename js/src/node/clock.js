@@ -44,13 +44,14 @@ export class Alarm {
 }
 
 /**
- * Waits for so many milliseconds of a clock.
+ * Waits until so many milliseconds of a clock have passed.
  * @param {Clock} clock
  * @param {number} milliseconds
- * @returns {Promise<void>}
  */
-export function pause(clock, milliseconds) {
-    return new Promise((resolve) => {
-        setTimeout(() => resolve(), milliseconds / clock.rate).unref();
-    });
+export async function pause(clock, milliseconds) {
+    const due = clock.now() + milliseconds;
+    for (let rest; (rest = due - clock.now()) > 0; ) {
+        const wait = Math.min(Math.ceil(rest / clock.rate), LONGEST);
+        await new Promise((resolve) => setTimeout(resolve, wait).unref());
+    }
 }

@@ -10,7 +10,7 @@ import { parseUri } from "./uri.js";
  * as `ca`; certificates are checked unless they say otherwise. `times` is how long a request waits for its answer. `queue` packets
  * of peers wait to be taken where there is no listener for `message`; a further one is dropped and counted. The path to the server
  * is checked every `probe` milliseconds: three checks in a row without an answer, with nothing from the server in between, end the
- * relay; by default none is made. When nothing was sent for `keepalive` milliseconds, something is, so that a NAT in between keeps
+ * relay; with 0 none is made, as by default over UDP, and 15,000 is the default over TCP and TLS. When nothing was sent for `keepalive` milliseconds, something is, so that a NAT in between keeps
  * its mapping; with 0 never. Between two requests lies a `pause`, and permissions and channels are refreshed `refreshAhead` before
  * they expire, in milliseconds. `anonymous` hides the user name (RFC 8489, section 14.4). `maxStaleNonces` challenges in a row are
  * answered. `signal` gives up the opening. `library` is the module, by default the one that all share.
@@ -55,7 +55,7 @@ export function checkOptions({ urls, family = 4, queue = 1_024, probe, keepalive
     const { username, credential, tls, times, anonymous, signal, library, maxStaleNonces = 256, clock = CLOCK, lookup = lookupAll } = rest;
     return {
         uris: list.map(parseUri), family, queue: numberFrom(queue, "queue", 1),
-        probe: probe === undefined ? undefined : numberFrom(probe, "probe", 1), username, credential, tls, times, anonymous, signal, library,
+        probe: probe === undefined ? undefined : numberFrom(probe, "probe", 0), username, credential, tls, times, anonymous, signal, library,
         keepalive: numberFrom(keepalive, "keepalive", 0), pause: numberFrom(pause, "pause", 0),
         refreshAhead: numberFrom(refreshAhead, "refreshAhead", 0), maxStaleNonces, clock, lookup,
     };

@@ -1,8 +1,8 @@
-// Whether the path to the server still carries: it is asked by Binding requests, and errors of the socket are counted.
+// Whether the path to the server still carries: it is asked by requests that change nothing, and errors of the socket are counted.
 import { randomBytes } from "../random.js";
 import { pause } from "./clock.js";
 import { Deferred } from "./deferred.js";
-import { METHOD, bindingRequest, idText } from "./reasons.js";
+import { METHOD, bareRequest, idText } from "./reasons.js";
 
 /** @typedef {import("../address.js").Address} Address */
 /**
@@ -17,10 +17,17 @@ const WAITS = Object.freeze([500, 1_000, 2_000]), ALL_WAITS = Object.freeze([3_5
 /** So many checks in a row without an answer end the relay, and so many errors in a row, each a second after the last one. */
 const RUN = 3, PAUSE = 1_000;
 
+/**
+ * What a check is known by.
+ * @param {number} method
+ * @param {Uint8Array} id
+ */
+const keyOf = (method, id) => `${method} ${idText(id)}`;
+
 /** The path to the server of a session. */
 export class Path {
     /**
-     * By their transaction IDs.
+     * By their methods and transaction IDs.
      * @type {Map<string, Deferred<Address | undefined>>}
      */
     #checks = new Map();
@@ -37,15 +44,24 @@ export class Path {
      * Asks the server for a sign of life. `Ended` where the client has ended.
      * @returns {Promise<Check>}
      */
-    async check() {
-        const session = this.#session, id = randomBytes(12), key = idText(id);
+    check() {
+        return this.#ask(METHOD.BINDING);
+    }
+
+    /**
+     * Asks by a request of this method, which nobody has signed, and without attributes.
+     * @param {number} method
+     * @returns {Promise<Check>}
+     */
+    async #ask(method) {
+        const session = this.#session, id = randomBytes(12), key = keyOf(method, id);
         /** @type {Deferred<Address | undefined>} */
         const answer = new Deferred();
         this.#checks.set(key, answer);
         try {
             for (const wait of session.link.isStream ? ALL_WAITS : WAITS) {
                 session.usable();
-                session.link.send(bindingRequest(id));
+                session.link.send(bareRequest(method, id));
                 await Promise.race([answer.promise, session.over.promise, pause(session.clock, wait)]);
                 if (answer.isDone) {
                     return { isAnswered: true, mapped: await answer.promise };
@@ -64,22 +80,32 @@ export class Path {
      */
     hears(message) {
         const isResponse = message.class === "success" || message.class === "error";
-        const answer = isResponse && message.method === METHOD.BINDING ? this.#checks.get(idText(message.id)) : undefined;
+        const answer = isResponse ? this.#checks.get(keyOf(message.method, message.id)) : undefined;
         answer?.resolve(message.class === "success" ? message.mapped : undefined);
         return answer !== undefined;
     }
 
     /**
      * Checks the path by itself, every so many milliseconds. The relay ends when three checks in a row have no answer, with nothing
-     * from the server in between.
+     * from the server in between. Where one has none, the next one asks for a permission for nobody: each TURN server refuses that,
+     * also one that answers no Binding request.
      * @param {number} every
      */
     async probe(every) {
         const session = this.#session;
-        for (let unanswered = 0; unanswered < RUN && !session.isOver; ) {
+        let method = METHOD.BINDING;
+        for (let unanswered = 0, seen = session.count; unanswered < RUN && !session.isOver; ) {
             await Promise.race([pause(session.clock, every), session.over.promise]);
-            const seen = session.count, answered = session.isOver || (await this.check().catch(() => ({ isAnswered: true }))).isAnswered;
-            unanswered = answered || session.count !== seen ? 0 : unanswered + 1;
+            unanswered = session.count === seen ? unanswered : 0;
+            seen = session.count;
+            const isAnswered = session.isOver || (await this.#ask(method).catch(() => ({ isAnswered: true }))).isAnswered;
+            if (isAnswered || session.count !== seen) {
+                unanswered = 0;
+            } else {
+                unanswered++;
+                method = method === METHOD.BINDING ? METHOD.CREATE_PERMISSION : METHOD.BINDING;
+            }
+            seen = session.count;
         }
         session.breaks(`no answer from ${session.uri.text} to ${RUN} checks in a row`, undefined);
     }
@@ -101,7 +127,7 @@ export class Path {
         const session = this.#session;
         for (let run = 0; run < RUN && !session.isOver; run++) {
             const seen = session.count, errors = this.#errors;
-            session.link.send(bindingRequest(randomBytes(12)));
+            session.link.send(bareRequest(METHOD.BINDING, randomBytes(12)));
             await Promise.race([pause(session.clock, PAUSE), session.over.promise]);
             if (session.count !== seen || this.#errors === errors) {
                 return;

@@ -82,11 +82,13 @@ export function lifetimeOf(library, packet) {
 }
 
 /**
- * A Binding request without attributes (RFC 8489, section 3): a server answers it with this client's address.
+ * A request without attributes, which nobody has signed. A server answers a Binding request (RFC 8489, section 3) with this client's
+ * address, and one for a permission with an error (RFC 8489, section 9.2.4; RFC 8656, section 9.2).
+ * @param {number} method of METHOD
  * @param {Uint8Array} id
  */
-export function bindingRequest(id) {
-    return Uint8Array.of(0, METHOD.BINDING, 0, 0, ...COOKIE, ...id);
+export function bareRequest(method, id) {
+    return Uint8Array.of(0, method, 0, 0, ...COOKIE, ...id);
 }
 
 /**

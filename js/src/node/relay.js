@@ -12,6 +12,8 @@ import { checkOptions, dataOf, peerOf } from "./options.js";
 
 /** A datagram carries so many bytes, and coturn reads no longer message of a stream. */
 const MAX_MESSAGE = 65_507;
+/** How often the path is checked over TCP and TLS, in milliseconds: what is dropped there in silence, the system tells too late. */
+const STREAM_PROBE = 15_000;
 /** So many losses are kept. */
 const MOST_LOST = 1_024;
 const ASYNC_DISPOSE = /** @type {{ asyncDispose?: symbol }} */ (Symbol).asyncDispose ?? Symbol.for("Symbol.asyncDispose");
@@ -59,8 +61,9 @@ export class Relay extends Messages {
         const checked = checkOptions(options), relay = new Relay(checked);
         const session = await openSession(checked, relay.#user());
         relay.#session = session;
-        if (checked.probe !== undefined) {
-            void session.path.probe(checked.probe);
+        const every = checked.probe ?? (session.link.isStream ? STREAM_PROBE : 0);
+        if (every > 0) {
+            void session.path.probe(every);
         }
         if (session.isOver) {
             throw session.ending();

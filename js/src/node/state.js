@@ -17,7 +17,7 @@ import { Deferred } from "./deferred.js";
  */
 
 /** How long a signed answer may still come after one that said, unsigned, why it fails, in milliseconds. */
-const GRACE = 1_000;
+const GRACE = 750;
 
 /** Who waits: whether the server answers at all, and whether it grants a relayed address. What is settled stays so. */
 export class Waiting {

@@ -1,8 +1,7 @@
 /**
- * Waits for so many milliseconds of a clock.
+ * Waits until so many milliseconds of a clock have passed.
  * @param {Clock} clock
  * @param {number} milliseconds
- * @returns {Promise<void>}
  */
 export function pause(clock: Clock, milliseconds: number): Promise<void>;
 /**

@@ -39,7 +39,7 @@ export function dataOf(data: unknown): Uint8Array;
  * as `ca`; certificates are checked unless they say otherwise. `times` is how long a request waits for its answer. `queue` packets
  * of peers wait to be taken where there is no listener for `message`; a further one is dropped and counted. The path to the server
  * is checked every `probe` milliseconds: three checks in a row without an answer, with nothing from the server in between, end the
- * relay; by default none is made. When nothing was sent for `keepalive` milliseconds, something is, so that a NAT in between keeps
+ * relay; with 0 none is made, as by default over UDP, and 15,000 is the default over TCP and TLS. When nothing was sent for `keepalive` milliseconds, something is, so that a NAT in between keeps
  * its mapping; with 0 never. Between two requests lies a `pause`, and permissions and channels are refreshed `refreshAhead` before
  * they expire, in milliseconds. `anonymous` hides the user name (RFC 8489, section 14.4). `maxStaleNonces` challenges in a row are
  * answered. `signal` gives up the opening. `library` is the module, by default the one that all share.

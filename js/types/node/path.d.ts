@@ -14,7 +14,8 @@ export class Path {
     hears(message: import("../message.js").Message): boolean;
     /**
      * Checks the path by itself, every so many milliseconds. The relay ends when three checks in a row have no answer, with nothing
-     * from the server in between.
+     * from the server in between. Where one has none, the next one asks for a permission for nobody: each TURN server refuses that,
+     * also one that answers no Binding request.
      * @param {number} every
      */
     probe(every: number): Promise<void>;

@@ -12,10 +12,12 @@ export function keyOf(library: Library, message: Message, packet: Uint8Array): K
  */
 export function lifetimeOf(library: Library, packet: Uint8Array): number | undefined;
 /**
- * A Binding request without attributes (RFC 8489, section 3): a server answers it with this client's address.
+ * A request without attributes, which nobody has signed. A server answers a Binding request (RFC 8489, section 3) with this client's
+ * address, and one for a permission with an error (RFC 8489, section 9.2.4; RFC 8656, section 9.2).
+ * @param {number} method of METHOD
  * @param {Uint8Array} id
  */
-export function bindingRequest(id: Uint8Array): Uint8Array;
+export function bareRequest(method: number, id: Uint8Array): Uint8Array;
 /** Methods (RFC 8489, section 18.2; RFC 8656, section 17). */
 export const METHOD: Readonly<{
     BINDING: 1;
