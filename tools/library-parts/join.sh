@@ -2,8 +2,8 @@
 # Part of tools/library: joins $room/proved.a, the functions in C and the heap to one object, $room/yarrowdoor.o, in which only the
 # exports can be seen, so that no other name clashes with one of the program.
 
-# The functions of the header as symbols, and the heap where the kit has none for the target. Nothing that the compiler adds may
-# need more than the C library's memory.
+# The functions of the header as symbols, memory that is overwritten before it is given back, and the heap where the kit has
+# none for the target. Nothing that the compiler adds may need more than the C library's memory.
 compile_c() {
     local words=(-std=c99 -O2 -fno-stack-protector -U_FORTIFY_SOURCE -Wall -Wextra -Wpedantic -Wconversion -Werror)
     heap=$room/heap.o
@@ -13,11 +13,14 @@ compile_c() {
         x86_64-windows) "$cc" -c "$parts/heap-windows.s" -o "$heap" ;;
     esac
     "$cc" "${words[@]}" -I "$top/include" -c "$top/include/yarrowdoor.c" -o "$room/header.o"
+    "$cc" "${words[@]}" -c "$top/include/erase.c" -o "$room/erase.o"
 }
 
 join() {
     compile_c
-    "$cc" -r -nostdlib -o "$room/all.o" -Wl,--whole-archive "$room/proved.a" "$heap" "$room/header.o"
+    "${tools}objcopy" --redefine-sym malloc=erasing_malloc --redefine-sym realloc=erasing_realloc \
+        --redefine-sym free=erasing_free "$heap" "$room/heap-erased"
+    "$cc" -r -nostdlib -o "$room/all.o" -Wl,--whole-archive "$room/proved.a" "$room/heap-erased" "$room/header.o" "$room/erase.o"
     "${tools}objcopy" --wildcard --keep-global-symbol 'yarrowdoor_*' "$room/all.o" "$room/yarrowdoor.o"
     check_needs
     check_variables
