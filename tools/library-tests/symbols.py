@@ -5,11 +5,11 @@ time: the structs are made from JSON, which is made from the header. The exchang
 of the file NAMES but yarrowdoor_call and yarrowdoor_look has to be called.
 """
 import ctypes
-import json
 import pathlib
 import sys
 
-INTS = {1: ctypes.c_uint8, 2: ctypes.c_uint16, 4: ctypes.c_uint32, 8: ctypes.c_uint64}
+from loaded import load
+
 RECEIVED = [bytes.fromhex(it) for it in (
     "011300202112a44276b8e0ada0f13d90405d6ae50009000400000401001400057265616c6d000000001500056e6f6e6365000000",
     "0103002c2112a4425386bd28bdd219b8a08ded1a001600080001bd522b12a446000d0004000003e80008001473ab3a7f1f80782b83e3ea333b6d47"
@@ -19,44 +19,8 @@ RECEIVED = [bytes.fromhex(it) for it in (
 )]
 CALLED = set()
 
-
-class Numbers(dict):
-    """The numbers by their names without YARROWDOOR_."""
-
-    def __init__(self, said):
-        super().__init__({name.removeprefix("YARROWDOOR_"): value for numbers in said["enums"].values() for name, value in numbers.items()})
-
-    __getattr__ = dict.__getitem__
-
-
-def struct(said, name, made):
-    """A struct of C: its fields are numbers, bytes, numbers side by side, or addresses, by what their names and sizes say."""
-    fields = []
-    for field, at in said["structs"][name]["fields"].items():
-        if at["size"] == 28:
-            kind = made["yarrowdoor_address"]
-        elif field == "reserved_places":
-            kind = ctypes.c_uint64 * 2
-        else:
-            kind = INTS.get(at["size"]) if field not in ("ip", "id") or at["size"] == 4 else ctypes.c_uint8 * at["size"]
-            kind = kind if (field, at["size"]) != ("reserved", 8) else ctypes.c_uint8 * 8
-        fields.append((field, kind))
-    made[name] = type(name, (ctypes.Structure,), {"_fields_": fields})
-    assert ctypes.sizeof(made[name]) == said["structs"][name]["size"], name
-    for field, at in said["structs"][name]["fields"].items():
-        assert getattr(made[name], field).offset == at["offset"], (name, field)
-
-
-said = json.loads(pathlib.Path(sys.argv[2]).read_text(encoding="utf-8"))
-library = ctypes.CDLL(sys.argv[1])
-N = Numbers(said)
-made = {}
-for each in ("yarrowdoor_address", "yarrowdoor_settings", "yarrowdoor_request", "yarrowdoor_answer", "yarrowdoor_message"):
-    struct(said, each, made)
+library, said, N, made = load(sys.argv[1], sys.argv[2])
 Address, Settings, Answer, Message = (made[f"yarrowdoor_{it}"] for it in ("address", "settings", "answer", "message"))
-library.yarrowdoor_settings_of.restype = Settings
-library.yarrowdoor_ipv4.restype = Address
-library.yarrowdoor_kind_name.restype = library.yarrowdoor_error_name.restype = ctypes.c_char_p
 
 
 def call(name, *args):
