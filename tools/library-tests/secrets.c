@@ -1,12 +1,16 @@
 /* usage: secrets
 
    Makes a client, lets it have a key, and frees it. What the library gives back to the C library is looked at before: no
-   block has the password, the key or the seed, though each stood in one. Linked with --wrap of malloc, realloc and free. */
+   block has the password, the key or the seed, though each stood in one, nor any byte but its count that is not 0. Linked
+   with --wrap of malloc, realloc and free. */
 #include "yarrowdoor.h"
 #include <stdio.h>
 #include <stdlib.h>
 
 enum { BLOCKS = 4096, SECRETS = 3 };
+
+/* Where a block begins include/erase.c keeps the count of its bytes. */
+enum { FRONT = 16 };
 
 void *__real_malloc(size_t size);
 void __real_free(void *block);
@@ -31,7 +35,7 @@ static struct block {
     size_t size;
 } blocks[BLOCKS];
 
-static unsigned long freed, given_back[SECRETS];
+static unsigned long freed, unerased, given_back[SECRETS];
 
 static void fail(const char *what, const char *which)
 {
@@ -47,6 +51,16 @@ static int has(const struct block *block, const struct secret *secret)
         }
     }
     return 0;
+}
+
+static int is_erased(const struct block *block)
+{
+    for (size_t place = FRONT; place < block->size; place++) {
+        if (block->at[place] != 0) {
+            return 0;
+        }
+    }
+    return 1;
 }
 
 static struct block *block_at(const void *at)
@@ -73,6 +87,7 @@ void __wrap_free(void *at)
     if (at) {
         struct block *block = block_at(at);
         freed++;
+        unerased += !is_erased(block);
         for (int i = 0; i < SECRETS; i++) {
             given_back[i] += (unsigned long)has(block, &secrets[i]);
         }
@@ -91,6 +106,15 @@ void *__wrap_realloc(void *at, size_t size)
         __wrap_free(at);
     }
     return moved;
+}
+
+static yarrowdoor *new_client(const yarrowdoor_settings *settings)
+{
+    yarrowdoor *client;
+    if (yarrowdoor_new(settings, (const uint8_t *)"user", 4, (const uint8_t *)PASSWORD, sizeof PASSWORD - 1, SEED, 32, &client)) {
+        fail("no client", "");
+    }
+    return client;
 }
 
 /* The packet that is due, as long as it is. */
@@ -136,24 +160,46 @@ static void expect_live(void)
     }
 }
 
-int main(void)
+/* A client with a key, which has been challenged. */
+static void let_have_key(const yarrowdoor_address *local, const yarrowdoor_address *remote)
 {
-    yarrowdoor_address local = yarrowdoor_ipv4(192, 168, 0, 1, 1000), remote = yarrowdoor_ipv4(10, 0, 0, 2, 2000);
-    yarrowdoor_settings settings = yarrowdoor_settings_of(YARROWDOOR_UDP, &local, &remote);
-    yarrowdoor *client;
+    yarrowdoor_settings settings = yarrowdoor_settings_of(YARROWDOOR_UDP, local, remote);
+    yarrowdoor *client = new_client(&settings);
     uint8_t packet[1500];
-    if (yarrowdoor_new(&settings, (const uint8_t *)"user", 4, (const uint8_t *)PASSWORD, sizeof PASSWORD - 1, SEED, 32, &client)) {
-        fail("no client", "");
-    }
     transmit(client, 0, packet, sizeof packet);
     challenge(client, &settings, packet);
     transmit(client, 50000000, packet, sizeof packet); /* signed */
     expect_live();
     yarrowdoor_free(client);
+}
+
+/* A client over TCP keeps what has come of a message, in a block that grows with each piece. */
+static void let_grow(const yarrowdoor_address *local, const yarrowdoor_address *remote)
+{
+    enum { PIECE = 400, PIECES = 20 };
+    yarrowdoor_settings settings = yarrowdoor_settings_of(YARROWDOOR_TCP, local, remote);
+    yarrowdoor *client = new_client(&settings);
+    uint8_t piece[PIECE] = {0x40, 0x00, 0x7f, 0xf0}; /* ChannelData of more bytes than come */
+    memset(piece + 4, 0x55, sizeof piece - 4);
+    for (int i = 0; i < PIECES; i++) {
+        yarrowdoor_answer answer;
+        yarrowdoor_recv(client, YARROWDOOR_TCP, remote, local, piece, sizeof piece, 0, NULL, 0, &answer);
+    }
+    yarrowdoor_free(client);
+}
+
+int main(void)
+{
+    yarrowdoor_address local = yarrowdoor_ipv4(192, 168, 0, 1, 1000), remote = yarrowdoor_ipv4(10, 0, 0, 2, 2000);
+    let_have_key(&local, &remote);
+    let_grow(&local, &remote);
     for (int i = 0; i < SECRETS; i++) {
         if (given_back[i]) {
             fail("a block that is given back has ", secrets[i].name);
         }
+    }
+    if (unerased) {
+        fail("a block that is given back is not erased", "");
     }
     printf("secrets: %lu blocks looked at\n", freed);
     return 0;
