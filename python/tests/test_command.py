@@ -257,13 +257,15 @@ class Names(unittest.TestCase):
             ended.wait(20)
             raise socket.gaierror(socket.EAI_AGAIN, "too late")
 
-        for effect in (socket.gaierror(socket.EAI_AGAIN, "try again"), wait):
+        for effect, said in ((socket.gaierror(socket.EAI_AGAIN, "try again"), "No name server answers here"),
+                             (wait, "The system does not answer for this name")):
             with mock.patch("socket.getaddrinfo", side_effect=effect):
                 begun = time.monotonic()
                 status, out, _ = command("check", "turn:silent.example", "--timeout", "0.5", env={})
             self.assertEqual(status, 2)
             self.assertLess(time.monotonic() - begun, limit(3))
             self.assertIn("cannot be tried from here", out)
+            self.assertIn(said, " ".join(out.split()))
 
     def test_of_two_addresses_one_may_be_dead(self) -> None:
         real = socket.getaddrinfo
