@@ -92,8 +92,9 @@ RUNS: Dict[str, Run] = {
 CERTIFIED = ("a certificate for another name", "a certificate out of date")
 
 
-def make(name: str) -> Tuple[int, str, float]:
-    """Makes a run: its status, what it printed with the usual ports in place of the drawn ones, and how many seconds it took."""
+def make(name: str, patience: float = 1.0) -> Tuple[int, str, float]:
+    """Makes a run: its status, what it printed with the usual ports in place of the drawn ones, and how many seconds it took. It
+    waits `patience` times as long for an answer as a user does."""
     run, port = RUNS[name], free_port()
     tls = free_port() if "{tls}" in run.words else 0
     with tempfile.TemporaryDirectory() as room, run.start(room, port, tls):
@@ -102,7 +103,7 @@ def make(name: str) -> Tuple[int, str, float]:
         printed = io.StringIO()
         with mock.patch.dict(os.environ, {**env, **run.env}, clear=True), contextlib.redirect_stdout(printed):
             begun = time.monotonic()
-            status = main(words)
+            status = main([*words, "--timeout", str(1.5 * patience)])
         spent = time.monotonic() - begun
         shown = run.words.format(port=3478, tls=5349, room=".")
     said = re.sub(rf"\b{port}\b", "3478", printed.getvalue())

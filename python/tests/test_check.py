@@ -20,7 +20,8 @@ def run(*words: str, password: str = "pass") -> Tuple[int, Dict[str, Any]]:
     """The status of a check, and its steps by name."""
     printed = io.StringIO()
     with mock.patch.dict(os.environ, {"YARROWDOOR_PASSWORD": password}), contextlib.redirect_stdout(printed):
-        status = main(["check", *words, "--user", "user", "--json"])
+        # A server that shares its processor with many programs may need longer than a user waits.
+        status = main(["check", *words, "--user", "user", "--json", "--timeout", str(turn_servers.limit(1.5))])
     return status, {it["name"]: it for it in json.loads(printed.getvalue())["steps"]}
 
 
@@ -34,11 +35,13 @@ class Page(unittest.TestCase):
         told = dict(check_page.blocks())
         for name in names:
             with self.subTest(name):
-                status, printed, spent = check_page.make(name)
+                # A server that shares its processor with many programs may need longer than a user waits.
+                patience = turn_servers.limit(1.0)
+                status, printed, spent = check_page.make(name, patience)
                 self.assertEqual(check_page.plain(printed), check_page.plain(told[name]))
                 self.assertEqual(status, check_page.RUNS[name].status)
                 if status:
-                    self.assertLess(spent, turn_servers.limit(3.0))
+                    self.assertLess(spent, 3.0 * max(patience, turn_servers.limit(1.0)))
 
     def test_a_run_of_each_is_on_the_page(self) -> None:
         self.assertEqual([it for it, _ in check_page.blocks()], [*check_page.RUNS])
