@@ -5,7 +5,7 @@ import { AllocationFailed, Relay, WrongCredentials } from "../src/node/index.js"
 import { interleaved } from "../src/node/servers.js";
 import { parseUri } from "../src/node/uri.js";
 import { library } from "./module.js";
-import { openRelay, quickest, tcp, udp, until, urlOf, withServer } from "./relays.js";
+import { endsWithin, openRelay, tcp, udp, until, urlOf, withServer } from "./relays.js";
 import { PASSWORD, RELAYED, Server, USER } from "./server.js";
 import { METHOD } from "./stun.js";
 
@@ -26,9 +26,8 @@ for (const [name, make] of [["UDP", udp], ["TCP", tcp]]) {
 
     test(`over ${name}: a wrong password is named within a second`, async () => {
         await withServer(make, async (server) => {
-            const took = await quickest(() => assert.rejects(openRelay(server, { credential: "other" }),
-                (error) => error instanceof WrongCredentials && error.reason === "wrong-credentials" && error.code === 401));
-            assert.ok(took < 1_000, `${took} ms`);
+            assert.ok(await endsWithin(1_000, () => assert.rejects(openRelay(server, { credential: "other" }),
+                (error) => error instanceof WrongCredentials && error.reason === "wrong-credentials" && error.code === 401)));
         }, null);
     });
 }
