@@ -27,7 +27,7 @@ build_tokio() {
         --config "source.debian.directory=\"$crates\""
 }
 
-# A wrong password is named within two seconds, by a program that takes HOST:PORT.
+# A wrong password is named within a second, by a program that takes HOST:PORT.
 names_password() {
     local program=$1 server found started
     server=$(free_port)
@@ -35,7 +35,7 @@ names_password() {
         --log-file "$room/turnserver.log" --pidfile "$room/turnserver.pid" &
     started=$!
     sleep 1
-    found=$(timeout 2 "$program" "127.0.0.1:$server" user other 127.0.0.1:9 "hello" 2>&1) || true
+    found=$(timeout 1 "$program" "127.0.0.1:$server" user other 127.0.0.1:9 "hello" 2>&1) || true
     kill "$started"
     wait "$started" || true
     echo "$found"
@@ -66,6 +66,7 @@ test_rust() {
     step "cargo build: examples/rust" cargo build --offline --manifest-path examples/rust/Cargo.toml
     if has turnserver "the echo in Rust" && has turnutils_peer "the echo in Rust"; then
         step "a relayed echo in Rust, through coturn" echo_by HOST:PORT "$room/target/debug/echo"
+        step "a wrong password is named in Rust, through coturn" names_password "$room/target/debug/echo"
         test_tokio
     fi
     choose_all

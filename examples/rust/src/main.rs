@@ -10,6 +10,7 @@ use std::io::ErrorKind;
 use std::net::{Ipv4Addr, Ipv6Addr, SocketAddr, ToSocketAddrs, UdpSocket};
 use std::time::Duration;
 use yarrowdoor::api::{Transmit, TurnConfig, TurnEvent, TurnPollRet, TurnRecvRet};
+use yarrowdoor::hints::{self, Frame};
 use yarrowdoor::prelude::*;
 use yarrowdoor::stun::Instant;
 use yarrowdoor::types::{AddressFamily, TransportType, TurnCredentials};
@@ -23,6 +24,8 @@ struct Caller {
     start: std::time::Instant,
     peer: SocketAddr,
     text: String,
+    /// The request that the server challenged first.
+    challenged: Option<[u8; 12]>,
     /// When what is awaited is given up, and why: the echo ten seconds after the text was sent, and then the client's end.
     give_up: Option<(Instant, &'static str)>,
 }
@@ -55,6 +58,7 @@ impl Caller {
             start: std::time::Instant::now(),
             peer,
             text: text.into(),
+            challenged: None,
             give_up: None,
         })
     }
@@ -115,6 +119,28 @@ impl Caller {
         }
     }
 
+    /// Names what the client passes over or tells without a reason: that a signed request was not authenticated, and the code
+    /// of an error. Nobody has verified it: a caller with more at stake than this one waits for the client.
+    fn name_error(&mut self, packet: &[u8]) -> Result<()> {
+        let Ok(Some(Frame::Message(said))) = hints::read(TransportType::Udp, packet) else {
+            return Ok(());
+        };
+        match said.error {
+            // the 401 is to another request than the first
+            Some(error) if error.code == 401 => {
+                if *self.challenged.get_or_insert(said.id) != said.id {
+                    Err("the user name or the password is wrong")?;
+                }
+            }
+            Some(error) => {
+                let reason = String::from_utf8_lossy(error.reason);
+                eprintln!("echo: the server answers {} {reason}", error.code);
+            }
+            None => {}
+        }
+        Ok(())
+    }
+
     /// Waits for a packet of the server, up to a time.
     fn receive(&mut self, until: Instant) -> Result<()> {
         let mut bytes = vec![0; 65_536];
@@ -130,6 +156,7 @@ impl Caller {
                 return Ok(());
             }
         };
+        self.name_error(&bytes[..len])?;
         let (from, to, now) = (
             self.client.remote_addr(),
             self.client.local_addr(),
