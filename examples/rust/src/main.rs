@@ -125,18 +125,15 @@ impl Caller {
         let Ok(Some(Frame::Message(said))) = hints::read(TransportType::Udp, packet) else {
             return Ok(());
         };
-        match said.error {
+        let Some(error) = said.error else {
+            return Ok(());
+        };
+        if error.code != 401 {
+            let reason = String::from_utf8_lossy(error.reason);
+            eprintln!("echo: the server answers {} {reason}", error.code);
+        } else if *self.challenged.get_or_insert(said.id) != said.id {
             // the 401 is to another request than the first
-            Some(error) if error.code == 401 => {
-                if *self.challenged.get_or_insert(said.id) != said.id {
-                    Err("the user name or the password is wrong")?;
-                }
-            }
-            Some(error) => {
-                let reason = String::from_utf8_lossy(error.reason);
-                eprintln!("echo: the server answers {} {reason}", error.code);
-            }
-            None => {}
+            Err("the user name or the password is wrong")?;
         }
         Ok(())
     }
