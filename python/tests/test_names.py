@@ -5,7 +5,7 @@ import socket
 import time
 import unittest
 import unittest.mock
-from typing import Any, Iterator, List, Tuple
+from typing import Any, Iterator, List, Optional, Tuple
 
 from yarrowdoor import AllocationFailed, Times, TurnClient
 from yarrowdoor.servers import connected
@@ -117,8 +117,8 @@ class Names(unittest.IsolatedAsyncioTestCase):
         endpoint.datagram_received = lambda *it: late.append(it)
         opened: List[socket.socket] = []
 
-        def count(host: str, port: int) -> socket.socket:
-            opened.append(connected(host, port))
+        def count(host: str, port: int, own: Optional[Tuple[str, int]]) -> socket.socket:
+            opened.append(connected(host, port, own))
             return opened[-1]
 
         with resolving("127.0.0.1"), unittest.mock.patch("yarrowdoor.servers.connected", count):
