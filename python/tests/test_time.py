@@ -131,10 +131,13 @@ class Arguments(unittest.TestCase):
             TurnClient(TurnUri("turn.example.org", 5349, "udp", secure=True), "user", "pass")
 
     def test_credentials(self) -> None:
-        wrong: List[Any] = [(None, "pass", "user"), ("user", None, "password"), (5, "pass", "user")]
+        wrong: List[Any] = [(5, "pass", "user"), ("user", 5, "password")]
         for user, password, name in wrong:
             with self.assertRaisesRegex(TypeError, f"^{name} is str or bytes, and not "):
                 TurnClient("turn:127.0.0.1", user, password)
+        for missing in ((None, "pass"), ("user", None)):
+            with self.assertRaisesRegex(TypeError, "^user and password are missing, or credentials="):
+                TurnClient("turn:127.0.0.1", *missing)
 
     def test_times(self) -> None:
         wrong: List[Any] = [3, 0.5, (1, 2, 3, 4)]
