@@ -75,11 +75,12 @@ class Log(Case):
     async def test_refreshes_and_the_end(self) -> None:
         endpoint = await self.serve(Server())
         with self.assertLogs("yarrowdoor", "DEBUG") as logs:
-            async with TurnClient(endpoint.uri, "user", "pass", clock=Clock(rate=200), probe=15) as relay:
+            # (a faster clock takes a pause of a busy machine for a minute without answers)
+            async with TurnClient(endpoint.uri, "user", "pass", clock=Clock(rate=40), probe=15) as relay:
                 await relay.bind(PEER)
                 await relay.permit(OTHER[0])
                 relay.release(OTHER[0])
-                while not any("refreshed: channel" in it for it in logs.output):
+                while not relay.closed and not any("refreshed: channel" in it for it in logs.output):
                     await asyncio.sleep(0.01)
                 endpoint.server.is_dead = True
                 with self.assertRaises(Ended):
