@@ -243,11 +243,12 @@ class Coturn(unittest.IsolatedAsyncioTestCase):
         peers = await asyncio.start_server(echo_stream, "127.0.0.1", 0)
         self.addCleanup(peers.close)
         peer = peers.sockets[0].getsockname()
-        async with TurnClient(self.server.uri("turn:127.0.0.1:{port}?transport=tcp"), "user", "pass", relay="tcp") as relay:
+        uri = self.server.uri("turn:127.0.0.1:{port}?transport=tcp")
+        async with TurnClient(uri, "user", "pass", relay="tcp", pause=0.5) as relay:
             await relay.permit(peer[0])
             with self.assertRaises(asyncio.TimeoutError):
-                await asyncio.wait_for(relay.connect(peer), 0.02)  # the CONNECT leaves 50 ms after the last request
-            await asyncio.sleep(0.5)
+                await asyncio.wait_for(relay.connect(peer), 0.02)  # the CONNECT leaves half a second after the last request
+            await asyncio.sleep(1)
             connected = relay._session().streams.connected
 
             def cancel(bound: Address) -> None:
