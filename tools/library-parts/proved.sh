@@ -32,11 +32,19 @@ prove() {
     if [ "$target" = x86_64-windows ]; then
         is_left || shown rt lib --cpu "$cpu"
         prove_for_windows
-    elif ! is_left || ! over_gate "$triple" "$kit/toolchain" "$room/proved.a" > "$room/rt.log" 2>&1; then
-        shown rt lib --target "$triple" --cpu "$cpu"
-        mv out/libturn_c.a "$room/proved.a"
+    elif ! is_left; then
+        prove_anew
+    elif ! over_gate "$triple" "$kit/toolchain" "$room/proved.a" > "$room/rt.log" 2>&1; then
+        echo "tools/library: it could not be built over what the gate left, and is proved anew, which takes minutes:" >&2
+        tail -n 5 "$room/rt.log" >&2
+        prove_anew
     fi
     cd "$top"
+}
+
+prove_anew() {
+    shown rt lib --target "$triple" --cpu "$cpu"
+    mv out/libturn_c.a "$room/proved.a"
 }
 
 # A copy of the kit's toolchain, links followed, so that nothing is written into the kit, with a script in place of its clang,
