@@ -1,11 +1,12 @@
-/* usage: peers keep COUNT CADENCE SECONDS
+/* usage: peers keep COUNT CADENCE BURST SECONDS
           peers churn COUNT SECONDS
 
    Runs a client of the library over UDP, with a clock of its own, against the server of tools/benches/shared, which answers
    each request after 50 ms.
 
-   keep: binds COUNT channels to as many IP addresses at a cadence of so many milliseconds (0: that of the settings), and
-   prints how many permissions and channels failed in so many seconds.
+   keep: binds COUNT channels to as many IP addresses, BURST of them in each half second, at a cadence of so many milliseconds
+   (0: that of the settings). It prints how many permissions and channels failed in so many seconds, how many channels are open
+   in the end, and how many requests were sent.
 
    churn: COUNT peers come and go in so many seconds, ten at a time. Each is bound, sent to and heard, and let go. It ends with
    1 where a call is refused, where more numbers or permissions are used than ten peers at a time need, where the client holds
@@ -213,15 +214,14 @@ static void hear(struct run *run, uint16_t channel, uint32_t number)
     }
 }
 
-static void keep(uint32_t count, uint64_t cadence, uint64_t seconds)
+/* The times of a request run from the call that makes it: so a burst is to be no more than is sent in half a second. */
+static void keep(uint32_t count, uint64_t cadence, uint32_t burst, uint64_t seconds)
 {
     struct run *run = &runs[0];
-    uint64_t pause = cadence ? cadence : 50;
     start(run, cadence * MILLISECOND);
-    /* The times of a request run from the call that makes it: so no more are made than are sent in the next half second. */
     for (uint32_t made = 0; made < count; made++) {
         bind_peer(run, made);
-        if ((made + 1) % (500 / pause) == 0) {
+        if ((made + 1) % burst == 0) {
             run_until(run, run->now + 500 * MILLISECOND);
         }
     }
@@ -335,12 +335,12 @@ static uint32_t number_in(const char *text)
 
 int main(int argc, char **argv)
 {
-    if (argc == 5 && strcmp(argv[1], "keep") == 0) {
-        keep(number_in(argv[2]), number_in(argv[3]), number_in(argv[4]));
+    if (argc == 6 && strcmp(argv[1], "keep") == 0 && number_in(argv[4])) {
+        keep(number_in(argv[2]), number_in(argv[3]), number_in(argv[4]), number_in(argv[5]));
     } else if (argc == 4 && strcmp(argv[1], "churn") == 0) {
         churn(number_in(argv[2]), number_in(argv[3]));
     } else {
-        fputs("usage: peers keep COUNT CADENCE SECONDS | peers churn COUNT SECONDS\n", stderr);
+        fputs("usage: peers keep COUNT CADENCE BURST SECONDS | peers churn COUNT SECONDS\n", stderr);
         return 2;
     }
     return 0;

@@ -142,7 +142,7 @@ index-taken id peer rows find is k = found-taken k id peer rows ∙ is k
 
 -- ---- grants are changed and removed
 
-found-changed : (change : Change) (k : Key) (g : Grant) → is_found_by k (changed change g) ≡ is_found_by k g
+pub found-changed : (change : Change) (k : Key) (g : Grant) → is_found_by k (changed change g) ≡ is_found_by k g
 found-changed change (By.Number n) g = changed-same (is_channel_of n) (λ a e x. refl) (λ ip e u. refl) (λ n p e u. refl) (λ ip e u. refl) (λ n p e u. refl) (λ c d. refl) change g
 found-changed change (By.Peer p) g = changed-same (is_open_to p) (λ a e x. refl) (λ ip e u. refl) (λ n p e u. refl) (λ ip e u. refl) (λ n p e u. refl) (λ c d. refl) change g
 found-changed change (By.Ip ip) g = changed-same (is_permission_of ip) (λ a e x. refl) (λ ip e u. refl) (λ n p e u. refl) (λ ip e u. refl) (λ n p e u. refl) (λ c d. refl) change g

@@ -11,6 +11,7 @@ ghost use Rattle.turn_client_api.specs.Connections.{deadline_set};
 ghost use Rattle.turn_client_api.specs.Effect.{lasting, new_allocation};
 ghost use Rattle.turn_client_api.specs.Grants.{changed_allocation, is_for, is_for_allocation, is_of_family};
 ghost use Rattle.turn_client_api.specs.Requests.{listings};
+ghost use Rattle.turn_client_grants.specs.Found.{LeavesOthers};
 ghost use Rattle.turn_client_grants.specs.Keys.{is_found_by};
 ghost use Rattle.turn_client_grants.specs.Table.{changed, unlisted_in};
 ghost use Rattle.turn_client_grants.specs.GrantFilter.{holds, purposes_in};
@@ -183,6 +184,28 @@ fn apply_all(grants: &mut [Grant], change: &Change)
 {
     for grant in grants.iter_mut() {
         *grant = change.applied(grant);
+    }
+}
+
+/// Applies the change to the grant that the key finds: it leaves all others. All keep their places.
+pub(crate) fn apply_to(grants: &mut Vec<Grant>, key: &Key, change: &Change)
+    requires { LeavesOthers key.now change.now }
+    ensures items { grants.new.items ≡ map (changed change.now) grants.old.items }
+    ensures capacity { vec_capacity grants.new ≡ vec_capacity grants.old }
+    ensures len { vec_len grants.new ≡ vec_len grants.old }
+{
+    apply_to_found(grants.as_mut_slice(), key, change);
+}
+
+/// Applies the change to the grant of the slice that the key finds: it leaves all others.
+fn apply_to_found(grants: &mut [Grant], key: &Key, change: &Change)
+    requires { LeavesOthers key.now change.now }
+    ensures { grants.new ≡ map (changed change.now) grants.old }
+{
+    for grant in grants.iter_mut() {
+        if key.finds(grant) {
+            *grant = change.applied(grant);
+        }
     }
 }
 

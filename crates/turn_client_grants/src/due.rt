@@ -3,8 +3,9 @@
 ghost use Rattle.std.specs.Duration.{as_nanos};
 ghost use Rattle.std.specs.Option.{option_map_or};
 ghost use Rattle.std.specs.Prelude.{◌≡◌, ◌-◌, false, fold, map, max, min, not, option_to_list};
-ghost use Rattle.turn_client_api.specs.Due.{is_refreshable, refresh_time, refresh_time_by_kind, refresh_time_of, time_ahead, keeps};
+ghost use Rattle.turn_client_api.specs.Due.{is_refreshable, refresh_time_by_kind, refresh_time_of, time_ahead, keeps};
 ghost use Rattle.turn_client_api.specs.State.{State};
+ghost use Rattle.turn_client_api.specs.Transmit.{is_refresh_due};
 ghost use Rattle.turn_client_grants.specs.Lists.{find_allocation_in, with_ahead, with_lists};
 ghost use Rattle.turn_client_grants.specs.Pending.{is_active, is_refreshed};
 
@@ -133,24 +134,25 @@ fn is_active(progress: &Progress) -> bool
     matches!(progress, Progress::Active(_))
 }
 
-/// When the grant is to be refreshed, or `None` if a request for that is pending.
-#[tactic(auto, unfolding(turn_client_api::specs::Due::refresh_time))]
-pub(crate) fn refresh_time(
+/// Whether the time to refresh the grant has come, and no request for that is pending. The allocations and the requests are looked
+/// through only for a grant that falls due.
+#[tactic(auto, unfolding(turn_client_api::specs::Transmit::is_refresh_due))]
+pub(crate) fn is_refresh_due(
     ahead: Duration,
     grants: &[Grant],
     listed: &[Listing],
     grant: &Grant,
-) -> Option<Instant>
-    ensures { (s : State) → result ≡ refresh_time (with_ahead (as_nanos ahead) (with_lists grants.now listed.now s)) grant.now }
+    now: Instant,
+) -> bool
+    ensures { (s : State) → result ≡ is_refresh_due now (with_ahead (as_nanos ahead) (with_lists grants.now listed.now s)) grant.now }
 {
-    let time = refresh_time_by_kind(ahead, grant)?;
-    if !is_in_use(grants, listed, grant) {
-        return None;
+    let Some(time) = refresh_time_by_kind(ahead, grant) else {
+        return false;
+    };
+    if now < time {
+        return false;
     }
-    if has_request(listed, grant) {
-        return None;
-    }
-    Some(time)
+    is_in_use(grants, listed, grant) && !has_request(listed, grant)
 }
 
 /// The earlier of the time and the other one, if there is one.

@@ -1,9 +1,10 @@
 //! Which grants a change applies to.
 
 ghost use Rattle.std.specs.Prelude.{◌≡◌};
+ghost use Rattle.turn_client_grants.specs.Found.{key_of};
 ghost use Rattle.turn_client_grants.specs.GrantFilter.{holds};
 
-use crate::key::is_open_to;
+use crate::key::{Key, is_open_to};
 use crate::kind::{
     is_active, is_allocation, is_channel_of, is_connect, is_connect_to, is_connection_from, is_of,
     is_pending_channel, is_pending_permission, is_permission_of,
@@ -98,6 +99,18 @@ impl GrantFilter {
                 && is_timed_out_offer(given, grant),
             GrantFilter::AskedIn(family, purposes) => is_of(*family, grant)
                 && purposes.are_for(grant),
+        }
+    }
+
+    /// The key that finds just these grants, if there is one.
+    pub(crate) fn key(&self) -> Option<Key>
+        ensures { result ≡ key_of self.now }
+    {
+        match self {
+            GrantFilter::PermissionOf(ip) => Some(Key::Ip(*ip)),
+            GrantFilter::ChannelOf(number) => Some(Key::Number(*number)),
+            GrantFilter::OpenTo(peer) => Some(Key::Peer(*peer)),
+            _ => None,
         }
     }
 }

@@ -149,7 +149,7 @@ fn remove_keys(found: &mut HashMap<Key, Grant>, old: &Grant, grant: &Grant)
 }
 
 /// Each key of the grant, which leads to a grant already, leads to this one from now on.
-fn set_keys(found: &mut HashMap<Key, Grant>, grant: &Grant)
+pub(crate) fn set_keys(found: &mut HashMap<Key, Grant>, grant: &Grant)
     requires { (k : Key) → is_found_by k grant.now ≡ true → IsSome (hash.get ⟦<Key as PartialEq>⟧.eq found.old k) }
     ensures leads { (k : Key) → hash.get ⟦<Key as PartialEq>⟧.eq found.new k ≡ found_after k (hash.get ⟦<Key as PartialEq>⟧.eq found.old k) grant.now }
     ensures room { spare found.new ≡ spare found.old }

@@ -219,8 +219,7 @@ impl GrantLedger {
         ensures state { (s : State) → with_ledger self.new s ≡ renewed (holds which.now) expiry (unlisted (holds which.now) (with_ledger self.old s)) }
         ensures room { SameRoomBut 0 0 self.old self.new }
     {
-        self.table.unlist(which);
-        self.table.change(&Change::Renew(*which, expiry));
+        self.table.renew(which, expiry);
     }
 
     /// Replaces the grant that this key finds by another one, after all others. It uses no room for

@@ -15,7 +15,9 @@ ghost use Rattle.turn_client_api.specs.Grants.{as_allocation, is_for_allocation}
 ghost use Rattle.turn_client_api.specs.Poll.{first_reported};
 ghost use Rattle.turn_client_api.specs.Requests.{listings};
 ghost use Rattle.turn_client_grants.specs.Failures.{close_in, failure_in};
+ghost use Rattle.turn_client_grants.specs.Found.{LeavesOthers};
 ghost use Rattle.turn_client_grants.specs.Keys.{is_found_by};
+ghost use Rattle.turn_client_grants.specs.declared.changes.Change.TheVariants.{Renew};
 ghost use Rattle.turn_client_grants.specs.declared.key.Key.{Key};
 ghost use Rattle.turn_client_grants.specs.Table.{are_new, changed, has_no_double, is_numbered, unlisted_in};
 ghost use Rattle.turn_client_grants.specs.GrantFilter.{holds, purposes_in};
@@ -320,6 +322,43 @@ impl GrantTable {
             &[*grant],
         );
         key::replace(&mut self.found, &old, grant);
+    }
+
+    /// The active ones of these grants expire at this time, and no request is listed for them any more.
+    pub(crate) fn renew(&mut self, which: &GrantFilter, expiry: Instant)
+        ensures grants { self.new.grants ≡ map (changed (Renew which.now expiry)) self.old.grants }
+        ensures listed { self.new.listed ≡ unlisted_in (holds which.now) self.old.grants self.old.listed }
+        ensures grant_room { self.old.grant_room ≤ self.new.grant_room }
+        ensures listing_room { self.old.listing_room ≤ self.new.listing_room }
+    {
+        let change = Change::Renew(*which, expiry);
+        match which.key() {
+            Some(key) => self.change_one(&key, &change),
+            None => {
+                self.unlist(which);
+                self.change(&change);
+            }
+        }
+    }
+
+    /// Changes the grant that the key finds, and removes the listings for it.
+    fn change_one(&mut self, key: &Key, change: &Change)
+        requires { LeavesOthers key.now change.now }
+        ensures grants { self.new.grants ≡ map (changed change.now) self.old.grants }
+        ensures listed { self.new.listed ≡ unlisted_in (is_found_by key.now) self.old.grants self.old.listed }
+        ensures grant_room { self.old.grant_room ≤ self.new.grant_room }
+        ensures listing_room { self.old.listing_room ≤ self.new.listing_room }
+    {
+        let is_there = self.found.contains_key(key);
+        if !is_there {
+            return;
+        }
+        let old = self.found[key];
+        let grant = change.applied(&old);
+        self.listed.unlist_one(&old);
+        changes::apply_to(&mut self.grants, key, change);
+        key::set_keys(&mut self.found, &grant);
+        self.summary = summary_of(self.grants.as_slice(), self.listed.as_slice());
     }
 
     /// Whether one of these grants is there.

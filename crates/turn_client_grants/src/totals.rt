@@ -6,6 +6,7 @@ ghost use Rattle.turn_client_api.specs.Grants.{is_for};
 ghost use Rattle.turn_client_api.specs.State.{State};
 ghost use Rattle.turn_client_api.specs.declared.grant.Grant.TheVariants.{Allocation};
 ghost use Rattle.turn_client_grants.specs.Lists.{with_lists};
+ghost use Rattle.turn_client_grants.specs.Passed.{adds_nothing, is_no_earlier};
 ghost use Rattle.turn_client_grants.specs.Summary.{ReadsAlike, end_in, expiry_by_kind, is_requested, is_reserved, is_untold, kept_expiry, lapse_in, needs_refresh};
 
 use crate::due::{is_in_use, least};
@@ -48,10 +49,37 @@ pub(crate) fn totals_of(
     totals
 }
 
+/// Whether the grant leaves what was read: it is an active permission or channel that expires no earlier than any that was read. Of
+/// many grants most are passed over so, whatever their requests are.
+fn adds_nothing(totals: &Totals, grant: &Grant) -> bool
+    ensures { result ≡ adds_nothing totals.now grant.now }
+{
+    match grant {
+        Grant::Permission(_, Progress::Active(lease)) => {
+            is_no_earlier(totals, totals.permissions, lease.expiry.as_nanos())
+        }
+        Grant::Channel(_, _, Progress::Active(lease)) => {
+            is_no_earlier(totals, totals.channels, lease.expiry.as_nanos())
+        }
+        _ => false,
+    }
+}
+
+/// Whether the time, in nanoseconds, is no earlier than the earliest expiries, and than this expiry of what is to be refreshed.
+fn is_no_earlier(totals: &Totals, refreshed: u64, time: u64) -> bool
+    ensures { result ≡ is_no_earlier totals.now refreshed time }
+{
+    totals.end.as_nanos() <= time && totals.lapse <= time && refreshed <= time
+}
+
 /// What is read from one grant more.
 fn with_grant(totals: &Totals, grants: &[Grant], listed: &[Listing], grant: &Grant) -> Totals
     ensures { ReadsAlike result [] totals.now (grant.now ∷ []) grants.now listed.now }
 {
+    let adds_nothing = adds_nothing(totals, grant);
+    if adds_nothing {
+        return *totals;
+    }
     Totals {
         end: least(totals.end, end_in(grant)),
         lapse: least_nanos(totals.lapse, lapse_in(listed, grant)),
