@@ -1,5 +1,5 @@
 -- Data at the front of the control stream: it is what the next step of the streams gives.
-use Rattle.std.proofs.Common.{◌≡◌, ℕ, Bool, true, false, cond, List, [], ◌∷◌, length, Option, Some, None, IsSome, refl, subst, sym, ap, ◌∙◌}
+use Rattle.std.proofs.Common.{◌≡◌, ℕ, Bool, true, false, cond, List, [], ◌∷◌, length, Option, Some, None, IsSome, inr, refl, subst, sym, ap, ◌∙◌}
 use Rattle.std.specs.Prelude.{find, is_some}
 use Rattle.std.specs.Option.{option_map_or}
 use Rattle.std.specs.declared.net.socket_addr.SocketAddr.{SocketAddr}
@@ -18,8 +18,9 @@ use Rattle.turn_client_streams.specs.Buffered.{front_frame, is_control_mode, pas
 use Rattle.turn_client_streams.specs.Held.{control_passed, control_stream}
 use Rattle.turn_client_core.specs.ControlData.{channel_data, control_data, control_ended, data_from, stream_data}
 use Rattle.turn_client_core.specs.StreamSteps.{owned_payload}
+use Rattle.turn_client_core.specs.Wanted.{EndsInNeed, FrontWantsMemory, StepWantsMemory}
 use Rattle.turn_client_core.proofs.PieceLemmas.{front-begins, passed-local}
-use Rattle.turn_client_core.proofs.TurnLemmas.{first-Rests, framed-some, rests-some, stays-led}
+use Rattle.turn_client_core.proofs.TurnLemmas.{first-Rests, framed-some, front-wants, rests-some, stays-led}
 
 -- ---- the control stream
 
@@ -115,6 +116,29 @@ data-ends now s e = by (control_data s) refl e
     by (Some payload) f e =
         let g = given s payload f in
         (s, stays-led now s, rw (found now s payload g, g.control) refl)
+
+-- a copy of the data needs memory
+sent-some : (now : ℕ) (s t : State) (payload : Payload) (g : Given s payload) → channel_sent t g.frame ≡ channel_sent s g.frame
+    → IsSome (owned_payload (frame_step g.stream g.frame now t).0)
+sent-some now s t payload g same =
+    let mode : g.stream.mode ≡ Control = (first-ready s.streams g.stream g.frame g.control g.front).1 in
+    rw (mode, g.begins, same, g.sent) refl
+
+step-wants : (stream : Stream) (now : ℕ) (t : State) → stream.mode ≡ Control → FrontWantsMemory stream now t → StepWantsMemory stream now t
+step-wants stream now t mode wants = rw mode (rw mode at wants)
+
+pub data-wants : (now : ℕ) (s : State) → IsSome (control_data s) → EndsInNeed now s (control_ended s)
+data-wants now s e = by (control_data s) refl e
+  where
+    by : (o : Option Payload) → control_data s ≡ o → IsSome o → EndsInNeed now s (control_ended s)
+    by None f e = cc
+    by (Some payload) f e =
+        let g = given s payload f in
+        let t : State = with_bytes g.stream.local [] s in
+        let mode : g.stream.mode ≡ Control = (first-ready s.streams g.stream g.frame g.control g.front).1 in
+        let front : FrontWantsMemory g.stream now t =
+        front-wants g.stream g.frame now t (front-begins g.stream g.frame (sym g.front)) (sym g.front) (inr (sent-some now s t payload g refl)) in
+        (s, stays-led now s, rw (found now s payload g, g.control) (step-wants g.stream now t mode front, refl))
 
 -- ---- what is found at the front
 

@@ -1,6 +1,12 @@
 -- What a reply changes apart from the grants, and the grants.
-use Rattle.std.proofs.Common.{◌≡◌, refl}
+use Rattle.std.proofs.Common.{◌≡◌, ◌∙◌, List, [], append-nil, ap, length, refl, sym, true}
+use Rattle.std.proofs.lemmas.Bool.{eqb-true}
+use Rattle.std.proofs.lemmas.List.{nil_from_length}
+use Rattle.std.specs.Prelude.{◌==◌}
+use Rattle.turn_client_api.specs.Effect.{fail_all}
+use Rattle.turn_types.specs.declared.family.AddressFamily.{AddressFamily}
 use Rattle.turn_client_api.specs.State.{State}
+use Rattle.turn_client_api.specs.declared.event.TurnEvent.{TurnEvent}
 use Rattle.turn_client_core.specs.Effects.{after}
 use Rattle.turn_client_core.specs.declared.effect.Effect.{Effect}
 use Rattle.turn_client_core.specs.declared.effect.Effect.TheVariants.{Nothing}
@@ -9,3 +15,13 @@ use Rattle.turn_client_grants.specs.Ledger.{Ledger, with_ledger}
 pub after-on : (effect : Effect) (l : Ledger) (s : State) → after effect (with_ledger l s) ≡ with_ledger l (after effect s)
 after-on Nothing l s = refl
 after-on effect l s = refl
+
+pub nil-from : {A : Type 0} (xs : List A) → (length xs == 0) ≡ true → xs ≡ []
+nil-from xs e = nil_from_length xs (eqb-true (length xs) 0 e)
+
+-- no family is requested, so none fails
+pub fail-none : (s : State) → s.families ≡ [] → fail_all s ≡ s
+fail-none s none =
+    ap (λ (families : List AddressFamily). fail_all (record s { families = families })) none
+    ∙ (ap (λ (events : List TurnEvent). record s { families = []; events = events }) (append-nil s.events)
+    ∙ ap (λ (families : List AddressFamily). record s { families = families }) (sym none))

@@ -5,17 +5,17 @@ use Rattle.std.specs.Prelude.{IsSome, filter_map, find, slice_get}
 use Rattle.turn_stun.specs.declared.transport.Transmit.{Transmit}
 use Rattle.turn_stun.specs.declared.transport.TransportType.{TransportType}
 use Rattle.turn_types.specs.declared.family.AddressFamily.{AddressFamily}
-use Rattle.turn_agent.specs.Agent.{is_due}
+use Rattle.turn_agent.specs.Agent.{due, is_due}
 use Rattle.turn_agent.specs.declared.transaction.Transaction.{Transaction}
 use Rattle.turn_client_api.specs.Config.{timers_of}
 use Rattle.turn_client_api.specs.Grants.{allocations, with_more_grants}
 use Rattle.turn_client_api.specs.Requests.{request_started, first_allocate, fresh_id, request_for, to_server}
-use Rattle.turn_client_api.specs.State.{State}
+use Rattle.turn_client_api.specs.State.{State, agent_of}
 use Rattle.turn_client_api.specs.Transmit.{idle_step, keepalive_step, queue_step, refresh_step, sent, sent_at_once, transmit_step}
 use Rattle.turn_client_api.specs.declared.grant.Grant.{Grant}
 use Rattle.turn_client_api.specs.declared.grant.Purpose.{Purpose}
 use Rattle.turn_client_api.specs.declared.state.Queued.{Queued}
-use Rattle.turn_client_core.specs.Outgoing.{Outgoing}
+use Rattle.turn_client_core.specs.Outgoing.{Outgoing, packet_of}
 use Rattle.turn_client_core.specs.Sending.{front_step, resend_step, waiting_step}
 use Rattle.turn_client_grants.specs.Asked.{Asks}
 use Rattle.turn_client_grants.specs.Ledger.{Ledger, with_ledger}
@@ -89,3 +89,27 @@ transmit-wanted now s o times wanted = by (find (is_due o.timers o.transport now
     by : (found : Option Transaction) → find (is_due o.timers o.transport now) o.transactions ≡ found → IsSome (resend_step now o).0 → IsSome (transmit_step now (with_outbox o s)).0
     by None e wanted = absurd (false≢true (rw e at wanted))
     by (Some t) e wanted = rw (← times, e) refl
+
+-- a retransmission is due
+pub resend-due : (now : ℕ) (s : State) (o : Outgoing) → o.timers ≡ timers_of s.config → IsSome (resend_step now o).0 → IsSome (due (agent_of (with_outbox o s)) now)
+resend-due now s o times wanted = by (find (is_due o.timers o.transport now) o.transactions) refl wanted
+  where
+    by : (found : Option Transaction) → find (is_due o.timers o.transport now) o.transactions ≡ found → IsSome (resend_step now o).0 → IsSome (due (agent_of (with_outbox o s)) now)
+    by None e wanted = absurd (false≢true (rw e at wanted))
+    by (Some t) e wanted = rw (← times, e) refl
+
+-- if none is, nothing changes
+pub resend-none : (now : ℕ) (o after : Outgoing) → ◌≡◌ {A = Sent} (None, after) (resend_step now o) → after ≡ o
+resend-none now o after is = by (find (is_due o.timers o.transport now) o.transactions) refl is
+  where
+    by : (found : Option Transaction) → find (is_due o.timers o.transport now) o.transactions ≡ found → ◌≡◌ {A = Sent} (None, after) (resend_step now o) → after ≡ o
+    by None e is = ap (λ (r : Sent). r.1) (rw e at is)
+    by (Some t) e is = let clash : None ≡ Some (record (packet_of o o.local t.request) { to = t.to }) = ap (λ (r : Sent). r.0) (rw e at is) in cc
+
+-- no packet is queued
+pub front-none : (now : ℕ) (o after : Outgoing) → ◌≡◌ {A = Sent} (None, after) (front_step now o) → o.queue ≡ []
+front-none now o after is = by o.queue refl is
+  where
+    by : (queue : List Queued) → o.queue ≡ queue → ◌≡◌ {A = Sent} (None, after) (front_step now o) → o.queue ≡ []
+    by [] e is = e
+    by (q ∷ later) e is = let clash : None ≡ Some q.packet = ap (λ (r : Sent). r.0) (rw e at is) in cc

@@ -24,6 +24,7 @@ use Rattle.turn_client_laws.proofs.StreamWeightLemmas.{weight, weight-le}
 use Rattle.turn_client_streams.specs.Buffered.{front_frame, passed}
 use Rattle.turn_client_core.specs.Lent.{IsBoundFirst}
 use Rattle.turn_client_core.specs.StreamSteps.{owned_payload}
+use Rattle.turn_client_core.specs.Wanted.{EndsInNeed, FrameWantsMemory, FrontWantsMemory, StepWantsMemory}
 
 -- ---- the first frame
 
@@ -175,6 +176,17 @@ emptied-broken local s = ap (λ (x : List Stream). record s { streams = x }) (br
 pub ends : (now : ℕ) (was s t : State) (stream : Stream) → find is_ready s.streams ≡ Some stream → LeadsTo now was s → t ≡ closed (broken_at stream.local (with_bytes stream.local [] s))
     → EndsAfterSteps now was t
 ends now was s t stream e led is = (s, led, rw e (is ∙ ap closed (emptied-broken stream.local s)))
+
+-- ---- the memory of a step
+
+pub front-wants : (s : Stream) (frame : List ℕ) (now : ℕ) (t : State) → begins_no_frame s.bytes ≡ false → Some frame ≡ front_frame s → FrameWantsMemory s frame now t
+    → FrontWantsMemory s now t
+front-wants s frame now t stuck e wants = (stuck, rw (← e) wants)
+
+-- the failed step needed memory
+pub ends-wanted : (now : ℕ) (was s t : State) (stream : Stream) → find is_ready s.streams ≡ Some stream → LeadsTo now was s
+    → StepWantsMemory stream now (with_bytes stream.local [] s) → t ≡ closed (broken_at stream.local (with_bytes stream.local [] s)) → EndsInNeed now was t
+ends-wanted now was s t stream e led wants is = (s, led, rw e (wants, is ∙ ap closed (emptied-broken stream.local s)))
 
 -- ---- a bound stream
 

@@ -19,3 +19,4 @@ pub mod Sent
 pub mod ProtocolRecv
 pub mod StreamSteps
 pub mod Unread
+pub mod Wanted

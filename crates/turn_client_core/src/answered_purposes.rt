@@ -1,6 +1,6 @@
 //! The purposes of requests that a reply of the server concerns.
 
-ghost use Rattle.std.specs.Prelude.{◌≡◌, filter, find, option_to_list};
+ghost use Rattle.std.specs.Prelude.{◌≡◌, ◌≢◌, [], false, filter, find, option_to_list, true};
 ghost use Rattle.turn_client_api.specs.Payloads.{is_answered};
 ghost use Rattle.turn_client_api.specs.Retry.{retried};
 ghost use Rattle.turn_client_core.specs.Kinds.{of_kind};
@@ -34,6 +34,14 @@ pub(crate) fn answered(method: Method, purposes: &Purposes) -> Purposes
         first: answered_one(method, &purposes.first),
         second: answered_one(method, &purposes.second),
     }
+}
+
+/// Whether there is none.
+pub(crate) fn is_empty(purposes: &Purposes) -> bool
+    ensures none { result ≡ true → purposes_in purposes.now ≡ [] }
+    ensures some { result ≡ false → purposes_in purposes.now ≢ [] }
+{
+    purposes.first.is_none() && purposes.second.is_none()
 }
 
 fn answered_one(method: Method, purpose: &Option<Purpose>) -> Option<Purpose>

@@ -1,6 +1,6 @@
 //! Packets and requests for the server.
 
-ghost use Rattle.std.specs.Prelude.{◌≡◌, ◌≤◌, ◌<◌, [], None, false, true, length, IfOk, OnOk, OnErr};
+ghost use Rattle.std.specs.Prelude.{◌≡◌, ◌≤◌, ◌<◌, [], None, false, true, length, IfOk, IsOk, OnOk, OnErr};
 ghost use Rattle.turn_agent.specs.Agent.{is_outstanding, without_transaction};
 ghost use Rattle.turn_agent.specs.TransactionIds.{next_id};
 ghost use Rattle.turn_client_core.specs.Outgoing.{answering, request_queued, asked_over, begun, outbox_id_used, packet_of, waiting, with_room};
@@ -302,6 +302,7 @@ impl Outbox {
     pub(crate) fn answer(&mut self, reply: Option<Data>) -> Result<(), AllocError>
         ensures ok { OnOk result (self.new ≡ with_room self.new.room (answering reply self.old)) }
         ensures err { OnErr result (self.new ≡ with_room self.new.room self.old) }
+        ensures free { reply ≡ None → IsOk result }
     {
         match reply {
             Some(text) => self.reply(text),

@@ -1,6 +1,6 @@
 //! Events for the caller, and the end of a client.
 
-ghost use Rattle.std.specs.Prelude.{◌≡◌, OnOk, OnErr};
+ghost use Rattle.std.specs.Prelude.{◌≡◌, [], IsOk, OnOk, OnErr};
 ghost use Rattle.turn_client_api.specs.Answers.{event_step};
 ghost use Rattle.turn_client_api.specs.Calls.{protocol_error_step};
 ghost use Rattle.turn_client_api.specs.Effect.{closed, fail_all};
@@ -23,10 +23,13 @@ impl TurnClientProtocol {
     ///
     /// # Errors
     ///
-    /// If memory allocation for the events fails. The client has ended all the same.
+    /// If memory allocation for the events fails. The client has ended all the same. If no family is
+    /// requested, or the client had ended, there is no event, and no memory is allocated.
     pub fn protocol_error(&mut self) -> Result<(), AllocError>
         ensures ok { OnOk result (self.new ≡ protocol_error_step self.old) }
         ensures err { OnErr result (self.new ≡ closed self.old) }
+        ensures free { self.old.families ≡ [] → IsOk result }
+        ensures ended { self.old.phase ≡ Phase.Closed → IsOk result }
     {
         if self.phase == Phase::Closed {
             return Ok(());
@@ -42,6 +45,7 @@ impl TurnClientProtocol {
     pub(crate) fn close_failing(&mut self) -> Result<(), AllocError>
         ensures ok { OnOk result (self.new ≡ closed (fail_all self.old)) }
         ensures err { OnErr result (self.new ≡ closed self.old) }
+        ensures free { self.old.families ≡ [] → IsOk result }
     {
         match self.fail_all() {
             Ok(()) => {
@@ -59,11 +63,16 @@ impl TurnClientProtocol {
     ///
     /// # Errors
     ///
-    /// If memory allocation for the events fails. Nothing changes then.
+    /// If memory allocation for the events fails. Nothing changes then. If no family is requested, no
+    /// memory is allocated.
     pub(crate) fn fail_all(&mut self) -> Result<(), AllocError>
         ensures ok { OnOk result (self.new ≡ fail_all self.old) }
         ensures err { OnErr result (self.new ≡ self.old) }
+        ensures free { self.old.families ≡ [] → IsOk result }
     {
+        if self.families.as_slice().is_empty() {
+            return Ok(());
+        }
         self.ledger.reserve(0, 0, self.families.len())?;
         self.ledger.fail_families(self.families.as_slice());
         self.families.clear();

@@ -1,6 +1,6 @@
 //! The end of a client.
 
-ghost use Rattle.std.specs.Prelude.{◌≡◌, IfOk, OnErr, OnOk};
+ghost use Rattle.std.specs.Prelude.{◌≡◌, [], IfOk, IsOk, OnErr, OnOk};
 ghost use Rattle.turn_client_api.specs.Effect.{closed, transaction_ended, fail_all};
 ghost use Rattle.turn_client_api.specs.Payloads.{wrong_step};
 ghost use Rattle.turn_client_core.specs.ProtocolRecv.{IsPart, outcome_in};
@@ -24,6 +24,7 @@ impl TurnClientProtocol {
         ensures part { IfOk result (IsPart message.now self.old self.new) }
         ensures after { OnOk result (self.new ≡ (wrong_step message.now self.old).1) }
         ensures err { OnErr result (self.new ≡ self.old) }
+        ensures free { self.old.families ≡ [] → IsOk result }
     {
         if self.phase == Phase::Requesting {
             self.fail_with(message)?;
@@ -42,6 +43,7 @@ impl TurnClientProtocol {
     pub(crate) fn fail_with(&mut self, message: &Message<'_>) -> Result<(), AllocError>
         ensures ok { OnOk result (self.new ≡ closed (fail_all (transaction_ended (id_of message.now) self.old))) }
         ensures err { OnErr result (self.new ≡ self.old) }
+        ensures free { self.old.families ≡ [] → IsOk result }
     {
         self.fail()?;
         self.outbox.end(message.transaction_id());
@@ -56,6 +58,7 @@ impl TurnClientProtocol {
     pub(crate) fn fail(&mut self) -> Result<(), AllocError>
         ensures ok { OnOk result (self.new ≡ closed (fail_all self.old)) }
         ensures err { OnErr result (self.new ≡ self.old) }
+        ensures free { self.old.families ≡ [] → IsOk result }
     {
         self.fail_all()?;
         self.close();

@@ -9,6 +9,7 @@ ghost use Rattle.turn_client_api.specs.Payloads.{message_step, signed_step};
 ghost use Rattle.turn_client_api.specs.Requests.{connection_attempt_method};
 ghost use Rattle.turn_client_core.specs.Attempts.{CanSign, request_step};
 ghost use Rattle.turn_client_core.specs.Replies.{is_authenticating};
+ghost use Rattle.turn_client_core.specs.Wanted.{ReplyWantsMemory, WantsMemoryIfReply};
 ghost use Rattle.turn_client_core.specs.ProtocolRecv.{IsPart, outcome_in};
 ghost use Rattle.turn_stun.specs.Message.{id_of};
 
@@ -27,7 +28,7 @@ impl TurnClientProtocol {
     /// # Errors
     ///
     /// If memory allocation fails. Nothing changes then. A Data indication allocates none, nor does any
-    /// other message that requires no action.
+    /// other message that requires no action, or a signed reply that concerns nothing.
     pub(crate) fn message(
         &mut self,
         message: &Message<'_>,
@@ -40,6 +41,7 @@ impl TurnClientProtocol {
         ensures err { OnErr result (self.new ≡ self.old) }
         ensures free { is_data_indication message.now ≡ true → IsOk result }
         ensures wanted { OnErr result (message_takes_memory message.now self.old ≡ true) }
+        ensures replied { OnErr result (WantsMemoryIfReply message.now self.old) }
     {
         let judged = self.judge(message);
         match judged {
@@ -91,6 +93,7 @@ impl TurnClientProtocol {
         ensures part { IfOk result (IsPart message.now self.old self.new) }
         ensures after { OnOk result (self.new ≡ (signed_step true message.now now self.old).1) }
         ensures err { OnErr result (self.new ≡ self.old) }
+        ensures wanted { OnErr result (ReplyWantsMemory message.now self.old) }
     {
         if self.is_authenticating() {
             self.allocate_granted(message, now)?;
@@ -114,6 +117,7 @@ impl TurnClientProtocol {
         ensures part { IfOk result (IsPart message.now self.old self.new) }
         ensures after { OnOk result (self.new ≡ (signed_step false message.now now self.old).1) }
         ensures err { OnErr result (self.new ≡ self.old) }
+        ensures wanted { OnErr result (ReplyWantsMemory message.now self.old) }
     {
         if self.is_authenticating() {
             self.allocate_denied(message, now)?;

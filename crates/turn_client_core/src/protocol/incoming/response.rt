@@ -1,10 +1,10 @@
 //! Signed replies of the server to outstanding requests (RFC 8656, sections 7.4, 8.3, 10.3 and 12.3;
 //! RFC 6062, section 4.3).
 
-ghost use Rattle.std.specs.Prelude.{◌≡◌, ◌∷◌, [], IfOk, OnErr, OnOk, true};
+ghost use Rattle.std.specs.Prelude.{◌≡◌, ◌≢◌, ◌∷◌, [], IfOk, OnErr, OnOk, true};
 ghost use Rattle.turn_agent.specs.Agent.{is_outstanding};
 ghost use Rattle.turn_client_api.specs.Effect.{allocate_denied, transaction_ended};
-ghost use Rattle.turn_client_api.specs.Payloads.{outcome_for, response_step};
+ghost use Rattle.turn_client_api.specs.Payloads.{answered_purposes, outcome_for, response_step};
 ghost use Rattle.turn_client_api.specs.Requests.{fresh_id, requested};
 ghost use Rattle.turn_client_api.specs.State.{State};
 ghost use Rattle.turn_client_core.specs.Effects.{after};
@@ -13,7 +13,7 @@ ghost use Rattle.turn_client_core.specs.Replies.{asks_ipv6};
 ghost use Rattle.turn_client_grants.specs.GrantFilter.{purposes_in};
 ghost use Rattle.turn_stun.specs.Message.{id_of};
 
-use crate::answered_purposes::answered;
+use crate::answered_purposes::{answered, is_empty};
 use crate::effect::{Effect, answer_all};
 use crate::protocol::TurnClientProtocol;
 use crate::protocol_recv::TurnProtocolRecv;
@@ -34,7 +34,8 @@ impl TurnClientProtocol {
     ///
     /// # Errors
     ///
-    /// If memory allocation fails. Nothing changes then.
+    /// If memory allocation fails. Nothing changes then. A reply that concerns nothing that its request was
+    /// made for only ends its transaction, and allocates none.
     pub(crate) fn respond(
         &mut self,
         message: &Message<'_>,
@@ -45,9 +46,14 @@ impl TurnClientProtocol {
         ensures part { IfOk result (IsPart message.now self.old self.new) }
         ensures after { OnOk result (self.new ≡ (response_step is_granted message.now now self.old).1) }
         ensures err { OnErr result (self.new ≡ self.old) }
+        ensures wanted { OnErr result (answered_purposes message.now self.old ≢ []) }
     {
         let id = message.transaction_id();
         let purposes = answered(message.method(), &self.ledger.table().purposes_of(id));
+        if is_empty(&purposes) {
+            self.outbox.end(message.transaction_id());
+            return Ok(told_of(message, &purposes));
+        }
         // Keeps the room for the failure events of families that are still requested.
         let Some(events) = self.families.len().checked_add(6) else {
             return Err(AllocError);

@@ -9,6 +9,7 @@ ghost use Rattle.turn_client_api.specs.Streams.{detached_frame_step, poll_recv_s
 ghost use Rattle.turn_client_core.specs.Lent.{IsBoundFirst};
 ghost use Rattle.turn_client_core.specs.ProtocolRecv.{IsPart, outcome_in};
 ghost use Rattle.turn_client_core.specs.StreamSteps.{received_payload, owned_payload};
+ghost use Rattle.turn_client_core.specs.Wanted.{EndsInNeed, FrontWantsMemory, StepWantsMemory};
 ghost use Rattle.turn_client_streams.specs.Held.{taken_out};
 ghost use Rattle.turn_types.specs.Frames.{frame_len};
 
@@ -30,14 +31,15 @@ impl TurnClientProtocol {
     ///
     /// If memory allocation for the bytes of a stream fails. The client has ended then, and the stream
     /// that was read delivers nothing more; whole frames that were processed before keep their effect.
-    /// If no stream holds a whole frame, data of its peer, or bytes that begin no frame, the call
-    /// allocates no memory.
+    /// Memory is allocated only for a message that is answered or that changes the client, and for a copy
+    /// of data in a frame.
     pub fn poll_recv(&mut self, now: Instant) -> Result<Option<TurnPeerData<Vec<u8>>>, AllocError>
         requires before { IsUngranted self.old.phase → self.old.grants ≡ [] }
         ensures answer { IfOk result (λ given. option_map given_payload given ≡ (poll_recv_step now self.old).0) }
         ensures little { IfOk result (λ given. IsNone given → All HoldsLittle self.new.streams) }
         ensures after { OnOk result (self.new ≡ (poll_recv_step now self.old).1) }
         ensures no_memory { OnErr result (EndsAfterSteps now self.old self.new) }
+        ensures wanted { OnErr result (EndsInNeed now self.old self.new) }
     {
         // Most frames of a busy client are ChannelData messages. For them no stream is taken out.
         if let Some(given) = self.take_control_data()? {
@@ -54,13 +56,15 @@ impl TurnClientProtocol {
     /// # Errors
     ///
     /// If memory allocation for the bytes of a stream fails. That stream is broken then, and the client
-    /// has ended. The bytes of a bound stream are moved out, which allocates no memory.
+    /// has ended. The bytes of a bound stream are moved out, which allocates no memory, nor does a frame
+    /// that requires nothing of the client, or what breaks a stream.
     pub(crate) fn process_ready(&mut self, now: Instant) -> Result<Option<Received>, AllocError>
         requires before { IsUngranted self.old.phase → self.old.grants ≡ [] }
         ensures answer { IfOk result (λ given. option_map received_payload given ≡ (poll_recv_step now self.old).0) }
         ensures little { IfOk result (λ given. IsNone given → All HoldsLittle self.new.streams) }
         ensures after { OnOk result (self.new ≡ (poll_recv_step now self.old).1) }
         ensures no_memory { OnErr result (EndsAfterSteps now self.old self.new) }
+        ensures wanted { OnErr result (EndsInNeed now self.old self.new) }
         ensures free { IsBoundFirst self.old → IsOk result }
     {
         while let Some(stream) = self.take_ready() {
@@ -106,7 +110,8 @@ impl TurnClientProtocol {
     ///
     /// # Errors
     ///
-    /// If memory allocation fails, and never for a bound stream. Nothing changes then.
+    /// If memory allocation fails, for what a message requires or for a copy of data, and never for a
+    /// bound stream. Nothing changes then.
     fn process_detached(
         &mut self,
         stream: BufferedStream,
@@ -116,6 +121,7 @@ impl TurnClientProtocol {
         ensures answer { IfOk result (λ given. option_map received_payload given ≡ owned_payload (detached_frame_step stream now self.old).0) }
         ensures after { OnOk result (self.new ≡ (detached_frame_step stream now self.old).1) }
         ensures err { OnErr result (self.new ≡ self.old) }
+        ensures wanted { OnErr result (StepWantsMemory stream now self.old) }
         ensures free { is_bound stream.mode ≡ true → IsOk result }
     {
         match stream.mode() {
@@ -134,7 +140,8 @@ impl TurnClientProtocol {
     ///
     /// # Errors
     ///
-    /// If memory allocation fails. Nothing changes then.
+    /// If memory allocation fails, for what a message requires or for a copy of data. Nothing changes
+    /// then.
     fn framed_stream_step(
         &mut self,
         mut stream: BufferedStream,
@@ -144,6 +151,7 @@ impl TurnClientProtocol {
         ensures answer { IfOk result (λ given. option_map received_payload given ≡ owned_payload (framed_stream_step stream now self.old).0) }
         ensures after { OnOk result (self.new ≡ (framed_stream_step stream now self.old).1) }
         ensures err { OnErr result (self.new ≡ self.old) }
+        ensures wanted { OnErr result (FrontWantsMemory stream now self.old) }
     {
         if stream.is_stuck() {
             self.break_at(stream.local());

@@ -1,13 +1,14 @@
 //! What a client sends next (RFC 8489, section 6.2; RFC 8656, sections 7 to 12).
 
 ghost use Rattle.std.specs.List.{list_any};
-ghost use Rattle.std.specs.Prelude.{◌≡◌, ◌≤◌, ◌^◌, ◌==◌, false, nat_le, IfOk, IsSome, OnErr, OnOk, Some};
+ghost use Rattle.std.specs.Prelude.{◌≡◌, ◌≤◌, ◌^◌, ◌==◌, [], false, nat_le, IfOk, IsSome, OnErr, OnOk, Some};
 ghost use Rattle.turn_agent.specs.Agent.{is_outstanding};
-ghost use Rattle.turn_client_api.specs.Due.{keepalive_times};
+ghost use Rattle.turn_client_api.specs.Due.{is_paused, keepalive_times};
 ghost use Rattle.turn_client_api.specs.Effect.{closed};
 ghost use Rattle.turn_client_api.specs.Requests.{fresh_id};
 ghost use Rattle.turn_client_api.specs.Transmit.{idle_step, keepalive_step, next_transmit, queue_step, refresh_step, reply_step, sent_at_once, transmit_step};
 ghost use Rattle.turn_client_core.specs.Sending.{waiting_step};
+ghost use Rattle.turn_client_core.specs.Wanted.{SendWantsMemory};
 
 use crate::protocol::TurnClientProtocol;
 use std::alloc::AllocError;
@@ -24,14 +25,16 @@ impl TurnClientProtocol {
     ///
     /// # Errors
     ///
-    /// If memory allocation fails. The client has ended then, and nothing else has changed.
+    /// If memory allocation fails. The client has ended then, and nothing else has changed. A queued packet
+    /// is moved out, which allocates none.
     pub fn poll_transmit(&mut self, now: Instant) -> Result<Option<Transmit<Data>>, AllocError>
         requires now_in_range { now ≤ 2 ^ 62 }
         ensures answer { IfOk result (λ packet. packet ≡ (transmit_step now self.old).0) }
         ensures after { OnOk result (self.new ≡ (transmit_step now self.old).1) }
         ensures no_memory { OnErr result (self.new ≡ closed self.old) }
-        // Memory is needed only for a packet that is due.
+        // Memory is needed only for a packet that is due, and was not queued.
         ensures free { OnErr result (IsSome (next_transmit now self.old)) }
+        ensures wanted { OnErr result (SendWantsMemory now self.old) }
     {
         match self.next_packet(now) {
             Ok(packet) => Ok(packet),
@@ -47,6 +50,7 @@ impl TurnClientProtocol {
         ensures step { IfOk result (λ packet. (packet, self.new) ≡ transmit_step now self.old) }
         ensures err { OnErr result (self.new ≡ self.old) }
         ensures free { OnErr result (IsSome (transmit_step now self.old).0) }
+        ensures wanted { OnErr result (SendWantsMemory now self.old) }
     {
         match self.outbox.resend(now)? {
             Some(packet) => Ok(Some(packet)),
@@ -59,6 +63,8 @@ impl TurnClientProtocol {
         ensures step { IfOk result (λ packet. (packet, self.new) ≡ waiting_step now self.old) }
         ensures err { OnErr result (self.new ≡ self.old) }
         ensures free { OnErr result (IsSome (waiting_step now self.old).0) }
+        ensures running { OnErr result (is_paused now self.old ≡ false) }
+        ensures wanted { OnErr result (self.old.queue ≡ []) }
     {
         if self.is_paused(now) {
             return Ok(self.take_reply());
@@ -78,6 +84,7 @@ impl TurnClientProtocol {
         ensures step { IfOk result (λ packet. (packet, self.new) ≡ queue_step now self.old) }
         ensures err { OnErr result (self.new ≡ self.old) }
         ensures free { OnErr result (IsSome (queue_step now self.old).0) }
+        ensures wanted { OnErr result (self.old.queue ≡ []) }
     {
         match self.outbox.take_front(now) {
             Some(packet) => Ok(Some(packet)),

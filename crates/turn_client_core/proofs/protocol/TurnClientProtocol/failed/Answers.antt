@@ -1,9 +1,10 @@
-use Rattle.std.proofs.Common.{◌∙◌, ap, false, subst, sym}
+use Rattle.std.proofs.Common.{◌∙◌, ap, inl, inr, false, subst, sym}
 use Rattle.std.specs.Prelude.{◌≡◌, IfOk, OnOk}
 use Rattle.turn_client_api.specs.Payloads.{Outcome}
 use Rattle.turn_client_api.specs.State.{State}
 use Rattle.turn_client_core.specs.ProtocolRecv.{outcome_in}
 use Rattle.turn_client_core.proofs.JudgedLemmas.{authenticating-is, denied-step, other-step}
+use Rattle.turn_client_core.proofs.ResultLemmas.{on-err, on-err-map}
 use Rattle.turn_client_core.proofs.protocol.TurnClientProtocol.failed.Goals as goal
 
 pub returns-then-is_authenticating-clause-answer : goal.returns-then-is_authenticating-clause-answer
@@ -28,3 +29,9 @@ allocate_denied-requires-clause-phase c = authenticating-is c.args.self.now.phas
 
 pub allocate_denied-requires-clause-outstanding : goal.allocate_denied-requires-clause-outstanding
 allocate_denied-requires-clause-outstanding c = c.requires (authenticating-is c.args.self.now.phase (sym c.is_authenticating.ensures ∙ c.if-is_authenticating.true))
+
+pub returns-in_err-allocate_denied-clause-wanted : goal.returns-in_err-allocate_denied-clause-wanted
+returns-in_err-allocate_denied-clause-wanted c = on-err _ (inl (authenticating-is c.args.self.now.phase (sym c.is_authenticating.ensures ∙ c.if-is_authenticating.true)))
+
+pub returns-clause-wanted : goal.returns-clause-wanted
+returns-clause-wanted c = on-err-map c.respond.result inr c.respond.ensures.wanted

@@ -1,5 +1,11 @@
-use Rattle.std.proofs.Common.{refl, sym, ap, ◌∙◌}
-use Rattle.turn_client_core.proofs.TurnLemmas.{framed-none, framed-some, front-whole}
+use Rattle.std.proofs.Common.{inl, inr, refl, subst, sym, ap, ◌∙◌}
+use Rattle.std.proofs.lemmas.Bool.{false≢true}
+use Rattle.std.specs.Prelude.{IsSome}
+use Rattle.turn_client_api.specs.Payloads.{Outcome}
+use Rattle.turn_client_core.specs.ProtocolRecv.{outcome_in}
+use Rattle.turn_client_core.specs.StreamSteps.{owned_payload}
+use Rattle.turn_client_core.proofs.ResultLemmas.{on-err, some-is}
+use Rattle.turn_client_core.proofs.TurnLemmas.{framed-none, framed-some, front-wants, front-whole}
 use Rattle.turn_client_core.proofs.protocol.TurnClientProtocol.framed_stream_step.Goals as goal
 
 pub frame-requires-clause-whole : goal.frame-requires-clause-whole
@@ -20,3 +26,16 @@ returns-clause-after c =
       ← c.in_ok-told.ensures.after,
     )
     refl
+
+pub returns-in_err-told-clause-wanted : goal.returns-in_err-told-clause-wanted
+returns-in_err-told-clause-wanted c =
+    on-err _
+    (front-wants c.args.stream c.in-Some.frame.now c.args.now c.args.self.now (sym c.is_stuck.ensures ∙ c.if-is_stuck.false) (rw c.in-Some.is at c.front.ensures.exact)
+    (inl c.in_err-told.ensures.wanted))
+
+pub returns-in_err-given-clause-wanted : goal.returns-in_err-given-clause-wanted
+returns-in_err-given-clause-wanted c =
+    let told = some-is (owned_payload (outcome_in c.in-Some.frame.now c.in_ok-told.told)) (λ none. false≢true (c.in_err-given.ensures.memory none)) in
+    on-err _
+    (front-wants c.args.stream c.in-Some.frame.now c.args.now c.args.self.now (sym c.is_stuck.ensures ∙ c.if-is_stuck.false) (rw c.in-Some.is at c.front.ensures.exact)
+    (inr (subst (λ (o : Outcome). IsSome (owned_payload o)) c.in_ok-told.ensures.answer told)))

@@ -39,6 +39,7 @@ returns-in-Challenged c =
       err = c.challenged.ensures.err;
       free = λ h. absurd (data-judged c.args.self.now c.args.message.now h Challenged kind);
       wanted = rw is c.challenged.ensures.wanted;
+      replied = rw is (on-err c.challenged.result tt);
     }
 
 pub returns-in-Fatal : goal.returns-in-Fatal
@@ -53,6 +54,7 @@ returns-in-Fatal c =
       err = c.fatal.ensures.err;
       free = λ h. absurd (data-judged c.args.self.now c.args.message.now h Fatal kind);
       wanted = on-err _ takes;
+      replied = rw is (on-err c.fatal.result tt);
     }
 
 pub returns-in-DataIndication-clause-answer : goal.returns-in-DataIndication-clause-answer
@@ -78,6 +80,7 @@ returns-in-ConnectionAttempt c =
       err = c.attempt_indicated.ensures.err;
       free = λ h. absurd (data-judged c.args.self.now c.args.message.now h ConnectionAttempt kind);
       wanted = rw is c.attempt_indicated.ensures.wanted;
+      replied = rw is (on-err c.attempt_indicated.result tt);
     }
 
 pub returns-in-SignedRequest : goal.returns-in-SignedRequest
@@ -91,6 +94,7 @@ returns-in-SignedRequest c =
       err = c.requested.ensures.err;
       free = λ h. absurd (data-judged c.args.self.now c.args.message.now h SignedRequest kind);
       wanted = rw is c.requested.ensures.wanted;
+      replied = rw is (on-err c.requested.result tt);
     }
 
 pub returns-in-SignedSuccess : goal.returns-in-SignedSuccess
@@ -105,6 +109,7 @@ returns-in-SignedSuccess c =
       err = c.succeeded.ensures.err;
       free = λ h. absurd (data-judged c.args.self.now c.args.message.now h SignedSuccess kind);
       wanted = on-err _ takes;
+      replied = rw is c.succeeded.ensures.wanted;
     }
 
 pub returns-in-SignedError : goal.returns-in-SignedError
@@ -119,6 +124,7 @@ returns-in-SignedError c =
       err = c.failed.ensures.err;
       free = λ h. absurd (data-judged c.args.self.now c.args.message.now h SignedError kind);
       wanted = on-err _ takes;
+      replied = rw is c.failed.ensures.wanted;
     }
 
 pub requested-requires : goal.requested-requires

@@ -4,7 +4,8 @@ use Rattle.turn_client_api.specs.Answers.{EndsAfterSteps}
 use Rattle.turn_client_streams.specs.Held.{control_passed}
 use Rattle.turn_client_core.specs.ControlData.{control_data}
 use Rattle.turn_client_core.specs.StreamSteps.{received_payload}
-use Rattle.turn_client_core.proofs.ControlDataLemmas.{data-ends, data-given}
+use Rattle.turn_client_core.specs.Wanted.{EndsInNeed}
+use Rattle.turn_client_core.proofs.ControlDataLemmas.{data-ends, data-given, data-wants}
 use Rattle.turn_client_core.proofs.ResultLemmas.{on-err}
 use Rattle.turn_client_core.proofs.protocol.TurnClientProtocol.poll_recv.Goals as goal
 
@@ -12,6 +13,11 @@ pub returns-in_err-given-clause-no_memory : goal.returns-in_err-given-clause-no_
 returns-in_err-given-clause-no_memory c =
     let ended = data-ends c.args.now c.args.self.now c.in_err-given.ensures.wanted in
     on-err c.from_residual.result (subst (EndsAfterSteps c.args.now c.args.self.now) (sym c.in_err-given.ensures.no_memory) ended)
+
+pub returns-in_err-given-clause-wanted : goal.returns-in_err-given-clause-wanted
+returns-in_err-given-clause-wanted c =
+    let ended = data-wants c.args.now c.args.self.now c.in_err-given.ensures.wanted in
+    on-err c.from_residual.result (subst (EndsInNeed c.args.now c.args.self.now) (sym c.in_err-given.ensures.no_memory) ended)
 
 pub returns-in-Some-clause-answer : goal.returns-in-Some-clause-answer
 returns-in-Some-clause-answer c =

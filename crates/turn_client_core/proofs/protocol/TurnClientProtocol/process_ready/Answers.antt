@@ -1,11 +1,12 @@
-use Rattle.std.proofs.Common.{◌≡◌, [], refl, sym, ap, ◌∙◌, Some}
+use Rattle.std.proofs.Common.{◌≡◌, [], refl, subst, sym, ap, ◌∙◌, Some}
 use Rattle.std.specs.Prelude.{find}
 use Rattle.std.specs.Option.{option_map}
 use Rattle.turn_client_laws.proofs.StreamDrainLemmas.{turn-lighter}
 use Rattle.turn_client_api.specs.Streams.{is_ready, next_frame_step, detached_frame_step, with_bytes}
 use Rattle.turn_client_streams.specs.Held.{taken_out}
 use Rattle.turn_client_core.specs.StreamSteps.{received_payload, owned_payload}
-use Rattle.turn_client_core.proofs.TurnLemmas.{bound-first, ends, first-Rests, leads-on, rests-none, rests-on, rests-some, stays-led}
+use Rattle.turn_client_core.specs.Wanted.{StepWantsMemory}
+use Rattle.turn_client_core.proofs.TurnLemmas.{bound-first, ends, ends-wanted, first-Rests, leads-on, rests-none, rests-on, rests-some, stays-led}
 use Rattle.turn_client_core.proofs.UngrantedLemmas.{before-authenticating, led-none}
 use Rattle.turn_client_core.proofs.protocol.TurnClientProtocol.process_ready.Goals as goal
 
@@ -64,6 +65,14 @@ returns-in-Err-clause-no_memory c =
     let e : find is_ready c.loop-stream.self.streams ≡ Some c.in-Some.stream = (sym c.take_ready.ensures.stream ∙ c.in-Some.is) in
     let out : c.take_ready.new.self ≡ with_bytes c.in-Some.stream.local [] c.loop-stream.self = (c.take_ready.ensures.after ∙ ap (λ o. taken_out o c.loop-stream.self) c.in-Some.is) in
     ends c.args.now c.args.self.now c.loop-stream.self _ c.in-Some.stream e c.loop-stream.invariant.led
+    (rw (c.close.ensures, c.break_at.ensures, c.local-local.ensures, c.in-Err.ensures.err, out) refl)
+
+pub returns-in-Err-clause-wanted : goal.returns-in-Err-clause-wanted
+returns-in-Err-clause-wanted c =
+    let e : find is_ready c.loop-stream.self.streams ≡ Some c.in-Some.stream = (sym c.take_ready.ensures.stream ∙ c.in-Some.is) in
+    let out : c.take_ready.new.self ≡ with_bytes c.in-Some.stream.local [] c.loop-stream.self = (c.take_ready.ensures.after ∙ ap (λ o. taken_out o c.loop-stream.self) c.in-Some.is) in
+    ends-wanted c.args.now c.args.self.now c.loop-stream.self _ c.in-Some.stream e c.loop-stream.invariant.led
+    (subst (StepWantsMemory c.in-Some.stream c.args.now) out c.in-Err.ensures.wanted)
     (rw (c.close.ensures, c.break_at.ensures, c.local-local.ensures, c.in-Err.ensures.err, out) refl)
 
 pub returns-in-Err-clause-free : goal.returns-in-Err-clause-free
