@@ -3,3 +3,4 @@ pub mod Delivered
 pub mod OverTcp
 pub mod OverUdp
 pub mod Run
+pub mod Wanted

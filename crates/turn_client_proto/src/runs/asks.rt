@@ -3,7 +3,7 @@
 //! If memory allocation for a request fails, the call returns an error and the client is unchanged.
 
 ghost use Rattle.std.specs.Prelude.{◌≡◌, ◌≤◌, ◌^◌, IfOk, OnErr};
-ghost use Rattle.turn_client_api.specs.Steps.{Leaves};
+ghost use Rattle.turn_client_proto.specs.Wanted.{FailsForMemory};
 ghost use Rattle.turn_client_proto.specs.Run.{step};
 
 use crate::runs::{Call, Reply};
@@ -20,7 +20,7 @@ use turn_stun::transport::TransportType;
 pub(crate) fn delete<C: TurnClientApi>(client: &mut C, now: Instant) -> Result<Reply, AllocError>
     requires { now ≤ 2 ^ 62 }
     ensures ok { IfOk result (λ reply. (reply, C.state client.new) ≡ step (C.state client.old) (Call.Delete now)) }
-    ensures no_memory { OnErr result (Leaves (Call.Delete now) (C.state client.old) (C.state client.new)) }
+    ensures no_memory { OnErr result (FailsForMemory (Call.Delete now) (C.state client.old) (C.state client.new)) }
 {
     match client.delete(now) {
         Err(DeleteError::OutOfMemory) => Err(AllocError),
@@ -37,7 +37,7 @@ pub(crate) fn create_permission<C: TurnClientApi>(
 ) -> Result<Reply, AllocError>
     requires { now ≤ 2 ^ 62 }
     ensures ok { IfOk result (λ reply. (reply, C.state client.new) ≡ step (C.state client.old) (Call.CreatePermission transport peer_addr now)) }
-    ensures no_memory { OnErr result (Leaves (Call.CreatePermission transport peer_addr now) (C.state client.old) (C.state client.new)) }
+    ensures no_memory { OnErr result (FailsForMemory (Call.CreatePermission transport peer_addr now) (C.state client.old) (C.state client.new)) }
 {
     match client.create_permission(transport, peer_addr, now) {
         Err(CreatePermissionError::OutOfMemory) => Err(AllocError),
@@ -54,7 +54,7 @@ pub(crate) fn bind_channel<C: TurnClientApi>(
 ) -> Result<Reply, AllocError>
     requires { now ≤ 2 ^ 62 }
     ensures ok { IfOk result (λ reply. (reply, C.state client.new) ≡ step (C.state client.old) (Call.BindChannel transport peer_addr now)) }
-    ensures no_memory { OnErr result (Leaves (Call.BindChannel transport peer_addr now) (C.state client.old) (C.state client.new)) }
+    ensures no_memory { OnErr result (FailsForMemory (Call.BindChannel transport peer_addr now) (C.state client.old) (C.state client.new)) }
 {
     match client.bind_channel(transport, peer_addr, now) {
         Err(BindChannelError::OutOfMemory) => Err(AllocError),
@@ -70,7 +70,7 @@ pub(crate) fn tcp_connect<C: TurnClientApi>(
 ) -> Result<Reply, AllocError>
     requires { now ≤ 2 ^ 62 }
     ensures ok { IfOk result (λ reply. (reply, C.state client.new) ≡ step (C.state client.old) (Call.TcpConnect peer_addr now)) }
-    ensures no_memory { OnErr result (Leaves (Call.TcpConnect peer_addr now) (C.state client.old) (C.state client.new)) }
+    ensures no_memory { OnErr result (FailsForMemory (Call.TcpConnect peer_addr now) (C.state client.old) (C.state client.new)) }
 {
     match client.tcp_connect(peer_addr, now) {
         Err(TcpConnectError::OutOfMemory) => Err(AllocError),
@@ -89,7 +89,7 @@ pub(crate) fn allocated_tcp_socket<C: TurnClientApi>(
 ) -> Result<Reply, AllocError>
     requires { now ≤ 2 ^ 62 }
     ensures ok { IfOk result (λ reply. (reply, C.state client.new) ≡ step (C.state client.old) (Call.AllocatedTcpSocket id tuple peer local now)) }
-    ensures no_memory { OnErr result (Leaves (Call.AllocatedTcpSocket id tuple peer local now) (C.state client.old) (C.state client.new)) }
+    ensures no_memory { OnErr result (FailsForMemory (Call.AllocatedTcpSocket id tuple peer local now) (C.state client.old) (C.state client.new)) }
 {
     match client.allocated_tcp_socket(id, tuple, peer, local, now) {
         Err(TcpAllocateError::OutOfMemory) => Err(AllocError),
@@ -106,7 +106,7 @@ pub(crate) fn tcp_closed<C: TurnClientApi>(
 ) -> Result<Reply, AllocError>
     requires { now ≤ 2 ^ 62 }
     ensures ok { IfOk result (λ reply. (reply, C.state client.new) ≡ step (C.state client.old) (Call.TcpClosed local_addr remote_addr now)) }
-    ensures no_memory { OnErr result (Leaves (Call.TcpClosed local_addr remote_addr now) (C.state client.old) (C.state client.new)) }
+    ensures no_memory { OnErr result (FailsForMemory (Call.TcpClosed local_addr remote_addr now) (C.state client.old) (C.state client.new)) }
 {
     client.tcp_closed(local_addr, remote_addr, now)?;
     Ok(Reply::Done)

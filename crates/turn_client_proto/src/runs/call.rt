@@ -1,7 +1,7 @@
 //! One call on a client, given as a value.
 
 ghost use Rattle.std.specs.Prelude.{◌≡◌, IfOk, OnErr};
-ghost use Rattle.turn_client_api.specs.Steps.{Leaves};
+ghost use Rattle.turn_client_proto.specs.Wanted.{FailsForMemory};
 ghost use Rattle.turn_client_proto.specs.Run.{IsCallable, step};
 
 use crate::runs::asks::{
@@ -20,8 +20,9 @@ use turn_client_api::TurnClientApi;
 ///
 /// # Errors
 ///
-/// If memory allocation for the call or for its reply fails. The client is then in the state after the
-/// call, or in one that the call leaves when its own memory allocation fails.
+/// If memory allocation for the call fails, which needs it: the client is then as the call leaves it. Or
+/// if memory allocation fails for a reply that is a copy of bytes or a list: the client is then in the
+/// state after the call. A packet that `poll_transmit` returned is never lost so.
 pub fn reply_to<C: TurnClientApi>(
     alloc: Global,
     client: &mut C,
@@ -29,7 +30,7 @@ pub fn reply_to<C: TurnClientApi>(
 ) -> Result<Reply, AllocError>
     requires callable { IsCallable (C.state client.old).config.allocation_transport call.now }
     ensures ok { IfOk result (λ reply. (reply, C.state client.new) ≡ step (C.state client.old) call.now) }
-    ensures no_memory { OnErr result (Leaves call.now (C.state client.old) (C.state client.new)) }
+    ensures no_memory { OnErr result (FailsForMemory call.now (C.state client.old) (C.state client.new)) }
 {
     match call {
         Call::Delete { now } => delete(client, *now),

@@ -2,7 +2,7 @@
 
 ghost use Rattle.std.specs.Prelude.{◌≡◌, ◌≤◌, ◌^◌, IfOk, OnErr};
 ghost use Rattle.turn_client_api.specs.Answers.{given_payload};
-ghost use Rattle.turn_client_api.specs.Steps.{Leaves};
+ghost use Rattle.turn_client_proto.specs.Wanted.{FailsForMemory};
 ghost use Rattle.turn_client_proto.specs.Run.{peer_data, step};
 ghost use Rattle.turn_client_api.specs.Calls.{FitsDatagram};
 
@@ -27,7 +27,7 @@ pub(crate) fn send_to<C: TurnClientApi>(
     requires now_in_range { now ≤ 2 ^ 62 }
     requires short { FitsDatagram (C.state client.old).config.allocation_transport payload.now }
     ensures ok { IfOk result (λ reply. (reply, C.state client.new) ≡ step (C.state client.old) (Call.SendTo transport to payload.now now)) }
-    ensures no_memory { OnErr result (Leaves (Call.SendTo transport to payload.now now) (C.state client.old) (C.state client.new)) }
+    ensures no_memory { OnErr result (FailsForMemory (Call.SendTo transport to payload.now now) (C.state client.old) (C.state client.new)) }
 {
     match client.send_to(transport, to, payload.as_bytes(), now) {
         Ok(Some(packet)) => Ok(Reply::SendTo(Ok(packet.build(alloc)?))),
@@ -45,7 +45,7 @@ pub(crate) fn recv<C: TurnClientApi>(
 ) -> Result<Reply, AllocError>
     requires { now ≤ 2 ^ 62 }
     ensures ok { IfOk result (λ reply. (reply, C.state client.new) ≡ step (C.state client.old) (Call.Recv transmit.now now)) }
-    ensures no_memory { OnErr result (Leaves (Call.Recv transmit.now now) (C.state client.old) (C.state client.new)) }
+    ensures no_memory { OnErr result (FailsForMemory (Call.Recv transmit.now now) (C.state client.old) (C.state client.new)) }
 {
     let bytes = transmit.payload.as_bytes();
     let packet = Transmit::new(bytes, transmit.transport, transmit.from, transmit.to);
@@ -77,7 +77,7 @@ pub(crate) fn poll_recv<C: TurnClientApi>(
 ) -> Result<Reply, AllocError>
     requires { now ≤ 2 ^ 62 }
     ensures ok { IfOk result (λ reply. (reply, C.state client.new) ≡ step (C.state client.old) (Call.PollRecv now)) }
-    ensures no_memory { OnErr result (Leaves (Call.PollRecv now) (C.state client.old) (C.state client.new)) }
+    ensures no_memory { OnErr result (FailsForMemory (Call.PollRecv now) (C.state client.old) (C.state client.new)) }
 {
     match client.poll_recv(now)? {
         Some(given) => Ok(Reply::PeerData(owned(alloc, &given)?)),

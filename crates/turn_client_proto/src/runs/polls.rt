@@ -1,7 +1,7 @@
 //! The replies of the calls that return what to do next, and of the one that ends a client.
 
 ghost use Rattle.std.specs.Prelude.{◌≡◌, ◌≤◌, ◌^◌, IfOk, OnErr};
-ghost use Rattle.turn_client_api.specs.Steps.{Leaves};
+ghost use Rattle.turn_client_proto.specs.Wanted.{FailsForMemory};
 ghost use Rattle.turn_client_proto.specs.Run.{step};
 
 use crate::runs::{Call, Reply};
@@ -13,7 +13,7 @@ use turn_stun::instant::Instant;
 pub(crate) fn poll<C: TurnClientApi>(client: &mut C, now: Instant) -> Result<Reply, AllocError>
     requires { now ≤ 2 ^ 62 }
     ensures ok { IfOk result (λ reply. (reply, C.state client.new) ≡ step (C.state client.old) (Call.Poll now)) }
-    ensures no_memory { OnErr result (Leaves (Call.Poll now) (C.state client.old) (C.state client.new)) }
+    ensures no_memory { OnErr result (FailsForMemory (Call.Poll now) (C.state client.old) (C.state client.new)) }
 {
     Ok(Reply::Poll(client.poll(now)?))
 }
@@ -25,7 +25,7 @@ pub(crate) fn poll_transmit<C: TurnClientApi>(
 ) -> Result<Reply, AllocError>
     requires { now ≤ 2 ^ 62 }
     ensures ok { IfOk result (λ reply. (reply, C.state client.new) ≡ step (C.state client.old) (Call.PollTransmit now)) }
-    ensures no_memory { OnErr result (Leaves (Call.PollTransmit now) (C.state client.old) (C.state client.new)) }
+    ensures no_memory { OnErr result (FailsForMemory (Call.PollTransmit now) (C.state client.old) (C.state client.new)) }
 {
     Ok(Reply::Transmit(client.poll_transmit(now)?))
 }
@@ -33,7 +33,7 @@ pub(crate) fn poll_transmit<C: TurnClientApi>(
 /// Reports that the control connection failed.
 pub(crate) fn protocol_error<C: TurnClientApi>(client: &mut C) -> Result<Reply, AllocError>
     ensures ok { IfOk result (λ reply. (reply, C.state client.new) ≡ step (C.state client.old) Call.ProtocolError) }
-    ensures no_memory { OnErr result (Leaves Call.ProtocolError (C.state client.old) (C.state client.new)) }
+    ensures no_memory { OnErr result (FailsForMemory Call.ProtocolError (C.state client.old) (C.state client.new)) }
 {
     client.protocol_error()?;
     Ok(Reply::Done)
