@@ -61,6 +61,18 @@ const OVER_TCP: &[Row<'static>] = &[
     (300, Want::Data(PEER, b"hello")),
 ];
 
+/// What comes before the data.
+const PERMITTED: &[Row<'static>] = &[
+    (0, Want::Sent),
+    (50, Want::Sent),
+    (70, Want::Allocated(RELAYED)),
+    (200, Want::Sent),
+    (220, Want::Granted(PEER)),
+];
+
+/// How many payloads arrive in one piece: more than an iteration is mostly told to return.
+const CROWD: u32 = 65;
+
 /// A caller's clock and network, and the expected tasks.
 #[derive(Drop)]
 struct Looped<'a> {
@@ -282,6 +294,32 @@ const TWICE: &[u8] = &[
     0x00, 0x12, 0x00, 0x08, 0x00, 0x01, 0x02, 0x3a, 0x2b, 0x12, 0xa4, 0x41, 0x00, 0x13, 0x00, 0x05,
     0x68, 0x65, 0x6c, 0x6c, 0x6f, 0x00, 0x00, 0x00,
 ];
+
+/// A piece of a stream with so many payloads, and the expected tasks.
+fn crowd(alloc: Global) -> Result<(Vec<u8>, Vec<Row<'static>>), AllocError> {
+    let mut piece = Vec::new(alloc);
+    let mut rows = Vec::from_slice(alloc, PERMITTED)?;
+    for _ in 0..CROWD {
+        piece.extend_from_slice(DATA)?;
+        rows.push((300, Want::Data(PEER, b"hello")))?;
+    }
+    Ok((piece, rows))
+}
+
+#[test]
+fn an_iteration_returns_65_payloads(rt: HostRuntime) -> Result<(), Fail> {
+    let alloc = rt.alloc();
+    let (piece, rows) = crowd(alloc)?;
+    let pieces = &[piece.as_slice()];
+    loops(
+        &rt,
+        alloc,
+        client_over_tcp(alloc),
+        128,
+        pieces,
+        rows.as_slice(),
+    )
+}
 
 #[test]
 fn the_loop_carries_datagrams(rt: HostRuntime) -> Result<(), Fail> {
