@@ -12,4 +12,3 @@ pub mod Request
 pub mod Settings
 pub mod Step
 pub mod Unread
-pub mod Wanted

@@ -1,6 +1,6 @@
 -- What a session does with a request.
 use Rattle.std.specs.Prelude.{◌≡◌, ◌⊎◌, ℕ, nat_lt, List, [], length, Option, Some, None, Result, Ok, Err}
-use Rattle.turn_c_calls.specs.Wanted.{EndsForMemory}
+use Rattle.turn_client_proto.specs.Wanted.{EndsForMemory}
 use Rattle.turn_client_api.specs.declared.call.Call.{Call}
 use Rattle.turn_client_api.specs.declared.call.Call.TheVariants as Calls
 use Rattle.turn_client_proto.specs.Run.{step}

@@ -2,7 +2,7 @@
 
 ghost use Rattle.std.specs.Prelude.{◌≡◌, ◌≤◌, ◌^◌, ◌+◌, [], length, slice_get, OnOk, OnErr};
 ghost use Rattle.turn_client_api.specs.Calls.{can_send_to, permissions_of, relayed_addresses_of, FitsDatagram};
-ghost use Rattle.turn_c_calls.specs.Wanted.{EndsForMemory};
+ghost use Rattle.turn_client_proto.specs.Wanted.{EndsForMemory};
 ghost use Rattle.turn_client_proto.specs.Run.{IsCallable};
 ghost use Rattle.turn_c_calls.specs.Answer.{found_answer, of_kind, permission_answer, relayed_answer};
 ghost use Rattle.turn_c_calls.specs.Arms.{Makes, MakesAside, MakesPlain, Stops};

@@ -3,7 +3,7 @@
 //! If memory allocation fails, the client is as the call leaves it then.
 
 ghost use Rattle.std.specs.Prelude.{◌≡◌, ◌≤◌, ◌^◌, IfOk, OnErr};
-ghost use Rattle.turn_c_calls.specs.Wanted.{EndsForMemory};
+ghost use Rattle.turn_client_proto.specs.Wanted.{EndsForMemory};
 ghost use Rattle.turn_client_proto.specs.Run.{IsCallable, step};
 ghost use Rattle.turn_c_calls.specs.Judge.{IsPlainCall};
 
