@@ -22,9 +22,9 @@ use Rattle.turn_c_calls.specs.declared.address.Address.{Address}
 use Rattle.turn_c_calls.specs.declared.answer.Answer.{Answer}
 use Rattle.turn_c_calls.specs.declared.code.TheConstants.{ADDRESS, ALLOCATION_CREATE_FAILED, ALLOCATION_CREATED, ERROR_ALREADY_EXISTS}
 use Rattle.turn_c_calls.specs.declared.code.TheConstants.{CHANNEL_CREATE_FAILED, CHANNEL_CREATED, TCP_CLOSE, TCP_CONNECT_FAILED, TCP_CONNECTED, PEER_DATA}
-use Rattle.turn_c_calls.specs.declared.code.TheConstants.{DONE, CLOSED, ERROR_EXPIRED, HANDLED, PEER_ICMP, IGNORED, IPV4, IPV6, NO, ERROR_NO_ALLOCATION}
+use Rattle.turn_c_calls.specs.declared.code.TheConstants.{DONE, CLOSED, ERROR_EXPIRED, HANDLED, PEER_ICMP, IGNORED, IPV4, IPV6, ERROR_NO_ALLOCATION}
 use Rattle.turn_c_calls.specs.declared.code.TheConstants.{ERROR_NO_PERMISSION, ERROR_NO_SOCKET, NOTHING, ALLOCATE_TCP_SOCKET, ERROR_OUT_OF_MEMORY, PACKET}
-use Rattle.turn_c_calls.specs.declared.code.TheConstants.{PERMISSION_CREATE_FAILED, PERMISSION_CREATED, REFUSED, WAIT_UNTIL, YES, ERROR_NOT_GRANTED}
+use Rattle.turn_c_calls.specs.declared.code.TheConstants.{PERMISSION_CREATE_FAILED, PERMISSION_CREATED, REFUSED, WAIT_UNTIL, ERROR_NOT_GRANTED}
 
 -- an answer of this kind
 abbrev pub of_kind : ℕ → Answer → Answer
@@ -101,10 +101,10 @@ abbrev pub permission_answer : Option IpAddr → Answer → Answer
 permission_answer None a = of_kind NOTHING a
 permission_answer (Some ip) a = record a { kind = ADDRESS; peer = address_of_ip ip }
 
--- whether there is a permission
+-- whether there is a permission, by the numbers of `YES` and `NO` that C programs were built with
 abbrev pub found_answer : Bool → Answer → Answer
-found_answer true a = of_kind YES a
-found_answer false a = of_kind NO a
+found_answer true a = of_kind 21 a
+found_answer false a = of_kind 22 a
 
 -- what a reply says, but for its bytes; of a list, the address at this index
 abbrev pub answer_to : ℕ → Reply → Answer → Answer
