@@ -63,6 +63,7 @@ use Rattle.turn_client_runs.specs.Lasting.{HasRoom, IsInForce, IsSteady, IsWithi
 use Rattle.turn_client_runs.specs.OnTime.{IsInTime, time_of, time_of_all}
 use Rattle.turn_client_runs.specs.Handshake.{HandshakeEndsSteadily, HandshakeSucceeds, IsAllocating, IsFirstChallenge, IsStep, RunsHandshake}
 use Rattle.turn_client_runs.proofs.LastingSends.{none-due, none-over, transmits}
+use Rattle.turn_client_runs.proofs.LastingHistory.{first-wait}
 use Rattle.turn_client_runs.proofs.LastingRuns.{arrives}
 use Rattle.turn_client_runs.proofs.SilenceLemmas.{IsUnsent, no-event, unsent-transmits, unsent-waits}
 
@@ -186,7 +187,7 @@ second-transmit delay start now s x p a range e = rw (transmits now s (no-due de
     left = second
         (record {
           over_udp = p.over_udp;
-          prompt = p.prompt;
+          prompt = let first = p.prompt in let all = first-wait (timers_of s.config) s.transport in omega (arith, first, all);
           answers = p.answers;
           closes = p.closes;
           events = p.events;
@@ -505,15 +506,15 @@ fit-stays : (call : Call) (s t : State) → Leaves call s t → AreFit s → Are
 fit-stays call s t leaves (fits, distinct, housed) =
     (leaves-steadies call s t leaves fits, leaves-single call s t leaves fits distinct, leaves-GrantsHaveAllocations call s t leaves housed)
 
-steady-next : (count slots delay start now lifetime : ℕ) (packet : Transmit (List ℕ)) (s : State) → AreFit s → IsPlain delay now s → (x : Transaction) → IsAsked delay now (start + delay) s x
+steady-next : (count slots extras delay start now lifetime : ℕ) (packet : Transmit (List ℕ)) (s : State) → AreFit s → IsPlain delay now s → (x : Transaction) → IsAsked delay now (start + delay) s x
     → now ≤ 2 ^ 62
     → IsAllocating packet s → s.queue ≡ [] → lifetime_in packet.payload ≡ Some lifetime → min_lifetime ≤ lifetime
-    → HasRoom count slots s.config.request_cadence delay (min s.config.refresh_ahead (seconds 150))
-    → IsWithin count slots (state_after (Recv packet now) s) → IsSteady count slots delay now (state_after (Recv packet now) s)
-steady-next count slots delay start now lifetime packet s (fits, distinct, housed) p x a range is empty said enough room within =
+    → HasRoom count slots extras s.config.request_cadence delay (min s.config.refresh_ahead (seconds 150))
+    → IsWithin count slots (state_after (Recv packet now) s) → IsSteady count slots extras delay now (state_after (Recv packet now) s)
+steady-next count slots extras delay start now lifetime packet s (fits, distinct, housed) p x a range is empty said enough room within =
     let after = fit-stays (Recv packet now) s (state_after (Recv packet now) s) (inl refl) (fits, distinct, housed) in
     let next : AreFit t × IsWithin count slots t = subst (λ (z : State). AreFit z × IsWithin count slots z) whole (after, within) in
-    subst (IsSteady count slots delay now) (sym whole) (record {
+    subst (IsSteady count slots extras delay now) (sym whole) (record {
       allocated = phase-some addresses is.relayed;
       none_queued = empty;
       none_outstanding = ended;
@@ -521,12 +522,12 @@ steady-next count slots delay start now lifetime packet s (fits, distinct, house
       sent_before = p.sent_before;
       in_force = all-has (IsInForce now) t.grants (λ g h. let (e, l) = made g h in rw e (refl, l));
       none_late = all-has (λ g. now + ahead_of t.config.refresh_ahead g ≤ expiry_of g) t.grants (λ g h. let (e, l) = made g h in rw e (omega (arith, lasts)));
-      room = all-has (λ g. HasRoom count slots t.config.request_cadence delay (ahead_of t.config.refresh_ahead g)) t.grants (λ g h. let (e, l) = made g h in rw e (omega (arith, room, enough)));
+      room = all-has (λ g. HasRoom count slots extras t.config.request_cadence delay (ahead_of t.config.refresh_ahead g)) t.grants (λ g h. let (e, l) = made g h in rw e (omega (arith, room, enough)));
       room_for_more = room;
       within = next.1;
       distinct = next.0.1;
       housed = GrantsHaveAllocations-AllHaveAllocation t next.0.2;
-      prompt = p.prompt;
+      prompt = let first = p.prompt in let all = first-wait (timers_of s.config) s.transport in omega (arith, first, all);
       in_range = range;
     })
   where
@@ -578,7 +579,7 @@ steady-next count slots delay start now lifetime packet s (fits, distinct, house
         by g (address, there, e) = rw e refl
 
 pub run-steadily : HandshakeEndsSteadily
-run-steadily local remote config seed delay start now calls packet count slots lifetime some prompt run t is empty said enough room within =
+run-steadily local remote config seed delay start now calls packet count slots extras lifetime some prompt run t is empty said enough room within =
     let s = initial Udp local remote config seed in
     let last = state_after_all s calls in
     let fit = kept-behind AreFit fit-stays s calls (
@@ -591,11 +592,11 @@ run-steadily local remote config seed delay start now calls packet count slots l
     last : State
     last = state_after_all (initial Udp local remote config seed) calls
 
-    paced : HasRoom count slots last.config.request_cadence delay (min last.config.refresh_ahead (seconds 150))
-    paced = subst (λ (c : Config). HasRoom count slots c.request_cadence delay (min c.refresh_ahead (seconds 150))) (sym (run-configured (initial Udp local remote config seed) calls)) room
+    paced : HasRoom count slots extras last.config.request_cadence delay (min last.config.refresh_ahead (seconds 150))
+    paced = subst (λ (c : Config). HasRoom count slots extras c.request_cadence delay (min c.refresh_ahead (seconds 150))) (sym (run-configured (initial Udp local remote config seed) calls)) room
 
-    by : IsStage delay start now last → AreFit last → IsSteady count slots delay now (state_after (Recv packet now) last)
+    by : IsStage delay start now last → AreFit last → IsSteady count slots extras delay now (state_after (Recv packet now) last)
     by (new p u none zero) fit = absurd (not-new last Authenticating is.phase (λ f. cc) u.phase)
     by (first p x a e q ps zero) fit = absurd (let no : Requesting ≡ Authenticating = sym e ∙ is.phase in cc)
-    by (second p x a e) fit = steady-next count slots delay start now lifetime packet last fit p x a t.on_time.in_range is empty said enough paced within
+    by (second p x a e) fit = steady-next count slots extras delay start now lifetime packet last fit p x a t.on_time.in_range is empty said enough paced within
     by (done e) fit = absurd (let no : Allocated ≡ Authenticating = sym e ∙ is.phase in cc)

@@ -39,6 +39,8 @@ use Rattle.turn_client_api.specs.Calls.{is_in_progress, is_number_taken, missing
 use Rattle.turn_client_api.specs.Due.{pause_end}
 use Rattle.turn_client_laws.proofs.HasLemmas.{map-has, Has, filter_map-has, has-append, has-found, has-left, has-right}
 use Rattle.turn_client_laws.proofs.InAllocationLemmas.{any-has, Room, has-any, allocation-room, allocation-there, room-more}
+use Rattle.turn_client_runs.specs.History.{History}
+use Rattle.turn_client_runs.proofs.LastingHistory.{lone-more}
 use Rattle.turn_client_runs.proofs.LastingCounts.{passes, passes-all, passes-append, passes-none}
 use Rattle.turn_client_runs.proofs.LastingStands.{Goes, IsPending, pending-more, AreSingle, IsAsked, IsRequest, IsAwaited, IsIdle, IsKept, IsUnique, Stands, allocation-stands, due_of, more-paced}
 use Rattle.turn_client_runs.proofs.LastingStands.{is_served, is_waiting, served, stands-early, unique-refreshing}
@@ -69,7 +71,8 @@ pub record AreNew (s : State) (ps : List Purpose) (news : List Grant) : Type 0 w
   pub asked : (g : Grant) → Has g news → (p : Purpose) × Has p ps × (is_for p g ≡ true)
   pub linked : (id : ℕ) → IsRequest (s.grants ++ news) (listings id ps)
 
-module _ (count slots delay now : ℕ) (s : State) (k : IsKept count slots delay now s.transactions s) (ps : List Purpose) (news : List Grant) (are : AreNew s ps news) (text : List ℕ) where
+module _ (count slots extras delay now : ℕ) (past : History) (s : State) (k : IsKept count slots extras delay now past s.transactions s) (ps : List Purpose) (news : List Grant) (are : AreNew s ps news) (text : List ℕ)
+    (fresh : past.made (fresh_id s) ≡ now) where
   abbrev id : ℕ
   id = fresh_id s
 
@@ -123,10 +126,10 @@ module _ (count slots delay now : ℕ) (s : State) (k : IsKept count slots delay
   one-more : length t.queue ≡ length s.queue + 1
   one-more = length-append s.queue (packet ∷ [])
 
-  stands-asked : (g : Grant) → Has g s.grants → Stands count slots delay now s.transactions s g → Stands count slots delay now t.transactions t g
+  stands-asked : (g : Grant) → Has g s.grants → Stands count slots extras delay now past s.transactions s g → Stands count slots extras delay now past t.transactions t g
   stands-asked g there was = record { granted = was.granted; room = was.room; long = was.long; either = by was.either }
     where
-      by : IsAwaited delay s.transactions s.listed g ⊎ IsIdle slots now s g → IsAwaited delay t.transactions t.listed g ⊎ IsIdle slots now t g
+      by : IsAwaited delay past s.transactions s.listed g ⊎ IsIdle slots now past s g → IsAwaited delay past t.transactions t.listed g ⊎ IsIdle slots now past t g
       by (inl a) = inl (record {
         transaction = a.transaction;
         there = has-left a.transaction s.transactions (sent ∷ []) a.there;
@@ -142,14 +145,15 @@ module _ (count slots delay now : ℕ) (s : State) (k : IsKept count slots delay
           let paused = idle.paused in
           inr (record {
             unasked = not-asked g there idle.unasked;
-            soon = more-paced s.config.request_cadence now _ _ (due_of s g) slots _ _ one-more more soon;
-            paused = more-paced s.config.request_cadence (pause_end s) _ _ (due_of s g) slots _ _ one-more more paused;
+            near = idle.near;
+            soon = more-paced s.config.request_cadence now _ _ (due_of s g) slots _ _ one-more (omega (arith, more)) soon;
+            paused = more-paced s.config.request_cadence (pause_end s) _ _ (due_of s g) slots _ _ one-more (omega (arith, more)) paused;
           })
 
   room-left : (family : AddressFamily) → Room s.grants family → Room t.grants family
   room-left = room-more s.grants t.grants (λ a there. has-left (Allocation a) s.grants news there)
 
-  new-pending : (g : Grant) → Has g news → IsPending now t.transactions t.listed g
+  new-pending : (g : Grant) → Has g news → IsPending now past t.transactions t.listed g
   new-pending g h =
       let (p, among, for) = are.asked g h in
       record {
@@ -159,10 +163,10 @@ module _ (count slots delay now : ℕ) (s : State) (k : IsKept count slots delay
         within = has-right (record { id = id; purpose = p }) s.listed (listings id ps) (map-has (λ (p : Purpose). record { id = id; purpose = p }) p ps among);
         for = for;
         same = refl;
-        sent = omega arith;
+        sent = omega (arith, fresh);
       }
 
-  pub asked-kept : length t.grants ≤ count → length t.queue ≤ slots → IsKept count slots delay now t.transactions t
+  pub asked-kept : length t.grants ≤ count → length t.queue ≤ slots → IsKept count slots extras delay now past t.transactions t
   asked-kept size few = record {
     phase = k.phase;
     requests = list_any-append (λ (q : Queued). not q.is_request) s.queue (packet ∷ []) ∙ rw k.requests refl;
@@ -170,16 +174,23 @@ module _ (count slots delay now : ℕ) (s : State) (k : IsKept count slots delay
     prompt = k.prompt;
     pace = k.pace;
     sent = k.sent;
-    young = λ x h. elim (has-append x s.transactions (sent ∷ []) h) [
-      | inl old ↦ k.young x old
-      | inr (inl e) ↦ rw e refl
+    aged = λ x h. elim (has-append x s.transactions (sent ∷ []) h) [
+      | inl old ↦ k.aged x old
+      | inr (inl e) ↦ rw e (omega (arith, fresh))
+      | inr (inr none) ↦ absurd none
+    ];
+    lone = lone-more s s.transactions sent refl (λ x h. h) k.lone;
+    begun = λ x h. elim (has-append x s.transactions (sent ∷ []) h) [
+      | inl old ↦ k.begun x old
+      | inr (inl e) ↦ rw e (omega (arith, fresh))
       | inr (inr none) ↦ absurd none
     ];
     heard = λ x h. elim (has-append x s.transactions (sent ∷ []) h) [
       | inl old ↦ k.heard x old
-      | inr (inl e) ↦ rw e (omega arith)
+      | inr (inl e) ↦ rw e (omega (arith, fresh))
       | inr (inr none) ↦ absurd none
     ];
+    seldom = k.seldom;
     asked = λ l h. elim (has-append l s.listed (listings id ps) h) [
       | inl old ↦ let (refreshes, (g, there, for)) = k.asked l old in (refreshes, (g, has-left g s.grants news there, for))
       | inr new ↦
@@ -199,7 +210,7 @@ module _ (count slots delay now : ℕ) (s : State) (k : IsKept count slots delay
       | inl old ↦ elim (k.each g old) [
         | inl (waits, pending) ↦ inl (
           waits,
-          pending-more now s.transactions t.transactions s.listed t.listed g (λ x h. has-left x s.transactions _ h)
+          pending-more now past s.transactions t.transactions s.listed t.listed g (λ x h. has-left x s.transactions _ h)
               (λ l h for. has-left l s.listed _ h) pending,
         )
         | inr stands ↦ inr (stands-asked g old stands)
@@ -208,12 +219,12 @@ module _ (count slots delay now : ℕ) (s : State) (k : IsKept count slots delay
     ];
   }
 
-  pub asked-goes : Goes s.transactions t.transactions s t
+  pub asked-goes : Goes past past s.transactions t.transactions s t
   asked-goes = record {
     remain = λ g there granted. (g, has-left g s.grants news there, refl, granted);
     follow = λ until g there waits pending. inl (
       has-left g s.grants news there,
-      pending-more until s.transactions t.transactions s.listed t.listed g (λ x h. has-left x s.transactions _ h) (λ l h for. has-left l s.listed _ h) pending,
+      pending-more until past s.transactions t.transactions s.listed t.listed g (λ x h. has-left x s.transactions _ h) (λ l h for. has-left l s.listed _ h) pending,
     );
   }
 
@@ -243,16 +254,16 @@ single-more gs p unique new for none-there single q other = by (is_for q new) re
 -- ---- the call
 
 -- what a look-up of an allocation finds has not expired
-found-early : (count slots delay now : ℕ) (s : State) → IsKept count slots delay now s.transactions s → (transport : TransportType) (ip : IpAddr) (a : Relay)
+found-early : (count slots extras delay now : ℕ) (past : History) (s : State) → IsKept count slots extras delay now past s.transactions s → (transport : TransportType) (ip : IpAddr) (a : Relay)
     → find_allocation_to transport ip s ≡ Some a → is_past now a ≡ false
-found-early count slots delay now s k transport ip a e = by (same_transport transport s.config.allocation_transport) e
+found-early count slots extras delay now past s k transport ip a e = by (same_transport transport s.config.allocation_transport) e
   where
     by : (b : Bool) → cond b (find_allocation (family_of_ip ip) s) None ≡ Some a → is_past now a ≡ false
     by false e = absurd (none-some a e)
     by true e =
         let found = has-found (λ (r : Relay). same_family (family_of r.relayed) (family_of_ip ip)) a (allocations s) e in
         let there = allocation-there a s.grants found.0 in
-        lt-leb a.expiry now (stands-early count slots delay now s k (Allocation a) there (allocation-stands count slots delay now s.transactions s k a there))
+        lt-leb a.expiry now (stands-early count slots extras delay now past s k (Allocation a) there (allocation-stands count slots extras delay now past s.transactions s k a there))
 
 -- no permission for the IP address exists
 permission-none : (ip : IpAddr) (s : State) → permission_state ip s ≡ None → (g : Grant) → Has g s.grants → is_permission_of ip g ≡ false
@@ -323,7 +334,7 @@ both-new s single number peer no_channel no_permission house = record {
     others : (g : Grant) → Has g (s.grants ++ Channel number peer (Pending true) ∷ []) → is_permission_of (socket_ip peer) g ≡ false
     others g h = elim (has-append g s.grants (Channel number peer (Pending true) ∷ []) h) [ inl old ↦ no_permission g old | inr (inl e) ↦ rw e refl | inr (inr no_more) ↦ absurd no_more ]
 
-module _ (P : State → Type 0) (count slots delay now : ℕ) (s : State) (k : IsKept count slots delay now s.transactions s) (same : P s) (asked : Asks P now s) where
+module _ (P : State → Type 0) (count slots extras delay now : ℕ) (past : History) (s : State) (k : IsKept count slots extras delay now past s.transactions s) (same : P s) (asked : Asks P now s) where
   pub creates : (transport : TransportType) (ip : IpAddr) → P (create_permission_step transport ip now s).1
   creates transport ip = by (find_allocation_to transport ip s) refl
     where
@@ -346,7 +357,7 @@ module _ (P : State → Type 0) (count slots delay now : ℕ) (s : State) (k : I
       by : (o : Option Relay) → find_allocation_to transport ip s ≡ o → Is (in_allocation o ip now Create.NoAllocation s (permission_step ip now s))
       by None e = same
       by (Some a) e =
-          let early = found-early count slots delay now s k transport ip a e in
+          let early = found-early count slots extras delay now past s k transport ip a e in
           let room = allocation-room transport ip s (rw e refl) in
           rw early (step (permission_state ip s) refl room)
 
@@ -400,6 +411,6 @@ module _ (P : State → Type 0) (count slots delay now : ℕ) (s : State) (k : I
       by : (o : Option Relay) → find_allocation_to transport (socket_ip peer) s ≡ o → Is (in_allocation o (socket_ip peer) now Bind.NoAllocation s (channel_step peer now s))
       by None e = same
       by (Some a) e =
-          let early = found-early count slots delay now s k transport (socket_ip peer) a e in
+          let early = found-early count slots extras delay now past s k transport (socket_ip peer) a e in
           let room = allocation-room transport (socket_ip peer) s (rw e refl) in
           rw early (step (list_any is_in_progress (channels_to peer s)) room)

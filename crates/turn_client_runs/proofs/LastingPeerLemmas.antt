@@ -103,7 +103,7 @@ module _ (peers : List SocketAddr) (s : State) (many : length peers ≡ 4096) (o
   of-family : (peer : SocketAddr) → Has peer peers → family_of peer ≡ IPV4
   of-family peer there = has-all (λ p. family_of p ≡ IPV4) peer peers over_v4 there
 
-  begins : IsSteady 8193 100 450_000_000 0 t
+  begins : IsSteady 8193 100 1000 5_000_000_000 0 t
   unfolding IsDistinct
   begins = record {
     allocated = refl;
@@ -113,7 +113,7 @@ module _ (peers : List SocketAddr) (s : State) (many : length peers ≡ 4096) (o
     sent_before = omega arith;
     in_force = all-of (IsInForce 0) 0x4000 peers (refl, omega arith) (λ n peer there. (refl, omega arith)) (λ peer there. (refl, omega arith));
     none_late = all-of (λ g. 0 + ahead_of 60_000_000_000 g ≤ expiry_of g) 0x4000 peers (omega arith) (λ n peer there. omega arith) (λ peer there. omega arith);
-    room = all-of (λ g. HasRoom 8193 100 5_000_000 450_000_000 (ahead_of 60_000_000_000 g)) 0x4000 peers (omega arith) (λ n peer there. omega arith) (λ peer there. omega arith);
+    room = all-of (λ g. HasRoom 8193 100 1000 5_000_000 5_000_000_000 (ahead_of 60_000_000_000 g)) 0x4000 peers (omega arith) (λ n peer there. omega arith) (λ peer there. omega arith);
     room_for_more = omega arith;
     within = (omega (arith, count), omega arith);
     distinct = (allocation-single 0x4000 peers, peers-single 0x4000 peers own);
@@ -130,6 +130,6 @@ peers-last peers s many over_v4 own = record {
   count = count peers s many over_v4 own;
   begins = begins peers s many over_v4 own;
   lasts = λ calls run g there.
-      grants-last 8193 100 450_000_000 0 (with_peers peers s) [] calls (begins peers s many over_v4 own) run g there
+      grants-last 8193 100 1000 5_000_000_000 0 (with_peers peers s) [] calls (begins peers s many over_v4 own) run g there
       (in-force peers s many over_v4 own g (contains-has g (with_peers peers s).grants there));
 }

@@ -23,6 +23,7 @@ use Rattle.turn_client_laws.specs.LawsBodies.{expiry_times, lapse_of}
 use Rattle.turn_client_laws.proofs.CaseLemmas.{answer-by}
 use Rattle.turn_client_laws.proofs.EarlyLapseLemmas.{lapsed-none}
 use Rattle.turn_client_laws.proofs.HasLemmas.{Has, all-has, has-filter_map}
+use Rattle.turn_client_runs.specs.History.{History}
 use Rattle.turn_client_runs.specs.Lasting.{expiry_of}
 use Rattle.turn_client_runs.proofs.LastingStands.{IsGranted, IsKept, Stands, is_waiting}
 
@@ -100,16 +101,16 @@ polls P now s p all none each = by (has_event s || has_reply s) refl
 
 -- ---- what is reported does not count
 
-module _ (count slots delay now : ℕ) (transactions : List Transaction) (s : State) (ids : Source) (events : List TurnEvent) (closes : List SocketAddr) where
-  stands-aside : (g : Grant) → Stands count slots delay now transactions s g → Stands count slots delay now transactions (record s { ids = ids; events = events; closes = closes }) g
+module _ (count slots extras delay now : ℕ) (past : History) (transactions : List Transaction) (s : State) (ids : Source) (events : List TurnEvent) (closes : List SocketAddr) where
+  stands-aside : (g : Grant) → Stands count slots extras delay now past transactions s g → Stands count slots extras delay now past transactions (record s { ids = ids; events = events; closes = closes }) g
   stands-aside g was = record {
     granted = was.granted;
     room = was.room;
     long = was.long;
-    either = elim was.either [ inl awaited ↦ inl awaited | inr idle ↦ inr (record { unasked = idle.unasked; soon = idle.soon; paused = idle.paused }) ];
+    either = elim was.either [ inl awaited ↦ inl awaited | inr idle ↦ inr (record { unasked = idle.unasked; near = idle.near; soon = idle.soon; paused = idle.paused }) ];
   }
 
-  pub kept-aside : IsKept count slots delay now transactions s → IsKept count slots delay now transactions (record s { ids = ids; events = events; closes = closes })
+  pub kept-aside : IsKept count slots extras delay now past transactions s → IsKept count slots extras delay now past transactions (record s { ids = ids; events = events; closes = closes })
   kept-aside k = record {
     phase = k.phase;
     requests = k.requests;
@@ -117,8 +118,11 @@ module _ (count slots delay now : ℕ) (transactions : List Transaction) (s : St
     prompt = k.prompt;
     pace = k.pace;
     sent = k.sent;
-    young = k.young;
+    aged = k.aged;
+    lone = k.lone;
+    begun = k.begun;
     heard = k.heard;
+    seldom = k.seldom;
     asked = k.asked;
     size = k.size;
     single = k.single;

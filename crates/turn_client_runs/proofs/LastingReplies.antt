@@ -22,11 +22,12 @@ use Rattle.turn_client_laws.proofs.AddressLemmas.{same_ip-true}
 use Rattle.turn_client_laws.proofs.GrantOriginLemmas.{has-mapped}
 use Rattle.turn_client_laws.proofs.HasLemmas.{Has, filter-has, has-append, has-filter, has-left, has-right, map-has}
 use Rattle.turn_client_laws.proofs.InAllocationLemmas.{Room, any-has, has-any, room-more, same_family-true}
+use Rattle.turn_client_runs.specs.History.{History}
 use Rattle.turn_client_runs.specs.Lasting.{as_granted, Answers, Grants, ahead_of, expiry_of, with_expiry}
 use Rattle.turn_client_runs.proofs.LastingCounts.{length-without, passes, passes-all, passes-append, passes-filter, passes-map, passes-mapped, passes-none, passes-split, passes-same, passes-two}
 use Rattle.turn_client_runs.proofs.LastingStands.{AllRemain, Follows, Goes, IsPending, goes-more, goes-trans, pending-more, AreRequests, Brings, IsRequest, brings-more, listed_as, IsAsked, IsAwaited}
 use Rattle.turn_client_runs.proofs.LastingStands.{IsGranted, IsIdle, IsKept, IsRefreshing, Stands, due_of, early-paced, still-paced, is_served, not-waiting, pause-le, IsUnique, IsWell, is_waiting}
-use Rattle.turn_client_runs.proofs.LastingStands.{served, unique-refreshing, unique-spares}
+use Rattle.turn_client_runs.proofs.LastingStands.{served, used, unique-refreshing, unique-spares}
 use Rattle.turn_client_api.specs.Requests.{channel_bind_method, method_for}
 use Rattle.turn_client_api.specs.Judgement.{method_in}
 use Rattle.turn_client_api.specs.Payloads.{is_answered}
@@ -103,7 +104,7 @@ with-waiting expiry g h = cc
 abbrev left : Purpose → State → List Listing
 left p u = filter (λ l. not (is_shared p u.grants l)) u.listed
 
-module _ (count slots delay now : ℕ) (transactions : List Transaction) (u : State) (k : IsKept count slots delay now transactions u) (p : Purpose) (refreshing : IsRefreshing p) where
+module _ (count slots extras delay now : ℕ) (past : History) (transactions : List Transaction) (u : State) (k : IsKept count slots extras delay now past transactions u) (p : Purpose) (refreshing : IsRefreshing p) where
   -- what is listed still was listed, and for nothing that is answered
   kept-listing : (l : Listing) → Has l (left p u) → Has l u.listed × (is_shared p u.grants l ≡ false)
   kept-listing l h = let (there, keeps) = has-filter (λ (l : Listing). not (is_shared p u.grants l)) l u.listed h in (there, not-true (is_shared p u.grants l) keeps)
@@ -192,15 +193,15 @@ module _ (count slots delay now : ℕ) (transactions : List Transaction) (u : St
       (request-left hs more (listed_as id u.listed) (λ l h. (has-filter (λ (l : Listing). eqb l.id id) l u.listed h).0) (k.linked id))
 
   -- a request for what is not answered awaits its reply still
-  pending-other : (until : ℕ) (g : Grant) → is_for p g ≡ false → IsPending until transactions u.listed g → IsPending until transactions (left p u) g
-  pending-other until g other = pending-more until transactions transactions u.listed (left p u) g (λ x h. h) (λ l h for. stays l g h for other)
+  pending-other : (until : ℕ) (g : Grant) → is_for p g ≡ false → IsPending until past transactions u.listed g → IsPending until past transactions (left p u) g
+  pending-other until g other = pending-more until past transactions transactions u.listed (left p u) g (λ x h. h) (λ l h for. stays l g h for other)
 
   pauses-same : (t : State) → t.config ≡ u.config → t.last_send ≡ u.last_send → pause_end t ≡ pause_end u
   pauses-same t same sends = rw (same, sends) refl
 
   -- if as many grants are served as before, the others stand as they did
   stands-other : (t : State) → t.config ≡ u.config → t.listed ≡ left p u → t.queue ≡ u.queue → t.last_send ≡ u.last_send → ((since : ℕ) → since ≤ now → served u since ≤ served t since)
-      → (g : Grant) → is_for p g ≡ false → Stands count slots delay now transactions u g → Stands count slots delay now transactions t g
+      → (g : Grant) → is_for p g ≡ false → Stands count slots extras delay now past transactions u g → Stands count slots extras delay now past transactions t g
   stands-other t same ls qs sends serves g other was = record { granted = was.granted; room = rw same was.room; long = rw same was.long; either = by was.either }
     where
       len : length t.queue ≡ length u.queue
@@ -218,7 +219,7 @@ module _ (count slots delay now : ℕ) (transactions : List Transaction) (u : St
       asks : has_request g t ≡ list_any (λ (l : Listing). is_for l.purpose g) (left p u)
       asks = ap (λ (ls : List Listing). list_any (λ (l : Listing). is_for l.purpose g) ls) ls
 
-      by : IsAwaited delay transactions u.listed g ⊎ IsIdle slots now u g → IsAwaited delay transactions t.listed g ⊎ IsIdle slots now t g
+      by : IsAwaited delay past transactions u.listed g ⊎ IsIdle slots now past u g → IsAwaited delay past transactions t.listed g ⊎ IsIdle slots now past t g
       by (inl a) = inl (record {
         transaction = a.transaction;
         there = a.there;
@@ -229,10 +230,12 @@ module _ (count slots delay now : ℕ) (transactions : List Transaction) (u : St
         in_time = a.in_time;
       })
       by (inr idle) = elim (cases_lt (due_of u g) now) [
-        | inl past ↦
-            let no_fewer : served u (due_of u g) ≤ served t (due_of t g) = subst (λ (since : ℕ). served u (due_of u g) ≤ served t since) (sym dues) (serves (due_of u g) (omega (arith, past))) in
+        | inl late ↦
+            let fewest : used past u (due_of u g) ≤ used past t (due_of u g) = let h = serves (due_of u g) (omega (arith, late)) in omega (arith, h) in
+            let no_fewer : used past u (due_of u g) ≤ used past t (due_of t g) = subst (λ (since : ℕ). used past u (due_of u g) ≤ used past t since) (sym dues) fewest in
             inr (record {
               unasked = asks ∙ not-asked g idle.unasked;
+              near = rw same idle.near;
               soon = still-paced _ _ now _ _ (due_of u g) (due_of t g) slots _ _ cadence len dues no_fewer idle.soon;
               paused = still-paced _ _ (pause_end t) _ _ (due_of u g) (due_of t g) slots _ _ cadence len dues no_fewer (rw pauses idle.paused);
             })
@@ -240,6 +243,7 @@ module _ (count slots delay now : ℕ) (transactions : List Transaction) (u : St
             let few = k.few in
             inr (record {
               unasked = asks ∙ not-asked g idle.unasked;
+              near = rw same idle.near;
               soon = early-paced _ _ now _ _ now (due_of t g) slots _ cadence len few (omega arith) (rw dues early);
               paused = early-paced _ _ (pause_end t) _ _ now (due_of t g) slots _ cadence len few (rw pauses (pause-le now u k.sent)) (rw dues early);
             })
@@ -247,8 +251,8 @@ module _ (count slots delay now : ℕ) (transactions : List Transaction) (u : St
 
   -- what was granted now is refreshed much later
   stands-new : (t : State) → t.config ≡ u.config → t.queue ≡ u.queue → t.last_send ≡ u.last_send → (h : Grant) → IsGranted h
-      → (count + slots) * u.config.request_cadence + delay < ahead_of u.config.refresh_ahead h → now + 150_000_000_000 + ahead_of u.config.refresh_ahead h ≤ expiry_of h
-      → has_request h t ≡ false → Stands count slots delay now transactions t h
+      → (count + slots + extras) * u.config.request_cadence + delay < ahead_of u.config.refresh_ahead h → now + 150_000_000_000 + ahead_of u.config.refresh_ahead h ≤ expiry_of h
+      → has_request h t ≡ false → Stands count slots extras delay now past transactions t h
   stands-new t same qs sends h granted room late unasked =
       let len : length t.queue ≡ length u.queue = ap (λ (q : List Queued). length q) qs in
       let pauses = pauses-same t same sends in
@@ -261,6 +265,7 @@ module _ (count slots delay now : ℕ) (transactions : List Transaction) (u : St
         long = rw same (omega (arith, late));
         either = inr (record {
           unasked = unasked;
+          near = omega (arith, early);
           soon = early-paced _ _ now _ _ now (due_of t h) slots _ cadence len few (omega arith) early;
           paused = early-paced _ _ (pause_end t) _ _ now (due_of t h) slots _ cadence len few (rw pauses (pause-le now u k.sent)) early;
         });
@@ -277,12 +282,12 @@ module _ (count slots delay now : ℕ) (transactions : List Transaction) (u : St
   ]
 
   serves-new : (t : State) → t.config ≡ u.config → (since : ℕ) (h : Grant) → since ≤ now → now + 150_000_000_000 + ahead_of u.config.refresh_ahead h ≤ expiry_of h → is_served t since h ≡ true
-  serves-new t same since h past late =
-      or_right (is_waiting h) _ (or_right (has_request h t) _ (le-leb (since + 150_000_000_000) (due_of t h) (rw same (omega (arith, past, late)))))
+  serves-new t same since h before late =
+      or_right (is_waiting h) _ (or_right (has_request h t) _ (le-leb (since + 150_000_000_000) (due_of t h) (rw same (omega (arith, before, late)))))
 
 -- ---- a refresh
 
-module _ (count slots delay now : ℕ) (transactions : List Transaction) (u : State) (k : IsKept count slots delay now transactions u) (p : Purpose) (refreshing : IsRefreshing p) (expiry challenges : ℕ)
+module _ (count slots extras delay now : ℕ) (past : History) (transactions : List Transaction) (u : State) (k : IsKept count slots extras delay now past transactions u) (p : Purpose) (refreshing : IsRefreshing p) (expiry challenges : ℕ)
     (late : now + granted_for p ≤ expiry) (alone : IsForGranted p u) where
   abbrev t : State
   t = renewed_by p expiry challenges u
@@ -303,7 +308,7 @@ module _ (count slots delay now : ℕ) (transactions : List Transaction) (u : St
       omega (arith, e, a, longer, late)
 
   serves : (since : ℕ) → since ≤ now → served u since ≤ served t since
-  serves since past = passes-map (is_served u since) (is_served t since) (renews p expiry) u.grants each
+  serves since before = passes-map (is_served u since) (is_served t since) (renews p expiry) u.grants each
     where
       each : (g : Grant) → Has g u.grants → is_served u since g ≡ true → is_served t since (renews p expiry g) ≡ true
       each g there e = by (is_for p g) refl
@@ -311,9 +316,9 @@ module _ (count slots delay now : ℕ) (transactions : List Transaction) (u : St
           by : (b : Bool) → is_for p g ≡ b → is_served t since (cond b (with_expiry expiry g) g) ≡ true
           by true f = elim (k.each g there) [
             | inl (waits, pending) ↦ or_left (is_waiting (with_expiry expiry g)) _ (ap is_waiting (with-waiting expiry g waits) ∙ waits)
-            | inr stands ↦ serves-new count slots delay now transactions u k p refreshing t refl since (with_expiry expiry g) past (expires-late g stands.granted f)
+            | inr stands ↦ serves-new count slots extras delay now past transactions u k p refreshing t refl since (with_expiry expiry g) before (expires-late g stands.granted f)
           ]
-          by false f = serves-other count slots delay now transactions u k p refreshing t refl refl since g f e
+          by false f = serves-other count slots extras delay now past transactions u k p refreshing t refl refl since g f e
 
   -- what has an allocation has it still
   has-room : (family : AddressFamily) → Room u.grants family → Room t.grants family
@@ -331,20 +336,20 @@ module _ (count slots delay now : ℕ) (transactions : List Transaction) (u : St
       by true = with-family expiry g
       by false = refl
 
-  renews-well : (g : Grant) → Has g u.grants → IsWell count slots delay now transactions t (renews p expiry g)
+  renews-well : (g : Grant) → Has g u.grants → IsWell count slots extras delay now past transactions t (renews p expiry g)
   renews-well g there = by (is_for p g) refl (k.each g there)
     where
-      by : (b : Bool) → is_for p g ≡ b → IsWell count slots delay now transactions u g → IsWell count slots delay now transactions t (cond b (with_expiry expiry g) g)
+      by : (b : Bool) → is_for p g ≡ b → IsWell count slots extras delay now past transactions u g → IsWell count slots extras delay now past transactions t (cond b (with_expiry expiry g) g)
       by true e (inl (waits, pending)) = absurd (unanswered g there waits e)
       by true e (inr was) =
           let a = with-ahead u.config.refresh_ahead expiry g in
-          inr (stands-new count slots delay now transactions u k p refreshing t refl refl refl (with_expiry expiry g) (with-granted expiry g was.granted)
+          inr (stands-new count slots extras delay now past transactions u k p refreshing t refl refl refl (with_expiry expiry g) (with-granted expiry g was.granted)
           (omega (arith, a, was.room)) (expires-late g was.granted e)
-          (answered count slots delay now transactions u k p refreshing g (with_expiry expiry g) there e (λ l was for. sym (with-for l.purpose expiry g) ∙ for)))
-      by false e (inl (waits, pending)) = inl (waits, pending-other count slots delay now transactions u k p refreshing now g e pending)
-      by false e (inr was) = inr (stands-other count slots delay now transactions u k p refreshing t refl refl refl refl serves g e was)
+          (answered count slots extras delay now past transactions u k p refreshing g (with_expiry expiry g) there e (λ l was for. sym (with-for l.purpose expiry g) ∙ for)))
+      by false e (inl (waits, pending)) = inl (waits, pending-other count slots extras delay now past transactions u k p refreshing now g e pending)
+      by false e (inr was) = inr (stands-other count slots extras delay now past transactions u k p refreshing t refl refl refl refl serves g e was)
 
-  pub renewed-kept : IsKept count slots delay now transactions t
+  pub renewed-kept : IsKept count slots extras delay now past transactions t
   renewed-kept = record {
     phase = k.phase;
     requests = k.requests;
@@ -352,20 +357,23 @@ module _ (count slots delay now : ℕ) (transactions : List Transaction) (u : St
     prompt = k.prompt;
     pace = k.pace;
     sent = k.sent;
-    young = k.young;
+    aged = k.aged;
+    lone = k.lone;
+    begun = k.begun;
     heard = k.heard;
-    asked = λ l h. asked l (k.asked l (kept-listing count slots delay now transactions u k p refreshing l h).0);
+    seldom = k.seldom;
+    asked = λ l h. asked l (k.asked l (kept-listing count slots extras delay now past transactions u k p refreshing l h).0);
     size = let same = length-map u.grants (renews p expiry) in let size = k.size in omega (arith, same, size);
     single = λ q unique.
         let few = k.single q unique in
         omega (arith, few, passes-mapped (is_for q) (is_for q) (renews p expiry) u.grants (λ g there e. sym (renews-for q p expiry g) ∙ e));
-    linked = requests-left count slots delay now transactions u k p refreshing t.grants
+    linked = requests-left count slots extras delay now past transactions u k p refreshing t.grants
         (λ g there other. subst (λ (h : Grant). Has h t.grants) (rw other refl) (map-has (renews p expiry) g u.grants there));
     in_range = k.in_range;
     housed = λ g h.
         let (x, there, e) = has-mapped (renews p expiry) g u.grants h in
         subst (λ (y : Grant). Room t.grants (family_of_grant y)) (sym e) (rw (renews-family x) (has-room (family_of_grant x) (k.housed x there)));
-    each = λ g h. let (x, there, e) = has-mapped (renews p expiry) g u.grants h in subst (IsWell count slots delay now transactions t) (sym e) (renews-well x there);
+    each = λ g h. let (x, there, e) = has-mapped (renews p expiry) g u.grants h in subst (IsWell count slots extras delay now past transactions t) (sym e) (renews-well x there);
   }
     where
       asked : (l : Listing) → IsAsked u.grants l → IsAsked t.grants l
@@ -382,19 +390,19 @@ module _ (count slots delay now : ℕ) (transactions : List Transaction) (u : St
       still true = with-granted expiry g granted
       still false = granted
 
-  pub renewed-goes : Goes transactions transactions u t
+  pub renewed-goes : Goes past past transactions transactions u t
   renewed-goes = record { remain = renewed-remain; follow = λ until g there waits pending. by until g there waits pending (is_for p g) refl }
     where
-      by : (until : ℕ) (g : Grant) → Has g u.grants → is_waiting g ≡ true → IsPending until transactions u.listed g → (b : Bool) → is_for p g ≡ b → Follows until transactions g t
+      by : (until : ℕ) (g : Grant) → Has g u.grants → is_waiting g ≡ true → IsPending until past transactions u.listed g → (b : Bool) → is_for p g ≡ b → Follows until past transactions g t
       by until g there waits pending true e = absurd (unanswered g there waits e)
       by until g there waits pending false e = inl (
         subst (λ (h : Grant). Has h t.grants) (rw e refl) (map-has (renews p expiry) g u.grants there),
-        pending-other count slots delay now transactions u k p refreshing until g e pending,
+        pending-other count slots extras delay now past transactions u k p refreshing until g e pending,
       )
 
 -- ---- what waited
 
-module _ (count slots delay now : ℕ) (transactions : List Transaction) (u : State) (k : IsKept count slots delay now transactions u) (p : Purpose) (made : State)
+module _ (count slots extras delay now : ℕ) (past : History) (transactions : List Transaction) (u : State) (k : IsKept count slots extras delay now past transactions u) (p : Purpose) (made : State)
     (anew : IsGrantedAnew p now u made) where
   abbrev new : Grant
   new = anew.new
@@ -423,34 +431,34 @@ module _ (count slots delay now : ℕ) (transactions : List Transaction) (u : St
   new-there = has-right new others (new ∷ []) (inl refl)
 
   new-serves : (since : ℕ) → since ≤ now → is_served after since new ≡ true
-  new-serves since past = serves-new count slots delay now transactions u k p refreshing after refl since new past anew.late
+  new-serves since before = serves-new count slots extras delay now past transactions u k p refreshing after refl since new before anew.late
 
   serves-anew : (since : ℕ) → since ≤ now → served u since ≤ served after since
-  serves-anew since past =
+  serves-anew since before =
       let split = passes-split (is_served u since) (is_for p) u.grants in
       let one = k.single p anew.unique in
       let same = passes-all (is_served u since) (is_served after since) others
       (λ g h e. let (there, not) = has-filter (λ (g : Grant). not (is_for p g)) g u.grants h in
-      serves-other count slots delay now transactions u k p refreshing after refl refl since g (not-true (is_for p g) not) e) in
+      serves-other count slots extras delay now past transactions u k p refreshing after refl refl since g (not-true (is_for p g) not) e) in
       let more = passes-append (is_served after since) others (new ∷ []) in
-      let last : passes (is_served after since) (new ∷ []) ≡ 1 = rw (new-serves since past) refl in
+      let last : passes (is_served after since) (new ∷ []) ≡ 1 = rw (new-serves since before) refl in
       omega (arith, split, one, same, more, last)
 
   new-unasked : has_request new after ≡ false
-  new-unasked = answered count slots delay now transactions u k p refreshing anew.waits new anew.there anew.same
+  new-unasked = answered count slots extras delay now past transactions u k p refreshing anew.waits new anew.there anew.same
       (λ l was for. for-joins l.purpose p anew.waits new (k.asked l was).0 refreshing for anew.for anew.same)
 
-  well-anew : (g : Grant) → Has g after.grants → IsWell count slots delay now transactions after g
+  well-anew : (g : Grant) → Has g after.grants → IsWell count slots extras delay now past transactions after g
   well-anew g h = elim (which g h) [
     | inl (there, other) ↦ elim (k.each g there) [
-      | inl (waits, pending) ↦ inl (waits, pending-other count slots delay now transactions u k p refreshing now g other pending)
-      | inr was ↦ inr (stands-other count slots delay now transactions u k p refreshing after refl refl refl refl serves-anew g other was)
+      | inl (waits, pending) ↦ inl (waits, pending-other count slots extras delay now past transactions u k p refreshing now g other pending)
+      | inr was ↦ inr (stands-other count slots extras delay now past transactions u k p refreshing after refl refl refl refl serves-anew g other was)
     ]
     | inr e ↦
         let pace = k.pace in
         let minute = anew.minute in
-        subst (IsWell count slots delay now transactions after) (sym e)
-        (inr (stands-new count slots delay now transactions u k p refreshing after refl refl refl new anew.granted (omega (arith, pace, minute)) anew.late new-unasked))
+        subst (IsWell count slots extras delay now past transactions after) (sym e)
+        (inr (stands-new count slots extras delay now past transactions u k p refreshing after refl refl refl new anew.granted (omega (arith, pace, minute)) anew.late new-unasked))
   ]
 
   single-anew : (q : Purpose) → IsUnique q → passes (is_for q) after.grants ≤ 1
@@ -479,7 +487,7 @@ module _ (count slots delay now : ℕ) (transactions : List Transaction) (u : St
   room-anew : (family : AddressFamily) → Room u.grants family → Room after.grants family
   room-anew = room-more u.grants after.grants (λ a there. stays-there (Allocation a) there (unique-spares p anew.unique a))
 
-  pub anew-kept : IsKept count slots delay now transactions after
+  pub anew-kept : IsKept count slots extras delay now past transactions after
   anew-kept = record {
     phase = k.phase;
     requests = k.requests;
@@ -487,19 +495,22 @@ module _ (count slots delay now : ℕ) (transactions : List Transaction) (u : St
     prompt = k.prompt;
     pace = k.pace;
     sent = k.sent;
-    young = k.young;
+    aged = k.aged;
+    lone = k.lone;
+    begun = k.begun;
     heard = k.heard;
+    seldom = k.seldom;
     asked = λ l h.
-        let (was, unshared) = kept-listing count slots delay now transactions u k p refreshing l h in
+        let (was, unshared) = kept-listing count slots extras delay now past transactions u k p refreshing l h in
         let (refreshes, (g, there, for)) = k.asked l was in
-        (refreshes, (g, stays-there g there (others-asked count slots delay now transactions u k p refreshing l h g there for), for));
+        (refreshes, (g, stays-there g there (others-asked count slots extras delay now past transactions u k p refreshing l h g there for), for));
     size =
         let one = length-without (is_for p) anew.waits u.grants anew.there anew.same in
         let len = length-append others (new ∷ []) in
         let size = k.size in
         omega (arith, one, len, size);
     single = single-anew;
-    linked = requests-left count slots delay now transactions u k p refreshing after.grants stays-there;
+    linked = requests-left count slots extras delay now past transactions u k p refreshing after.grants stays-there;
     in_range = k.in_range;
     housed = λ g h. elim (which g h) [
       | inl (there, other) ↦ room-anew (family_of_grant g) (k.housed g there)
@@ -520,21 +531,21 @@ module _ (count slots delay now : ℕ) (transactions : List Transaction) (u : St
           let one = k.single p anew.unique in
           absurd (omega (arith, two, one))
 
-  pub anew-goes : Goes transactions transactions u after
+  pub anew-goes : Goes past past transactions transactions u after
   anew-goes = record { remain = anew-remain; follow = λ until g there waits pending. by until g there waits pending (is_for p g) refl }
     where
-      by : (until : ℕ) (g : Grant) → Has g u.grants → is_waiting g ≡ true → IsPending until transactions u.listed g → (b : Bool) → is_for p g ≡ b → Follows until transactions g after
+      by : (until : ℕ) (g : Grant) → Has g u.grants → is_waiting g ≡ true → IsPending until past transactions u.listed g → (b : Bool) → is_for p g ≡ b → Follows until past transactions g after
       by until g there waits pending true e =
           let is : anew.waits ≡ g = passes-same (is_for p) anew.waits g u.grants (k.single p anew.unique) anew.there there anew.same e in
           inr (new, new-there, anew.becomes ∙ ap as_granted is, anew.granted)
-      by until g there waits pending false e = inl (stays-there g there e, pending-other count slots delay now transactions u k p refreshing until g e pending)
+      by until g there waits pending false e = inl (stays-there g there e, pending-other count slots extras delay now past transactions u k p refreshing until g e pending)
 
 -- ---- all purposes of a request
 
 -- what is listed is listed for none of these any more
-pub record IsAnswered (count slots delay now : ℕ) (transactions : List Transaction) (purposes : List Purpose) (u t : State) : Type 0 where
-  pub kept : IsKept count slots delay now transactions t
-  pub goes : Goes transactions transactions u t
+pub record IsAnswered (count slots extras delay now : ℕ) (past : History) (transactions : List Transaction) (purposes : List Purpose) (u t : State) : Type 0 where
+  pub kept : IsKept count slots extras delay now past transactions t
+  pub goes : Goes past past transactions transactions u t
   pub outstanding : t.transactions ≡ u.transactions
   pub listed : (l : Listing) → Has l t.listed → Has l u.listed × (Has l.purpose purposes → ⊥)
 
@@ -546,11 +557,11 @@ one-listed p u l h (g, there, for) e =
     let no : false ≡ true = sym (not-true (is_shared p u.grants l) keeps) ∙ some in
     cc
 
-pub all-known : (count slots delay now : ℕ) (transactions : List Transaction) (u : State) → IsKept count slots delay now transactions u → (g : Grant) → Has g u.grants
+pub all-known : (count slots extras delay now : ℕ) (past : History) (transactions : List Transaction) (u : State) → IsKept count slots extras delay now past transactions u → (g : Grant) → Has g u.grants
     → (is_waiting g ≡ true) ⊎ IsGranted g
-all-known count slots delay now transactions u k g there = elim (k.each g there) [ inl (waits, pending) ↦ inl waits | inr stands ↦ inr stands.granted ]
+all-known count slots extras delay now past transactions u k g there = elim (k.each g there) [ inl (waits, pending) ↦ inl waits | inr stands ↦ inr stands.granted ]
 
-module _ (count slots delay now : ℕ) (transactions : List Transaction) (u : State) (k : IsKept count slots delay now transactions u) (p : Purpose) (refreshing : IsRefreshing p) (g : Grant)
+module _ (count slots extras delay now : ℕ) (past : History) (transactions : List Transaction) (u : State) (k : IsKept count slots extras delay now past transactions u) (p : Purpose) (refreshing : IsRefreshing p) (g : Grant)
     (there : Has g u.grants)
     (for : is_for p g ≡ true) where
   left-listed : (l : Listing) → Has l (left p u) → Has l u.listed × (Has l.purpose (p ∷ []) → ⊥)
@@ -560,26 +571,26 @@ module _ (count slots delay now : ℕ) (transactions : List Transaction) (u : St
   )
 
   -- one purpose is answered
-  pub one-answered : (t : State) → Does p now u t → IsAnswered count slots delay now transactions (p ∷ []) u t
-  one-answered t (inl (expiry, challenges, late, is, alone)) = subst (IsAnswered count slots delay now transactions (p ∷ []) u) (sym is) (record {
-    kept = renewed-kept count slots delay now transactions u k p refreshing expiry challenges late alone;
-    goes = renewed-goes count slots delay now transactions u k p refreshing expiry challenges late alone;
+  pub one-answered : (t : State) → Does p now u t → IsAnswered count slots extras delay now past transactions (p ∷ []) u t
+  one-answered t (inl (expiry, challenges, late, is, alone)) = subst (IsAnswered count slots extras delay now past transactions (p ∷ []) u) (sym is) (record {
+    kept = renewed-kept count slots extras delay now past transactions u k p refreshing expiry challenges late alone;
+    goes = renewed-goes count slots extras delay now past transactions u k p refreshing expiry challenges late alone;
     outstanding = refl;
     listed = left-listed;
   })
-  one-answered t (inr anew) = subst (IsAnswered count slots delay now transactions (p ∷ []) u) (sym anew.is) (record {
-    kept = anew-kept count slots delay now transactions u k p t anew;
-    goes = anew-goes count slots delay now transactions u k p t anew;
+  one-answered t (inr anew) = subst (IsAnswered count slots extras delay now past transactions (p ∷ []) u) (sym anew.is) (record {
+    kept = anew-kept count slots extras delay now past transactions u k p t anew;
+    goes = anew-goes count slots extras delay now past transactions u k p t anew;
     outstanding = refl;
     listed = left-listed;
   })
 
 -- one purpose is answered after another one
-both-answered : (count slots delay now : ℕ) (transactions : List Transaction) (p q : Purpose) (u v t : State) → IsAnswered count slots delay now transactions (q ∷ []) u v
-    → IsAnswered count slots delay now transactions (p ∷ []) v t → IsAnswered count slots delay now transactions (p ∷ q ∷ []) u t
-both-answered count slots delay now transactions p q u v t first last = record {
+both-answered : (count slots extras delay now : ℕ) (past : History) (transactions : List Transaction) (p q : Purpose) (u v t : State) → IsAnswered count slots extras delay now past transactions (q ∷ []) u v
+    → IsAnswered count slots extras delay now past transactions (p ∷ []) v t → IsAnswered count slots extras delay now past transactions (p ∷ q ∷ []) u t
+both-answered count slots extras delay now past transactions p q u v t first last = record {
   kept = last.kept;
-  goes = goes-trans transactions transactions transactions u v t first.goes last.goes;
+  goes = goes-trans past past past transactions transactions transactions u v t first.goes last.goes;
   outstanding = last.outstanding ∙ first.outstanding;
   listed = λ l h.
       let (here, not_p) = last.listed l h in
@@ -598,21 +609,21 @@ of_method method (ForChannel number peer) r e = eq-eqb _ method (sym e)
 of_method method p r e = absurd r
 
 -- all that the request was made for is answered
-pub all-answered : (message : List ℕ) (id count slots delay now : ℕ) (transactions : List Transaction) (u : State) → IsKept count slots delay now transactions u
+pub all-answered : (message : List ℕ) (id count slots extras delay now : ℕ) (past : History) (transactions : List Transaction) (u : State) → IsKept count slots extras delay now past transactions u
     → ((p : Purpose) → Has p (purposes_of id u) → IsGiven u.grants p) → Answers message (purposes_of id u)
-    → IsAnswered count slots delay now transactions (purposes_of id u) u (fold (effect id true message now) u (filter (is_answered (method_in message)) (purposes_of id u)))
-all-answered message id count slots delay now transactions u k given answers = by (listed_as id u.listed) refl (k.linked id)
+    → IsAnswered count slots extras delay now past transactions (purposes_of id u) u (fold (effect id true message now) u (filter (is_answered (method_in message)) (purposes_of id u)))
+all-answered message id count slots extras delay now past transactions u k given answers = by (listed_as id u.listed) refl (k.linked id)
   where
     Done : List Purpose → Type 0
-    Done ps = IsAnswered count slots delay now transactions ps u (fold (effect id true message now) u (filter (is_answered (method_in message)) ps))
+    Done ps = IsAnswered count slots extras delay now past transactions ps u (fold (effect id true message now) u (filter (is_answered (method_in message)) ps))
 
     known : (g : Grant) → Has g u.grants → (is_waiting g ≡ true) ⊎ IsGranted g
-    known = all-known count slots delay now transactions u k
+    known = all-known count slots extras delay now past transactions u k
 
     one : (p : Purpose) → purposes_of id u ≡ p ∷ [] → IsGiven u.grants p → Grants message p → Done (p ∷ [])
     one p e (refreshing, (g, there, for)) grants =
         rw (of_method (method_in message) p refreshing grants.0)
-        (one-answered count slots delay now transactions u k p refreshing g there for (effect id true message now u p)
+        (one-answered count slots extras delay now past transactions u k p refreshing g there for (effect id true message now u p)
         (effect-does message id now u p k.in_range known refreshing grants e g there for))
 
     two : (p q : Purpose) → purposes_of id u ≡ p ∷ q ∷ [] → Brings u.grants p q → IsGiven u.grants p → IsGiven u.grants q → Grants message p → Done (p ∷ q ∷ [])
@@ -622,9 +633,9 @@ all-answered message id count slots delay now transactions u k given answers = b
         let not : is_answered (method_in message) (ForPermission ip) ≡ false = rw m refl in
         let t = effect id true message now u (ForChannel number peer) in
         let both = effect-brings message number peer ip id now u k.in_range known e g there for h here is waits (k.single (ForChannel number peer) tt) in
-        let first = one-answered count slots delay now transactions u k (ForPermission ip) tt g there for both.middle both.first in
-        let last = one-answered count slots delay now transactions both.middle first.kept (ForChannel number peer) tt h (both.stays h here (apart h is)) is t both.last in
-        rw (yes, not) (both-answered count slots delay now transactions (ForChannel number peer) (ForPermission ip) u both.middle t first last)
+        let first = one-answered count slots extras delay now past transactions u k (ForPermission ip) tt g there for both.middle both.first in
+        let last = one-answered count slots extras delay now past transactions both.middle first.kept (ForChannel number peer) tt h (both.stays h here (apart h is)) is t both.last in
+        rw (yes, not) (both-answered count slots extras delay now past transactions (ForChannel number peer) (ForPermission ip) u both.middle t first last)
       where
         apart : (h : Grant) → is_for (ForChannel number peer) h ≡ true → is_for (ForPermission ip) h ≡ false
         apart h e = grind arith
@@ -633,7 +644,7 @@ all-answered message id count slots delay now transactions u k given answers = b
     by : (ls : List Listing) → listed_as id u.listed ≡ ls → IsRequest u.grants ls → Done (purposes_of id u)
     by [] e h =
         let none : purposes_of id u ≡ [] = ap (map (λ (l : Listing). l.purpose)) e in
-        rw none (record { kept = k; goes = goes-more transactions transactions u u refl (λ x h. h) (λ l h. h); outstanding = refl; listed = λ l h. (h, λ no. no) })
+        rw none (record { kept = k; goes = goes-more past transactions transactions u u refl (λ x h. h) (λ l h. h); outstanding = refl; listed = λ l h. (h, λ no. no) })
     by (l ∷ []) e h =
         let is : purposes_of id u ≡ l.purpose ∷ [] = ap (map (λ (l : Listing). l.purpose)) e in
         subst Done (sym is) (one l.purpose is (given l.purpose (rw is (inl refl))) (subst (Answers message) is answers))

@@ -1,18 +1,18 @@
 -- A run that meets all premises, and in which each grant is refreshed.
-use Rattle.std.proofs.Common.{◌≡◌, ◌∙◌, ℕ, ◌+◌, ◌^◌, ◌<◌, ◌≤◌, true, false, List, [], ◌∷◌, Some, ap, arith, eqb, inl, inr, refl, subst, sym}
-use Rattle.std.specs.Prelude.{All, IsSome, Option}
+use Rattle.std.proofs.Common.{◌≡◌, ◌∙◌, ℕ, ◌+◌, ◌^◌, ◌<◌, ◌≤◌, Bool, true, false, cond, List, [], ◌∷◌, None, Some, ap, arith, eqb, inl, inr, refl, subst, sym}
+use Rattle.std.specs.Prelude.{All, IsSome, Option, nat_lt}
 use Rattle.std.specs.List.{IsDistinct}
-use Rattle.std.proofs.lemmas.Bool.{eq-eqb}
+use Rattle.std.proofs.lemmas.Bool.{eq-eqb, le-ltb}
 use Rattle.turn_stun.specs.declared.transport.TransportType.TheVariants.{Udp}
 use Rattle.turn_stun.specs.declared.transport.Transmit.{Transmit}
 use Rattle.turn_types.specs.declared.family.AddressFamily.TheVariants.{IPV4}
 use Rattle.turn_agent.specs.TransactionIds.{Source, behind_id}
-use Rattle.turn_agent.specs.Agent.{first_sent}
+use Rattle.turn_agent.specs.Agent.{due, first_sent}
 use Rattle.turn_agent.specs.declared.transaction.Transaction.{Transaction}
-use Rattle.turn_client_api.specs.State.{State, seconds}
+use Rattle.turn_client_api.specs.State.{State, agent_of, seconds}
 use Rattle.turn_client_api.specs.declared.state.Phase.TheVariants.{New, Allocated}
 use Rattle.turn_client_api.specs.declared.call.Call.{Call}
-use Rattle.turn_client_api.specs.declared.call.Call.TheVariants.{BindChannel, Recv, PollTransmit, PollEvent}
+use Rattle.turn_client_api.specs.declared.call.Call.TheVariants.{BindChannel, Recv, Poll, PollTransmit, PollEvent}
 use Rattle.turn_client_api.specs.declared.grant.Grant.{Grant}
 use Rattle.turn_client_api.specs.declared.grant.Grant.TheVariants.{Allocation, Channel, Permission}
 use Rattle.turn_client_api.specs.declared.grant.Progress.TheVariants.{Pending}
@@ -32,12 +32,14 @@ use Rattle.turn_client_api.specs.Requests.{asked_lifetime, fresh_id, listings, r
 use Rattle.turn_client_api.specs.Steps.{state_after, state_after_all}
 use Rattle.turn_client_api.specs.Transmit.{is_refresh_due}
 use Rattle.turn_client_laws.specs.LawsRows.{granted_at, ip_of_peer, peer, relayed_v4}
-use Rattle.turn_client_laws.proofs.HasLemmas.{Has, all-has}
+use Rattle.turn_client_laws.proofs.HasLemmas.{Has, all-has, has-all}
 use Rattle.turn_client_laws.proofs.TimelyLemmas.{poll-timely}
 use Rattle.turn_client_runs.specs.Lasting.{HasRoom, IsInForce, IsSteady, IsSuccess, IsWithin, RunsSteadily, ahead_of, expiry_of}
 use Rattle.turn_client_runs.specs.LastingRows.{RelayStaysUp, with_allocation, calls_of_700_s, granted_call, refreshed_grants, served}
+use Rattle.turn_client_runs.specs.History.{History, IsSeldom, is_extra, no_history, with_call}
 use Rattle.turn_client_runs.specs.OnTime.{IsOnTime}
 use Rattle.turn_client_runs.specs.Server.{from_server, success_for}
+use Rattle.turn_client_runs.proofs.LastingHistory.{call-made}
 use Rattle.turn_client_runs.proofs.LastingRuns.{received}
 use Rattle.turn_client_runs.proofs.ServerLemmas.{IsReplyFor, requests-can-be-granted, success-read}
 
@@ -79,14 +81,35 @@ at-once now s range = record { later = omega arith; in_range = range; punctual =
 abbrev pub delay : ℕ
 delay = 100_000_000
 
+-- no packet was extra, and each outstanding request was made when it was sent
+abbrev FitsPast : History → State → Type 0
+FitsPast past s = (past.extra ≡ []) × All (λ x. past.made x.id ≡ x.last_send) s.transactions
+
 -- the rest of the run is steady, and ends with these grants
 abbrev Goes : ℕ → State → List Call → Type 0
-Goes before s calls = RunsSteadily 3 1 delay before s calls × ((state_after_all s calls).grants ≡ refreshed_grants)
+Goes before s calls = ((past : History) → FitsPast past s → RunsSteadily 3 1 0 delay before past s calls) × ((state_after_all s calls).grants ≡ refreshed_grants)
+
+seldom-none : (ahead now : ℕ) (past : History) → past.extra ≡ [] → IsSeldom 0 ahead now past
+seldom-none ahead now past none since within = rw none (omega arith)
+
+no-extra : (call : Call) (now : ℕ) (s : State) (past : History) → past.extra ≡ [] → is_extra call s ≡ false → (with_call call now s past).extra ≡ []
+no-extra call now s past none e = rw (e, none) refl
+
+answered-in : (now : ℕ) (past : History) (s : State) → FitsPast past s → All (λ x. now ≤ x.last_send + delay) s.transactions → All (λ x. now ≤ past.made x.id + delay) s.transactions
+answered-in now past s fits waits = all-has (λ (x : Transaction). now ≤ past.made x.id + delay) s.transactions by
+  where
+    by : (x : Transaction) → Has x s.transactions → now ≤ past.made x.id + delay
+    by x h =
+        let made = has-all (λ (x : Transaction). past.made x.id ≡ x.last_send) x s.transactions fits.1 h in
+        let late = has-all (λ (x : Transaction). now ≤ x.last_send + delay) x s.transactions waits h in
+        omega (arith, made, late)
 
 -- the state before a request is sent, after that, after its reply, and after the events
 pub record IsRound (before now id : ℕ) (purpose : Purpose) (others : List Purpose) (text : List ℕ) (s u r v : State) : Type 0 where
   on_time : IsOnTime before now s
   waits : All (λ x. now ≤ x.last_send + delay) s.transactions
+  idle : due (agent_of s) now ≡ None
+  made : (past : History) → FitsPast past s → (with_call (PollTransmit now) now s past).made id ≡ now
   sends : state_after (PollTransmit now) s ≡ u
   transactions : u.transactions ≡ first_sent id u.remote now text ∷ []
   listed : u.listed ≡ listings id (purpose ∷ others)
@@ -99,6 +122,7 @@ pub record IsRound (before now id : ℕ) (purpose : Purpose) (others : List Purp
   awaits : IsOnTime now (now + delay) u
   replied : (message : List ℕ) → IsReplyFor purpose id message → (response_step true message (now + delay) u).1 ≡ r
   answered : r.transactions ≡ []
+  calm : r.challenges ≡ 0
   told : state_after PollEvent (state_after PollEvent r) ≡ v
   within_u : IsWithin 3 1 u
   within_r : IsWithin 3 1 r
@@ -120,46 +144,97 @@ module _ (before now id last : ℕ) (later : List ℕ) (purpose : Purpose) (othe
   waits-u : All (λ x. now + delay ≤ x.last_send + delay) u.transactions
   waits-u = rw is.transactions (all-one (λ (x : Transaction). now + delay ≤ x.last_send + delay) (first_sent id u.remote now text) (omega arith))
 
-  waits-r : All (λ x. now + delay ≤ x.last_send + delay) r.transactions
-  waits-r = rw is.answered (all-none (λ (x : Transaction). now + delay ≤ x.last_send + delay))
+  -- nothing is outstanding after the reply
+  fits-r : (past : History) → All (λ x. past.made x.id ≡ x.last_send) r.transactions
+  fits-r past = rw is.answered (all-none (λ (x : Transaction). past.made x.id ≡ x.last_send))
+
+  waits-r : (past : History) → All (λ x. now + delay ≤ past.made x.id + delay) r.transactions
+  waits-r past = rw is.answered (all-none (λ (x : Transaction). now + delay ≤ past.made x.id + delay))
 
   -- the events do not change this
-  waits-e : All (λ x. now + delay ≤ x.last_send + delay) (state_after PollEvent r).transactions
-  waits-e = waits-r
+  waits-e : (past : History) → All (λ x. now + delay ≤ past.made x.id + delay) (state_after PollEvent r).transactions
+  waits-e past = waits-r past
 
   tail : Goes (now + delay) v (served last later v) → Goes (now + delay) r (PollEvent ∷ PollEvent ∷ served last later (state_after PollEvent (state_after PollEvent r)))
-  tail (runs, ends) =
-      let rest : RunsSteadily 3 1 delay (now + delay) (state_after PollEvent (state_after PollEvent r)) (served last later (state_after PollEvent (state_after PollEvent r))) =
-      subst (λ (x : State). RunsSteadily 3 1 delay (now + delay) x (served last later x)) (sym is.told) runs in
-      let over : (state_after_all (state_after PollEvent (state_after PollEvent r)) (served last later (state_after PollEvent (state_after PollEvent r)))).grants ≡ refreshed_grants =
-      subst (λ (x : State). (state_after_all x (served last later x)).grants ≡ refreshed_grants) (sym is.told) ends in
-      let within-v : IsWithin 3 1 (state_after PollEvent (state_after PollEvent r)) = subst (IsWithin 3 1) (sym is.told) is.within_v in (
-        (
-          record { on_time = at-once (now + delay) r is.in_range; answered = waits-r },
-          tt,
-          is.within_r,
-          (record { on_time = at-once (now + delay) (state_after PollEvent r) is.in_range; answered = waits-e }, tt, within-v, rest),
-        ),
-        over,
-      )
+  tail (runs, ends) = (steady, over)
+    where
+      within-v : IsWithin 3 1 (state_after PollEvent (state_after PollEvent r))
+      within-v = subst (IsWithin 3 1) (sym is.told) is.within_v
+
+      over : (state_after_all (state_after PollEvent (state_after PollEvent r)) (served last later (state_after PollEvent (state_after PollEvent r)))).grants ≡ refreshed_grants
+      over = subst (λ (x : State). (state_after_all x (served last later x)).grants ≡ refreshed_grants) (sym is.told) ends
+
+      fits-v : (past : History) → All (λ x. past.made x.id ≡ x.last_send) v.transactions
+      fits-v past = subst (λ (x : State). All (λ (y : Transaction). past.made y.id ≡ y.last_send) x.transactions) is.told (fits-r past)
+
+      rest : (past : History) → past.extra ≡ []
+          → RunsSteadily 3 1 0 delay (now + delay) past (state_after PollEvent (state_after PollEvent r)) (served last later (state_after PollEvent (state_after PollEvent r)))
+      rest past none = subst (λ (x : State). RunsSteadily 3 1 0 delay (now + delay) past x (served last later x)) (sym is.told) (runs past (none, fits-v past))
+
+      steady : (past : History) → FitsPast past r → RunsSteadily 3 1 0 delay (now + delay) past r (PollEvent ∷ PollEvent ∷ served last later (state_after PollEvent (state_after PollEvent r)))
+      steady past fits =
+          let one = with_call PollEvent (now + delay) r past in
+          let two = with_call PollEvent (now + delay) (state_after PollEvent r) one in (
+            record { on_time = at-once (now + delay) r is.in_range; answered = waits-r past },
+            tt,
+            is.within_r,
+            seldom-none r.config.refresh_ahead (now + delay) one fits.0,
+            (
+              record { on_time = at-once (now + delay) (state_after PollEvent r) is.in_range; answered = waits-e one },
+              tt,
+              within-v,
+              seldom-none r.config.refresh_ahead (now + delay) two fits.0,
+              rest two fits.0,
+            ),
+          )
+
+  calm : is_extra reply u ≡ false
+  calm = subst (λ (x : State). nat_lt u.challenges x.challenges ≡ false) (sym after-reply) (rw is.calm (le-ltb u.challenges 0 (omega arith)))
 
   after-u : Goes (now + delay) v (served last later v)
       → Goes now u (granted_call (now + delay) u ∷ PollEvent ∷ PollEvent ∷ served last later (state_after PollEvent (state_after PollEvent (state_after (granted_call (now + delay) u) u))))
-  after-u goes = subst (λ (call : Call). Goes now u (call ∷ PollEvent ∷ PollEvent ∷ served last later (state_after PollEvent (state_after PollEvent (state_after call u))))) (sym reply-is) by
+  after-u goes = subst (λ (call : Call). Goes now u (call ∷ PollEvent ∷ PollEvent ∷ served last later (state_after PollEvent (state_after PollEvent (state_after call u))))) (sym reply-is) (by, rest.1)
     where
-      by : Goes now u (reply ∷ PollEvent ∷ PollEvent ∷ served last later (state_after PollEvent (state_after PollEvent (state_after reply u))))
-      by =
-          let rest = subst (λ (x : State). Goes (now + delay) x (PollEvent ∷ PollEvent ∷ served last later (state_after PollEvent (state_after PollEvent x)))) (sym after-reply) (tail goes) in
-          let within = subst (IsWithin 3 1) (sym after-reply) is.within_r in
-          ((record { on_time = is.awaits; answered = waits-u }, inl success, within, rest.0), rest.1)
+      rest : Goes (now + delay) (state_after reply u) (PollEvent ∷ PollEvent ∷ served last later (state_after PollEvent (state_after PollEvent (state_after reply u))))
+      rest = subst (λ (x : State). Goes (now + delay) x (PollEvent ∷ PollEvent ∷ served last later (state_after PollEvent (state_after PollEvent x)))) (sym after-reply) (tail goes)
+
+      fits-next : (past : History) → All (λ x. past.made x.id ≡ x.last_send) (state_after reply u).transactions
+      fits-next past = subst (λ (x : State). All (λ (y : Transaction). past.made y.id ≡ y.last_send) x.transactions) (sym after-reply) (fits-r past)
+
+      by : (past : History) → FitsPast past u → RunsSteadily 3 1 0 delay now past u (reply ∷ PollEvent ∷ PollEvent ∷ served last later (state_after PollEvent (state_after PollEvent (state_after reply u))))
+      by past fits =
+          let next = with_call reply (now + delay) u past in
+          let none = no-extra reply (now + delay) u past fits.0 calm in (
+            record { on_time = is.awaits; answered = answered-in (now + delay) past u fits waits-u },
+            inl success,
+            subst (IsWithin 3 1) (sym after-reply) is.within_r,
+            seldom-none u.config.refresh_ahead (now + delay) next none,
+            rest.0 next (none, fits-next next),
+          )
 
   pub round : Goes (now + delay) v (served last later v) → Goes before s (served last (now ∷ later) s)
-  round goes =
-      let rest = subst (λ (x : State). Goes now x (granted_call (now + delay) x ∷ PollEvent ∷ PollEvent
-      ∷ served last later (state_after PollEvent (state_after PollEvent (state_after (granted_call (now + delay) x) x)))))
-      (sym is.sends) (after-u goes) in
-      let within = subst (IsWithin 3 1) (sym is.sends) is.within_u in
-      ((record { on_time = is.on_time; answered = is.waits }, tt, within, rest.0), rest.1)
+  round goes = (by, rest.1)
+    where
+      rest : Goes now (state_after (PollTransmit now) s) (granted_call (now + delay) (state_after (PollTransmit now) s) ∷ PollEvent ∷ PollEvent
+          ∷ served last later (state_after PollEvent (state_after PollEvent (state_after (granted_call (now + delay) (state_after (PollTransmit now) s)) (state_after (PollTransmit now) s)))))
+      rest = subst (λ (x : State). Goes now x (granted_call (now + delay) x ∷ PollEvent ∷ PollEvent
+          ∷ served last later (state_after PollEvent (state_after PollEvent (state_after (granted_call (now + delay) x) x)))))
+          (sym is.sends) (after-u goes)
+
+      fits-next : (past : History) → past.made id ≡ now → All (λ x. past.made x.id ≡ x.last_send) (state_after (PollTransmit now) s).transactions
+      fits-next past made = subst (λ (x : State). All (λ (y : Transaction). past.made y.id ≡ y.last_send) x.transactions) (sym is.sends)
+          (rw is.transactions (all-one (λ (x : Transaction). past.made x.id ≡ x.last_send) (first_sent id u.remote now text) made))
+
+      by : (past : History) → FitsPast past s → RunsSteadily 3 1 0 delay before past s (served last (now ∷ later) s)
+      by past fits =
+          let next = with_call (PollTransmit now) now s past in
+          let none = no-extra (PollTransmit now) now s past fits.0 (rw is.idle refl) in (
+            record { on_time = is.on_time; answered = answered-in now past s fits is.waits },
+            tt,
+            subst (IsWithin 3 1) (sym is.sends) is.within_u,
+            seldom-none s.config.refresh_ahead now next none,
+            rest.0 next (none, fits-next next (is.made past fits)),
+          )
 
 -- ---- the states of the run
 
@@ -224,6 +299,8 @@ module _ (before now time a p c a' p' c' : ℕ) (ids : Source) (purpose : Purpos
   refreshed sent punctual sends told later range replied = record {
     on_time = punctual;
     waits = all-none (λ (x : Transaction). now ≤ x.last_send + delay);
+    idle = refl;
+    made = λ past fits. call-made (PollTransmit now) now past (old sent);
     sends = sends;
     transactions = refl;
     listed = refl;
@@ -236,6 +313,7 @@ module _ (before now time a p c a' p' c' : ℕ) (ids : Source) (purpose : Purpos
     awaits = on-time now time (now + delay) (asked sent) (fits (asked sent) refl refl) (three-housed sent a p c ids s) told (omega (arith, later)) (omega arith) later range;
     replied = replied;
     answered = refl;
+    calm = refl;
     told = refl;
     within_u = (omega arith, omega arith);
     within_r = (omega arith, omega arith);
@@ -349,10 +427,20 @@ module _ (s : State) (some : IsSome s.held) where
   pub replied-1 : (id : ℕ) (text message : List ℕ) → IsReplyFor (ForChannel 0x4000 peer) id message → (response_step true message 1_100_000_000 (bind_sent id text)).1 ≡ granted_bind
   replied-1 id text message is = rw (is.named, is.of_method, eqb-self id, eqb-self id) refl
 
+  -- when the packet leaves the queue, its request was made just now
+  made-1 : (past : History) → FitsPast past queued_bind → (with_call (PollTransmit 1_000_000_000) 1_000_000_000 queued_bind past).made id1 ≡ 1_000_000_000
+  made-1 past fits = by (eqb id1 (fresh_id queued_bind))
+    where
+      by : (b : Bool) → cond b 1_000_000_000 (past.made id1) ≡ 1_000_000_000
+      by true = refl
+      by false = has-all (λ (x : Transaction). past.made x.id ≡ x.last_send) (first_sent id1 s.remote 1_000_000_000 text1) queued_bind.transactions fits.1 (inl refl)
+
   pub round-1 : IsRound 1_000_000_000 1_000_000_000 id1 (ForChannel 0x4000 peer) (ForPermission ip_of_peer ∷ []) text1 queued_bind sent_bind granted_bind s1
   round-1 = record {
     on_time = at-once 1_000_000_000 queued_bind (omega arith);
     waits = all-one (λ (x : Transaction). 1_000_000_000 ≤ x.last_send + delay) (first_sent id1 s.remote 1_000_000_000 text1) (omega arith);
+    idle = refl;
+    made = λ past fits. made-1 past fits;
     sends = refl;
     transactions = refl;
     listed = refl;
@@ -365,6 +453,7 @@ module _ (s : State) (some : IsSome s.held) where
     awaits = on-time 1_000_000_000 1_500_000_000 1_100_000_000 sent_bind (fits sent_bind refl refl) bind-housed told-bind (omega arith) (omega arith) (omega arith) (omega arith);
     replied = replied-1 id1 text1;
     answered = refl;
+    calm = refl;
     told = refl;
     within_u = (omega arith, omega arith);
     within_r = (omega arith, omega arith);
@@ -469,10 +558,11 @@ module _ (s : State) (some : IsSome s.held) where
 
   last-poll : Goes 541_200_000_000 s5 (served (seconds 700) [] s5)
   last-poll = (
-    (
-      record { on_time = punctual-6; answered = all-none (λ (x : Transaction). 700_000_000_000 ≤ x.last_send + delay) },
+    λ past fits. (
+      record { on_time = punctual-6; answered = all-none (λ (x : Transaction). 700_000_000_000 ≤ past.made x.id + delay) },
       tt,
       subst (λ (q : TurnPollRet × State). IsWithin 3 1 q.1) (sym told-6) (omega arith, omega arith),
+      seldom-none 60_000_000_000 700_000_000_000 (with_call (Poll 700_000_000_000) 700_000_000_000 s5 past) fits.0,
       tt,
     ),
     ap (λ (q : TurnPollRet × State). q.1.grants) told-6,
@@ -498,7 +588,7 @@ module _ (s : State) (some : IsSome s.held) where
   from-1 = round 1_000_000_000 1_000_000_000 id1 (seconds 700) (241_100_000_000 ∷ 481_200_000_000 ∷ 540_200_000_000 ∷ 541_100_000_000 ∷ [])
       (ForChannel 0x4000 peer) (ForPermission ip_of_peer ∷ []) text1 queued_bind sent_bind granted_bind s1 round-1 from-2
 
-  begins : IsSteady 3 1 delay 200_000_000 s0
+  begins : IsSteady 3 1 0 delay 200_000_000 s0
   unfolding IsDistinct
   begins = record {
     allocated = refl;
@@ -508,7 +598,7 @@ module _ (s : State) (some : IsSome s.held) where
     sent_before = omega arith;
     in_force = all-one (IsInForce 200_000_000) (new_allocation 600 200_000_000 relayed_v4) (refl, omega arith);
     none_late = all-one (λ g. 200_000_000 + ahead_of 60_000_000_000 g ≤ expiry_of g) (new_allocation 600 200_000_000 relayed_v4) (omega arith);
-    room = all-one (λ g. HasRoom 3 1 50_000_000 delay (ahead_of 60_000_000_000 g)) (new_allocation 600 200_000_000 relayed_v4) (omega arith);
+    room = all-one (λ g. HasRoom 3 1 0 50_000_000 delay (ahead_of 60_000_000_000 g)) (new_allocation 600 200_000_000 relayed_v4) (omega arith);
     room_for_more = omega arith;
     within = (omega arith, omega arith);
     distinct = (tt, tt);
@@ -517,22 +607,36 @@ module _ (s : State) (some : IsSome s.held) where
     in_range = omega arith;
   }
 
+  fits-0 : FitsPhaseForPoll s0
+  fits-0 = fits s0 refl refl
+
   goes : Goes 200_000_000 s0 (calls_of_700_s s0)
-  goes =
-      let rest = subst (λ (x : State). Goes 1_000_000_000 x (served (seconds 700) (1_000_000_000 ∷ 241_100_000_000 ∷ 481_200_000_000 ∷ 540_200_000_000 ∷ 541_100_000_000 ∷ []) x)) (sym binds) from-1 in
-      let within = subst (IsWithin 3 1) (sym binds) (omega arith, omega arith) in (
-        (
-          record {
-            on_time = on-time 200_000_000 540_200_000_000 1_000_000_000 s0 (fits s0 refl refl) (all-one (HasAllocation s0) (new_allocation 600 200_000_000 relayed_v4) refl) told-0
-                (omega arith) (omega arith) (omega arith) (omega arith);
-            answered = all-none (λ (x : Transaction). 1_000_000_000 ≤ x.last_send + delay);
-          },
-          tt,
-          within,
-          rest.0,
-        ),
-        rest.1,
-      )
+  goes = (by, rest.1)
+    where
+      rest : Goes 1_000_000_000 bound (served (seconds 700) (1_000_000_000 ∷ 241_100_000_000 ∷ 481_200_000_000 ∷ 540_200_000_000 ∷ 541_100_000_000 ∷ []) bound)
+      rest = subst (λ (x : State). Goes 1_000_000_000 x (served (seconds 700) (1_000_000_000 ∷ 241_100_000_000 ∷ 481_200_000_000 ∷ 540_200_000_000 ∷ 541_100_000_000 ∷ []) x)) (sym binds) from-1
+
+      fits-bound : (past : History) → past.made id1 ≡ 1_000_000_000 → All (λ x. past.made x.id ≡ x.last_send) bound.transactions
+      fits-bound past made = subst (λ (x : State). All (λ (y : Transaction). past.made y.id ≡ y.last_send) x.transactions) (sym binds)
+          (all-one (λ (x : Transaction). past.made x.id ≡ x.last_send) (first_sent id1 s.remote 1_000_000_000 text1) made)
+
+      by : (past : History) → FitsPast past s0 → RunsSteadily 3 1 0 delay 200_000_000 past s0 (calls_of_700_s s0)
+      by past fits =
+          let next = with_call (BindChannel Udp peer 1_000_000_000) 1_000_000_000 s0 past in (
+            record {
+              on_time = on-time 200_000_000 540_200_000_000 1_000_000_000 s0 fits-0 (all-one (HasAllocation s0) (new_allocation 600 200_000_000 relayed_v4) refl) told-0
+                  (omega arith) (omega arith) (omega arith) (omega arith);
+              answered = all-none (λ (x : Transaction). 1_000_000_000 ≤ past.made x.id + delay);
+            },
+            tt,
+            subst (IsWithin 3 1) (sym binds) (omega arith, omega arith),
+            seldom-none 60_000_000_000 1_000_000_000 next fits.0,
+            rest.0 next (fits.0, fits-bound next (call-made (BindChannel Udp peer 1_000_000_000) 1_000_000_000 past s0)),
+          )
+
+-- whatever came before, if no packet was extra
+pub relay-runs : (s : State) → IsSome s.held → (past : History) → past.extra ≡ [] → RunsSteadily 3 1 0 100_000_000 200_000_000 past (with_allocation s) (calls_of_700_s (with_allocation s))
+relay-runs s some past none = (goes s some).0 past (none, all-none (λ (x : Transaction). past.made x.id ≡ x.last_send))
 
 pub relay-stays-up : RelayStaysUp
-relay-stays-up s some = record { begins = begins s some; runs = (goes s some).0; refreshes = (goes s some).1 }
+relay-stays-up s some = record { begins = begins s some; runs = relay-runs s some no_history refl; refreshes = (goes s some).1 }

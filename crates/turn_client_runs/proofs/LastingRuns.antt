@@ -1,6 +1,6 @@
 -- No grant is lost in a run.
 use Rattle.std.proofs.Common.{◌≡◌, ◌⊎◌, ℕ, ◌+◌, ◌<◌, ◌≤◌, Bool, true, false, cond, not, leb, eqb, List, [], ◌∷◌, ◌++◌, length, drop, Option, Some, None, refl, inl, inr, ap, sym, subst, ◌∙◌, arith}
-use Rattle.std.specs.Prelude.{filter, filter_map, find, is_some, Ok, Err}
+use Rattle.std.specs.Prelude.{filter, filter_map, find, is_some, IsSome, nat_lt, Ok, Err}
 use Rattle.std.specs.Net.Socket.{socket_ip}
 use Rattle.turn_stun.specs.declared.transport.TransportType.{TransportType}
 use Rattle.turn_stun.specs.declared.transport.TransportType.TheVariants.{Tcp}
@@ -12,18 +12,20 @@ use Rattle.turn_client_api.specs.Requests.{to_server}
 use Rattle.turn_types.specs.Channel.{channel_frame}
 use Rattle.turn_client_api.specs.Calls.{active_channel, as_indication, bound_to, can_send_to, on_channel, on_connection, send_over, send_to_step}
 use Rattle.std.specs.List.{Contains, list_any}
-use Rattle.std.proofs.lemmas.Bool.{cases_Bool, eqb-true, eq-eqb}
+use Rattle.std.proofs.lemmas.Bool.{cases_Bool, eqb-true, eq-eqb, lt-ltb}
+use Rattle.std.proofs.lemmas.List.{length-append}
+use Rattle.std.specs.Option.{option_map_or}
 use Rattle.std.specs.declared.net.socket_addr.SocketAddr.{SocketAddr}
 use Rattle.turn_stun.specs.Message.{id_of}
-use Rattle.turn_stun.specs.declared.message.header.MessageClass.TheVariants.{Success}
+use Rattle.turn_stun.specs.declared.message.header.MessageClass.TheVariants.{Error, Success}
 use Rattle.turn_stun.specs.declared.transport.TransportType.TheVariants.{Udp}
 use Rattle.turn_stun.specs.declared.transport.Transmit.{Transmit}
 use Rattle.turn_auth.specs.Validation.{IsValidated, validation_of}
 use Rattle.turn_auth.specs.declared.validation.Validation.{Validation}
 use Rattle.turn_auth.specs.declared.validation.Validation.TheVariants.{Validated, ResendRequest, Refused}
-use Rattle.turn_agent.specs.Agent.{is_outstanding}
+use Rattle.turn_agent.specs.Agent.{due, is_outstanding, resent}
 use Rattle.turn_agent.specs.declared.transaction.Transaction.{Transaction}
-use Rattle.turn_client_api.specs.State.{State, auth_of}
+use Rattle.turn_client_api.specs.State.{State, agent_of, auth_of}
 use Rattle.turn_client_api.specs.declared.state.Phase.TheVariants.{Allocated}
 use Rattle.turn_client_api.specs.declared.grant.Grant.{Grant}
 use Rattle.turn_client_api.specs.declared.grant.Grant.TheVariants.{Allocation, Permission, Channel}
@@ -32,20 +34,27 @@ use Rattle.turn_client_api.specs.declared.grant.Listing.{Listing}
 use Rattle.turn_client_api.specs.declared.grant.Purpose.{Purpose}
 use Rattle.turn_client_api.specs.declared.grant.Purpose.TheVariants.{ForPermission, ForChannel}
 use Rattle.turn_client_api.specs.Grants.{family_of_grant, is_for, purposes_of, same_ip}
-use Rattle.turn_client_api.specs.Judgement.{SignedSuccess, class_in, judgement_of}
+use Rattle.turn_client_api.specs.Judgement.{Challenged, SignedSuccess, challenge_in, class_in, judgement_of}
+use Rattle.turn_client_api.specs.Retry.{retried, state_after_retry}
+use Rattle.turn_auth.specs.LongTerm.{Challenge}
 use Rattle.turn_client_api.specs.Effect.{transaction_ended}
-use Rattle.turn_client_api.specs.Payloads.{Outcome, datagram_step, message_step, response_step, signed_step}
+use Rattle.turn_client_api.specs.Payloads.{Handled, Ignored, Outcome, challenge_step, datagram_step, message_step, response_step, signed_step}
+use Rattle.turn_client_api.specs.Calls.{bind_channel_step, create_permission_step}
+use Rattle.turn_client_api.specs.Poll.{poll_step}
+use Rattle.turn_client_api.specs.Transmit.{transmit_step}
+use Rattle.turn_client_api.specs.Requests.{fresh_id}
 use Rattle.turn_client_api.specs.Steps.{packet_step, state_after, state_after_all}
 use Rattle.turn_client_api.specs.declared.call.Call.{Call}
 use Rattle.turn_client_api.specs.declared.call.Call.TheVariants.{BindChannel, CreatePermission, Recv, Poll, PollTransmit, PollEvent, SendTo}
 use Rattle.turn_client_laws.proofs.HasLemmas.{Has, filter-has, has-all, has-filter, map-has}
-use Rattle.turn_client_laws.proofs.InAllocationLemmas.{room-of}
+use Rattle.turn_client_laws.proofs.InAllocationLemmas.{any-has, has-any, room-of}
 use Rattle.turn_client_laws.proofs.TwoPurposes.{purpose-with}
 use Rattle.turn_client_runs.specs.LastingRuns.{LastsThrough}
-use Rattle.turn_client_runs.specs.Lasting.{with_expiry, IsRequested, RequestsSucceed, as_granted, Answers, DatagramsAreMessages, GrantsLast, HasRoom, HasStill, IsInForce, IsQuiet, IsSteady, IsSuccess}
+use Rattle.turn_client_runs.specs.Lasting.{AreInTime, IsChallenge, with_expiry, IsRequested, RequestsSucceed, as_granted, Answers, DatagramsAreMessages, GrantsLast, HasRoom, HasStill, IsInForce, IsQuiet, IsSteady, IsSuccess}
 use Rattle.turn_client_runs.specs.Lasting.{IsWithin, RunsSteadily, SuccessesEndRequests, ahead_of, expiry_of}
 use Rattle.turn_client_runs.proofs.MadeLemmas.{success-ends}
-use Rattle.turn_client_runs.specs.OnTime.{IsFromServer, IsInTime, time_of, time_of_all}
+use Rattle.turn_client_runs.specs.OnTime.{IsFromServer, time_of, time_of_all}
+use Rattle.turn_client_runs.specs.History.{History, IsSeldom, is_extra, no_history, with_call}
 use Rattle.turn_client_runs.proofs.LastingStands.{Follows, Goes, IsPending, IsWell, goes-more, goes-trans, is_waiting, AreSingle, IsAwaited, IsGranted, IsIdle, IsKept, IsUnique, Stands, not-waiting}
 use Rattle.turn_client_runs.proofs.LastingStands.{pause-le, stands-early}
 use Rattle.turn_client_runs.proofs.LastingCounts.{passes}
@@ -54,7 +63,8 @@ use Rattle.turn_client_laws.specs.LawsDoubles.{is_double}
 use Rattle.turn_client_laws.proofs.AddressLemmas.{same_ip-true}
 use Rattle.turn_client_laws.proofs.StandLemmas.{contains-has, has-contains}
 use Rattle.std.specs.List.{AllByRecursion, IsDistinct}
-use Rattle.turn_client_runs.proofs.LastingSends.{none-due, none-over}
+use Rattle.turn_client_runs.proofs.LastingAgain.{IsOneMore, goes-again, goes-retried, kept-again, kept-retried, retried-queue}
+use Rattle.turn_client_runs.proofs.LastingHistory.{GoesOn, call-extra, call-goes_on, call-made, goes-later, kept-later, none-over_yet}
 use Rattle.turn_client_runs.proofs.LastingTime.{time-kept}
 use Rattle.turn_client_runs.proofs.LastingPolls.{AllEarly, kept-aside, polls}
 use Rattle.turn_client_runs.proofs.LastingTransmits.{transmit-kept}
@@ -103,10 +113,10 @@ success-ended packet now s p is =
 -- ---- what is left is kept
 
 -- no grant is lost by the call
-abbrev pub KeepsAll : ℕ → ℕ → ℕ → ℕ → State → State → Type 0
-KeepsAll count slots delay now s t = IsKept count slots delay now t.transactions t × Goes s.transactions t.transactions s t
+abbrev pub KeepsAll : ℕ → ℕ → ℕ → ℕ → ℕ → History → History → State → State → Type 0
+KeepsAll count slots extras delay now past later s t = IsKept count slots extras delay now later t.transactions t × Goes past later s.transactions t.transactions s t
 
-module _ (count slots delay now : ℕ) (s : State) (k : IsKept count slots delay now s.transactions s) (message : List ℕ) (answers : Answers message (purposes_of (id_of message) s)) where
+module _ (count slots extras delay now : ℕ) (past : History) (s : State) (k : IsKept count slots extras delay now past s.transactions s) (message : List ℕ) (answers : Answers message (purposes_of (id_of message) s)) where
   abbrev id : ℕ
   id = id_of message
 
@@ -116,18 +126,18 @@ module _ (count slots delay now : ℕ) (s : State) (k : IsKept count slots delay
   abbrev t : State
   t = (response_step true message now s).1
 
-  stands-ended : (g : Grant) → Stands count slots delay now s.transactions s g → Stands count slots delay now s.transactions (transaction_ended (id_of message) s) g
+  stands-ended : (g : Grant) → Stands count slots extras delay now past s.transactions s g → Stands count slots extras delay now past s.transactions (transaction_ended (id_of message) s) g
   stands-ended g was = record {
     granted = was.granted;
     room = was.room;
     long = was.long;
-    either = elim was.either [ inl a ↦ inl a | inr idle ↦ inr (record { unasked = idle.unasked; soon = idle.soon; paused = idle.paused }) ];
+    either = elim was.either [ inl a ↦ inl a | inr idle ↦ inr (record { unasked = idle.unasked; near = idle.near; soon = idle.soon; paused = idle.paused }) ];
   }
 
   still : (x : Transaction) → Has x ended.transactions → Has x s.transactions
   still x h = (has-filter (λ (x : Transaction). not (eqb x.id id)) x s.transactions h).0
 
-  kept-ended : IsKept count slots delay now s.transactions ended
+  kept-ended : IsKept count slots extras delay now past s.transactions ended
   kept-ended = record {
     phase = k.phase;
     requests = k.requests;
@@ -135,8 +145,11 @@ module _ (count slots delay now : ℕ) (s : State) (k : IsKept count slots delay
     prompt = k.prompt;
     pace = k.pace;
     sent = k.sent;
-    young = λ x h. k.young x (still x h);
+    aged = λ x h. k.aged x (still x h);
+    lone = λ x y hx hy e. k.lone x y (still x hx) (still y hy) e;
+    begun = λ x h. k.begun x (still x h);
     heard = λ x h. k.heard x (still x h);
+    seldom = k.seldom;
     asked = k.asked;
     size = k.size;
     single = k.single;
@@ -152,8 +165,8 @@ module _ (count slots delay now : ℕ) (s : State) (k : IsKept count slots delay
   given : (p : Purpose) → Has p (purposes_of id ended) → IsGiven ended.grants p
   given p h = k.asked (record { id = id; purpose = p }) (purpose-with id p s h)
 
-  done : IsAnswered count slots delay now s.transactions (purposes_of id ended) ended t
-  done = all-answered message id count slots delay now s.transactions ended kept-ended given answers
+  done : IsAnswered count slots extras delay now past s.transactions (purposes_of id ended) ended t
+  done = all-answered message id count slots extras delay now past s.transactions ended kept-ended given answers
 
   -- what is listed under the ID is listed no more
   unlisted : (l : Listing) → Has l t.listed → l.id ≡ id → ⊥
@@ -168,13 +181,10 @@ module _ (count slots delay now : ℕ) (s : State) (k : IsKept count slots delay
       by false e = rw e refl
       by true e = absurd (other (eqb-true x.id id e))
 
-  was-there : (x : Transaction) → Has x t.transactions → Has x s.transactions
-  was-there x h = still x (subst (λ (xs : List Transaction). Has x xs) done.outstanding h)
-
-  stands-answered : (g : Grant) → Stands count slots delay now s.transactions t g → Stands count slots delay now t.transactions t g
+  stands-answered : (g : Grant) → Stands count slots extras delay now past s.transactions t g → Stands count slots extras delay now past t.transactions t g
   stands-answered g was = record { granted = was.granted; room = was.room; long = was.long; either = by was.either }
     where
-      by : IsAwaited delay s.transactions t.listed g ⊎ IsIdle slots now t g → IsAwaited delay t.transactions t.listed g ⊎ IsIdle slots now t g
+      by : IsAwaited delay past s.transactions t.listed g ⊎ IsIdle slots now past t g → IsAwaited delay past t.transactions t.listed g ⊎ IsIdle slots now past t g
       by (inl a) = inl (record {
         transaction = a.transaction;
         there = remains a.transaction a.there (λ e. unlisted a.listing a.within (sym a.same ∙ e));
@@ -187,7 +197,7 @@ module _ (count slots delay now : ℕ) (s : State) (k : IsKept count slots delay
       by (inr idle) = inr idle
 
   -- what awaits another reply awaits it still
-  pending-answered : (until : ℕ) (g : Grant) → IsPending until s.transactions t.listed g → IsPending until t.transactions t.listed g
+  pending-answered : (until : ℕ) (g : Grant) → IsPending until past s.transactions t.listed g → IsPending until past t.transactions t.listed g
   pending-answered until g a = record {
     transaction = a.transaction;
     there = remains a.transaction a.there (λ e. unlisted a.listing a.within (sym a.same ∙ e));
@@ -198,7 +208,7 @@ module _ (count slots delay now : ℕ) (s : State) (k : IsKept count slots delay
     sent = a.sent;
   }
 
-  goes-answered : Goes s.transactions t.transactions s t
+  goes-answered : Goes past past s.transactions t.transactions s t
   goes-answered = record {
     remain = done.goes.remain;
     follow = λ until g there waits pending. elim (done.goes.follow until g there waits pending) [
@@ -207,7 +217,7 @@ module _ (count slots delay now : ℕ) (s : State) (k : IsKept count slots delay
     ];
   }
 
-  pub kept-answered : KeepsAll count slots delay now s t
+  pub kept-answered : KeepsAll count slots extras delay now past past s t
   kept-answered = (
     record {
       phase = done.kept.phase;
@@ -216,8 +226,11 @@ module _ (count slots delay now : ℕ) (s : State) (k : IsKept count slots delay
       prompt = done.kept.prompt;
       pace = done.kept.pace;
       sent = done.kept.sent;
-      young = λ x h. k.young x (was-there x h);
-      heard = λ x h. k.heard x (was-there x h);
+      aged = done.kept.aged;
+      lone = done.kept.lone;
+      begun = done.kept.begun;
+      heard = done.kept.heard;
+      seldom = done.kept.seldom;
       asked = done.kept.asked;
       size = done.kept.size;
       single = done.kept.single;
@@ -254,63 +267,222 @@ sends P transport peer bytes now s each = by (can_send_to transport (socket_ip p
     by true Tcp = connection (find (bound_to peer) (filter_map as_connection s.grants))
 
 -- no grant and no request changes
-goes-same : (s t : State) → t.grants ≡ s.grants → t.transactions ≡ s.transactions → t.listed ≡ s.listed → Goes s.transactions t.transactions s t
-goes-same s t e f l =
-    goes-more s.transactions t.transactions s t e (λ x h. subst (λ (xs : List Transaction). Has x xs) (sym f) h) (λ m h. subst (λ (ls : List Listing). Has m ls) (sym l) h)
+goes-same : (past : History) (s t : State) → t.grants ≡ s.grants → t.transactions ≡ s.transactions → t.listed ≡ s.listed → Goes past past s.transactions t.transactions s t
+goes-same past s t e f l =
+    goes-more past s.transactions t.transactions s t e (λ x h. subst (λ (xs : List Transaction). Has x xs) (sym f) h) (λ m h. subst (λ (ls : List Listing). Has m ls) (sym l) h)
 
-all-early : (count slots delay now : ℕ) (s : State) → IsKept count slots delay now s.transactions s → AllEarly now s
-all-early count slots delay now s k g there = elim (k.each g there) [ inl (waits, pending) ↦ inl waits | inr stands ↦ inr (stands.granted, stands-early count slots delay now s k g there stands) ]
+all-early : (count slots extras delay now : ℕ) (past : History) (s : State) → IsKept count slots extras delay now past s.transactions s → AllEarly now s
+all-early count slots extras delay now past s k g there = elim (k.each g there) [ inl (waits, pending) ↦ inl waits | inr stands ↦ inr (stands.granted, stands-early count slots extras delay now past s k g there stands) ]
 
-call-kept : (count slots delay before : ℕ) (s : State) (call : Call) → IsKept count slots delay before s.transactions s → IsInTime delay before (time_of before call) s → IsQuiet call s
-    → IsWithin count slots (state_after call s) → KeepsAll count slots delay (time_of before call) s (state_after call s)
-call-kept count slots delay before s call k in_time quiet within = by call (time-kept count slots delay before (time_of before call) s k in_time) quiet within
+-- the challenge is answered
+challenge-judged : (message : List ℕ) (challenge : Challenge) (s : State) → s.phase ≡ Allocated → class_in message ≡ Error → challenge_in s message ≡ Some challenge → judgement_of s message ≡ Challenged challenge
+challenge-judged message challenge s p c o = rw (p, c, o) refl
+
+-- the request is made again, if it is known
+abbrev retry_step : List ℕ → Challenge → ℕ → State → Outcome × State
+retry_step message challenge now s =
+    option_map_or (λ purpose. (Handled, state_after_retry s (id_of message) purpose challenge now)) (retried (purposes_of (id_of message) s)) (Ignored, s)
+
+challenged : (packet : Transmit (List ℕ)) (now : ℕ) (s : State) (challenge : Challenge) → s.phase ≡ Allocated → IsChallenge packet now s → challenge_in s packet.payload ≡ Some challenge
+    → state_after (Recv packet now) s ≡ (retry_step packet.payload challenge now s).1
+challenged packet now s challenge p is o = is.message ∙ ap (λ (z : Outcome × State). z.1) (judged ∙ counted)
   where
-    asks-kept : (now : ℕ) → IsKept count slots delay now s.transactions s → Asks (λ t. IsWithin count slots t → KeepsAll count slots delay now s t) now s
-    asks-kept now k ps news text are w = (asked-kept count slots delay now s k ps news are text w.0 w.1, asked-goes count slots delay now s k ps news are text)
+    judged : message_step packet.payload now s ≡ challenge_step packet.payload challenge now s
+    judged = rw (challenge-judged packet.payload challenge s p is.error o) refl
 
-    by : (c : Call) → IsKept count slots delay (time_of before c) s.transactions s → IsQuiet c s → IsWithin count slots (state_after c s)
-        → KeepsAll count slots delay (time_of before c) s (state_after c s)
-    by (Poll now) k quiet within =
-        polls (KeepsAll count slots delay now s) now s k.phase (all-early count slots delay now s k)
-        (none-over delay now s k.prompt k.in_range k.young k.heard)
-        (λ closes. (kept-aside count slots delay now s.transactions s s.ids s.events closes k, goes-same s (record s { closes = closes }) refl refl refl))
-    by (PollTransmit now) k quiet within =
-        let (kept, goes) = transmit-kept count slots delay now s k (none-due delay now s k.prompt k.in_range k.young k.heard) in
-        (kept, goes)
-    by PollEvent k quiet within = (kept-aside count slots delay before s.transactions s s.ids (drop 1 s.events) s.closes k, goes-same s (record s { events = drop 1 s.events }) refl refl refl)
-    by (SendTo transport peer bytes now) k quiet within =
-        sends (KeepsAll count slots delay now s) transport peer bytes now s
-        (λ ids. (kept-aside count slots delay now s.transactions s ids s.events s.closes k, goes-same s (record s { ids = ids }) refl refl refl))
-    by (CreatePermission transport ip now) k quiet within =
-        creates (λ t. IsWithin count slots t → KeepsAll count slots delay now s t) count slots delay now s k (λ w. (k, goes-same s s refl refl refl)) (asks-kept now k) transport ip within
-    by (BindChannel transport peer now) k quiet within =
-        binds (λ t. IsWithin count slots t → KeepsAll count slots delay now s t) count slots delay now s k (λ w. (k, goes-same s s refl refl refl)) (asks-kept now k) transport peer within
-    by (Recv packet now) k (inl is) within =
-        subst (λ (x : State). KeepsAll count slots delay now s x) (sym (received packet now s k.phase is)) (kept-answered count slots delay now s k packet.payload is.answers)
-    by (Recv packet now) k (inr same) within = subst (KeepsAll count slots delay now s) (sym same) (k, goes-same s s refl refl refl)
-    by c k same within = subst (KeepsAll count slots delay (time_of before c) s) (sym same) (k, goes-same s s refl refl refl)
+    counted : challenge_step packet.payload challenge now s ≡ retry_step packet.payload challenge now s
+    counted = rw (lt-ltb s.challenges s.config.max_stale_nonces is.few) refl
 
-all-kept : (count slots delay before : ℕ) (s : State) (calls : List Call) → IsKept count slots delay before s.transactions s → RunsSteadily count slots delay before s calls
-    → KeepsAll count slots delay (time_of_all before calls) s (state_after_all s calls)
-all-kept count slots delay before s [] k run = (k, goes-same s s refl refl refl)
-all-kept count slots delay before s (call ∷ calls) k (in_time, quiet, within, run) =
-    let (kept, goes) = call-kept count slots delay before s call k in_time quiet within in
-    let (last, as_well) = all-kept count slots delay (time_of before call) (state_after call s) calls kept run in (
+module _ (count slots extras delay before : ℕ) (past : History) (s : State) where
+  abbrev Kept : ℕ → History → Type 0
+  Kept now later = IsKept count slots extras delay now later s.transactions s
+
+  abbrev Keeps : ℕ → History → History → State → Type 0
+  Keeps now first later t = KeepsAll count slots extras delay now first later s t
+
+  abbrev onward : Call → History
+  onward c = with_call c (time_of before c) s past
+
+  abbrev Seldom : Call → Type 0
+  Seldom c = IsSeldom extras s.config.refresh_ahead (time_of before c) (onward c)
+
+  -- with another history all is kept, and so it is after the call
+  calm : (c : Call) (t : State) → Kept (time_of before c) past → Seldom c → (Kept (time_of before c) (onward c) → Keeps (time_of before c) (onward c) (onward c) t) → Keeps (time_of before c) past (onward c) t
+  calm c t k seldom step =
+      let on = call-goes_on c (time_of before c) past s in
+      let (kept, goes) = step (kept-later count slots extras delay (time_of before c) past (onward c) s on seldom k) in
+      (kept, goes-later past (onward c) t.transactions s t on goes)
+
+  same-kept : (c : Call) → Kept (time_of before c) past → Seldom c → state_after c s ≡ s → Keeps (time_of before c) past (onward c) (state_after c s)
+  same-kept c k seldom same = subst (Keeps (time_of before c) past (onward c)) (sym same) (calm c s k seldom (λ k. (k, goes-same (onward c) s s refl refl refl)))
+
+  asks-kept : (now : ℕ) (later : History) → later.made (fresh_id s) ≡ now → Kept now later → Asks (λ t. IsWithin count slots t → Keeps now later later t) now s
+  asks-kept now later fresh k ps news text are w = (asked-kept count slots extras delay now later s k ps news are text fresh w.0 w.1, asked-goes count slots extras delay now later s k ps news are text fresh)
+
+  transmits-kept : (now : ℕ) → Kept now past → Seldom (PollTransmit now) → Keeps now past (onward (PollTransmit now)) (transmit_step now s).1
+  transmits-kept now k seldom = by (due (agent_of s) now) refl
+    where
+      by : (o : Option Transaction) → due (agent_of s) now ≡ o → Keeps now past (onward (PollTransmit now)) (transmit_step now s).1
+      by None e =
+          calm (PollTransmit now) (transmit_step now s).1 k seldom
+          (λ k. transmit-kept count slots extras delay now (onward (PollTransmit now)) s k (call-made (PollTransmit now) now past s) e)
+      by (Some x) e =
+          let on = call-goes_on (PollTransmit now) now past s in
+          let more = call-extra (PollTransmit now) now past s (subst (λ (o : Option Transaction). is_some o ≡ true) (sym e) refl) in
+          let is : record s { transactions = resent x.id now s.transactions; last_send = Some now } ≡ (transmit_step now s).1 = rw (e, transmit_step) refl in
+          subst (Keeps now past (onward (PollTransmit now))) is (
+            kept-again count slots extras delay now past (onward (PollTransmit now)) s k on more seldom x e,
+            goes-again count slots extras delay now past (onward (PollTransmit now)) s k on more seldom x e,
+          )
+
+  -- the server requires another nonce
+  module _ (packet : Transmit (List ℕ)) (now : ℕ) (k : Kept now past) (seldom : Seldom (Recv packet now)) (is : IsChallenge packet now s)
+      (within : IsWithin count slots (state_after (Recv packet now) s)) where
+    abbrev of_reply : ℕ
+    of_reply = id_of packet.payload
+
+    abbrev behind : History
+    behind = onward (Recv packet now)
+
+    fresh-made : behind.made (fresh_id s) ≡ cond (is_outstanding of_reply s.transactions) (past.made of_reply) now
+    fresh-made = call-made (Recv packet now) now past s
+
+    -- the transaction of an outstanding request
+    outstanding-there : is_outstanding of_reply s.transactions ≡ true → (x : Transaction) × Has x s.transactions × (x.id ≡ of_reply)
+    outstanding-there e = let (x, there, is) = any-has (λ (x : Transaction). eqb x.id of_reply) s.transactions e in (x, there, eqb-true x.id of_reply is)
+
+    retried-kept : (challenge : Challenge) (purpose : Purpose) → state_after (Recv packet now) s ≡ state_after_retry s of_reply purpose challenge now → Keeps now past behind (state_after (Recv packet now) s)
+    retried-kept challenge purpose e = subst (Keeps now past behind) (sym e) (
+      kept-retried count slots extras delay now past behind s k on more seldom of_reply purpose challenge fits early answered as-old,
+      goes-retried count slots extras delay now past behind s k on more seldom of_reply purpose challenge fits early answered as-old,
+    )
+      where
+        on : GoesOn s.transactions past behind
+        on = call-goes_on (Recv packet now) now past s
+
+        counts : is_extra (Recv packet now) s ≡ true
+        counts = subst (λ (x : State). nat_lt s.challenges x.challenges ≡ true) (sym e) (lt-ltb s.challenges (s.challenges + 1) (omega arith))
+
+        more : IsOneMore now past behind
+        more = call-extra (Recv packet now) now past s counts
+
+        fits : length s.queue + 1 ≤ slots
+        fits =
+            let few = (subst (IsWithin count slots) e within).1 in
+            let len = retried-queue s of_reply purpose challenge now in
+            omega (arith, few, len)
+
+        by-age : (b : Bool) → is_outstanding of_reply s.transactions ≡ b → (behind.made (fresh_id s) ≤ now) × (now ≤ behind.made (fresh_id s) + delay)
+        by-age false f =
+            let now_made : cond (is_outstanding of_reply s.transactions) (past.made of_reply) now ≡ now = rw f refl in
+            let made : behind.made (fresh_id s) ≡ now = fresh-made ∙ now_made in
+            (omega (arith, made), omega (arith, made))
+        by-age true f =
+            let (x, there, same) = outstanding-there f in
+            let as_old : cond (is_outstanding of_reply s.transactions) (past.made of_reply) now ≡ past.made of_reply = rw f refl in
+            let made : behind.made (fresh_id s) ≡ past.made of_reply = fresh-made ∙ as_old in
+            let as_x : past.made x.id ≡ past.made of_reply = ap past.made same in
+            let begun = k.begun x there in
+            let heard = k.heard x there in
+            (omega (arith, made, as_x, begun), omega (arith, made, as_x, heard))
+
+        early : behind.made (fresh_id s) ≤ now
+        early = (by-age (is_outstanding of_reply s.transactions) refl).0
+
+        answered : now ≤ behind.made (fresh_id s) + delay
+        answered = (by-age (is_outstanding of_reply s.transactions) refl).1
+
+        as-old : (x : Transaction) → Has x s.transactions → x.id ≡ of_reply → behind.made (fresh_id s) ≡ past.made x.id
+        as-old x there same =
+            let here : is_outstanding of_reply s.transactions ≡ true = has-any (λ (y : Transaction). eqb y.id of_reply) x s.transactions there (eq-eqb x.id of_reply same) in
+            let as_old : cond (is_outstanding of_reply s.transactions) (past.made of_reply) now ≡ past.made of_reply = rw here refl in
+            fresh-made ∙ (as_old ∙ ap past.made (sym same))
+
+    pub challenge-kept : Keeps now past behind (state_after (Recv packet now) s)
+    challenge-kept = by (challenge_in s packet.payload) refl is.challenge
+      where
+        by : (o : Option Challenge) → challenge_in s packet.payload ≡ o → IsSome o → Keeps now past behind (state_after (Recv packet now) s)
+        by None e some = absurd (let no : false ≡ true = some in cc)
+        by (Some challenge) e some = for (retried (purposes_of of_reply s)) refl
+          where
+            retries-none : retried (purposes_of of_reply s) ≡ None → (retry_step packet.payload challenge now s).1 ≡ s
+            retries-none f = rw (f, retry_step) refl
+
+            retries : (purpose : Purpose) → retried (purposes_of of_reply s) ≡ Some purpose → (retry_step packet.payload challenge now s).1 ≡ state_after_retry s of_reply purpose challenge now
+            retries purpose f = rw (f, retry_step) refl
+
+            for : (p : Option Purpose) → retried (purposes_of of_reply s) ≡ p → Keeps now past behind (state_after (Recv packet now) s)
+            for None f = same-kept (Recv packet now) k seldom (challenged packet now s challenge k.phase is e ∙ retries-none f)
+            for (Some purpose) f = retried-kept challenge purpose (challenged packet now s challenge k.phase is e ∙ retries purpose f)
+
+  call-by : (c : Call) → Kept (time_of before c) past → Seldom c → IsQuiet c s → IsWithin count slots (state_after c s) → Keeps (time_of before c) past (onward c) (state_after c s)
+  call-by (Poll now) k seldom quiet within = calm (Poll now) (poll_step now s).1 k seldom (λ k.
+      polls (Keeps now (onward (Poll now)) (onward (Poll now))) now s k.phase (all-early count slots extras delay now (onward (Poll now)) s k)
+      (none-over_yet delay now (onward (Poll now)) s k.prompt k.in_range k.aged k.heard)
+      (λ closes. (kept-aside count slots extras delay now (onward (Poll now)) s.transactions s s.ids s.events closes k, goes-same (onward (Poll now)) s (record s { closes = closes }) refl refl refl)))
+  call-by (PollTransmit now) k seldom quiet within = transmits-kept now k seldom
+  call-by PollEvent k seldom quiet within = calm PollEvent (record s { events = drop 1 s.events }) k seldom (λ k.
+      (kept-aside count slots extras delay before (onward PollEvent) s.transactions s s.ids (drop 1 s.events) s.closes k, goes-same (onward PollEvent) s (record s { events = drop 1 s.events }) refl refl refl))
+  call-by (SendTo transport peer bytes now) k seldom quiet within = calm (SendTo transport peer bytes now) (send_to_step transport peer bytes now s).1 k seldom (λ k.
+      sends (Keeps now (onward (SendTo transport peer bytes now)) (onward (SendTo transport peer bytes now))) transport peer bytes now s
+      (λ ids. (
+        kept-aside count slots extras delay now (onward (SendTo transport peer bytes now)) s.transactions s ids s.events s.closes k,
+        goes-same (onward (SendTo transport peer bytes now)) s (record s { ids = ids }) refl refl refl,
+      )))
+  call-by (CreatePermission transport ip now) k seldom quiet within = calm (CreatePermission transport ip now) (create_permission_step transport ip now s).1 k seldom (λ k.
+      let later = onward (CreatePermission transport ip now) in
+      creates (λ t. IsWithin count slots t → Keeps now later later t) count slots extras delay now later s k (λ w. (k, goes-same later s s refl refl refl))
+      (asks-kept now later (call-made (CreatePermission transport ip now) now past s) k) transport ip within)
+  call-by (BindChannel transport peer now) k seldom quiet within = calm (BindChannel transport peer now) (bind_channel_step transport peer now s).1 k seldom (λ k.
+      let later = onward (BindChannel transport peer now) in
+      binds (λ t. IsWithin count slots t → Keeps now later later t) count slots extras delay now later s k (λ w. (k, goes-same later s s refl refl refl))
+      (asks-kept now later (call-made (BindChannel transport peer now) now past s) k) transport peer within)
+  call-by (Recv packet now) k seldom (inl is) within = calm (Recv packet now) (state_after (Recv packet now) s) k seldom (λ k.
+      let later = onward (Recv packet now) in
+      subst (λ (x : State). Keeps now later later x) (sym (received packet now s k.phase is)) (kept-answered count slots extras delay now later s k packet.payload is.answers))
+  call-by (Recv packet now) k seldom (inr (inl is)) within = challenge-kept packet now k seldom is within
+  call-by (Recv packet now) k seldom (inr (inr same)) within = same-kept (Recv packet now) k seldom same
+  call-by c k seldom same within = same-kept c k seldom same
+
+  pub call-kept : (call : Call) → Kept before past → AreInTime delay before (time_of before call) past s → IsQuiet call s → IsWithin count slots (state_after call s) → Seldom call
+      → Keeps (time_of before call) past (onward call) (state_after call s)
+  call-kept call k in_time quiet within seldom = call-by call (time-kept count slots extras delay before (time_of before call) past s k in_time) seldom quiet within
+
+-- what came before, after all of these calls
+abbrev pub with_all : List Call → ℕ → State → History → History
+with_all [] before s past = past
+with_all (call ∷ calls) before s past = with_all calls (time_of before call) (state_after call s) (with_call call (time_of before call) s past)
+
+all-kept : (count slots extras delay before : ℕ) (past : History) (s : State) (calls : List Call) → IsKept count slots extras delay before past s.transactions s
+    → RunsSteadily count slots extras delay before past s calls
+    → KeepsAll count slots extras delay (time_of_all before calls) past (with_all calls before s past) s (state_after_all s calls)
+all-kept count slots extras delay before past s [] k run = (k, goes-same past s s refl refl refl)
+all-kept count slots extras delay before past s (call ∷ calls) k (in_time, quiet, within, seldom, run) =
+    let later = with_call call (time_of before call) s past in
+    let (kept, goes) = call-kept count slots extras delay before past s call k in_time quiet within seldom in
+    let (last, as_well) = all-kept count slots extras delay (time_of before call) later (state_after call s) calls kept run in (
       last,
-      goes-trans s.transactions (state_after call s).transactions (state_after_all (state_after call s) calls).transactions s (state_after call s)
-          (state_after_all (state_after call s) calls) goes as_well,
+      goes-trans past later (with_all calls (time_of before call) (state_after call s) later) s.transactions (state_after call s).transactions
+          (state_after_all (state_after call s) calls).transactions s (state_after call s) (state_after_all (state_after call s) calls) goes as_well,
     )
 
 -- a run is that of its first calls, and then that of the others
-first-part : (count slots delay before : ℕ) (s : State) (earlier later : List Call) → RunsSteadily count slots delay before s (earlier ++ later) → RunsSteadily count slots delay before s earlier
-first-part count slots delay before s [] later run = tt
-first-part count slots delay before s (call ∷ earlier) later (in_time, quiet, within, run) =
-    (in_time, quiet, within, first-part count slots delay (time_of before call) (state_after call s) earlier later run)
+first-part : (count slots extras delay before : ℕ) (past : History) (s : State) (earlier later : List Call) → RunsSteadily count slots extras delay before past s (earlier ++ later)
+    → RunsSteadily count slots extras delay before past s earlier
+first-part count slots extras delay before past s [] later run = tt
+first-part count slots extras delay before past s (call ∷ earlier) later (in_time, quiet, within, seldom, run) = (
+  in_time,
+  quiet,
+  within,
+  seldom,
+  first-part count slots extras delay (time_of before call) (with_call call (time_of before call) s past) (state_after call s) earlier later run,
+)
 
-last-part : (count slots delay before : ℕ) (s : State) (earlier later : List Call) → RunsSteadily count slots delay before s (earlier ++ later)
-    → RunsSteadily count slots delay (time_of_all before earlier) (state_after_all s earlier) later
-last-part count slots delay before s [] later run = run
-last-part count slots delay before s (call ∷ earlier) later (in_time, quiet, within, run) = last-part count slots delay (time_of before call) (state_after call s) earlier later run
+last-part : (count slots extras delay before : ℕ) (past : History) (s : State) (earlier later : List Call) → RunsSteadily count slots extras delay before past s (earlier ++ later)
+    → RunsSteadily count slots extras delay (time_of_all before earlier) (with_all earlier before s past) (state_after_all s earlier) later
+last-part count slots extras delay before past s [] later run = run
+last-part count slots extras delay before past s (call ∷ earlier) later (in_time, quiet, within, seldom, run) =
+    last-part count slots extras delay (time_of before call) (with_call call (time_of before call) s past) (state_after call s) earlier later run
 
 joined : (s : State) (earlier later : List Call) → state_after_all s (earlier ++ later) ≡ state_after_all (state_after_all s earlier) later
 joined s [] later = refl
@@ -362,16 +534,19 @@ single-first (g ∷ gs) (apart, others) p unique = elim (cases_Bool (is_for p g)
   | inr e ↦ rw e (omega (arith, single-first gs others p unique))
 ]
 
-steady-kept : (count slots delay now : ℕ) (s : State) → IsSteady count slots delay now s → IsKept count slots delay now s.transactions s
-steady-kept count slots delay now s is = record {
+steady-kept : (count slots extras delay now : ℕ) (s : State) → IsSteady count slots extras delay now s → IsKept count slots extras delay now no_history s.transactions s
+steady-kept count slots extras delay now s is = record {
   phase = is.allocated;
   requests = rw is.none_queued refl;
   few = is.within.1;
   prompt = is.prompt;
   pace = is.room_for_more;
   sent = is.sent_before;
-  young = λ x h. absurd (subst (λ (xs : List Transaction). Has x xs) is.none_outstanding h);
-  heard = λ x h. absurd (subst (λ (xs : List Transaction). Has x xs) is.none_outstanding h);
+  aged = λ x h. absurd (none-there x h);
+  lone = λ x y h. absurd (none-there x h);
+  begun = λ x h. absurd (none-there x h);
+  heard = λ x h. absurd (none-there x h);
+  seldom = λ since within. omega arith;
   asked = λ l h. absurd (subst (λ (ls : List Listing). Has l ls) is.none_listed h);
   size = is.within.0;
   single = single-first s.grants is.distinct;
@@ -381,24 +556,27 @@ steady-kept count slots delay now s is = record {
   each = λ g there. inr (stands g there);
 }
   where
+    none-there : (x : Transaction) → Has x s.transactions → ⊥
+    none-there x h = subst (λ (xs : List Transaction). Has x xs) is.none_outstanding h
+
     unasked : (g : Grant) (ls : List Listing) → ls ≡ [] → list_any (λ (l : Listing). is_for l.purpose g) ls ≡ false
     unasked g ls e = rw e refl
 
     none : length s.queue ≡ 0
     none = rw is.none_queued refl
 
-    stands : (g : Grant) → Has g s.grants → Stands count slots delay now s.transactions s g
+    stands : (g : Grant) → Has g s.grants → Stands count slots extras delay now no_history s.transactions s g
     stands g there =
         let early : now + ahead_of s.config.refresh_ahead g ≤ expiry_of g = has-all (λ g. now + ahead_of s.config.refresh_ahead g ≤ expiry_of g) g s.grants is.none_late there in
         record {
           granted = force-granted now g (has-all (IsInForce now) g s.grants is.in_force there);
-          room = has-all (λ g. HasRoom count slots s.config.request_cadence delay (ahead_of s.config.refresh_ahead g)) g s.grants is.room there;
+          room = has-all (λ g. HasRoom count slots extras s.config.request_cadence delay (ahead_of s.config.refresh_ahead g)) g s.grants is.room there;
           long = omega (arith, early);
-          either = inr (record { unasked = unasked g s.listed is.none_listed; soon = rw none (omega (arith, early)); paused = rw none (omega (arith, early, pause-le now s is.sent_before)) });
+          either = inr (record { unasked = unasked g s.listed is.none_listed; near = omega (arith, early); soon = rw none (omega (arith, early)); paused = rw none (omega (arith, early, pause-le now s is.sent_before)) });
         }
 
-early-of : (count slots delay now : ℕ) (t : State) → IsKept count slots delay now t.transactions t → (h : Grant) → Has h t.grants → IsGranted h → now < expiry_of h
-early-of count slots delay now t k h here granted = elim (all-early count slots delay now t k h here) [
+early-of : (count slots extras delay now : ℕ) (past : History) (t : State) → IsKept count slots extras delay now past t.transactions t → (h : Grant) → Has h t.grants → IsGranted h → now < expiry_of h
+early-of count slots extras delay now past t k h here granted = elim (all-early count slots extras delay now past t k h here) [
   | inl waits ↦ absurd (let no : false ≡ true = sym (not-waiting h granted) ∙ waits in cc)
   | inr (is, early) ↦ early
 ]
@@ -415,7 +593,7 @@ requested-waits (Channel number peer (Pending is_kept)) h = h
 requested-waits g h = absurd h
 
 -- both parts of a run
-module _ (count slots delay now : ℕ) (s : State) (earlier later : List Call) (steady : IsSteady count slots delay now s) (run : RunsSteadily count slots delay now s (earlier ++ later)) where
+module _ (count slots extras delay now : ℕ) (s : State) (earlier later : List Call) (steady : IsSteady count slots extras delay now s) (run : RunsSteadily count slots extras delay now no_history s (earlier ++ later)) where
   abbrev between : ℕ
   between = time_of_all now earlier
 
@@ -428,16 +606,23 @@ module _ (count slots delay now : ℕ) (s : State) (earlier later : List Call) (
   abbrev end : State
   end = state_after_all mid later
 
-  kept-mid : IsKept count slots delay between mid.transactions mid
-  kept-mid = (all-kept count slots delay now s earlier (steady-kept count slots delay now s steady) (first-part count slots delay now s earlier later run)).0
+  -- what came before, then and at the end
+  abbrev mid_past : History
+  mid_past = with_all earlier now s no_history
 
-  kept-end : KeepsAll count slots delay last mid end
-  kept-end = all-kept count slots delay between mid later kept-mid (last-part count slots delay now s earlier later run)
+  abbrev end_past : History
+  end_past = with_all later between mid mid_past
+
+  kept-mid : IsKept count slots extras delay between mid_past mid.transactions mid
+  kept-mid = (all-kept count slots extras delay now no_history s earlier (steady-kept count slots extras delay now s steady) (first-part count slots extras delay now no_history s earlier later run)).0
+
+  kept-end : KeepsAll count slots extras delay last mid_past end_past mid end
+  kept-end = all-kept count slots extras delay between mid_past mid later kept-mid (last-part count slots extras delay now no_history s earlier later run)
 
   has-still : (g h : Grant) → Has h end.grants → with_expiry 0 h ≡ as_granted g → IsGranted h → HasStill g last (state_after_all s (earlier ++ later))
   has-still g h here same granted =
       subst (HasStill g last) (sym (joined s earlier later))
-      (h, has-contains h end.grants here, same, granted-force last h granted (early-of count slots delay last end kept-end.0 h here granted))
+      (h, has-contains h end.grants here, same, granted-force last h granted (early-of count slots extras delay last end_past end kept-end.0 h here granted))
 
   lasts : (g : Grant) → Contains mid.grants g → IsInForce between g → HasStill g last (state_after_all s (earlier ++ later))
   lasts g there in_force =
@@ -453,24 +638,24 @@ module _ (count slots delay now : ℕ) (s : State) (earlier later : List Call) (
       waits : is_waiting g ≡ true
       waits = requested-waits g requested
 
-      follows : Follows between end.transactions g end → HasStill g last (state_after_all s (earlier ++ later))
+      follows : Follows between end_past end.transactions g end → HasStill g last (state_after_all s (earlier ++ later))
       follows (inl (remains, p)) = let heard = kept-end.0.heard p.transaction p.there in let sent = p.sent in absurd (omega (arith, heard, sent, late))
       follows (inr (h, now_there, same, granted)) = has-still g h now_there same granted
 
-      by : IsWell count slots delay between mid.transactions mid g → HasStill g last (state_after_all s (earlier ++ later))
+      by : IsWell count slots extras delay between mid_past mid.transactions mid g → HasStill g last (state_after_all s (earlier ++ later))
       by (inl (waits, pending)) = follows (kept-end.1.follow between g here waits pending)
       by (inr stands) = absurd (let no : false ≡ true = sym (not-waiting g stands.granted) ∙ waits in cc)
 
 pub grants-last : GrantsLast
-grants-last count slots delay now s earlier later steady run = lasts count slots delay now s earlier later steady run
+grants-last count slots extras delay now s earlier later steady run = lasts count slots extras delay now s earlier later steady run
 
 pub requests-succeed : RequestsSucceed
-requests-succeed count slots delay now s earlier later steady run = succeeds count slots delay now s earlier later steady run
+requests-succeed count slots extras delay now s earlier later steady run = succeeds count slots extras delay now s earlier later steady run
 
 -- the same, of the calls of the second part alone
-module _ (count slots delay now : ℕ) (s : State) (before after : List Call) (steady : IsSteady count slots delay now s) (run : RunsSteadily count slots delay now s (before ++ after)) where
+module _ (count slots extras delay now : ℕ) (s : State) (before after : List Call) (steady : IsSteady count slots extras delay now s) (run : RunsSteadily count slots extras delay now no_history s (before ++ after)) where
   pub lasts-through : LastsThrough delay (time_of_all now before) (state_after_all s before) after
   lasts-through g there = (
-    λ in_force. subst (HasStill g (time_of_all (time_of_all now before) after)) (joined s before after) (lasts count slots delay now s before after steady run g there in_force),
-    λ requested late. subst (HasStill g (time_of_all (time_of_all now before) after)) (joined s before after) (succeeds count slots delay now s before after steady run g there requested late),
+    λ in_force. subst (HasStill g (time_of_all (time_of_all now before) after)) (joined s before after) (lasts count slots extras delay now s before after steady run g there in_force),
+    λ requested late. subst (HasStill g (time_of_all (time_of_all now before) after)) (joined s before after) (succeeds count slots extras delay now s before after steady run g there requested late),
   )

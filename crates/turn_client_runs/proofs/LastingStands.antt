@@ -3,7 +3,6 @@ use Rattle.std.proofs.Common.{◌≡◌, ◌⊎◌, ℕ, ◌+◌, ◌-◌, ◌*�
 use Rattle.std.proofs.Common.{inr, arith}
 use Rattle.std.specs.Prelude.{IfSome, ⊤, nat_le}
 use Rattle.std.proofs.lemmas.Nat.{mul-le}
-use Rattle.turn_agent.specs.Schedule.{wait_at}
 use Rattle.turn_agent.specs.declared.transaction.Transaction.{Transaction}
 use Rattle.turn_client_api.specs.Config.{timers_of}
 use Rattle.turn_client_api.specs.State.{State, later_by}
@@ -19,6 +18,7 @@ use Rattle.turn_client_api.specs.declared.grant.Relay.{Relay}
 use Rattle.turn_client_api.specs.Due.{has_reply, pause_end, refresh_time_by_kind}
 use Rattle.turn_client_laws.proofs.HasLemmas.{Has}
 use Rattle.turn_client_laws.proofs.InAllocationLemmas.{Room}
+use Rattle.turn_client_runs.specs.History.{History, IsSeldom, all_waits, extra_since, waited}
 use Rattle.turn_client_runs.specs.Lasting.{as_granted, with_expiry, ahead_of, expiry_of}
 use Rattle.turn_client_runs.proofs.LastingCounts.{passes, passes-less}
 
@@ -46,44 +46,49 @@ is_served s since g = is_waiting g || (has_request g s || nat_le (since + 150_00
 abbrev pub served : State → ℕ → ℕ
 served s since = passes (is_served s since) s.grants
 
+-- so many packets left in place of a refresh that fell due at that time, or will
+abbrev pub used : History → State → ℕ → ℕ
+used past s since = extra_since since past + served s since
+
 -- the request for a refresh leaves by then
-abbrev pub bound : ℕ → State → Grant → ℕ
-bound slots s g = due_of s g + s.config.request_cadence * (1 + slots + served s (due_of s g))
+abbrev pub bound : ℕ → History → State → Grant → ℕ
+bound slots past s g = due_of s g + s.config.request_cadence * (1 + slots + used past s (due_of s g))
 
 -- a request for it awaits its reply, which will come before the grant expires
-pub record IsAwaited (delay : ℕ) (transactions : List Transaction) (listed : List Listing) (g : Grant) : Type 0 where
+pub record IsAwaited (delay : ℕ) (past : History) (transactions : List Transaction) (listed : List Listing) (g : Grant) : Type 0 where
   pub transaction : Transaction
   pub there : Has transaction transactions
   pub listing : Listing
   pub within : Has listing listed
   pub for : is_for listing.purpose g ≡ true
   pub same : transaction.id ≡ listing.id
-  pub in_time : transaction.last_send + delay < expiry_of g
+  pub in_time : past.made transaction.id + delay < expiry_of g
 
 -- it is not too late to request it, once all that is queued was sent
-pub record IsIdle (slots now : ℕ) (s : State) (g : Grant) : Type 0 where
+pub record IsIdle (slots now : ℕ) (past : History) (s : State) (g : Grant) : Type 0 where
   pub unasked : has_request g s ≡ false
-  pub soon : now + s.config.request_cadence * length s.queue ≤ bound slots s g
-  pub paused : pause_end s + s.config.request_cadence * length s.queue ≤ bound slots s g
+  pub near : now ≤ due_of s g + s.config.refresh_ahead
+  pub soon : now + s.config.request_cadence * length s.queue ≤ bound slots past s g
+  pub paused : pause_end s + s.config.request_cadence * length s.queue ≤ bound slots past s g
 
-pub record Stands (count slots delay now : ℕ) (transactions : List Transaction) (s : State) (g : Grant) : Type 0 where
+pub record Stands (count slots extras delay now : ℕ) (past : History) (transactions : List Transaction) (s : State) (g : Grant) : Type 0 where
   pub granted : IsGranted g
-  pub room : (count + slots) * s.config.request_cadence + delay < ahead_of s.config.refresh_ahead g
+  pub room : (count + slots + extras) * s.config.request_cadence + delay < ahead_of s.config.refresh_ahead g
   pub long : ahead_of s.config.refresh_ahead g ≤ expiry_of g
-  pub either : IsAwaited delay transactions s.listed g ⊎ IsIdle slots now s g
+  pub either : IsAwaited delay past transactions s.listed g ⊎ IsIdle slots now past s g
 
 -- its request awaits its reply, and was made by then
-pub record IsPending (until : ℕ) (transactions : List Transaction) (listed : List Listing) (g : Grant) : Type 0 where
+pub record IsPending (until : ℕ) (past : History) (transactions : List Transaction) (listed : List Listing) (g : Grant) : Type 0 where
   pub transaction : Transaction
   pub there : Has transaction transactions
   pub listing : Listing
   pub within : Has listing listed
   pub for : is_for listing.purpose g ≡ true
   pub same : transaction.id ≡ listing.id
-  pub sent : transaction.last_send ≤ until
+  pub sent : past.made transaction.id ≤ until
 
-pub pending-later : (first until : ℕ) (xs : List Transaction) (ls : List Listing) (g : Grant) → first ≤ until → IsPending first xs ls g → IsPending until xs ls g
-pending-later first until xs ls g later p = record {
+pub pending-later : (first until : ℕ) (past : History) (xs : List Transaction) (ls : List Listing) (g : Grant) → first ≤ until → IsPending first past xs ls g → IsPending until past xs ls g
+pending-later first until past xs ls g later p = record {
   transaction = p.transaction;
   there = p.there;
   listing = p.listing;
@@ -93,10 +98,10 @@ pending-later first until xs ls g later p = record {
   sent = let sent = p.sent in omega (arith, sent, later);
 }
 
-pub pending-more : (until : ℕ) (xs ys : List Transaction) (ls ms : List Listing) (g : Grant) → ((x : Transaction) → Has x xs → Has x ys)
+pub pending-more : (until : ℕ) (past : History) (xs ys : List Transaction) (ls ms : List Listing) (g : Grant) → ((x : Transaction) → Has x xs → Has x ys)
     → ((l : Listing) → Has l ls → is_for l.purpose g ≡ true → Has l ms)
-    → IsPending until xs ls g → IsPending until ys ms g
-pending-more until xs ys ls ms g transactions listed p = record {
+    → IsPending until past xs ls g → IsPending until past ys ms g
+pending-more until past xs ys ls ms g transactions listed p = record {
   transaction = p.transaction;
   there = transactions p.transaction p.there;
   listing = p.listing;
@@ -120,15 +125,15 @@ abbrev pub AllRemain : State → State → Type 0
 AllRemain u t = (g : Grant) → Has g u.grants → IsGranted g → Remains g t
 
 -- it waits for its reply still, or is granted
-abbrev pub Follows : ℕ → List Transaction → Grant → State → Type 0
-Follows until xs g t = (Has g t.grants × IsPending until xs t.listed g) ⊎ Becomes g t
+abbrev pub Follows : ℕ → History → List Transaction → Grant → State → Type 0
+Follows until past xs g t = (Has g t.grants × IsPending until past xs t.listed g) ⊎ Becomes g t
 
-pub record Goes (xs ys : List Transaction) (u t : State) : Type 0 where
+pub record Goes (past later : History) (xs ys : List Transaction) (u t : State) : Type 0 where
   pub remain : AllRemain u t
-  pub follow : (until : ℕ) (g : Grant) → Has g u.grants → is_waiting g ≡ true → IsPending until xs u.listed g → Follows until ys g t
+  pub follow : (until : ℕ) (g : Grant) → Has g u.grants → is_waiting g ≡ true → IsPending until past xs u.listed g → Follows until later ys g t
 
-pub goes-trans : (xs ys zs : List Transaction) (u v t : State) → Goes xs ys u v → Goes ys zs v t → Goes xs zs u t
-goes-trans xs ys zs u v t first second = record {
+pub goes-trans : (past between later : History) (xs ys zs : List Transaction) (u v t : State) → Goes past between xs ys u v → Goes between later ys zs v t → Goes past later xs zs u t
+goes-trans past between later xs ys zs u v t first second = record {
   remain = λ g there granted.
       let (h, here, same, is) = first.remain g there granted in
       let (i, now, again, as_well) = second.remain h here is in
@@ -140,15 +145,16 @@ goes-trans xs ys zs u v t first second = record {
 }
 
 -- no grant changes, and requests are added at most
-pub goes-more : (xs ys : List Transaction) (u t : State) → t.grants ≡ u.grants → ((x : Transaction) → Has x xs → Has x ys) → ((l : Listing) → Has l u.listed → Has l t.listed) → Goes xs ys u t
-goes-more xs ys u t e transactions listed = record {
+pub goes-more : (past : History) (xs ys : List Transaction) (u t : State) → t.grants ≡ u.grants → ((x : Transaction) → Has x xs → Has x ys) → ((l : Listing) → Has l u.listed → Has l t.listed)
+    → Goes past past xs ys u t
+goes-more past xs ys u t e transactions listed = record {
   remain = λ g there granted. (g, subst (λ (gs : List Grant). Has g gs) (sym e) there, refl, granted);
-  follow = λ until g there waits pending. inl (subst (λ (gs : List Grant). Has g gs) (sym e) there, pending-more until xs ys u.listed t.listed g transactions (λ l h for. listed l h) pending);
+  follow = λ until g there waits pending. inl (subst (λ (gs : List Grant). Has g gs) (sym e) there, pending-more until past xs ys u.listed t.listed g transactions (λ l h for. listed l h) pending);
 }
 
 -- it is not granted yet, or will be refreshed in time
-abbrev pub IsWell : ℕ → ℕ → ℕ → ℕ → List Transaction → State → Grant → Type 0
-IsWell count slots delay now transactions s g = ((is_waiting g ≡ true) × IsPending now transactions s.listed g) ⊎ Stands count slots delay now transactions s g
+abbrev pub IsWell : ℕ → ℕ → ℕ → ℕ → ℕ → History → List Transaction → State → Grant → Type 0
+IsWell count slots extras delay now past transactions s g = ((is_waiting g ≡ true) × IsPending now past transactions s.listed g) ⊎ Stands count slots extras delay now past transactions s g
 
 -- a purpose of a refresh
 abbrev pub IsRefreshing : Purpose → Type 0
@@ -200,22 +206,25 @@ request-more gs hs (l ∷ m ∷ []) more h = brings-more gs hs l.purpose m.purpo
 request-more gs hs (l ∷ m ∷ n ∷ ls) more h = absurd h
 
 -- the transactions are those that requests await, of which some may have ended
-pub record IsKept (count slots delay now : ℕ) (transactions : List Transaction) (s : State) : Type 0 where
+pub record IsKept (count slots extras delay now : ℕ) (past : History) (transactions : List Transaction) (s : State) : Type 0 where
   pub phase : s.phase ≡ Allocated
   pub requests : has_reply s ≡ false
   pub few : length s.queue ≤ slots
-  pub prompt : delay < wait_at (timers_of s.config) s.transport 0
-  pub pace : (count + slots) * s.config.request_cadence + delay < min s.config.refresh_ahead 150_000_000_000
+  pub prompt : delay < all_waits (timers_of s.config) s.transport
+  pub pace : (count + slots + extras) * s.config.request_cadence + delay < min s.config.refresh_ahead 150_000_000_000
   pub sent : IfSome s.last_send (λ time. time ≤ now)
-  pub young : (x : Transaction) → Has x s.transactions → x.resends ≡ 0
-  pub heard : (x : Transaction) → Has x s.transactions → now ≤ x.last_send + delay
+  pub aged : (x : Transaction) → Has x s.transactions → past.made x.id + waited (timers_of s.config) s.transport x.resends ≤ x.last_send
+  pub lone : (x y : Transaction) → Has x s.transactions → Has y s.transactions → x.id ≡ y.id → x ≡ y
+  pub begun : (x : Transaction) → Has x s.transactions → past.made x.id ≤ now
+  pub heard : (x : Transaction) → Has x s.transactions → now ≤ past.made x.id + delay
+  pub seldom : IsSeldom extras s.config.refresh_ahead now past
   pub asked : (l : Listing) → Has l s.listed → IsAsked s.grants l
   pub size : length s.grants ≤ count
   pub single : AreSingle s.grants
   pub linked : AreRequests s.grants s.listed
   pub in_range : now ≤ 2 ^ 62
   pub housed : (g : Grant) → Has g s.grants → Room s.grants (family_of_grant g)
-  pub each : (g : Grant) → Has g s.grants → IsWell count slots delay now transactions s g
+  pub each : (g : Grant) → Has g s.grants → IsWell count slots extras delay now past transactions s g
 
 -- ---- numbers
 
@@ -248,23 +257,28 @@ one-paced c now due slots n m more soon = omega (arith, soon, mul-le c (n + 1) c
 pub more-paced : (c x q r due slots n m : ℕ) → r ≡ q + 1 → n + 1 ≤ m → x + c * q ≤ due + c * (1 + slots + n) → x + c * r ≤ due + c * (1 + slots + m)
 more-paced c x q r due slots n m e more h = rw e (omega (arith, h, mul-le c (n + 1) c m (omega arith) more))
 
+-- one more is extra, and the pause begins anew
+pub extra-paced : (c now q due slots n m : ℕ) → n + 1 ≤ m → now + c * q ≤ due + c * (1 + slots + n) → now + c + c * q ≤ due + c * (1 + slots + m)
+extra-paced c now q due slots n m more h = omega (arith, h, mul-le c (n + 1) c m (omega arith) more)
+
 -- one has left the queue, and the pause begins
 pub left-paced : (c now q r bound : ℕ) → q + 1 ≡ r → now + c * r ≤ bound → (now + c * q ≤ bound) × (now + c + c * q ≤ bound)
 left-paced c now q r bound e h =
     let whole : now + c * (q + 1) ≤ bound = rw e h in
     (omega (arith, whole), omega (arith, whole))
 
--- no more are served than there are
-paced-all : (c slots count n due : ℕ) → n + 1 ≤ count → due + c * (1 + slots + n) ≤ due + (count + slots) * c
-paced-all c slots count n due few = omega (arith, mul-le c (n + 1) c count (omega arith) few)
+-- no more are served than there are, and no more packets are extra than may be
+paced-all : (c slots count extras e n due : ℕ) → n + 1 ≤ count → e ≤ extras → due + c * (1 + slots + (e + n)) ≤ due + (count + slots + extras) * c
+paced-all c slots count extras e n due few seldom = omega (arith, mul-le c (e + n + 1) c (count + extras) (omega arith) (omega (arith, few, seldom)))
 
 -- a grant that is idle is not counted among those that were served
-pub bound-le : (count slots delay now : ℕ) (transactions : List Transaction) (s : State) (g : Grant) → IsKept count slots delay now transactions s → Has g s.grants → IsGranted g → IsIdle slots now s g
-    → bound slots s g ≤ due_of s g + (count + slots) * s.config.request_cadence
-bound-le count slots delay now transactions s g k there granted idle =
+pub bound-le : (count slots extras delay now : ℕ) (past : History) (transactions : List Transaction) (s : State) (g : Grant) → IsKept count slots extras delay now past transactions s → Has g s.grants
+    → IsGranted g → IsIdle slots now past s g
+    → bound slots past s g ≤ due_of s g + (count + slots + extras) * s.config.request_cadence
+bound-le count slots extras delay now past transactions s g k there granted idle =
     let less = passes-less (is_served s (due_of s g)) g s.grants there (rw (not-waiting g granted, idle.unasked) (late (due_of s g))) in
     let few : served s (due_of s g) + 1 ≤ count = omega (arith, less, k.size) in
-    paced-all s.config.request_cadence slots count (served s (due_of s g)) (due_of s g) few
+    paced-all s.config.request_cadence slots count extras (extra_since (due_of s g) past) (served s (due_of s g)) (due_of s g) few (k.seldom (due_of s g) idle.near)
   where
     late : (r : ℕ) → leb (r + 150_000_000_000) r ≡ false
     late r = grind arith
@@ -277,17 +291,17 @@ pause-le now s h = by s.last_send h
     by (Some time) h = omega (arith, h)
 
 -- what is granted has not expired
-pub stands-early : (count slots delay now : ℕ) (s : State) → IsKept count slots delay now s.transactions s → (g : Grant) → Has g s.grants → Stands count slots delay now s.transactions s g
+pub stands-early : (count slots extras delay now : ℕ) (past : History) (s : State) → IsKept count slots extras delay now past s.transactions s → (g : Grant) → Has g s.grants → Stands count slots extras delay now past s.transactions s g
     → now < expiry_of g
-stands-early count slots delay now s k g there stands = elim stands.either [
+stands-early count slots extras delay now past s k g there stands = elim stands.either [
   | inl a ↦ let late = k.heard a.transaction a.there in let t = a.in_time in omega (arith, late, t)
-  | inr idle ↦ omega (arith, idle.soon, bound-le count slots delay now s.transactions s g k there stands.granted idle, stands.room, stands.long)
+  | inr idle ↦ omega (arith, idle.soon, bound-le count slots extras delay now past s.transactions s g k there stands.granted idle, stands.room, stands.long)
 ]
 
 -- no allocation is waiting, so each is granted
-pub allocation-stands : (count slots delay now : ℕ) (transactions : List Transaction) (s : State) → IsKept count slots delay now transactions s → (a : Relay) → Has (Allocation a) s.grants
-    → Stands count slots delay now transactions s (Allocation a)
-allocation-stands count slots delay now transactions s k a there = elim (k.each (Allocation a) there) [
+pub allocation-stands : (count slots extras delay now : ℕ) (past : History) (transactions : List Transaction) (s : State) → IsKept count slots extras delay now past transactions s → (a : Relay) → Has (Allocation a) s.grants
+    → Stands count slots extras delay now past transactions s (Allocation a)
+allocation-stands count slots extras delay now past transactions s k a there = elim (k.each (Allocation a) there) [
   | inl waits ↦ absurd (let no : false ≡ true = waits.0 in cc)
   | inr stands ↦ stands
 ]

@@ -7,42 +7,56 @@ use Rattle.turn_agent.specs.Agent.{due}
 use Rattle.turn_agent.specs.declared.transaction.Transaction.{Transaction}
 use Rattle.turn_client_api.specs.State.{State, agent_of}
 use Rattle.turn_client_api.specs.declared.grant.Grant.{Grant}
-use Rattle.turn_client_api.specs.declared.grant.Grant.TheVariants.{Allocation}
+use Rattle.turn_client_api.specs.declared.grant.Grant.TheVariants.{Allocation, Channel, Permission}
 use Rattle.turn_client_api.specs.declared.grant.Relay.{Relay}
 use Rattle.turn_client_api.specs.Grants.{allocations, as_allocation, family_of, family_of_grant, is_of}
 use Rattle.turn_client_api.specs.Due.{is_paused, pause_end}
+use Rattle.turn_client_api.specs.Requests.{to_server}
 use Rattle.turn_client_api.specs.declared.state.Queued.{Queued}
 use Rattle.std.proofs.lemmas.Option.{none-some}
 use Rattle.std.proofs.lemmas.Bool.{le-ltb}
 use Rattle.turn_client_api.specs.Transmit.{next_refresh, next_transmit, queue_step, refresh_step, transmit_step}
 use Rattle.turn_client_laws.proofs.HasLemmas.{Has, filter_map-has, has-all}
 use Rattle.turn_client_laws.proofs.InAllocationLemmas.{same_family-self}
-use Rattle.turn_client_runs.specs.Lasting.{expiry_of}
-use Rattle.turn_client_runs.specs.OnTime.{IsInTime}
+use Rattle.turn_client_runs.specs.Lasting.{AreInTime, ahead_of, expiry_of}
+use Rattle.turn_client_runs.specs.History.{History}
 use Rattle.turn_client_runs.proofs.LastingStands.{pending-later, IsIdle, IsKept, Stands, allocation-stands, bound, bound-le, due_of}
-use Rattle.turn_client_runs.proofs.LastingSends.{AllAnswered, due-sends, is-due, may-refresh, next-sends, none-due, transmit-refreshes, transmits}
+use Rattle.turn_client_runs.proofs.LastingSends.{due-sends, is-due, may-refresh, next-sends, transmit-refreshes, transmits}
 
 -- what is refreshed by then is refreshed in time
-pub bound-early : (count slots delay now : ℕ) (transactions : List Transaction) (s : State) (g : Grant) → IsKept count slots delay now transactions s → Has g s.grants
-    → Stands count slots delay now transactions s g → IsIdle slots now s g → bound slots s g + delay < expiry_of g
-bound-early count slots delay now transactions s g k there stands idle =
-    omega (arith, bound-le count slots delay now transactions s g k there stands.granted idle, stands.room, stands.long)
+pub bound-early : (count slots extras delay now : ℕ) (past : History) (transactions : List Transaction) (s : State) (g : Grant) → IsKept count slots extras delay now past transactions s → Has g s.grants
+    → Stands count slots extras delay now past transactions s g → IsIdle slots now past s g → bound slots past s g + delay < expiry_of g
+bound-early count slots extras delay now past transactions s g k there stands idle =
+    omega (arith, bound-le count slots extras delay now past transactions s g k there stands.granted idle, stands.room, stands.long)
+
+-- a refresh is no longer ahead than was configured
+ahead-le : (ahead : ℕ) (g : Grant) → ahead_of ahead g ≤ ahead
+ahead-le ahead (Allocation a) = omega arith
+ahead-le ahead (Permission ip progress) = omega arith
+ahead-le ahead (Channel number peer progress) = omega arith
+ahead-le ahead g = omega arith
 
 queue-sends : (time : ℕ) (s : State) (q : Queued) (qs : List Queued) → s.queue ≡ q ∷ qs → (queue_step time s).0 ≡ Some q.packet
 queue-sends time s q qs e = rw (e, queue_step) refl
 
-module _ (count slots delay before now : ℕ) (s : State) (k : IsKept count slots delay before s.transactions s) (in_time : IsInTime delay before now s) where
-  all-answered : AllAnswered delay now s
-  all-answered x h = has-all (λ (y : Transaction). now ≤ y.last_send + delay) x s.transactions in_time.answered h
+module _ (count slots extras delay before now : ℕ) (past : History) (s : State) (k : IsKept count slots extras delay before past s.transactions s) (in_time : AreInTime delay before now past s) where
+  all-answered : (x : Transaction) → Has x s.transactions → now ≤ past.made x.id + delay
+  all-answered x h = has-all (λ (y : Transaction). now ≤ past.made y.id + delay) x s.transactions in_time.answered h
 
-  none-was_due : (time : ℕ) → time < now → due (agent_of s) time ≡ None
-  none-was_due time early =
-      none-due delay time s k.prompt (let r = in_time.on_time.in_range in omega (arith, r, early)) k.young (λ x h. let a = all-answered x h in omega (arith, a, early))
+  -- what was to be retransmitted was sent
+  none-was_due : (time : ℕ) → before ≤ time → time < now → due (agent_of s) time ≡ None
+  none-was_due time after early = by (due (agent_of s) time) refl
+    where
+      by : (o : Option Transaction) → due (agent_of s) time ≡ o → due (agent_of s) time ≡ None
+      by None e = e
+      by (Some x) e =
+          let some : next_transmit time s ≡ Some (record (to_server s s.local x.request) { to = x.to }) = rw (e, next_transmit, transmit_step) refl in
+          absurd (none-some (record (to_server s s.local x.request) { to = x.to }) (sym (in_time.on_time.punctual time after early) ∙ some))
 
   -- with nothing queued, no refresh could be sent before now
   sends-none : s.queue ≡ [] → (time : ℕ) → before ≤ time → time < now → pause_end s ≤ time → IsSome (next_refresh time s) → ⊥
   sends-none empty time after early over some =
-      let is : transmit_step time s ≡ refresh_step time s = transmit-refreshes time s k.phase empty (none-was_due time early) over in
+      let is : transmit_step time s ≡ refresh_step time s = transmit-refreshes time s k.phase empty (none-was_due time after early) over in
       let e : (refresh_step time s).0 ≡ None = rw (sym is) (in_time.on_time.punctual time after early) in
       let no : false ≡ true = rw e at (next-sends time s some) in
       cc
@@ -53,7 +67,7 @@ module _ (count slots delay before now : ℕ) (s : State) (k : IsKept count slot
     | inl early ↦
         let time = max before (pause_end s) in
         let idle : is_paused time s ≡ false = le-ltb time (pause_end s) (omega arith) in
-        let is : transmit_step time s ≡ queue_step time s = transmits time s (none-was_due time early) ∙ rw idle refl in
+        let is : transmit_step time s ≡ queue_step time s = transmits time s (none-was_due time (omega arith) early) ∙ rw idle refl in
         let some : next_transmit time s ≡ Some q.packet = rw (is, next_transmit) (queue-sends time s q qs e) in
         let none : next_transmit time s ≡ None = in_time.on_time.punctual time (omega arith) early in
         absurd (none-some q.packet (sym none ∙ some))
@@ -61,23 +75,23 @@ module _ (count slots delay before now : ℕ) (s : State) (k : IsKept count slot
   ]
 
   -- with the queue, by which it is decided
-  idle-early : (g : Grant) → Has g s.grants → Stands count slots delay before s.transactions s g → IsIdle slots before s g → (a : Relay) → Has a (allocations s) → is_of (family_of a.relayed) g ≡ true
-      → ((time : ℕ) → time < now → time < expiry_of g → time ≤ a.expiry) → now + s.config.request_cadence * length s.queue ≤ bound slots s g
+  idle-early : (g : Grant) → Has g s.grants → Stands count slots extras delay before past s.transactions s g → IsIdle slots before past s g → (a : Relay) → Has a (allocations s) → is_of (family_of a.relayed) g ≡ true
+      → ((time : ℕ) → time < now → time < expiry_of g → time ≤ a.expiry) → now + s.config.request_cadence * length s.queue ≤ bound slots past s g
   idle-early g there stands idle a inside of goes_on = by s.queue refl
     where
       at_once : ℕ
       at_once = max before (max (pause_end s) (due_of s g))
 
-      within : at_once ≤ bound slots s g
+      within : at_once ≤ bound slots past s g
       within = let soon = idle.soon in let paused = idle.paused in
-          max-le {a = before} {b = max (pause_end s) (due_of s g)} {k = bound slots s g} (omega (arith, soon))
-          (max-le {a = pause_end s} {b = due_of s g} {k = bound slots s g} (omega (arith, paused)) (omega arith))
+          max-le {a = before} {b = max (pause_end s) (due_of s g)} {k = bound slots past s g} (omega (arith, soon))
+          (max-le {a = pause_end s} {b = due_of s g} {k = bound slots past s g} (omega (arith, paused)) (omega arith))
 
       lasts : at_once < expiry_of g
-      lasts = omega (arith, within, bound-early count slots delay before s.transactions s g k there stands idle)
+      lasts = omega (arith, within, bound-early count slots extras delay before past s.transactions s g k there stands idle)
 
       all : (b : Relay) → Has (Allocation b) s.grants → b.is_expired ≡ false
-      all b h = (allocation-stands count slots delay before s.transactions s k b h).granted
+      all b h = (allocation-stands count slots extras delay before past s.transactions s k b h).granted
 
       sends : at_once < now → IsSome (next_refresh at_once s)
       sends early =
@@ -85,7 +99,7 @@ module _ (count slots delay before now : ℕ) (s : State) (k : IsKept count slot
           (is-due at_once s g stands.granted (may-refresh s g all stands.granted (k.housed g there)) idle.unasked (omega arith))
           lasts a inside of (goes_on at_once early lasts)
 
-      by : (queue : List Queued) → s.queue ≡ queue → now + s.config.request_cadence * length s.queue ≤ bound slots s g
+      by : (queue : List Queued) → s.queue ≡ queue → now + s.config.request_cadence * length s.queue ≤ bound slots past s g
       by (q ∷ qs) e = let soon = idle.soon in let paused = idle.paused in omega (arith, queue-late q qs e, soon, paused)
       by [] e = elim (cases_lt at_once now) [
         | inl early ↦ absurd (sends-none e at_once (omega arith) early (omega arith) (sends early))
@@ -93,11 +107,11 @@ module _ (count slots delay before now : ℕ) (s : State) (k : IsKept count slot
       ]
 
   -- a request for it leaves in time, or its reply comes in time
-  early-by : (g : Grant) → Has g s.grants → Stands count slots delay before s.transactions s g → (IsIdle slots before s g → now + s.config.request_cadence * length s.queue ≤ bound slots s g)
+  early-by : (g : Grant) → Has g s.grants → Stands count slots extras delay before past s.transactions s g → (IsIdle slots before past s g → now + s.config.request_cadence * length s.queue ≤ bound slots past s g)
       → now < expiry_of g
   early-by g there stands idles = elim stands.either [
     | inl awaited ↦ let late = all-answered awaited.transaction awaited.there in let t = awaited.in_time in omega (arith, late, t)
-    | inr idle ↦ omega (arith, idles idle, bound-early count slots delay before s.transactions s g k there stands idle)
+    | inr idle ↦ omega (arith, idles idle, bound-early count slots extras delay before past s.transactions s g k there stands idle)
   ]
 
   there-of : (a : Relay) → Has (Allocation a) s.grants → Has a (allocations s)
@@ -105,11 +119,11 @@ module _ (count slots delay before now : ℕ) (s : State) (k : IsKept count slot
 
   allocation-early : (a : Relay) → Has (Allocation a) s.grants → now < a.expiry
   allocation-early a there =
-      let stands = allocation-stands count slots delay before s.transactions s k a there in
+      let stands = allocation-stands count slots extras delay before past s.transactions s k a there in
       early-by (Allocation a) there stands
       (λ idle. idle-early (Allocation a) there stands idle a (there-of a there) (same_family-self (family_of a.relayed) (family_of a.relayed) refl) (λ time early less. omega (arith, less)))
 
-  idles : (g : Grant) → Has g s.grants → Stands count slots delay before s.transactions s g → IsIdle slots before s g → now + s.config.request_cadence * length s.queue ≤ bound slots s g
+  idles : (g : Grant) → Has g s.grants → Stands count slots extras delay before past s.transactions s g → IsIdle slots before past s g → now + s.config.request_cadence * length s.queue ≤ bound slots past s g
   idles g there stands idle =
       let (a, here, same) = k.housed g there in
       idle-early g there stands idle a (there-of a here) (same_family-self (family_of_grant g) (family_of a.relayed) (sym same)) (λ time early less. omega (arith, early, allocation-early a here))
@@ -118,7 +132,7 @@ module _ (count slots delay before now : ℕ) (s : State) (k : IsKept count slot
   sent-earlier None h = tt
   sent-earlier (Some time) h = let l = in_time.on_time.later in omega (arith, h, l)
 
-  pub time-kept : IsKept count slots delay now s.transactions s
+  pub time-kept : IsKept count slots extras delay now past s.transactions s
   time-kept = record {
     phase = k.phase;
     requests = k.requests;
@@ -126,21 +140,32 @@ module _ (count slots delay before now : ℕ) (s : State) (k : IsKept count slot
     prompt = k.prompt;
     pace = k.pace;
     sent = sent-earlier s.last_send k.sent;
-    young = k.young;
+    aged = k.aged;
+    lone = k.lone;
+    begun = λ x h. let b = k.begun x h in let l = in_time.on_time.later in omega (arith, b, l);
     heard = all-answered;
+    seldom = λ since within. let l = in_time.on_time.later in k.seldom since (omega (arith, l, within));
     asked = k.asked;
     size = k.size;
     single = k.single;
     linked = k.linked;
     in_range = in_time.on_time.in_range;
     housed = k.housed;
-    each = λ g there. elim (k.each g there) [ inl (waits, p) ↦ inl (waits, pending-later before now s.transactions s.listed g in_time.on_time.later p) | inr stands ↦ inr (later g there stands) ];
+    each = λ g there. elim (k.each g there) [ inl (waits, p) ↦ inl (waits, pending-later before now past s.transactions s.listed g in_time.on_time.later p) | inr stands ↦ inr (later g there stands) ];
   }
     where
-      later : (g : Grant) → Has g s.grants → Stands count slots delay before s.transactions s g → Stands count slots delay now s.transactions s g
+      idle-later : (g : Grant) → Has g s.grants → Stands count slots extras delay before past s.transactions s g → IsIdle slots before past s g → IsIdle slots now past s g
+      idle-later g there was idle =
+          let soon = idles g there was idle in
+          let early = bound-early count slots extras delay before past s.transactions s g k there was idle in
+          let near = ahead-le s.config.refresh_ahead g in
+          let long = was.long in
+          record { unasked = idle.unasked; near = omega (arith, soon, early, near, long); soon = soon; paused = idle.paused }
+
+      later : (g : Grant) → Has g s.grants → Stands count slots extras delay before past s.transactions s g → Stands count slots extras delay now past s.transactions s g
       later g there was = record {
         granted = was.granted;
         room = was.room;
         long = was.long;
-        either = elim was.either [ inl awaited ↦ inl awaited | inr idle ↦ inr (record { unasked = idle.unasked; soon = idles g there was idle; paused = idle.paused }) ];
+        either = elim was.either [ inl awaited ↦ inl awaited | inr idle ↦ inr (idle-later g there was idle) ];
       }

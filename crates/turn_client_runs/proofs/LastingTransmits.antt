@@ -29,9 +29,11 @@ use Rattle.turn_client_api.specs.Transmit.{is_due_in, is_refresh_due, keepalive_
 use Rattle.turn_client_api.specs.Transmit.{sent_at_once, transmit_step, without_first_reply}
 use Rattle.turn_client_laws.proofs.HasLemmas.{Has, filter_map-has, first-has, has-append, has-filter, has-filter_map, has-flat_map, has-left, has-right}
 use Rattle.turn_client_laws.proofs.InAllocationLemmas.{same_family-self}
+use Rattle.turn_client_runs.specs.History.{History}
 use Rattle.turn_client_runs.proofs.LastingCounts.{passes, passes-more}
+use Rattle.turn_client_runs.proofs.LastingHistory.{lone-more}
 use Rattle.turn_client_runs.proofs.LastingStands.{Goes, goes-more, pending-more, IsAwaited, IsGranted, IsIdle, IsKept, IsRefreshing, Stands, allocation-stands, stands-early, bound, bound-le, due_of}
-use Rattle.turn_client_runs.proofs.LastingStands.{left-paced, one-paced, is_served, is_waiting, kind-due, not-waiting, served}
+use Rattle.turn_client_runs.proofs.LastingStands.{left-paced, one-paced, is_served, is_waiting, kind-due, not-waiting, served, used}
 use Rattle.turn_client_runs.proofs.LastingSends.{due-sends, is-due, may-refresh, queue-idle, transmits}
 use Rattle.turn_client_runs.proofs.LastingListings.{requests-more}
 use Rattle.turn_client_runs.proofs.LastingTime.{bound-early}
@@ -107,8 +109,8 @@ or-false : (b : Bool) → (b || false) ≡ b
 or-false true = refl
 or-false false = refl
 
-module _ (count slots delay now : ℕ) (s : State) (k : IsKept count slots delay now s.transactions s) (empty : s.queue ≡ []) (p : Purpose) (next : IsNext now s p)
-    (stands-next : Stands count slots delay now s.transactions s next.grant) where
+module _ (count slots extras delay now : ℕ) (past : History) (s : State) (k : IsKept count slots extras delay now past s.transactions s) (empty : s.queue ≡ []) (p : Purpose) (next : IsNext now s p)
+    (stands-next : Stands count slots extras delay now past s.transactions s next.grant) (fresh : past.made (fresh_id s) ≡ now) where
   abbrev id : ℕ
   id = fresh_id s
 
@@ -140,7 +142,7 @@ module _ (count slots delay now : ℕ) (s : State) (k : IsKept count slots delay
   not-asked g e f = asked-more g ∙ rw (e, f) refl
 
   -- one grant more was served since then
-  serves-more : (g : Grant) → Has g s.grants → Stands count slots delay now s.transactions s g → IsIdle slots now s g → served s (due_of s g) + 1 ≤ served t (due_of s g)
+  serves-more : (g : Grant) → Has g s.grants → Stands count slots extras delay now past s.transactions s g → IsIdle slots now past s g → served s (due_of s g) + 1 ≤ served t (due_of s g)
   serves-more g there stands idle =
       passes-more (is_served s r) (is_served t r) next.grant s.grants still next.there (rw (not-waiting next.grant stands-next.granted, unasked.0, old) refl)
       (or_right (is_waiting next.grant) _ (or_left (has_request next.grant t) _ (now-asked next.grant refresh.1)))
@@ -160,24 +162,24 @@ module _ (count slots delay now : ℕ) (s : State) (k : IsKept count slots delay
       old : leb (r + 150_000_000_000) (due_of s next.grant) ≡ false
       old =
           lt-leb (r + 150_000_000_000) (due_of s next.grant)
-          (omega (arith, unasked.1, idle.soon, bound-le count slots delay now s.transactions s g k there stands.granted idle, k.pace))
+          (omega (arith, unasked.1, idle.soon, bound-le count slots extras delay now past s.transactions s g k there stands.granted idle, k.pace))
 
   none-left : length s.queue ≡ 0
   none-left = rw empty refl
 
-  later : (g : Grant) → Has g s.grants → Stands count slots delay now s.transactions s g → IsIdle slots now s g → now + s.config.request_cadence ≤ bound slots t g
+  later : (g : Grant) → Has g s.grants → Stands count slots extras delay now past s.transactions s g → IsIdle slots now past s g → now + s.config.request_cadence ≤ bound slots past t g
   later g there stands idle = elim (cases_lt (due_of s g) now) [
-    | inl past ↦
+    | inl late ↦
         let more = serves-more g there stands idle in
-        let soon : now + s.config.request_cadence * 0 ≤ due_of s g + s.config.request_cadence * (1 + slots + served s (due_of s g)) = rw none-left at idle.soon in
-        one-paced s.config.request_cadence now (due_of s g) slots (served s (due_of s g)) (served t (due_of s g)) more soon
+        let soon : now + s.config.request_cadence * 0 ≤ due_of s g + s.config.request_cadence * (1 + slots + used past s (due_of s g)) = rw none-left at idle.soon in
+        one-paced s.config.request_cadence now (due_of s g) slots (used past s (due_of s g)) (used past t (due_of s g)) (omega (arith, more)) soon
     | inr early ↦ omega (arith, early)
   ]
 
-  stands-sent : (g : Grant) → Has g s.grants → Stands count slots delay now s.transactions s g → Stands count slots delay now t.transactions t g
+  stands-sent : (g : Grant) → Has g s.grants → Stands count slots extras delay now past s.transactions s g → Stands count slots extras delay now past t.transactions t g
   stands-sent g there was = record { granted = was.granted; room = was.room; long = was.long; either = by was.either }
     where
-      by : IsAwaited delay s.transactions s.listed g ⊎ IsIdle slots now s g → IsAwaited delay t.transactions t.listed g ⊎ IsIdle slots now t g
+      by : IsAwaited delay past s.transactions s.listed g ⊎ IsIdle slots now past s g → IsAwaited delay past t.transactions t.listed g ⊎ IsIdle slots now past t g
       by (inl a) = inl (record {
         transaction = a.transaction;
         there = has-left a.transaction s.transactions (first_sent id s.remote now text ∷ []) a.there;
@@ -195,18 +197,18 @@ module _ (count slots delay now : ℕ) (s : State) (k : IsKept count slots delay
           within = has-right listing s.listed (listing ∷ []) (inl refl);
           for = for;
           same = refl;
-          in_time = omega (arith, idle.soon, bound-early count slots delay now s.transactions s g k there was idle);
+          in_time = omega (arith, fresh, idle.soon, bound-early count slots extras delay now past s.transactions s g k there was idle);
         })
         | inr other ↦
             let more = later g there was idle in
-            inr (record { unasked = not-asked g idle.unasked other; soon = rw none-left (omega (arith, more)); paused = rw none-left (omega (arith, more)) })
+            inr (record { unasked = not-asked g idle.unasked other; near = idle.near; soon = rw none-left (omega (arith, more)); paused = rw none-left (omega (arith, more)) })
       ]
 
   one-id : (l : Listing) → Has l (listing ∷ []) → l.id ≡ id
   one-id l (inl e) = ap (λ (m : Listing). m.id) e
   one-id l (inr none) = absurd none
 
-  pub kept-sent : IsKept count slots delay now t.transactions t
+  pub kept-sent : IsKept count slots extras delay now past t.transactions t
   kept-sent = record {
     phase = k.phase;
     requests = k.requests;
@@ -214,16 +216,23 @@ module _ (count slots delay now : ℕ) (s : State) (k : IsKept count slots delay
     prompt = k.prompt;
     pace = k.pace;
     sent = omega arith;
-    young = λ x h. elim (has-append x s.transactions (first_sent id s.remote now text ∷ []) h) [
-      | inl old ↦ k.young x old
-      | inr (inl e) ↦ rw e refl
+    aged = λ x h. elim (has-append x s.transactions (first_sent id s.remote now text ∷ []) h) [
+      | inl old ↦ k.aged x old
+      | inr (inl e) ↦ rw e (omega (arith, fresh))
+      | inr (inr none) ↦ absurd none
+    ];
+    lone = lone-more s s.transactions (first_sent id s.remote now text) refl (λ x h. h) k.lone;
+    begun = λ x h. elim (has-append x s.transactions (first_sent id s.remote now text ∷ []) h) [
+      | inl old ↦ k.begun x old
+      | inr (inl e) ↦ rw e (omega (arith, fresh))
       | inr (inr none) ↦ absurd none
     ];
     heard = λ x h. elim (has-append x s.transactions (first_sent id s.remote now text ∷ []) h) [
       | inl old ↦ k.heard x old
-      | inr (inl e) ↦ rw e (omega arith)
+      | inr (inl e) ↦ rw e (omega (arith, fresh))
       | inr (inr none) ↦ absurd none
     ];
+    seldom = k.seldom;
     asked = λ l h. elim (has-append l s.listed (listing ∷ []) h) [
       | inl old ↦ k.asked l old
       | inr (inl e) ↦ rw e (refresh.0, (next.grant, next.there, refresh.1))
@@ -237,15 +246,15 @@ module _ (count slots delay now : ℕ) (s : State) (k : IsKept count slots delay
     each = λ g there. elim (k.each g there) [
       | inl (waits, p) ↦ inl (
         waits,
-        pending-more now s.transactions t.transactions s.listed t.listed g (λ x h. has-left x s.transactions _ h)
+        pending-more now past s.transactions t.transactions s.listed t.listed g (λ x h. has-left x s.transactions _ h)
             (λ l h for. has-left l s.listed _ h) p,
       )
       | inr stands ↦ inr (stands-sent g there stands)
     ];
   }
 
-  pub goes-sent : Goes s.transactions t.transactions s t
-  goes-sent = goes-more s.transactions t.transactions s t refl (λ x h. has-left x s.transactions _ h) (λ l h. has-left l s.listed _ h)
+  pub goes-sent : Goes past past s.transactions t.transactions s t
+  goes-sent = goes-more past s.transactions t.transactions s t refl (λ x h. has-left x s.transactions _ h) (λ l h. has-left l s.listed _ h)
 
 -- ---- what is queued
 
@@ -257,14 +266,14 @@ no-reply_left : (qs : List Queued) → list_any (λ q. not q.is_request) qs ≡ 
 no-reply_left [] none = none
 no-reply_left (q ∷ qs) none = (or_parts (not q.is_request) (list_any (λ q. not q.is_request) qs) none).1
 
-module _ (count slots delay now : ℕ) (s : State) (k : IsKept count slots delay now s.transactions s) (q : Queued) (qs : List Queued) (front : s.queue ≡ q ∷ qs) where
+module _ (count slots extras delay now : ℕ) (past : History) (s : State) (k : IsKept count slots extras delay now past s.transactions s) (q : Queued) (qs : List Queued) (front : s.queue ≡ q ∷ qs) where
   abbrev v : State
   v = record s { queue = drop 1 s.queue; last_send = Some now }
 
   one-left : length v.queue + 1 ≡ length s.queue
   one-left = rw front (omega arith)
 
-  stands-queued : (g : Grant) → Stands count slots delay now s.transactions s g → Stands count slots delay now s.transactions (record s { queue = drop 1 s.queue; last_send = Some now }) g
+  stands-queued : (g : Grant) → Stands count slots extras delay now past s.transactions s g → Stands count slots extras delay now past s.transactions (record s { queue = drop 1 s.queue; last_send = Some now }) g
   stands-queued g was = record {
     granted = was.granted;
     room = was.room;
@@ -272,12 +281,12 @@ module _ (count slots delay now : ℕ) (s : State) (k : IsKept count slots delay
     either = elim was.either [
       | inl a ↦ inl a
       | inr idle ↦
-          let (soon, paused) = left-paced s.config.request_cadence now (length v.queue) (length s.queue) (bound slots s g) one-left idle.soon in
-          inr (record { unasked = idle.unasked; soon = soon; paused = omega (arith, paused) })
+          let (soon, paused) = left-paced s.config.request_cadence now (length v.queue) (length s.queue) (bound slots past s g) one-left idle.soon in
+          inr (record { unasked = idle.unasked; near = idle.near; soon = soon; paused = omega (arith, paused) })
     ];
   }
 
-  pub kept-queued : IsKept count slots delay now s.transactions (record s { queue = drop 1 s.queue; last_send = Some now })
+  pub kept-queued : IsKept count slots extras delay now past s.transactions (record s { queue = drop 1 s.queue; last_send = Some now })
   kept-queued = record {
     phase = k.phase;
     requests = no-reply_left s.queue k.requests;
@@ -285,8 +294,11 @@ module _ (count slots delay now : ℕ) (s : State) (k : IsKept count slots delay
     prompt = k.prompt;
     pace = k.pace;
     sent = omega arith;
-    young = k.young;
+    aged = k.aged;
+    lone = k.lone;
+    begun = k.begun;
     heard = k.heard;
+    seldom = k.seldom;
     asked = k.asked;
     size = k.size;
     single = k.single;
@@ -299,26 +311,26 @@ module _ (count slots delay now : ℕ) (s : State) (k : IsKept count slots delay
 -- ---- the path is kept alive
 
 -- With nothing to refresh, each refresh is still to come, so a pause that begins now delays none.
-module _ (count slots delay now : ℕ) (s : State) (k : IsKept count slots delay now s.transactions s) (empty : s.queue ≡ []) (nothing : next_refresh now s ≡ None) where
+module _ (count slots extras delay now : ℕ) (past : History) (s : State) (k : IsKept count slots extras delay now past s.transactions s) (empty : s.queue ≡ []) (nothing : next_refresh now s ≡ None) where
   kept-in_use : (b : Relay) → Has (Allocation b) s.grants → b.is_expired ≡ false
-  kept-in_use b h = (allocation-stands count slots delay now s.transactions s k b h).granted
+  kept-in_use b h = (allocation-stands count slots extras delay now past s.transactions s k b h).granted
 
-  still-early : (g : Grant) → Has g s.grants → Stands count slots delay now s.transactions s g → IsIdle slots now s g → now < due_of s g
+  still-early : (g : Grant) → Has g s.grants → Stands count slots extras delay now past s.transactions s g → IsIdle slots now past s g → now < due_of s g
   still-early g there stands idle = elim (cases_lt now (due_of s g)) [
     | inl early ↦ early
-    | inr past ↦
+    | inr late ↦
         let (a, here, same) = k.housed g there in
         let inside : Has a (allocations s) = filter_map-has as_allocation (Allocation a) a s.grants here refl in
-        let is = is-due now s g stands.granted (may-refresh s g kept-in_use stands.granted (k.housed g there)) idle.unasked past in
-        let housed = allocation-stands count slots delay now s.transactions s k a here in
-        let goes_on : now ≤ a.expiry = let early = stands-early count slots delay now s k (Allocation a) here housed in omega (arith, early) in
-        let alive = stands-early count slots delay now s k g there stands in
+        let is = is-due now s g stands.granted (may-refresh s g kept-in_use stands.granted (k.housed g there)) idle.unasked late in
+        let housed = allocation-stands count slots extras delay now past s.transactions s k a here in
+        let goes_on : now ≤ a.expiry = let early = stands-early count slots extras delay now past s k (Allocation a) here housed in omega (arith, early) in
+        let alive = stands-early count slots extras delay now past s k g there stands in
         let some = due-sends now s g there stands.granted is alive a inside (same_family-self (family_of_grant g) (family_of a.relayed) (sym same)) goes_on in
         absurd (let no : false ≡ true = rw nothing at some in cc)
   ]
 
-  stands-alive : (g : Grant) → Has g s.grants → Stands count slots delay now s.transactions s g
-      → Stands count slots delay now s.transactions (record s { ids = (id_used s).ids; last_send = Some now }) g
+  stands-alive : (g : Grant) → Has g s.grants → Stands count slots extras delay now past s.transactions s g
+      → Stands count slots extras delay now past s.transactions (record s { ids = (id_used s).ids; last_send = Some now }) g
   stands-alive g there was = record {
     granted = was.granted;
     room = was.room;
@@ -328,11 +340,11 @@ module _ (count slots delay now : ℕ) (s : State) (k : IsKept count slots delay
       | inr idle ↦
           let none : length s.queue ≡ 0 = rw empty refl in
           let early = still-early g there was idle in
-          inr (record { unasked = idle.unasked; soon = idle.soon; paused = rw none (omega (arith, early)) })
+          inr (record { unasked = idle.unasked; near = idle.near; soon = idle.soon; paused = rw none (omega (arith, early)) })
     ];
   }
 
-  pub kept-alive : IsKept count slots delay now s.transactions (record s { ids = (id_used s).ids; last_send = Some now })
+  pub kept-alive : IsKept count slots extras delay now past s.transactions (record s { ids = (id_used s).ids; last_send = Some now })
   kept-alive = record {
     phase = k.phase;
     requests = k.requests;
@@ -340,8 +352,11 @@ module _ (count slots delay now : ℕ) (s : State) (k : IsKept count slots delay
     prompt = k.prompt;
     pace = k.pace;
     sent = omega arith;
-    young = k.young;
+    aged = k.aged;
+    lone = k.lone;
+    begun = k.begun;
     heard = k.heard;
+    seldom = k.seldom;
     asked = k.asked;
     size = k.size;
     single = k.single;
@@ -354,8 +369,8 @@ module _ (count slots delay now : ℕ) (s : State) (k : IsKept count slots delay
 -- ---- poll_transmit
 
 -- no grant changes
-abbrev pub KeepsOn : ℕ → ℕ → ℕ → ℕ → State → State → Type 0
-KeepsOn count slots delay now s t = IsKept count slots delay now t.transactions t × Goes s.transactions t.transactions s t
+abbrev pub KeepsOn : ℕ → ℕ → ℕ → ℕ → ℕ → History → State → State → Type 0
+KeepsOn count slots extras delay now past s t = IsKept count slots extras delay now past t.transactions t × Goes past past s.transactions t.transactions s t
 
 empty-kept : (s : State) → has_reply s ≡ false → record s { queue = without_first_reply s.queue } ≡ s
 empty-kept s none = ap (λ (q : List Queued). record s { queue = q }) (no-reply_kept s.queue none)
@@ -367,19 +382,20 @@ due-granted now s (Permission ip (Pending is_kept)) w e = cc
 due-granted now s (Channel number peer (Pending is_kept)) w e = cc
 due-granted now s g w e = cc
 
-pub transmit-kept : (count slots delay now : ℕ) (s : State) → IsKept count slots delay now s.transactions s → due (agent_of s) now ≡ None → KeepsOn count slots delay now s (transmit_step now s).1
-transmit-kept count slots delay now s k none = rw (transmits now s none) (by (is_paused now s))
+pub transmit-kept : (count slots extras delay now : ℕ) (past : History) (s : State) → IsKept count slots extras delay now past s.transactions s → past.made (fresh_id s) ≡ now
+    → due (agent_of s) now ≡ None → KeepsOn count slots extras delay now past s (transmit_step now s).1
+transmit-kept count slots extras delay now past s k fresh none = rw (transmits now s none) (by (is_paused now s))
   where
     Keeps : State → Type 0
-    Keeps t = KeepsOn count slots delay now s t
+    Keeps t = KeepsOn count slots extras delay now past s t
 
     same : (t : State) → t ≡ s → Keeps t
-    same t e = subst Keeps (sym e) (k, goes-more s.transactions s.transactions s s refl (λ x h. h) (λ l h. h))
+    same t e = subst Keeps (sym e) (k, goes-more past s.transactions s.transactions s s refl (λ x h. h) (λ l h. h))
 
     keeps : (b : Bool) → s.queue ≡ [] → next_refresh now s ≡ None
         → Keeps (cond {A = Option (Transmit (List ℕ)) × State} b (Some (to_server s s.local (binding_indication (fresh_id s))), Rattle.turn_client_api.specs.Transmit.sent now (id_used s)) (None, s)).1
-    keeps true empty e = (kept-alive count slots delay now s k empty e, goes-more s.transactions s.transactions s (record s { ids = (id_used s).ids; last_send = Some now }) refl (λ x h. h) (λ l h. h))
-    keeps false empty e = (k, goes-more s.transactions s.transactions s s refl (λ x h. h) (λ l h. h))
+    keeps true empty e = (kept-alive count slots extras delay now past s k empty e, goes-more past s.transactions s.transactions s (record s { ids = (id_used s).ids; last_send = Some now }) refl (λ x h. h) (λ l h. h))
+    keeps false empty e = (k, goes-more past s.transactions s.transactions s s refl (λ x h. h) (λ l h. h))
 
     refreshes : s.queue ≡ [] → (o : Option Purpose) → next_refresh now s ≡ o
         → Keeps (option_map_or (λ purpose. sent_at_once (request_for s purpose (fresh_id s)) purpose now s) o (keepalive_step now s)).1
@@ -388,7 +404,7 @@ transmit-kept count slots delay now s k none = rw (transmits now s none) (by (is
         let next = next-of now s p e in
         elim (k.each next.grant next.there) [
           | inl waits ↦ absurd (due-granted now s next.grant waits.0 next.is_due)
-          | inr stands ↦ (kept-sent count slots delay now s k empty p next stands, goes-sent count slots delay now s k empty p next stands)
+          | inr stands ↦ (kept-sent count slots extras delay now past s k empty p next stands fresh, goes-sent count slots extras delay now past s k empty p next stands fresh)
         ]
 
     queued : (queue : List Queued) → s.queue ≡ queue → Keeps (queue_step now s).1
@@ -396,8 +412,8 @@ transmit-kept count slots delay now s k none = rw (transmits now s none) (by (is
     queued (q ∷ qs) e =
         let is : (queue_step now s).1 ≡ record s { queue = drop 1 s.queue; last_send = Some now } = front s.queue e in
         subst Keeps (sym is) (
-          kept-queued count slots delay now s k q qs e,
-          goes-more s.transactions s.transactions s (record s { queue = drop 1 s.queue; last_send = Some now }) refl
+          kept-queued count slots extras delay now past s k q qs e,
+          goes-more past s.transactions s.transactions s (record s { queue = drop 1 s.queue; last_send = Some now }) refl
               (λ x h. h) (λ l h. h),
         )
       where

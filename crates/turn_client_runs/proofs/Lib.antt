@@ -24,9 +24,11 @@ pub mod HeldLemmas
 pub mod HoldLemmas
 pub mod InOrderRuns
 pub mod InOrderSteps
+pub mod LastingAgain
 pub mod LastingCalls
 pub mod LastingCounts
 pub mod LastingEffects
+pub mod LastingHistory
 pub mod LastingListings
 pub mod LastingPeerLemmas
 pub mod LastingPolls

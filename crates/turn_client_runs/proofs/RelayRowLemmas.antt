@@ -5,12 +5,14 @@ use Rattle.turn_agent.specs.declared.transaction.Transaction.{Transaction}
 use Rattle.turn_client_api.specs.Config.{Config}
 use Rattle.turn_client_api.specs.State.{State}
 use Rattle.turn_client_api.specs.Steps.{state_after, state_after_all}
+use Rattle.turn_client_api.specs.declared.call.Call.TheVariants.{PollEvent}
 use Rattle.turn_client_runs.specs.HandshakeRows.{new_client}
+use Rattle.turn_client_runs.specs.History.{no_history, with_call}
 use Rattle.turn_client_runs.specs.Lasting.{RunsSteadily}
 use Rattle.turn_client_runs.specs.LastingRows.{LastsFor700Seconds, refreshed_grants, with_allocation}
 use Rattle.turn_client_runs.specs.RelayRows.{RelayStaysUpFromFirst, calls_after, just_allocated}
 use Rattle.turn_client_runs.proofs.HandshakeRowLemmas.{done, done-is, handshake-is-worked}
-use Rattle.turn_client_runs.proofs.LastingRowLemmas.{all-none, at-once, relay-stays-up}
+use Rattle.turn_client_runs.proofs.LastingRowLemmas.{all-none, at-once, relay-runs, relay-stays-up}
 
 module _ (local remote : SocketAddr) (config : Config) (seed : List ℕ) where
   abbrev first : State
@@ -27,15 +29,16 @@ module _ (local remote : SocketAddr) (config : Config) (seed : List ℕ) where
   later = relay-stays-up told refl
 
   abbrev Goes : State → Type 0
-  Goes t = RunsSteadily 3 1 100_000_000 200_000_000 t (calls_after t) × ((state_after_all t (calls_after t)).grants ≡ refreshed_grants)
+  Goes t = RunsSteadily 3 1 0 100_000_000 200_000_000 no_history t (calls_after t) × ((state_after_all t (calls_after t)).grants ≡ refreshed_grants)
 
   goes : Goes allocated
   goes = (
     (
-      record { on_time = at-once 200_000_000 allocated (omega arith); answered = all-none (λ (x : Transaction). 200_000_000 ≤ x.last_send + 100_000_000) },
+      record { on_time = at-once 200_000_000 allocated (omega arith); answered = all-none (λ (x : Transaction). 200_000_000 ≤ no_history.made x.id + 100_000_000) },
       tt,
       (omega arith, omega arith),
-      later.runs,
+      λ since within. omega arith,
+      relay-runs told refl (with_call PollEvent 200_000_000 allocated no_history) refl,
     ),
     later.refreshes,
   )

@@ -67,10 +67,10 @@ HandshakeSucceeds =
 abbrev pub HandshakeEndsSteadily : Type 0
 HandshakeEndsSteadily =
     (local remote : SocketAddr) (config : Config) (seed : List ℕ) (delay start now : ℕ) (calls : List Call)
-    (packet : Transmit (List ℕ)) (count slots lifetime : ℕ)
+    (packet : Transmit (List ℕ)) (count slots extras lifetime : ℕ)
     → let first = initial Udp local remote config seed in let last = state_after_all first calls in let next = state_after (Recv packet now) last in
     1 ≤ config.max_stale_nonces → delay < wait_at (timers_of config) Udp 0
     → RunsHandshake delay start first calls → IsInTime delay (time_of_all start calls) now last
     → IsAllocating packet last → last.queue ≡ [] → lifetime_in packet.payload ≡ Some lifetime → 600 ≤ lifetime
-    → HasRoom count slots config.request_cadence delay (min config.refresh_ahead (seconds 150)) → IsWithin count slots next
-    → IsSteady count slots delay now next
+    → HasRoom count slots extras config.request_cadence delay (min config.refresh_ahead (seconds 150)) → IsWithin count slots next
+    → IsSteady count slots extras delay now next

@@ -72,7 +72,7 @@ pub record EndsSteadily (first : State) (last : State) (packet : Transmit (List 
   pub runs : RunsHandshake 100_000_000 0 first (handshake_calls first)
   pub allocates : IsAllocating packet last
   pub granted : (state_after (Recv packet 200_000_000) last).grants ≡ new_allocation 600 200_000_000 relayed_v4 ∷ []
-  pub steady : IsSteady 3 1 100_000_000 200_000_000 (state_after (Recv packet 200_000_000) last)
+  pub steady : IsSteady 3 1 0 100_000_000 200_000_000 (state_after (Recv packet 200_000_000) last)
 
 -- whatever its addresses, credentials and IDs are
 abbrev pub HandshakeIsWorked : Type 0

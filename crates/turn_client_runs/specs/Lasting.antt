@@ -1,14 +1,13 @@
 -- No grant is lost while the server answers and the caller sends what is due (RFC 8656, sections 8, 9 and 12).
 use Rattle.std.specs.Prelude.{◌≡◌, ◌⊎◌, ℕ, ◌+◌, ◌*◌, ◌/◌, ◌^◌, ◌<◌, ◌≤◌, min, true, false, List, [], ◌∷◌, ◌++◌, length}
-use Rattle.std.specs.Prelude.{IfSome, IsSomeAnd, All, ⊤}
+use Rattle.std.specs.Prelude.{IfSome, IsSome, IsSomeAnd, All, ⊤}
 use Rattle.std.specs.List.{Contains}
 use Rattle.turn_stun.specs.Message.{id_of}
-use Rattle.turn_stun.specs.declared.message.header.MessageClass.TheVariants.{Success}
+use Rattle.turn_stun.specs.declared.message.header.MessageClass.TheVariants.{Error, Success}
 use Rattle.turn_stun.specs.declared.transport.TransportType.TheVariants.{Udp}
 use Rattle.turn_stun.specs.declared.transport.Transmit.{Transmit}
 use Rattle.turn_auth.specs.Validation.{IsValidated, validation_of}
 use Rattle.turn_agent.specs.Agent.{is_outstanding}
-use Rattle.turn_agent.specs.Schedule.{wait_at}
 use Rattle.turn_client_api.specs.Config.{timers_of}
 use Rattle.turn_client_api.specs.State.{State, auth_of, seconds}
 use Rattle.turn_client_api.specs.declared.state.Phase.TheVariants.{Allocated}
@@ -19,14 +18,15 @@ use Rattle.turn_client_api.specs.declared.grant.Purpose.{Purpose}
 use Rattle.turn_client_api.specs.declared.grant.Purpose.TheVariants.{ForRefresh}
 use Rattle.turn_client_api.specs.Grants.{purposes_of}
 use Rattle.turn_client_api.specs.Requests.{method_for}
-use Rattle.turn_client_api.specs.Judgement.{class_in, lifetime_in, method_in}
+use Rattle.turn_client_api.specs.Judgement.{challenge_in, class_in, lifetime_in, method_in}
 use Rattle.turn_client_api.specs.Alarm.{AllHaveAllocation}
 use Rattle.turn_client_api.specs.Steps.{state_after, state_after_all}
 use Rattle.turn_client_api.specs.Payloads.{message_step}
 use Rattle.turn_client_api.specs.declared.call.Call.{Call}
 use Rattle.turn_client_api.specs.declared.call.Call.TheVariants.{CreatePermission, BindChannel, SendTo, Recv, Poll, PollTransmit, PollEvent}
 use Rattle.turn_client_laws.specs.LawsDoubles.{HasNoDoubles}
-use Rattle.turn_client_runs.specs.OnTime.{IsFromServer, IsInTime, time_of, time_of_all}
+use Rattle.turn_client_runs.specs.History.{History, IsSeldom, all_waits, no_history, with_call}
+use Rattle.turn_client_runs.specs.OnTime.{IsFromServer, IsOnTime, time_of, time_of_all}
 
 -- ---- grants in force
 
@@ -76,11 +76,11 @@ HasStill g now s = (h : Grant) × Contains s.grants h × (with_expiry 0 h ≡ as
 
 -- ---- where it begins
 
--- If so many grants are to be refreshed at one time, and so many requests are queued before them, one packet
--- leaves in each pause. The last one leaves this long after that time, and its reply comes within the delay: that is
--- before the grant expires, which is refreshed so long ahead.
-abbrev pub HasRoom : ℕ → ℕ → ℕ → ℕ → ℕ → Type 0
-HasRoom count slots cadence delay ahead = (count + slots) * cadence + delay < ahead
+-- If so many grants are to be refreshed at one time, so many requests are queued before them, and so many packets are
+-- extra, one packet leaves in each pause. The last one leaves this long after that time, and its reply comes within the
+-- delay: that is before the grant expires, which is refreshed so long ahead.
+abbrev pub HasRoom : ℕ → ℕ → ℕ → ℕ → ℕ → ℕ → Type 0
+HasRoom count slots extras cadence delay ahead = (count + slots + extras) * cadence + delay < ahead
 
 -- the client has no more grants, and no more queued packets
 abbrev pub IsWithin : ℕ → ℕ → State → Type 0
@@ -88,9 +88,9 @@ IsWithin count slots s = (length s.grants ≤ count) × (length s.queue ≤ slot
 
 -- A client that has allocations, permissions and channels in force, awaits nothing and has nothing to send. No
 -- refresh is late, there is room for all of them, and a reply that comes within the delay comes before its
--- request is retransmitted. Each grant has its allocation, and none is double, as in all runs
+-- request times out. Each grant has its allocation, and none is double, as in all runs
 -- (`grants_have_allocations`, `grants_are_distinct`).
-pub record IsSteady (count slots delay now : ℕ) (s : State) : Type 0 where
+pub record IsSteady (count slots extras delay now : ℕ) (s : State) : Type 0 where
   pub allocated : s.phase ≡ Allocated
   pub none_queued : s.queue ≡ []
   pub none_outstanding : s.transactions ≡ []
@@ -98,12 +98,12 @@ pub record IsSteady (count slots delay now : ℕ) (s : State) : Type 0 where
   pub sent_before : IfSome s.last_send (λ time. time ≤ now)
   pub in_force : All (IsInForce now) s.grants
   pub none_late : All (λ g. now + ahead_of s.config.refresh_ahead g ≤ expiry_of g) s.grants
-  pub room : All (λ g. HasRoom count slots s.config.request_cadence delay (ahead_of s.config.refresh_ahead g)) s.grants
-  pub room_for_more : HasRoom count slots s.config.request_cadence delay (min s.config.refresh_ahead (seconds 150))
+  pub room : All (λ g. HasRoom count slots extras s.config.request_cadence delay (ahead_of s.config.refresh_ahead g)) s.grants
+  pub room_for_more : HasRoom count slots extras s.config.request_cadence delay (min s.config.refresh_ahead (seconds 150))
   pub within : IsWithin count slots s
   pub distinct : HasNoDoubles s
   pub housed : AllHaveAllocation s
-  pub prompt : delay < wait_at (timers_of s.config) s.transport 0
+  pub prompt : delay < all_waits (timers_of s.config) s.transport
   pub in_range : now ≤ 2 ^ 62
 
 -- ---- the server
@@ -135,10 +135,17 @@ pub record IsSuccess (packet : Transmit (List ℕ)) (now : ℕ) (s : State) : Ty
   pub outstanding : is_outstanding (id_of packet.payload) s.transactions ≡ true
   pub answers : Answers packet.payload (purposes_of (id_of packet.payload) s)
 
+-- The packet is a challenge, and the client has answered fewer in a row than it may (RFC 8489, section 9.2.5).
+pub record IsChallenge (packet : Transmit (List ℕ)) (now : ℕ) (s : State) : Type 0 where
+  pub message : IsOneMessage packet now s
+  pub error : class_in packet.payload ≡ Error
+  pub challenge : IsSome (challenge_in s packet.payload)
+  pub few : s.challenges < s.config.max_stale_nonces
+
 -- ---- the run
 
 -- The call takes what is due or sends data, or time passes, or the caller requests a permission or a channel, or a
--- success comes. Any other call changes nothing, as what strangers and peers send.
+-- success or a challenge comes. Any other call changes nothing, as what strangers and peers send.
 abbrev pub IsQuiet : Call → State → Type 0
 IsQuiet (Poll now) s = ⊤
 IsQuiet (PollTransmit now) s = ⊤
@@ -146,24 +153,33 @@ IsQuiet PollEvent s = ⊤
 IsQuiet (SendTo transport peer bytes now) s = ⊤
 IsQuiet (CreatePermission transport ip now) s = ⊤
 IsQuiet (BindChannel transport peer now) s = ⊤
-IsQuiet (Recv packet now) s = IsSuccess packet now s ⊎ (state_after (Recv packet now) s ≡ s)
+IsQuiet (Recv packet now) s = IsSuccess packet now s ⊎ (IsChallenge packet now s ⊎ (state_after (Recv packet now) s ≡ s))
 IsQuiet call s = state_after call s ≡ s
 
+-- The caller is on time, and no request awaits its success for longer than the delay, however often it was retransmitted
+-- or made again.
+pub record AreInTime (delay before now : ℕ) (past : History) (s : State) : Type 0 where
+  pub on_time : IsOnTime before now s
+  pub answered : All (λ x. now ≤ past.made x.id + delay) s.transactions
+
 -- The caller is on time, the server answers within the delay, and the client never has more grants and queued
--- packets than these.
-abbrev pub RunsSteadily : ℕ → ℕ → ℕ → ℕ → State → List Call → Type 0
-RunsSteadily count slots delay before s [] = ⊤
-RunsSteadily count slots delay before s (call ∷ calls) =
-    IsInTime delay before (time_of before call) s × IsQuiet call s × IsWithin count slots (state_after call s)
-    × RunsSteadily count slots delay (time_of before call) (state_after call s) calls
+-- packets than these, nor more extra packets in the time ahead.
+abbrev pub RunsSteadily : ℕ → ℕ → ℕ → ℕ → ℕ → History → State → List Call → Type 0
+RunsSteadily count slots extras delay before past s [] = ⊤
+RunsSteadily count slots extras delay before past s (call ∷ calls) =
+    let now = time_of before call in
+    let next = state_after call s in
+    let later = with_call call now s past in
+    AreInTime delay before now past s × IsQuiet call s × IsWithin count slots next × IsSeldom extras s.config.refresh_ahead now later
+    × RunsSteadily count slots extras delay now later next calls
 
 -- ---- what holds
 
 -- what is in force after some calls is in force after all later ones, whatever the run
 abbrev pub GrantsLast : Type 0
 GrantsLast =
-    (count slots delay now : ℕ) (s : State) (earlier later : List Call) → IsSteady count slots delay now s
-    → RunsSteadily count slots delay now s (earlier ++ later)
+    (count slots extras delay now : ℕ) (s : State) (earlier later : List Call) → IsSteady count slots extras delay now s
+    → RunsSteadily count slots extras delay now no_history s (earlier ++ later)
     → let between = time_of_all now earlier in
     (g : Grant) → Contains (state_after_all s earlier).grants g → IsInForce between g
     → HasStill g (time_of_all between later) (state_after_all s (earlier ++ later))
@@ -171,8 +187,8 @@ GrantsLast =
 -- what was requested is in force once the delay is over
 abbrev pub RequestsSucceed : Type 0
 RequestsSucceed =
-    (count slots delay now : ℕ) (s : State) (earlier later : List Call) → IsSteady count slots delay now s
-    → RunsSteadily count slots delay now s (earlier ++ later)
+    (count slots extras delay now : ℕ) (s : State) (earlier later : List Call) → IsSteady count slots extras delay now s
+    → RunsSteadily count slots extras delay now no_history s (earlier ++ later)
     → let between = time_of_all now earlier in
     (g : Grant) → Contains (state_after_all s earlier).grants g → IsRequested g → between + delay < time_of_all between later
     → HasStill g (time_of_all between later) (state_after_all s (earlier ++ later))

@@ -11,6 +11,7 @@ use Rattle.turn_client_api.specs.declared.grant.Purpose.TheVariants.{ForAllocati
 use Rattle.turn_client_api.specs.Effect.{granted_until, new_allocation}
 use Rattle.turn_client_api.specs.Steps.{state_after, state_after_all}
 use Rattle.turn_client_laws.specs.LawsRows.{granted_at, ip_of_peer, peer, relayed_v4}
+use Rattle.turn_client_runs.specs.History.{no_history}
 use Rattle.turn_client_runs.specs.Lasting.{IsSteady, RunsSteadily}
 use Rattle.turn_client_runs.specs.Server.{from_server, success_for}
 
@@ -61,8 +62,8 @@ refreshed_grants =
 -- With at most three grants, a queued packet and a delay of 100 ms, it begins and runs as no grant is lost, and each of the
 -- three is refreshed.
 pub record LastsFor700Seconds (s : State) : Type 0 where
-  pub begins : IsSteady 3 1 100_000_000 200_000_000 s
-  pub runs : RunsSteadily 3 1 100_000_000 200_000_000 s (calls_of_700_s s)
+  pub begins : IsSteady 3 1 0 100_000_000 200_000_000 s
+  pub runs : RunsSteadily 3 1 0 100_000_000 200_000_000 no_history s (calls_of_700_s s)
   pub refreshes : (state_after_all s (calls_of_700_s s)).grants ≡ refreshed_grants
 
 -- whatever the client's addresses, credentials and IDs are

@@ -5,6 +5,7 @@ use Rattle.turn_client_api.specs.State.{State}
 use Rattle.turn_client_api.specs.Steps.{state_after_all}
 use Rattle.turn_client_api.specs.declared.call.Call.{Call}
 use Rattle.turn_client_api.specs.declared.grant.Grant.{Grant}
+use Rattle.turn_client_runs.specs.History.{no_history}
 use Rattle.turn_client_runs.specs.Lasting.{HasStill, IsInForce, IsRequested, IsSteady, RunsSteadily}
 use Rattle.turn_client_runs.specs.OnTime.{time_of_all}
 use Rattle.turn_client_runs.specs.Promises.{InEachPart}
@@ -21,6 +22,6 @@ LastsThrough delay now s calls =
 -- caller is on time, this is so from each of its calls to its end.
 abbrev pub GrantsLastInRuns : State → List Call → Type 0
 GrantsLastInRuns = InEachPart (λ s middle.
-    (count slots delay now : ℕ) (before after : List Call) → middle ≡ before ++ after
-    → IsSteady count slots delay now s → RunsSteadily count slots delay now s middle
+    (count slots extras delay now : ℕ) (before after : List Call) → middle ≡ before ++ after
+    → IsSteady count slots extras delay now s → RunsSteadily count slots extras delay now no_history s middle
     → LastsThrough delay (time_of_all now before) (state_after_all s before) after)

@@ -6,6 +6,7 @@ pub mod CutRows
 pub mod Events
 pub mod Granted
 pub mod Held
+pub mod History
 pub mod Holds
 pub mod Peers
 pub mod Processed

@@ -8,6 +8,7 @@ use Rattle.turn_client_api.specs.declared.call.Call.{Call}
 use Rattle.turn_client_api.specs.declared.call.Call.TheVariants.{PollEvent, Recv}
 use Rattle.turn_client_runs.specs.Handshake.{IsAllocating, RunsHandshake}
 use Rattle.turn_client_runs.specs.HandshakeRows.{allocation_packet, handshake_calls, new_client}
+use Rattle.turn_client_runs.specs.History.{no_history}
 use Rattle.turn_client_runs.specs.Lasting.{IsSteady, RunsSteadily}
 use Rattle.turn_client_runs.specs.LastingRows.{calls_of_700_s, refreshed_grants}
 
@@ -32,8 +33,8 @@ calls_from_first first =
 pub record LastsFromFirst (first : State) : Type 0 where
   pub handshake : RunsHandshake 100_000_000 0 first (handshake_calls first)
   pub allocates : let last = state_after_all first (handshake_calls first) in IsAllocating (allocation_packet last) last
-  pub begins : IsSteady 3 1 100_000_000 200_000_000 (just_allocated first)
-  pub runs : RunsSteadily 3 1 100_000_000 200_000_000 (just_allocated first) (calls_after (just_allocated first))
+  pub begins : IsSteady 3 1 0 100_000_000 200_000_000 (just_allocated first)
+  pub runs : RunsSteadily 3 1 0 100_000_000 200_000_000 no_history (just_allocated first) (calls_after (just_allocated first))
   pub refreshes : (state_after_all first (calls_from_first first)).grants ≡ refreshed_grants
 
 -- whatever the client's addresses, credentials and IDs are

@@ -13,16 +13,19 @@ ghost use Rattle.turn_client_runs.specs.Lasting.{DatagramsAreMessages, GrantsLas
 /// packets and calls again at the time that `poll` returned (`runs_miss_no_deadline`). It requests
 /// permissions and channels, sends data, and never has more than `count` grants and `slots` queued packets.
 /// Of the server and the network: a request, whether it was sent or waits in the queue, is answered within
-/// `delay`, which is less than the wait before its first retransmission, by a signed success; replies come
-/// in any order, and a REFRESH is granted for 600 s or more. Of both: `(count + slots) * cadence + delay` is
-/// less than the time by which each refresh is ahead, where the cadence and that time are the configured ones
-/// (`request_cadence`, and `refresh_ahead` or half of a lifetime).
+/// `delay` of when it was first made by a signed success, however often it is lost and retransmitted, and
+/// however often the server requires another nonce for it, which is no more in a row than the client answers
+/// (`max_stale_nonces`; RFC 8489, section 9.2.5). The delay is less than all waits of a request (section 6.2.1);
+/// replies come in any order, and a REFRESH is granted for 600 s or more. Of all: at most `extras` packets
+/// are retransmissions, or requests that are made again after a challenge, within the time by which a refresh
+/// is ahead; and `(count + slots + extras) * cadence + delay` is less than that time, where the cadence and that
+/// time are the configured ones (`request_cadence`, and `refresh_ahead` or half of a lifetime).
 /// What strangers and peers send may come in between, as long as it changes nothing. Times are at most 2^62
 /// ns.
 ///
-/// It does not speak of challenges, errors and retransmissions, of `delete`, of data connections, or of
-/// memory allocations that fail. The other clauses are what makes it speak of the server alone: a success
-/// ends its request, and a datagram of the server is processed as one message.
+/// It does not speak of errors, of grants that are let go, of `delete`, of data connections, or of memory
+/// allocations that fail. The other clauses are what makes it speak of the server alone: a success ends its
+/// request, and a datagram of the server is processed as one message.
 pub fn grants_last_while_the_server_answers()
     ensures last { GrantsLast }
     ensures asked { RequestsSucceed }
@@ -41,7 +44,7 @@ pub fn a_relay_stays_up()
 
 /// A cadence of 5 ms keeps 4,096 peers: with the default time ahead (`refresh_ahead`) a client over UDP that has a channel and a
 /// permission for each of them, and its allocation, meets the premises of `grants_last_while_the_server_answers` with 8,193 grants,
-/// 100 queued requests and a delay of 450 ms, also where all refreshes are due at one time. So each of the grants is in
+/// 100 queued requests, 1,000 extra packets and a delay of 5 s, also where all refreshes are due at one time. So each of the grants is in
 /// force after every run that keeps these premises. The room is there for any client with that cadence and so many grants, if it
 /// refreshes a minute ahead or more and its allocations were granted for two minutes or more.
 pub fn thousands_of_peers_stay_up()

@@ -1,0 +1,206 @@
+-- What came before in a run, while no grant is lost.
+use Rattle.std.proofs.Common.{◌≡◌, ◌⊎◌, ℕ, zero, suc, ◌+◌, ◌-◌, ◌^◌, ◌<◌, ◌≤◌, min, Bool, true, false, cond, ◌&&◌, leb, eqb, List, [], ◌∷◌, ◌++◌, length, None, refl, inl, inr, ap, sym, subst, ◌∙◌, arith}
+use Rattle.std.specs.Prelude.{filter, nat_le}
+use Rattle.std.proofs.lemmas.Bool.{and_right, cases_Bool, cases_lt, eq-eqb, eqb-true, leb-true, lt-leb, or_parts}
+use Rattle.turn_stun.specs.declared.transport.TransportType.{TransportType}
+use Rattle.turn_agent.specs.Agent.{is_outstanding, timed_out_transaction, transaction_timeout}
+use Rattle.turn_agent.specs.Schedule.{Timers, resends_of, wait_at}
+use Rattle.turn_agent.specs.declared.transaction.Transaction.{Transaction}
+use Rattle.turn_client_api.specs.Config.{timers_of}
+use Rattle.turn_client_api.specs.Requests.{fresh_id}
+use Rattle.turn_client_api.specs.State.{State, agent_of}
+use Rattle.turn_client_api.specs.declared.call.Call.{Call}
+use Rattle.turn_client_api.specs.declared.grant.Grant.{Grant}
+use Rattle.turn_client_laws.proofs.HasLemmas.{Has, find-none, has-append}
+use Rattle.turn_client_laws.proofs.InAllocationLemmas.{has-any}
+use Rattle.turn_client_laws.proofs.NewIdLemmas.{fresh-free}
+use Rattle.turn_client_runs.specs.History.{History, IsSeldom, all_waits, extra_since, first_made, is_extra, waited, with_call}
+use Rattle.turn_client_runs.proofs.LastingStands.{Goes, IsKept, IsPending, IsWell, Stands, due_of, still-paced}
+
+-- ---- waits
+
+waited-up : (timers : Timers) (transport : TransportType) (n r : ℕ) → n ≤ r → waited timers transport n ≤ waited timers transport r
+waited-up timers transport n zero less = let none : n ≡ zero = omega (arith, less) in rw none (omega arith)
+waited-up timers transport n (suc r) less = elim (cases_lt n (suc r)) [
+  | inl before ↦
+      let rest = waited-up timers transport n r (omega (arith, before)) in
+      let whole : waited timers transport (suc r) ≡ waited timers transport r + wait_at timers transport r = refl in
+      omega (arith, rest, whole)
+  | inr after ↦ let same : n ≡ suc r = omega (arith, less, after) in rw same (omega arith)
+]
+
+-- once the last wait is over, all are
+all-waited : (timers : Timers) (transport : TransportType) (r : ℕ) → resends_of timers transport ≤ r → all_waits timers transport ≤ waited timers transport r + wait_at timers transport r
+all-waited timers transport r last = waited-up timers transport (suc (resends_of timers transport)) (suc r) (omega (arith, last))
+
+pub waited-next : (timers : Timers) (transport : TransportType) (r : ℕ) → waited timers transport (r + 1) ≡ waited timers transport r + wait_at timers transport r
+waited-next timers transport r =
+    let next : suc r ≡ r + 1 = omega arith in
+    subst (λ (n : ℕ). waited timers transport n ≡ waited timers transport r + wait_at timers transport r) next refl
+
+-- a request whose reply may yet come has not timed out
+pub none-over_yet : (delay time : ℕ) (past : History) (s : State) → delay < all_waits (timers_of s.config) s.transport → time ≤ 2 ^ 62
+    → ((x : Transaction) → Has x s.transactions → past.made x.id + waited (timers_of s.config) s.transport x.resends ≤ x.last_send)
+    → ((x : Transaction) → Has x s.transactions → time ≤ past.made x.id + delay)
+    → timed_out_transaction (agent_of s) time ≡ None
+none-over_yet delay time past s prompt range aged heard = find-none _ s.transactions (λ x h. by x (aged x h) (heard x h) (leb (resends_of timers s.transport) x.resends) refl)
+  where
+    timers : Timers
+    timers = timers_of s.config
+
+    by : (x : Transaction) → past.made x.id + waited timers s.transport x.resends ≤ x.last_send → time ≤ past.made x.id + delay → (b : Bool) → leb (resends_of timers s.transport) x.resends ≡ b
+        → (leb (resends_of timers s.transport) x.resends && leb (transaction_timeout timers s.transport x) time) ≡ false
+    by x old late false e = rw e refl
+    by x old late true e =
+        let all = all-waited timers s.transport x.resends (leb-true (resends_of timers s.transport) x.resends e) in
+        and_right _ _ (lt-leb (min (x.last_send + wait_at timers s.transport x.resends) (2 ^ 63 - 1)) time (omega (arith, prompt, range, old, late, all)))
+
+-- ---- IDs
+
+-- no outstanding request has the next ID
+pub old-apart : (s : State) (x : Transaction) → Has x s.transactions → eqb x.id (fresh_id s) ≡ false
+old-apart s x there = by (eqb x.id (fresh_id s)) refl
+  where
+    by : (b : Bool) → eqb x.id (fresh_id s) ≡ b → eqb x.id (fresh_id s) ≡ false
+    by false e = e
+    by true e =
+        let free = (or_parts (is_outstanding (fresh_id s) s.transactions) _ (fresh-free s)).0 in
+        let no : false ≡ true = sym free ∙ has-any (λ (t : Transaction). eqb t.id (fresh_id s)) x s.transactions there e in
+        cc
+
+-- outstanding requests have different IDs, also with a new one
+pub lone-more : (s : State) (xs : List Transaction) (new : Transaction) → new.id ≡ fresh_id s → ((x : Transaction) → Has x xs → Has x s.transactions)
+    → ((x y : Transaction) → Has x xs → Has y xs → x.id ≡ y.id → x ≡ y)
+    → (x y : Transaction) → Has x (xs ++ new ∷ []) → Has y (xs ++ new ∷ []) → x.id ≡ y.id → x ≡ y
+lone-more s xs new fresh old lone x y hx hy e = elim (has-append x xs (new ∷ []) hx) [
+  | inl ox ↦ elim (has-append y xs (new ∷ []) hy) [
+    | inl oy ↦ lone x y ox oy e
+    | inr (inl is) ↦ absurd (apart x ox (e ∙ (ap (λ (z : Transaction). z.id) is ∙ fresh)))
+    | inr (inr none) ↦ absurd none
+  ]
+  | inr (inl is) ↦ elim (has-append y xs (new ∷ []) hy) [
+    | inl oy ↦ absurd (apart y oy (sym e ∙ (ap (λ (z : Transaction). z.id) is ∙ fresh)))
+    | inr (inl as_well) ↦ is ∙ sym as_well
+    | inr (inr none) ↦ absurd none
+  ]
+  | inr (inr none) ↦ absurd none
+]
+  where
+    apart : (z : Transaction) → Has z xs → z.id ≡ fresh_id s → ⊥
+    apart z h same = let no : false ≡ true = sym (old-apart s z (old z h)) ∙ eq-eqb z.id (fresh_id s) same in cc
+
+-- ---- a call is made
+
+-- these requests were made when they were, and no fewer packets are extra
+pub record GoesOn (xs : List Transaction) (past later : History) : Type 0 where
+  pub same : (x : Transaction) → Has x xs → later.made x.id ≡ past.made x.id
+  pub more : (since : ℕ) → extra_since since past ≤ extra_since since later
+
+pub call-goes_on : (call : Call) (now : ℕ) (past : History) (s : State) → GoesOn s.transactions past (with_call call now s past)
+call-goes_on call now past s = record { same = same; more = λ since. by (is_extra call s) since }
+  where
+    same : (x : Transaction) → Has x s.transactions → cond (eqb x.id (fresh_id s)) (first_made call now s past) (past.made x.id) ≡ past.made x.id
+    same x h = rw (old-apart s x h) refl
+
+    one : (since : ℕ) (b : Bool) → length (filter (λ time. nat_le since time) past.extra) ≤ length (cond b (now ∷ filter (λ time. nat_le since time) past.extra) (filter (λ time. nat_le since time) past.extra))
+    one since true = omega arith
+    one since false = omega arith
+
+    by : (b : Bool) (since : ℕ) → length (filter (λ time. nat_le since time) past.extra) ≤ length (filter (λ time. nat_le since time) (cond b (now ∷ past.extra) past.extra))
+    by true since = one since (leb since now)
+    by false since = omega arith
+
+-- what an extra packet adds
+pub call-extra : (call : Call) (now : ℕ) (past : History) (s : State) → is_extra call s ≡ true → (since : ℕ) → since ≤ now → extra_since since past + 1 ≤ extra_since since (with_call call now s past)
+call-extra call now past s e since early = rw e (by (leb since now) (Rattle.std.proofs.lemmas.Bool.le-leb since now early))
+  where
+    by : (b : Bool) → b ≡ true
+        → length (filter (λ time. nat_le since time) past.extra) + 1 ≤ length (cond b (now ∷ filter (λ time. nat_le since time) past.extra) (filter (λ time. nat_le since time) past.extra))
+    by true always = omega arith
+    by false never = cc
+
+-- the request that a call makes
+pub call-made : (call : Call) (now : ℕ) (past : History) (s : State) → (with_call call now s past).made (fresh_id s) ≡ first_made call now s past
+call-made call now past s = rw (eq-eqb (fresh_id s) (fresh_id s) refl) refl
+
+-- ---- with more extra packets, all is as it was
+
+module _ (count slots extras delay now : ℕ) (past later : History) (transactions : List Transaction) (s : State) (on : GoesOn transactions past later) where
+  pub pending-later_on : (until : ℕ) (g : Grant) → IsPending until past transactions s.listed g → IsPending until later transactions s.listed g
+  pending-later_on until g p = record {
+    transaction = p.transaction;
+    there = p.there;
+    listing = p.listing;
+    within = p.within;
+    for = p.for;
+    same = p.same;
+    sent = let e = on.same p.transaction p.there in let sent = p.sent in omega (arith, e, sent);
+  }
+
+  stands-later : (g : Grant) → Stands count slots extras delay now past transactions s g → Stands count slots extras delay now later transactions s g
+  stands-later g was = record {
+    granted = was.granted;
+    room = was.room;
+    long = was.long;
+    either = elim was.either [
+      | inl a ↦ inl (record {
+        transaction = a.transaction;
+        there = a.there;
+        listing = a.listing;
+        within = a.within;
+        for = a.for;
+        same = a.same;
+        in_time = let e = on.same a.transaction a.there in let t = a.in_time in omega (arith, e, t);
+      })
+      | inr idle ↦
+          let more = on.more (due_of s g) in
+          let soon = idle.soon in
+          let paused = idle.paused in
+          inr (record {
+            unasked = idle.unasked;
+            near = idle.near;
+            soon = still-paced _ _ now _ _ (due_of s g) (due_of s g) slots _ _ refl refl refl (omega (arith, more)) soon;
+            paused = still-paced _ _ _ _ _ (due_of s g) (due_of s g) slots _ _ refl refl refl (omega (arith, more)) paused;
+          })
+    ];
+  }
+
+  well-later : (g : Grant) → IsWell count slots extras delay now past transactions s g → IsWell count slots extras delay now later transactions s g
+  well-later g (inl (waits, pending)) = inl (waits, pending-later_on now g pending)
+  well-later g (inr stands) = inr (stands-later g stands)
+
+pub kept-later : (count slots extras delay now : ℕ) (past later : History) (s : State) → GoesOn s.transactions past later → IsSeldom extras s.config.refresh_ahead now later
+    → IsKept count slots extras delay now past s.transactions s → IsKept count slots extras delay now later s.transactions s
+kept-later count slots extras delay now past later s on seldom k = record {
+  phase = k.phase;
+  requests = k.requests;
+  few = k.few;
+  prompt = k.prompt;
+  pace = k.pace;
+  sent = k.sent;
+  aged = λ x h. let e = on.same x h in let old = k.aged x h in omega (arith, e, old);
+  lone = k.lone;
+  begun = λ x h. let e = on.same x h in let b = k.begun x h in omega (arith, e, b);
+  heard = λ x h. let e = on.same x h in let late = k.heard x h in omega (arith, e, late);
+  seldom = seldom;
+  asked = k.asked;
+  size = k.size;
+  single = k.single;
+  linked = k.linked;
+  in_range = k.in_range;
+  housed = k.housed;
+  each = λ g there. well-later count slots extras delay now past later s.transactions s on g (k.each g there);
+}
+
+pub goes-later : (past later : History) (ys : List Transaction) (s t : State) → GoesOn s.transactions past later → Goes later later s.transactions ys s t → Goes past later s.transactions ys s t
+goes-later past later ys s t on goes = record {
+  remain = goes.remain;
+  follow = λ until g there waits pending. goes.follow until g there waits (pending-later_on 0 0 0 0 0 past later s.transactions s on until g pending);
+}
+
+-- the first wait is one of all
+pub first-wait : (timers : Timers) (transport : TransportType) → wait_at timers transport 0 ≤ all_waits timers transport
+first-wait timers transport =
+    let more = waited-up timers transport (suc zero) (suc (resends_of timers transport)) (omega arith) in
+    let one : waited timers transport (suc zero) ≡ 0 + wait_at timers transport 0 = refl in
+    omega (arith, more, one)
