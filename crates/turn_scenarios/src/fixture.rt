@@ -68,6 +68,16 @@ pub(crate) fn either_over_udp(alloc: Global) -> Result<TurnClient, CredentialsEr
     Ok(TurnClient::from(client_over_udp(alloc)?))
 }
 
+/// A new client over UDP that answers so many challenges in a row.
+pub(crate) fn client_with_limit(
+    alloc: Global,
+    max_stale_nonces: NonZeroU16,
+) -> Result<TurnClientUdp, CredentialsError> {
+    let mut config = config(alloc)?;
+    config.set_max_stale_nonces(max_stale_nonces);
+    Ok(TurnClientUdp::allocate(alloc, local(), server(), config, [0; 32])?)
+}
+
 /// A new client over UDP for a slow link: it waits for 3 s before it sends a request again, and answers so many challenges in a row.
 pub(crate) fn client_over_slow_link(
     alloc: Global,

@@ -16,6 +16,8 @@
 #![tactic(auto)]
 
 #[cfg(test)]
+mod burst;
+#[cfg(test)]
 mod caller;
 #[cfg(test)]
 mod cuts;

@@ -16,7 +16,7 @@ use turn_client_api::{TurnClientApi, TurnEvent};
 use turn_stun::transport::TransportType;
 
 /// Error 438 with the realm `realm` and the nonce `fresh`.
-const STALE: &[u8] = &[
+pub(crate) const STALE: &[u8] = &[
     0x00, 0x09, 0x00, 0x04, 0x00, 0x00, 0x04, 0x26, 0x00, 0x14, 0x00, 0x05, 0x72, 0x65, 0x61, 0x6c,
     0x6d, 0x00, 0x00, 0x00, 0x00, 0x15, 0x00, 0x05, 0x66, 0x72, 0x65, 0x73, 0x68, 0x00, 0x00, 0x00,
 ];
@@ -60,20 +60,20 @@ fn peer(number: u8) -> Place {
     Place(number.saturating_add(100), 9_000)
 }
 
-/// Whether a permission is requested for each peer.
-fn are_requested<C: TurnClientApi>(client: &mut C, now: u32) -> bool {
+/// Whether a permission is requested for each of so many peers.
+pub(crate) fn are_requested<C: TurnClientApi>(client: &mut C, peers: u8, now: u32) -> bool {
     let mut all = true;
-    for number in 0..PEERS {
+    for number in 0..peers {
         let answer = client.create_permission(TransportType::Udp, peer(number).ip(), at(now));
         all = answer.is_ok() && all;
     }
     all
 }
 
-/// Whether each peer has a permission.
-fn are_permitted<C: TurnClientApi>(client: &C) -> bool {
+/// Whether each of so many peers has a permission.
+pub(crate) fn are_permitted<C: TurnClientApi>(client: &C, peers: u8) -> bool {
     let mut all = true;
-    for number in 0..PEERS {
+    for number in 0..peers {
         all = client.have_permission(TransportType::Udp, peer(number).ip()) && all;
     }
     all
@@ -88,7 +88,7 @@ fn relays<C: TurnClientApi>(client: &C) -> bool {
 /// Whether the row holds for a client that goes on.
 fn holds<C: TurnClientApi>(client: &C, caller: &Caller, row: &Row) -> bool {
     let (_, sent, is_permitted) = *row;
-    !caller.has_ended && caller.sent == sent && are_permitted(client) == is_permitted
+    !caller.has_ended && caller.sent == sent && are_permitted(client, PEERS) == is_permitted
 }
 
 /// Asserts that the address is granted at 1.4 s, and that each row holds at its time.
@@ -100,7 +100,7 @@ fn follows<C: TurnClientApi>(
     caller.wait(client, FORGETS_LATER, 2_000)?;
     let granted = TurnEvent::AllocationCreated(TransportType::Udp, RELAYED.address());
     check(rt, caller.first_event == Some((1_400, granted)), 1_400);
-    check(rt, are_requested(client, 2_000), 2_000);
+    check(rt, are_requested(client, PEERS, 2_000), 2_000);
     for row in ROWS {
         caller.wait(client, FORGETS_LATER, row.0)?;
         check(rt, holds(client, caller, row), row.0);
