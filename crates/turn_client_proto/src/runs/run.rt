@@ -48,8 +48,8 @@ pub struct Replayed {
 ///   opened for this peer, and has been bound since (RFC 6062, section 4.3).
 /// - `offers`: the caller opened each of them before, by an accepted `allocated_tcp_socket`, which took the first
 ///   offer of this peer with the connection ID of that CONNECTION_BIND. The offer came from the signed success to
-///   a CONNECT that an accepted `tcp_connect` had asked for, or from a ConnectionAttempt that the server sent for
-///   this peer, each with this CONNECTION-ID, and stood until it was taken (RFC 6062, sections 4.3 and 4.4).
+///   a CONNECT that an accepted `tcp_connect` had asked for, or from a ConnectionAttempt for this peer over the
+///   control connection, each with this CONNECTION-ID, and stood until it was taken (RFC 6062, sections 4.3 and 4.4).
 /// - `numbers`: after each call, no channel number names two peers.
 /// - `given`, `heard`: in any consecutive calls, so in each call, all data of peers among the replies is that
 ///   of an input of these calls, whose peer had a permission, a channel or a bound data connection when it was
@@ -78,10 +78,10 @@ pub struct Replayed {
 ///   was refused by a signed reply, timed out or expired at a `poll`, or ended with the client; or a message of
 ///   its data connection did not bind it.
 /// - `once`: no cause is told twice. Of each requested address family at most one event tells that it was allocated
-///   or that it failed, as a configuration names each once. Between two events that tell that a permission or a
-///   channel was created, or two that tell that it failed, the caller requested it anew, and it did not exist then.
-///   Of the data connections to a peer one event, that one is bound or that it failed, answers each `tcp_connect`
-///   that found none, and each attempt of the server that the client accepted (RFC 8656, sections 7.3, 9 and 12; RFC
+///   or that it failed, as a configuration names each once. An accepted request of the caller that found no such
+///   permission or channel is answered by at most one event that it was created, and by at most one that it failed. A
+///   `tcp_connect` that found no data connection to the peer, and an attempt of the server that the client accepted,
+///   is answered by at most one event, that one is bound or that it failed (RFC 8656, sections 7.3, 9 and 12; RFC
 ///   6062, sections 4.3 and 4.4).
 /// - `short`: after a `poll_recv` that returns none, each stream holds fewer than 65,555 bytes, if the bytes
 ///   received for it are numbers below 256, as in any memory.
