@@ -151,8 +151,7 @@ export function addressAt(view, place) {
 
 /** Addresses that are read one after the other, and mostly are the same one: it is made once. */
 export class LastAddress {
-    #bits = -1;
-    #port = -1;
+    #words = new Uint32Array(SIZE.ADDRESS / 4);
     /** @type {Address} */
     #found = Object.freeze({ address: "0.0.0.0", port: 0, family: "IPv4" });
 
@@ -163,15 +162,31 @@ export class LastAddress {
      * @returns {Address}
      */
     at(view, place) {
-        if (view.getUint8(place + ADDRESS.FAMILY) !== 4) {
-            return addressAt(view, place);
+        return this.#isAt(view, place) ? this.#found : this.#read(view, place);
+    }
+
+    /**
+     * Whether the last address stands there too.
+     * @param {DataView} view
+     * @param {number} place
+     */
+    #isAt(view, place) {
+        const words = this.#words;
+        for (let at = 0; at < words.length; at++) {
+            if (view.getUint32(place + 4 * at, true) !== words[at]) {
+                return false;
+            }
         }
-        const bits = view.getUint32(place, false), port = view.getUint16(place + ADDRESS.PORT, true);
-        if (bits !== this.#bits || port !== this.#port) {
-            this.#found = Object.freeze(addressAt(view, place));
-            this.#bits = bits;
-            this.#port = port;
-        }
+        return true;
+    }
+
+    /**
+     * @param {DataView} view
+     * @param {number} place
+     */
+    #read(view, place) {
+        this.#words.forEach((_, at, words) => (words[at] = view.getUint32(place + 4 * at, true)));
+        this.#found = Object.freeze(addressAt(view, place));
         return this.#found;
     }
 }

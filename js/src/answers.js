@@ -47,12 +47,20 @@ import { timeAt } from "./time.js";
  * @typedef {{ kind: "peer-data", data: Uint8Array, peer: Address, transport: Transport, start: number | undefined }} PeerData
  */
 /**
+ * Data of a peer that came in pieces, or behind another message, in bytes of its own.
+ * @typedef {{ kind: "peer-data", data: Uint8Array, peer: Address, transport: Transport, start: undefined }} PiecedData
+ */
+/**
  * An ICMP packet came for data to `peer` (RFC 8656, section 18.13).
  * @typedef {{ kind: "peer-icmp", peer: Address, transport: Transport, type: number, code: number, data: number }} PeerIcmp
  */
 /**
  * What passing in bytes comes to.
  * @typedef {Handled | Ignored | PeerData | PeerIcmp} Received
+ */
+/**
+ * What passing in a part of a buffer comes to.
+ * @typedef {Handled | Ignored | import("./places.js").DataInBuffer | PiecedData | PeerIcmp} ReceivedInBuffer
  */
 
 /**
@@ -152,7 +160,7 @@ export function eventOf(kind, view, answer) {
 /**
  * Data of a peer that came in pieces, or behind another message.
  * @param {import("./calls.js").Calls} calls
- * @returns {PeerData}
+ * @returns {PiecedData}
  */
 export function dataOf(calls) {
     const { view, answer } = calls.library, peer = addressAt(view, answer + ANSWER.PEER), transport = transportAt(view, answer);

@@ -14,11 +14,26 @@ export function taken(bytes, into) {
 }
 
 /**
- * TypeError where it is no Uint8Array.
+ * TypeError where it is no Uint8Array, or lies in memory that is gone, as that of the module before it has grown.
  * @param {unknown} data
  */
 export function checkBytes(data) {
     if (!(data instanceof Uint8Array)) {
         throw new TypeError(`data is a Uint8Array, as a Buffer is, and not ${typeof data}`);
+    }
+    if (data.length === 0) {
+        checkAttached(data);
+    }
+}
+
+/**
+ * Bytes whose memory is gone look like none, and none would end a stream.
+ * @param {Uint8Array} data
+ */
+function checkAttached(data) {
+    try {
+        new Uint8Array(data.buffer);
+    } catch {
+        throw new TypeError("data lies in memory that is gone: where the module's memory has grown, ask for the bytes anew");
     }
 }

@@ -82,19 +82,19 @@ export class Calls {
     }
 
     /**
-     * Makes a call whose answer has bytes, into `library.output(MAX_PACKET)`.
+     * Makes a call whose answer has bytes, into `library.outputOf(MAX_PACKET)`.
      * @param {number} call
      * @param {Time} now
      */
     fetch(call, now) {
-        const { library } = this, buffer = library.output(MAX_PACKET);
+        const { library } = this, buffer = library.outputOf(MAX_PACKET).place;
         putTime(library.view, this.#requests[call], now);
         return this.checked(library.call(this.held, this.#requests[call], 0, 0, buffer, MAX_PACKET), now);
     }
 
     /** The bytes of the last answer, with those that did not fit. */
     fetched() {
-        return this.library.takeBytes(this.held, this.#requests[CALL.READ], this.library.output(MAX_PACKET), MAX_PACKET);
+        return this.library.takeBytes(this.held, this.#requests[CALL.READ], this.library.outputOf(MAX_PACKET).place, MAX_PACKET);
     }
 
     /**
@@ -105,7 +105,7 @@ export class Calls {
      * @param {{ transport?: Transport, remote?: AddressLike, local?: AddressLike }} [from]
      */
     recv(place, len, now, from) {
-        const { library, isStream } = this, buffer = isStream ? library.output(MAX_PACKET) : 0;
+        const { library, isStream } = this, buffer = isStream ? library.outputOf(MAX_PACKET).place : 0;
         let request = this.#requests[CALL.RECV];
         if (from) {
             const { transport = isStream ? "tcp" : "udp", remote = this.remote, local = this.local } = from;

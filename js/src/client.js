@@ -1,10 +1,12 @@
 // The client without I/O: the caller has the sockets and the clock.
 import { addressAt } from "./address.js";
 import { dataOf, eventOf, icmpAt, pollOf, transportAt } from "./answers.js";
+import { checkApart, partOf } from "./buffer.js";
 import { checkBytes, taken } from "./bytes.js";
 import { Calls, hostOf } from "./calls.js";
 import { ANSWER, CALL, KIND, MAX_OVERHEAD, TRANSPORTS } from "./layout.js";
 import { Library } from "./library.js";
+import { DataInBuffer, PacketInBuffer } from "./places.js";
 
 /** @typedef {import("./address.js").Address} Address */
 /** @typedef {import("./address.js").AddressLike} AddressLike */
@@ -35,6 +37,10 @@ const IGNORED = Object.freeze({ kind: "ignored" });
  */
 export class Client {
     #calls;
+    /** @type {DataInBuffer | undefined} */
+    #received;
+    /** @type {PacketInBuffer | undefined} */
+    #sent;
 
     /**
      * A client over the library that is shared, which is loaded. LibraryError.
@@ -144,20 +150,59 @@ export class Client {
         checkBytes(data);
         const { library } = this.#calls, isThere = data.buffer === library.bytes.buffer, place = library.put(data);
         const kind = this.#calls.recv(place, data.length, now, from);
-        if (kind === KIND.HANDLED || kind === KIND.IGNORED) {
-            return kind === KIND.HANDLED ? HANDLED : IGNORED;
+        if (kind !== KIND.PEER_DATA_RANGE) {
+            return this.#withoutRange(kind);
         }
         const { view, answer, bytes } = library;
-        if (kind === KIND.PEER_ICMP) {
-            return icmpAt(view, answer);
-        }
-        if (kind === KIND.PEER_DATA) {
-            return dataOf(this.#calls);
-        }
         const start = view.getUint32(answer + ANSWER.START, true), end = start + view.getUint32(answer + ANSWER.LEN, true);
         const found = isThere ? new Uint8Array(bytes.buffer, place + start, end - start) : data.subarray(start, end);
         const peer = this.#calls.peers.at(view, answer + ANSWER.PEER);
         return { kind: "peer-data", data: found, peer, transport: transportAt(view, answer), start };
+    }
+
+    /**
+     * What passing in bytes comes to, unless they have data of a peer as a whole.
+     * @param {number} kind
+     */
+    #withoutRange(kind) {
+        const { view, answer } = this.#calls.library;
+        switch (kind) {
+            case KIND.HANDLED: return HANDLED;
+            case KIND.IGNORED: return IGNORED;
+            case KIND.PEER_ICMP: return icmpAt(view, answer);
+            default: return dataOf(this.#calls);
+        }
+    }
+
+    /**
+     * A buffer in the memory of the library, for `recvFrom` and `sendFrom`. It is kept until its `free`, longer than the client.
+     * RangeError, `OutOfMemory`.
+     * @param {number} length
+     */
+    buffer(length) {
+        return this.#calls.library.buffer(length);
+    }
+
+    /**
+     * As `recv`, for `length` bytes of a buffer from `offset` on, without a copy and without an object for each packet: data of a
+     * peer is told by one object, which the client's next `recvFrom` overwrites. Its `start` is in the buffer.
+     * @param {import("./buffer.js").ModuleBuffer} buffer
+     * @param {number} offset
+     * @param {number} length
+     * @param {Time} now
+     * @param {{ transport?: Transport, remote?: AddressLike, local?: AddressLike }} [from]
+     * @returns {import("./answers.js").ReceivedInBuffer}
+     */
+    recvFrom(buffer, offset, length, now, from) {
+        const { library, peers } = this.#calls, place = partOf(buffer, library, offset, length, "buffer");
+        const kind = this.#calls.recv(place, length, now, from);
+        if (kind !== KIND.PEER_DATA_RANGE) {
+            return this.#withoutRange(kind);
+        }
+        const { view, answer } = library, start = offset + view.getUint32(answer + ANSWER.START, true);
+        const peer = peers.at(view, answer + ANSWER.PEER);
+        this.#received ??= new DataInBuffer(buffer, peer);
+        return this.#received.set(buffer, start, view.getUint32(answer + ANSWER.LEN, true), peer, transportAt(view, answer));
     }
 
     /**
@@ -185,12 +230,37 @@ export class Client {
         if (into !== undefined && !(into instanceof Uint8Array && into.length >= room)) {
             throw new RangeError(`into is a Uint8Array with ${room} bytes or more`);
         }
-        const place = library.put(data), isThere = into !== undefined && into.buffer === library.bytes.buffer;
-        const buffer = isThere ? into.byteOffset : library.output(room);
-        this.#calls.sendTo(peer, place, data.length, buffer, now, transport);
+        const { length } = data, place = library.put(data), isThere = into !== undefined && into.buffer === library.bytes.buffer;
+        const buffer = isThere ? into.byteOffset : library.outputOf(room).place; // where this lets the memory grow, data is empty
+        checkApart(place, length, buffer, room);
+        this.#calls.sendTo(peer, place, length, buffer, now, transport);
         const end = buffer + library.view.getUint32(library.answer + ANSWER.LEN, true);
         const found = new Uint8Array(library.bytes.buffer, buffer, end - buffer), bytes = isThere ? found : taken(found, into);
         return isStream ? { data: bytes, ...this.#way() } : { data: bytes, transport: "udp", local, remote };
+    }
+
+    /**
+     * As `sendTo`, for `length` bytes of a buffer from `offset` on: the packet is put to the front of the buffer `into`, which has 64
+     * bytes more, and is told by one object, which the client's next `sendFrom` overwrites. RangeError also where both overlap.
+     * @param {AddressLike} peer
+     * @param {import("./buffer.js").ModuleBuffer} buffer
+     * @param {number} offset
+     * @param {number} length
+     * @param {Time} now
+     * @param {import("./buffer.js").ModuleBuffer} into
+     * @param {Transport} [transport]
+     */
+    sendFrom(peer, buffer, offset, length, now, into, transport) {
+        const { library, isStream, local, remote } = this.#calls, place = partOf(buffer, library, offset, length, "buffer");
+        const room = length + MAX_OVERHEAD, to = partOf(into, library, 0, room, "into");
+        checkApart(place, length, to, room);
+        this.#calls.sendTo(peer, place, length, to, now, transport);
+        this.#sent ??= new PacketInBuffer(into, local, remote);
+        if (isStream) {
+            const way = this.#way();
+            this.#sent.setWay(way.transport, way.local, way.remote);
+        }
+        return this.#sent.set(into, library.view.getUint32(library.answer + ANSWER.LEN, true));
     }
 
     // Requests

@@ -3,6 +3,7 @@
  *
  * @module
  */
+export { ModuleBuffer } from "./buffer.js";
 export { Client } from "./client.js";
 export { Library } from "./library.js";
 export { attribute, parse } from "./message.js";

@@ -1,4 +1,5 @@
 // The module: its memory, and its calls. One is enough for all clients of a program.
+import { ModuleBuffer } from "./buffer.js";
 import { Ended, LibraryError, OutOfMemory } from "./errors.js";
 import { ANSWER, KIND, MAX_OVERHEAD, MAX_PAYLOAD, SIZE } from "./layout.js";
 import { bytesOf, textOf } from "./load.js";
@@ -17,7 +18,7 @@ import { findRandom } from "./random.js";
  */
 
 /**
- * Where a client's data in the module is, for the time when the client is gone.
+ * What is to be freed in the module: a client, or 0, and a block of memory.
  * @typedef {{ client: number, block: number }} Held
  */
 
@@ -50,8 +51,8 @@ export class Library {
     message = 0;
     pair = 0;
     /** Where bytes are put that are passed in, and where packets and data come out. */
-    #input = { place: 0, len: 0 };
-    #output = { place: 0, len: 0 };
+    #input;
+    #output;
 
     /**
      * Compiles the module, by default that of the package. `source` is its bytes, a compiled module, a response or a URL. Its
@@ -96,8 +97,8 @@ export class Library {
         exports.limit(memoryLimit);
         [this.settings, this.answer, this.message, this.pair] =
             [SIZE.SETTINGS, SIZE.ANSWER, SIZE.MESSAGE, 8].map((len) => this.alloc(len));
-        this.#input = { place: this.alloc(ROOM), len: ROOM };
-        this.#output = { place: this.alloc(ROOM), len: ROOM };
+        this.#input = this.buffer(ROOM);
+        this.#output = this.buffer(ROOM);
     }
 
     /** Bytes that the memory of the module has. It never has less again. */
@@ -151,39 +152,57 @@ export class Library {
     }
 
     /**
+     * A buffer of so many bytes in the memory of the module. It is yours until its `free`. RangeError, OutOfMemory.
+     * @param {number} length
+     */
+    buffer(length) {
+        return new ModuleBuffer(this, length);
+    }
+
+    /**
      * Where bytes are in the module: as they lie there already, or copied.
      * @param {Uint8Array} data
      */
     put(data) {
-        if (data.buffer === this.bytes.buffer) {
-            return data.byteOffset;
-        }
-        if (data.length > this.#input.len) {
-            this.#input = this.#larger(this.#input, data.length);
-        }
-        this.bytes.set(data, this.#input.place);
-        return this.#input.place;
+        return data.buffer === this.bytes.buffer ? data.byteOffset : this.inputOf(data).place;
     }
 
     /**
-     * A place for so many bytes that come out.
-     * @param {number} len
+     * Bytes, copied to the front of a buffer that all calls share: for the next call alone.
+     * @param {Uint8Array} data
      */
-    output(len) {
-        if (len > this.#output.len) {
-            this.#output = this.#larger(this.#output, len);
+    inputOf(data) {
+        const { length, byteOffset } = data, isThere = data.buffer === this.bytes.buffer;
+        if (length > this.#input.length) {
+            this.#input = this.#larger(this.#input, length);
         }
-        return this.#output.place;
+        if (isThere) {
+            this.bytes.copyWithin(this.#input.place, byteOffset, byteOffset + length); // data is empty where the memory has grown
+        } else {
+            this.bytes.set(data, this.#input.place);
+        }
+        return this.#input;
     }
 
     /**
-     * @param {{ place: number, len: number }} before
-     * @param {number} len
+     * A buffer of so many bytes or more that come out, which all calls share: to be read before the next call.
+     * @param {number} length
      */
-    #larger(before, len) {
-        const place = this.alloc(len);
-        this.dealloc(before.place);
-        return { place, len };
+    outputOf(length) {
+        if (length > this.#output.length) {
+            this.#output = this.#larger(this.#output, length);
+        }
+        return this.#output;
+    }
+
+    /**
+     * @param {ModuleBuffer} before
+     * @param {number} length
+     */
+    #larger(before, length) {
+        const larger = this.buffer(length);
+        before.free();
+        return larger;
     }
 
     /**
@@ -317,7 +336,7 @@ export class Library {
     }
 
     /**
-     * Frees a client that is closed.
+     * Frees a client that is closed, or memory.
      * @param {Held} held
      */
     free(held) {
@@ -328,9 +347,11 @@ export class Library {
 
     /** @param {Held} held */
     release(held) {
-        if (this.#fault === undefined && held.client !== 0) {
+        if (this.#fault === undefined && held.block !== 0) {
             try {
-                this.#exports.client_free(held.client);
+                if (held.client !== 0) {
+                    this.#exports.client_free(held.client);
+                }
                 this.#exports.dealloc(held.block);
             } catch (error) {
                 this.#fault = error;

@@ -7,6 +7,8 @@
  */
 
 const NANOSECONDS = 1e6, HIGH = 2 ** 32, EXACT = 2 ** 53, MOST = 2 ** 62;
+/** The same as a bigint, made once: a default value would be computed in each call. */
+const LATEST = 2n ** 62n;
 
 /**
  * Writes a time, or a length of time up to `most`, as a number of 64 bits. RangeError where it is none.
@@ -16,7 +18,7 @@ const NANOSECONDS = 1e6, HIGH = 2 ** 32, EXACT = 2 ** 53, MOST = 2 ** 62;
  * @param {string} [name]
  * @param {bigint} [most]
  */
-export function putTime(view, place, time, name = "now", most = 2n ** 62n) {
+export function putTime(view, place, time, name = "now", most = LATEST) {
     if (typeof time === "number") {
         const nanoseconds = Math.round(time * NANOSECONDS), high = Math.floor(nanoseconds / HIGH);
         if (nanoseconds >= 0 && nanoseconds <= MOST) {

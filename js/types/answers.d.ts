@@ -39,12 +39,20 @@
  * @typedef {{ kind: "peer-data", data: Uint8Array, peer: Address, transport: Transport, start: number | undefined }} PeerData
  */
 /**
+ * Data of a peer that came in pieces, or behind another message, in bytes of its own.
+ * @typedef {{ kind: "peer-data", data: Uint8Array, peer: Address, transport: Transport, start: undefined }} PiecedData
+ */
+/**
  * An ICMP packet came for data to `peer` (RFC 8656, section 18.13).
  * @typedef {{ kind: "peer-icmp", peer: Address, transport: Transport, type: number, code: number, data: number }} PeerIcmp
  */
 /**
  * What passing in bytes comes to.
  * @typedef {Handled | Ignored | PeerData | PeerIcmp} Received
+ */
+/**
+ * What passing in a part of a buffer comes to.
+ * @typedef {Handled | Ignored | import("./places.js").DataInBuffer | PiecedData | PeerIcmp} ReceivedInBuffer
  */
 /**
  * The server relays this address.
@@ -106,9 +114,9 @@ export function eventOf(kind: number, view: DataView, answer: number): Event | u
 /**
  * Data of a peer that came in pieces, or behind another message.
  * @param {import("./calls.js").Calls} calls
- * @returns {PeerData}
+ * @returns {PiecedData}
  */
-export function dataOf(calls: import("./calls.js").Calls): PeerData;
+export function dataOf(calls: import("./calls.js").Calls): PiecedData;
 /**
  * @param {DataView} view
  * @param {number} answer
@@ -186,6 +194,16 @@ export type PeerData = {
     start: number | undefined;
 };
 /**
+ * Data of a peer that came in pieces, or behind another message, in bytes of its own.
+ */
+export type PiecedData = {
+    kind: "peer-data";
+    data: Uint8Array;
+    peer: Address;
+    transport: Transport;
+    start: undefined;
+};
+/**
  * An ICMP packet came for data to `peer` (RFC 8656, section 18.13).
  */
 export type PeerIcmp = {
@@ -200,6 +218,10 @@ export type PeerIcmp = {
  * What passing in bytes comes to.
  */
 export type Received = Handled | Ignored | PeerData | PeerIcmp;
+/**
+ * What passing in a part of a buffer comes to.
+ */
+export type ReceivedInBuffer = Handled | Ignored | import("./places.js").DataInBuffer | PiecedData | PeerIcmp;
 /**
  * The server relays this address.
  */

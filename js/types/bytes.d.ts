@@ -5,7 +5,7 @@
  */
 export function taken(bytes: Uint8Array, into: Uint8Array | undefined): Uint8Array;
 /**
- * TypeError where it is no Uint8Array.
+ * TypeError where it is no Uint8Array, or lies in memory that is gone, as that of the module before it has grown.
  * @param {unknown} data
  */
 export function checkBytes(data: unknown): void;

@@ -30,7 +30,7 @@ export class Calls {
      */
     poll(now: Time): number;
     /**
-     * Makes a call whose answer has bytes, into `library.output(MAX_PACKET)`.
+     * Makes a call whose answer has bytes, into `library.outputOf(MAX_PACKET)`.
      * @param {number} call
      * @param {Time} now
      */

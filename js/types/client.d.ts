@@ -71,6 +71,27 @@ export class Client {
         local?: import("./address.js").AddressLike | undefined;
     } | undefined): import("./answers.js").Received;
     /**
+     * A buffer in the memory of the library, for `recvFrom` and `sendFrom`. It is kept until its `free`, longer than the client.
+     * RangeError, `OutOfMemory`.
+     * @param {number} length
+     */
+    buffer(length: number): import("./buffer.js").ModuleBuffer;
+    /**
+     * As `recv`, for `length` bytes of a buffer from `offset` on, without a copy and without an object for each packet: data of a
+     * peer is told by one object, which the client's next `recvFrom` overwrites. Its `start` is in the buffer.
+     * @param {import("./buffer.js").ModuleBuffer} buffer
+     * @param {number} offset
+     * @param {number} length
+     * @param {Time} now
+     * @param {{ transport?: Transport, remote?: AddressLike, local?: AddressLike }} [from]
+     * @returns {import("./answers.js").ReceivedInBuffer}
+     */
+    recvFrom(buffer: import("./buffer.js").ModuleBuffer, offset: number, length: number, now: Time, from?: {
+        transport?: import("./answers.js").Transport | undefined;
+        remote?: import("./address.js").AddressLike | undefined;
+        local?: import("./address.js").AddressLike | undefined;
+    } | undefined): import("./answers.js").ReceivedInBuffer;
+    /**
      * The next data of peers in the streams that were passed in. Over UDP there is none.
      * @param {Time} now
      * @returns {import("./answers.js").PeerData | undefined}
@@ -90,6 +111,18 @@ export class Client {
         transport?: Transport;
         into?: Uint8Array;
     }): import("./answers.js").Packet;
+    /**
+     * As `sendTo`, for `length` bytes of a buffer from `offset` on: the packet is put to the front of the buffer `into`, which has 64
+     * bytes more, and is told by one object, which the client's next `sendFrom` overwrites. RangeError also where both overlap.
+     * @param {AddressLike} peer
+     * @param {import("./buffer.js").ModuleBuffer} buffer
+     * @param {number} offset
+     * @param {number} length
+     * @param {Time} now
+     * @param {import("./buffer.js").ModuleBuffer} into
+     * @param {Transport} [transport]
+     */
+    sendFrom(peer: AddressLike, buffer: import("./buffer.js").ModuleBuffer, offset: number, length: number, now: Time, into: import("./buffer.js").ModuleBuffer, transport?: import("./answers.js").Transport | undefined): PacketInBuffer;
     /**
      * Requests a permission for an IP address (RFC 8656, section 9). An event tells the outcome. `Refused`: `no-allocation`,
      * `already-exists`.
@@ -202,4 +235,5 @@ export type Address = import("./address.js").Address;
 export type AddressLike = import("./address.js").AddressLike;
 export type Transport = import("./answers.js").Transport;
 export type Time = import("./time.js").Time;
+import { PacketInBuffer } from "./places.js";
 import { Library } from "./library.js";

@@ -1,3 +1,4 @@
+export { ModuleBuffer } from "./buffer.js";
 export { Client } from "./client.js";
 export { Library } from "./library.js";
 export { attribute, parse } from "./message.js";

@@ -46,15 +46,25 @@ export class Library {
     /** @param {number} place */
     dealloc(place: number): void;
     /**
+     * A buffer of so many bytes in the memory of the module. It is yours until its `free`. RangeError, OutOfMemory.
+     * @param {number} length
+     */
+    buffer(length: number): ModuleBuffer;
+    /**
      * Where bytes are in the module: as they lie there already, or copied.
      * @param {Uint8Array} data
      */
     put(data: Uint8Array): number;
     /**
-     * A place for so many bytes that come out.
-     * @param {number} len
+     * Bytes, copied to the front of a buffer that all calls share: for the next call alone.
+     * @param {Uint8Array} data
      */
-    output(len: number): number;
+    inputOf(data: Uint8Array): ModuleBuffer;
+    /**
+     * A buffer of so many bytes or more that come out, which all calls share: to be read before the next call.
+     * @param {number} length
+     */
+    outputOf(length: number): ModuleBuffer;
     /**
      * Makes a client by the settings that stand there.
      * @param {Uint8Array} user
@@ -111,7 +121,7 @@ export class Library {
      */
     watch(client: object, held: Held): void;
     /**
-     * Frees a client that is closed.
+     * Frees a client that is closed, or memory.
      * @param {Held} held
      */
     free(held: Held): void;
@@ -135,9 +145,10 @@ export type Exports = {
     read_attribute(bytes: number, len: number, type: number, place: number): number;
 };
 /**
- * Where a client's data in the module is, for the time when the client is gone.
+ * What is to be freed in the module: a client, or 0, and a block of memory.
  */
 export type Held = {
     client: number;
     block: number;
 };
+import { ModuleBuffer } from "./buffer.js";

@@ -10,8 +10,6 @@ import { checkOptions, dataOf, peerOf } from "./options.js";
 /** @typedef {import("../address.js").AddressLike} AddressLike */
 /** @typedef {import("./session.js").Session} Session */
 
-/** A datagram carries so many bytes, and coturn reads no longer message of a stream. */
-const MAX_MESSAGE = 65_507;
 /** How often the path is checked over TCP and TLS, in milliseconds: what is dropped there in silence, the system tells too late. */
 const STREAM_PROBE = 15_000;
 /** So many losses are kept. */
@@ -275,11 +273,7 @@ export class Relay extends Messages {
     #sendNow(bytes, peer) {
         const session = this.#open();
         this.#checkFamily(peer.address);
-        const { data } = session.client.sendTo(peer, bytes, session.clock.now());
-        if (data.length > MAX_MESSAGE) {
-            throw new RangeError(`the message to ${peer.address} has ${data.length} bytes with its header, and at most ${MAX_MESSAGE} fit`);
-        }
-        const isSent = session.link.sendData(data);
+        const isSent = session.sendData(bytes, peer);
         this.unsent += isSent ? 0 : 1;
         return isSent;
     }

@@ -1,5 +1,6 @@
 // One client over one link: it transmits, takes what comes, tells the events, and sets the timer. Its state is one word.
 import { AllocationFailed, Ended, LibraryError, YarrowdoorError } from "../errors.js";
+import { MAX_OVERHEAD } from "../layout.js";
 import { parse } from "../message.js";
 import { Alarm } from "./clock.js";
 import { Deferred, within } from "./deferred.js";
@@ -17,6 +18,8 @@ import { Waiting } from "./state.js";
 
 /** How long the server's answer to a delete is waited for, in milliseconds. */
 const DELETE_WAIT = 2_000;
+/** A datagram carries so many bytes, and coturn reads no longer message of a stream. */
+const MAX_MESSAGE = 65_507;
 
 /** A client over a link to the server, which asks for a relayed address at once. */
 export class Session {
@@ -82,16 +85,33 @@ export class Session {
             return;
         }
         this.count++;
-        this.#orEnd(() => this.#receive(data));
+        try {
+            this.#receive(data);
+        } catch (error) {
+            this.#stopped(error);
+        }
+    }
+
+    /**
+     * Passes in bytes by a buffer that all relays of the library share.
+     * @param {Uint8Array} data
+     */
+    #passIn(data) {
+        try {
+            return this.client.recvFrom(this.library.inputOf(data), 0, data.length, this.clock.now());
+        } catch (error) {
+            return this.#shortage.note(error);
+        }
     }
 
     /** @param {Uint8Array} data */
     #receive(data) {
-        const answer = this.#shortage.guarded(() => this.client.recv(data, this.clock.now()));
+        const answer = this.#passIn(data);
         if (answer?.kind === "peer-data") {
-            this.user.put(answer.data, answer.peer);
+            const { start } = answer, isWhole = start !== undefined;
+            this.user.put(isWhole ? data.subarray(start, start + answer.length) : answer.data, answer.peer);
             // A datagram, or a piece that is one ChannelData message, has nothing else in it. Data makes nothing due.
-            if (!this.link.isStream || (answer.start === 4 && this.hearing.isOne(data, answer.data.length))) {
+            if (!this.link.isStream || (isWhole && start === 4 && this.hearing.isOne(data, answer.length))) {
                 return;
             }
         }
@@ -117,11 +137,19 @@ export class Session {
         try {
             what();
         } catch (error) {
-            if (!(error instanceof LibraryError)) {
-                throw error;
-            }
-            this.end(new Ended(error.message, error));
+            this.#stopped(error);
         }
+    }
+
+    /**
+     * Ends where the module has stopped. Another error is thrown again.
+     * @param {unknown} error
+     */
+    #stopped(error) {
+        if (!(error instanceof LibraryError)) {
+            throw error;
+        }
+        this.end(new Ended(error.message, error));
     }
 
     /** @param {Error} error */
@@ -154,6 +182,21 @@ export class Session {
 
     drained() {
         this.user.drained(this);
+    }
+
+    /**
+     * Sends data to a peer that has a permission, or drops it where the socket is full, and says whether it was handed over.
+     * RangeError where the message is longer than a datagram.
+     * @param {Uint8Array} data
+     * @param {Address} peer
+     */
+    sendData(data, peer) {
+        const { library, clock } = this, { length } = data, input = library.inputOf(data);
+        const packet = this.client.sendFrom(peer, input, 0, length, clock.now(), library.outputOf(length + MAX_OVERHEAD));
+        if (packet.length > MAX_MESSAGE) {
+            throw new RangeError(`the message to ${peer.address} has ${packet.length} bytes with its header, and at most ${MAX_MESSAGE} fit`);
+        }
+        return this.link.sendData(Buffer.from(packet.data)); // the socket may send it later
     }
 
     /**

@@ -18,12 +18,21 @@ export class Shortage {
         try {
             return call();
         } catch (error) {
-            if (!(error instanceof OutOfMemory)) {
-                throw error;
-            }
-            this.#error = error;
-            return undefined;
+            return this.note(error);
         }
+    }
+
+    /**
+     * Keeps the error of a call that found no memory. Another one is thrown again.
+     * @param {unknown} error
+     * @returns {undefined}
+     */
+    note(error) {
+        if (!(error instanceof OutOfMemory)) {
+            throw error;
+        }
+        this.#error = error;
+        return undefined;
     }
 
     /** The error of the last call that found none, since it was asked last. */

@@ -54,6 +54,13 @@ export class Session {
     ended(error: Error | undefined): void;
     drained(): void;
     /**
+     * Sends data to a peer that has a permission, or drops it where the socket is full, and says whether it was handed over.
+     * RangeError where the message is longer than a datagram.
+     * @param {Uint8Array} data
+     * @param {Address} peer
+     */
+    sendData(data: Uint8Array, peer: Address): boolean;
+    /**
      * The connection has ended, or the path to the server is gone: nothing can be done any more.
      * @param {string} what
      * @param {unknown} error

@@ -8,6 +8,12 @@ export class Shortage {
      * @param {() => T} call
      */
     guarded<T>(call: () => T): T | undefined;
+    /**
+     * Keeps the error of a call that found no memory. Another one is thrown again.
+     * @param {unknown} error
+     * @returns {undefined}
+     */
+    note(error: unknown): undefined;
     /** The error of the last call that found none, since it was asked last. */
     take(): OutOfMemory | undefined;
     #private;
