@@ -1,4 +1,5 @@
 // Runs a client by the calls of a trace, and prints its answers as turn_replay does.
+import { isDeepStrictEqual } from "node:util";
 import { parseIp } from "../src/address.js";
 import { Client, OutOfMemory, Refused } from "../src/index.js";
 import { parseTrace } from "./trace.js";
@@ -52,7 +53,7 @@ const MAKERS = {
     poll_recv: (client, { now }) => lineOf(client.pollRecv(now)),
     delete: (client, { now }) => done(() => client.delete(now)),
     error: (client) => done(() => client.protocolError()),
-    recv: (client, { now, data, ...from }) => lineOf(client.recv(data, now, from)),
+    recv: (client, { now, data, isOwn, ...from }) => lineOf(client.recv(data, now, isOwn ? undefined : from)),
     send: (client, { now, peer, data, transport }) => packetLine(client.sendTo(peer, data, now, { transport })),
     permit: (client, { now, ip, transport }) => done(() => client.createPermission(ip, now, { transport })),
     have: (client, { ip, transport }) => (client.havePermission(ip, { transport }) ? "yes" : "no"),
@@ -66,10 +67,36 @@ const MAKERS = {
     permissions: (client, { relayed, transport }) => listLine(client.permissions(relayed, { transport }).map(host)),
 };
 
-/** Makes a call of a trace, and gives the line that answers it. */
-export function answerTo(client, call) {
+/** Bytes at the front of a buffer that are not passed in. */
+const OFFSET = 8;
+
+/** Does something with bytes in a buffer of their own, which is freed then. */
+function withBuffer(client, bytes, run) {
+    const buffer = client.buffer(OFFSET + bytes.length);
     try {
-        return MAKERS[call.name](client, call);
+        buffer.bytes.set(bytes, OFFSET);
+        return run(buffer);
+    } finally {
+        buffer.free();
+    }
+}
+
+/** What makes each call, those for data by buffers in the memory of the module. */
+export const IN_PLACE = {
+    ...MAKERS,
+    recv: (client, { now, data, isOwn, ...from }) => withBuffer(client, data,
+        (buffer) => lineOf(client.recvFrom(buffer, OFFSET, data.length, now, isOwn ? undefined : from))),
+    send: (client, { now, peer, data, transport }) => withBuffer(client, data, (buffer) => withBuffer(client, new Uint8Array(data.length + 64),
+        (into) => packetLine(client.sendFrom(peer, buffer, OFFSET, data.length, now, into, transport)))),
+};
+
+/** Whether bytes came to the socket of the client from its server. */
+const isOwn = (head, call) => ["transport", "local", "remote"].every((name) => isDeepStrictEqual(call[name], head[name]));
+
+/** Makes a call of a trace, and gives the line that answers it. */
+export function answerTo(client, call, makers = MAKERS) {
+    try {
+        return makers[call.name](client, call);
     } catch (error) {
         if (!(error instanceof Refused)) {
             throw error;
@@ -79,7 +106,7 @@ export function answerTo(client, call) {
 }
 
 /** What is printed for a trace. */
-export function replay(library, text) {
+export function replay(library, text, makers = MAKERS) {
     const { head, calls, bad } = parseTrace(text), lines = [];
     let client;
     try {
@@ -87,7 +114,7 @@ export function replay(library, text) {
         if (bad) {
             return `${bad}\n`;
         }
-        calls.forEach((call) => lines.push(answerTo(client, call)));
+        calls.forEach((call) => lines.push(answerTo(client, { ...call, isOwn: isOwn(head, call) }, makers)));
     } catch (error) {
         if (client || error instanceof OutOfMemory) {
             lines.push(error instanceof OutOfMemory ? "no memory" : error.stack);
