@@ -33,6 +33,19 @@ for (const [name, make] of [["UDP", udp], ["TCP", tcp]]) {
         });
     });
 
+    test(`over ${name}: data that was given stays as it is when more comes`, async () => {
+        await withServer(make, async (server, relay) => {
+            const found = [];
+            await relay.permit("127.0.0.1");
+            relay.on("message", (data) => found.push(data));
+            for (const text of ["first", "later"]) {
+                server.sendData(PEER, text);
+                await next(relay, "message");
+            }
+            assert.deepEqual(found.map((data) => Buffer.from(data).toString()), ["first", "later"]);
+        });
+    });
+
     test(`over ${name}: a channel carries what is sent, with four bytes`, async () => {
         await withServer(make, async (server, relay) => {
             await relay.bind(3480, "127.0.0.1");
@@ -165,6 +178,20 @@ test("over TCP a server that does not read: send waits until it does", async () 
         await sending;
         await until(() => server.data.length === 20_000);
         assert.equal(relay.unsent, 0);
+    });
+});
+
+test("over TCP what waits in the socket is not changed by what is sent later", async () => {
+    await withServer(tcp, async (server, relay) => {
+        let count = 0;
+        await relay.bind(PEER);
+        server.sockets.forEach((socket) => socket.pause());
+        while (relay.sendTo(new Uint8Array(1_200).fill(count), PEER)) {
+            count++;
+        }
+        server.sockets.forEach((socket) => socket.resume());
+        await until(() => server.data.length === count);
+        assert.ok(server.data.every(({ data }, at) => data.length === 1_200 && data.every((byte) => byte === at % 256)), `of ${count} packets`);
     });
 });
 
