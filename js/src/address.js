@@ -166,13 +166,16 @@ export class LastAddress {
     }
 
     /**
-     * Whether the last address stands there too.
+     * Whether the last address stands there too. Of an IPv4 address, port, family and one word say all.
      * @param {DataView} view
      * @param {number} place
      */
     #isAt(view, place) {
         const words = this.#words;
-        for (let at = 0; at < words.length; at++) {
+        if (view.getUint32(place + ADDRESS.PORT, true) !== words[ADDRESS.PORT / 4] || view.getUint32(place, true) !== words[0]) {
+            return false;
+        }
+        for (let at = this.#found.family === "IPv4" ? words.length : 1; at < words.length; at++) {
             if (view.getUint32(place + 4 * at, true) !== words[at]) {
                 return false;
             }

@@ -1,6 +1,7 @@
 // Buffers in the memory of the module: what lies in them is taken and given in place.
 import assert from "node:assert/strict";
 import test from "node:test";
+import { LastAddress, putAddress } from "../src/address.js";
 import { ModuleBuffer } from "../src/index.js";
 import { NOW, PEER, SERVER_ADDRESS, boundClient, channelData } from "./handshake.js";
 import { newLibrary } from "./module.js";
@@ -113,4 +114,21 @@ test("bytes in the memory of the module are copied whole also where that grows f
     const copy = library.inputOf(long.bytes);
     assert.notEqual(copy, long);
     assert.ok(copy.bytes.subarray(0, 3_000_000).every((byte) => byte === 7));
+});
+
+test("the same peer is the same object, and each part of an address counts", () => {
+    const addresses = [
+        { address: "10.0.0.3", port: 9000 }, { address: "10.0.0.3", port: 9001 }, { address: "10.0.1.3", port: 9001 },
+        { address: "2001:db8::1", port: 9001 }, { address: "2001:db8::2", port: 9001 }, { address: "2001:db8::2:0:0:2", port: 9001 },
+        { address: "2001:db8::2:0:0:2", port: 9001, flow: 1, scope: 0 }, { address: "2001:db8::2:0:0:2", port: 9001, flow: 1, scope: 2 },
+        { address: "::", port: 0 }, { address: "0.0.0.0", port: 0 },
+    ];
+    const bytes = new Uint8Array(28), view = new DataView(bytes.buffer), last = new LastAddress();
+    addresses.forEach((address) => {
+        putAddress(bytes, view, 0, address, "address");
+        const found = last.at(view, 0);
+        assert.deepEqual(found, { ...address, family: address.address.includes(":") ? "IPv6" : "IPv4" });
+        assert.equal(last.at(view, 0), found);
+        assert.ok(Object.isFrozen(found));
+    });
 });
