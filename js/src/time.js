@@ -20,10 +20,10 @@ const LATEST = 2n ** 62n;
  */
 export function putTime(view, place, time, name = "now", most = LATEST) {
     if (typeof time === "number") {
-        const nanoseconds = Math.round(time * NANOSECONDS), high = Math.floor(nanoseconds / HIGH);
+        const nanoseconds = Math.round(time * NANOSECONDS);
         if (nanoseconds >= 0 && nanoseconds <= MOST) {
-            view.setUint32(place, nanoseconds - high * HIGH, true);
-            view.setUint32(place + 4, high, true);
+            view.setUint32(place, nanoseconds, true); // its lower 32 bits
+            view.setUint32(place + 4, nanoseconds / HIGH, true);
             return;
         }
     } else if (typeof time === "bigint") {
