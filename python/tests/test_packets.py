@@ -13,11 +13,11 @@ import unittest
 from typing import Any, Dict, List
 
 from yarrowdoor import Address
-from yarrowdoor.command.capture import NoCapture
 from yarrowdoor.command.credentials import Credentials
 from yarrowdoor.command.pair import CannotRelay, Server
 from yarrowdoor.command.relay import relay
 from yarrowdoor.uri import parse
+from yarrowdoor.wire import Tap
 
 from .coturn import IS_HERE, WHY, coturn
 from .threaded import Ipv4Server, Threaded
@@ -113,7 +113,7 @@ class Packets(unittest.TestCase):
         printed, ended = io.StringIO(), []  # type: io.StringIO, List[str]
         with echoing() as peer, echoing() as user, coturn() as server:
             asked = Server(parse(server.uri("turn:127.0.0.1:{port}?transport=tcp")), Credentials("user", "pass"), None, None, 1.5,
-                           NoCapture())
+                           Tap())
 
             def carry() -> None:
                 try:

@@ -227,7 +227,7 @@ SILENCE = """
     from tests.server import Server
 
     async def main():
-        yarrowdoor.link.KEEPALIVE, yarrowdoor.link.USER_TIMEOUT = 2, 3_000
+        yarrowdoor.wire.KEEPALIVE, yarrowdoor.wire.USER_TIMEOUT = 2, 3_000
         endpoint = await getattr(network, sys.argv[1]).start(Server())
         probe = {"probe": 15, "clock": Clock(rate=10)} if sys.argv[1] == "Endpoint" else {}
         relay = TurnClient(endpoint.uri, "user", "pass", **probe)

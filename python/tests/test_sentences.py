@@ -6,8 +6,8 @@ import unittest
 from typing import Any, List
 from unittest import mock
 
-from yarrowdoor.command import advice, certificate, extras, wire
-from yarrowdoor.command.capture import NoCapture
+from yarrowdoor import wire
+from yarrowdoor.command import advice, certificate, extras
 from yarrowdoor.command.certificate import Certificate
 from yarrowdoor.command.exchange import Exchange, Said
 from yarrowdoor.command.steps import Outcome
@@ -79,7 +79,7 @@ class Certificates(unittest.TestCase):
 class Streams(unittest.TestCase):
     def test_a_server_that_reads_nothing_is_given_up(self) -> None:
         with socket.create_server(("127.0.0.1", 0)) as server, mock.patch.object(wire, "_FULL", 0.2):
-            made = wire.connect_stream("127.0.0.1", server.getsockname()[1], 1.0, NoCapture())
+            made = wire.connect_stream("127.0.0.1", server.getsockname()[1], 1.0)
             held, _ = server.accept()
             begun = time.monotonic()
             with self.assertRaisesRegex(TimeoutError, "reads nothing"):

@@ -5,10 +5,10 @@ from typing import Optional
 
 from . import reasons
 from .address import Address
+from .asked import Key, Record
 from .clock import Clock
 from .errors import AllocationFailed, Ended, Hint, WrongCredentials, because
 from .redirect import TRY_ALTERNATE, alternate_of
-from .requests import Key, Requests
 
 __all__ = ["Diagnosis"]
 
@@ -20,7 +20,7 @@ MIN_LIFETIME = 600
 class Diagnosis:
     """What was heard of a server, and what it means."""
 
-    def __init__(self, server: str, max_stale_nonces: int, clock: Clock, requests: Requests) -> None:
+    def __init__(self, server: str, max_stale_nonces: int, clock: Clock, requests: Record) -> None:
         self._server, self._max_stale_nonces = server, max_stale_nonces
         self._clock, self._requests = clock, requests
         self._heard = clock.now()

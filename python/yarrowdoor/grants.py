@@ -4,34 +4,21 @@ from __future__ import annotations
 from dataclasses import dataclass
 from typing import AbstractSet, Callable, Dict, Set, Union
 
-from . import reasons
 from .address import Address
+from .asked import About, Key, channel, permission
 from .client import Client
 from .clock import Clock
 from .errors import ChannelFailed, Hint, PermissionFailed, Refused
 from .journal import Journal
 from .notices import Lost, Notices
-from .requests import Key, Made, Requests
+from .requests import Made, Requests
 
-__all__ = ["About", "Grants", "channel", "permission"]
-
-# Whose grant it is: of a permission the IP address, of a channel the peer.
-About = Union[str, Address]
+__all__ = ["Grants"]
 
 # How long `send` asks for no permission after the server has refused one, in seconds: twice as long each time, up to the last.
 FIRST_REST, LAST_REST = 5.0, 80.0
 # So many refused peers are remembered.
 MAX_RESTS = 4_096
-
-
-def permission(ip: str) -> Key:
-    """What a permission is asked for by."""
-    return Key(reasons.CREATE_PERMISSION, ip)
-
-
-def channel(peer: Address) -> Key:
-    """What a channel is asked for by."""
-    return Key(reasons.CHANNEL_BIND, peer)
 
 
 @dataclass

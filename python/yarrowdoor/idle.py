@@ -5,9 +5,10 @@ import asyncio
 from typing import Dict, Optional, Set, Tuple
 
 from .address import Address
+from .asked import About
 from .clock import Clock
 from .errors import Refused
-from .grants import About, Grants
+from .grants import Grants
 from .inbox import Receiver
 
 __all__ = ["Idle"]

@@ -6,10 +6,10 @@ from typing import Callable, Optional, Union
 
 from . import reasons
 from .address import Address
+from .asked import Asked, Key
 from .counters import Counters
 from .errors import Ended, Hint
 from .link import Link
-from .requests import Asked, Key
 from .uri import TurnUri
 
 __all__ = ["Journal", "Watcher"]

@@ -10,15 +10,10 @@ from typing import Any, Callable, Deque, Optional, cast
 
 from .address import SocketAddress, of_socket
 from .reasons import Frames
+from .wire import notice_silence
 
 __all__ = ["DatagramLink", "Link", "LinkUser", "StreamLink"]
 
-# The system gives up on a connection when nothing that was sent is confirmed for so long, in milliseconds (RFC 5482). Together with
-# what is sent in between, every 15 s, a path that drops all in silence is noticed within a minute.
-USER_TIMEOUT = 25_000
-_TCP_USER_TIMEOUT = getattr(socket, "TCP_USER_TIMEOUT", 18)
-# A stream on which nothing is sent is asked for a sign of life after so long, and again after so long, in seconds.
-KEEPALIVE = 15
 # The longest datagram, in bytes, and so many are read before the event loop goes on.
 MAX_DATAGRAM, BATCH = 65_535, 32
 # So many messages of the client wait for a socket over UDP that is full. A further one is lost, as a network may lose it.
@@ -237,9 +232,6 @@ def _notice_silence(transport: Any) -> None:
     named = transport.get_extra_info("socket")
     if named is None:
         return
-    options = [(socket.SOL_SOCKET, socket.SO_KEEPALIVE, 1), (socket.IPPROTO_TCP, socket.TCP_KEEPIDLE, KEEPALIVE),
-               (socket.IPPROTO_TCP, socket.TCP_KEEPINTVL, KEEPALIVE), (socket.IPPROTO_TCP, _TCP_USER_TIMEOUT, USER_TIMEOUT)]
     # What asyncio and others give is not the socket itself: the options are those of the open file, whatever names it.
     with contextlib.suppress(OSError), socket.socket(fileno=os.dup(cast(int, named.fileno()))) as own:
-        for level, name, value in options:
-            own.setsockopt(level, name, value)
+        notice_silence(own)

@@ -4,8 +4,8 @@ from __future__ import annotations
 import asyncio
 from typing import Any, Optional, Set
 
+from .asked import About
 from .errors import ChannelFailed, Ended, PermissionFailed, Refused, WrongCredentials, because
-from .grants import About
 from .inbox import Inbox
 from .notices import Lost, Notices
 from .states import Down, State, States, Up

@@ -11,11 +11,12 @@ from .answers import (
     AllocateTcpSocket, AllocationCreated, AllocationCreateFailed, ChannelCreated, ChannelCreateFailed, Event, Ignored, PeerData,
     PermissionCreated, PermissionCreateFailed, TcpClose, TcpConnected, WaitUntil,
 )
+from .asked import Key, channel, permission
 from .client import Client
 from .clock import Alarm, Clock
 from .diagnosis import ALLOCATE, Diagnosis, refusal
 from .errors import AllocationFailed, Ended, Refused, because
-from .grants import Grants, channel, permission
+from .grants import Grants
 from .idle import Idle
 from .inbox import Inbox
 from .journal import Journal
@@ -23,7 +24,7 @@ from .link import Link, LinkUser
 from .notices import Notices
 from .path import Path
 from .phases import Leaving, Open, Opening, Over, State, fail
-from .requests import Key, Requests, settle
+from .requests import Requests, settle
 from .servers import Server
 from .streams import Streams
 

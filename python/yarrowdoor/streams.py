@@ -8,9 +8,10 @@ from typing import TYPE_CHECKING, Any, Counter, Dict, List, Optional, Set, Tuple
 from . import reasons
 from .address import Address, ScopedAddress, SocketAddress
 from .answers import AllocateTcpSocket, Ignored, PeerData
+from .asked import Key
 from .errors import ConnectFailed, Ended, Refused, because
 from .link import Link, LinkUser, StreamLink
-from .requests import Key, Made
+from .requests import Made
 
 if TYPE_CHECKING:
     from .session import Session

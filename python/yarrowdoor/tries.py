@@ -5,11 +5,11 @@ import asyncio
 import logging
 from typing import Callable, List, Optional, Tuple, Type
 
+from .asked import About
 from .backoff import Backoff
 from .counters import Counters
 from .credentials import Credentials, CredentialsLike, ask
 from .errors import AllocationFailed, LibraryError, WrongCredentials, because
-from .grants import About
 from .journal import Watcher
 from .link import Link
 from .session import Session

@@ -8,10 +8,10 @@ import itertools
 from typing import Optional, Set
 
 from . import reasons
+from .asked import Key
 from .errors import Ended, PermissionFailed, WrongCredentials, YarrowdoorError, because
 from .link import Link
 from .path import route_error
-from .requests import Key
 from .tries import Watched
 
 __all__ = ["UNSURE", "Vigil"]

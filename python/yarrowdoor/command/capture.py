@@ -9,9 +9,11 @@ import ipaddress
 import struct
 import threading
 from types import TracebackType
-from typing import BinaryIO, Dict, Optional, Sequence, Tuple, Type, Union
+from typing import BinaryIO, Dict, Optional, Tuple, Type
 
-__all__ = ["Capture", "CaptureError", "NoCapture", "Tap"]
+from ..wire import Tap, Where
+
+__all__ = ["Capture", "CaptureError"]
 
 _MAGIC, _VERSION, _SNAP, _RAW_IP = 0xA1B2C3D4, (2, 4), 0x40000, 101
 _UDP, _TCP, _TTL, _DONT_FRAGMENT = 17, 6, 64, 0x4000
@@ -19,31 +21,12 @@ _FIN, _SYN, _PUSH, _ACK = 1, 2, 8, 16
 # An IP packet has at most 65,535 bytes, so that a longer piece of a stream is several.
 _MAX_PIECE = 65_000
 
-# A host and a port, and what else a socket says of its address.
-Where = Sequence[Union[str, int]]
-
 
 class CaptureError(Exception):
     """The file cannot be written. It is no error of a socket."""
 
 
-class NoCapture:
-    """Keeps nothing."""
-
-    def datagram(self, source: Where, destination: Where, data: bytes, now: float) -> None:
-        """A datagram has left, or come, at this time in seconds since 1970."""
-
-    def opened(self, local: Where, remote: Where, now: float) -> None:
-        """A connection was made."""
-
-    def piece(self, source: Where, destination: Where, data: bytes, now: float) -> None:
-        """A piece of a stream has left, or come."""
-
-    def ended(self, source: Where, destination: Where, now: float) -> None:
-        """One end sends nothing more on a stream."""
-
-
-class Capture(NoCapture):
+class Capture(Tap):
     """Writes a file. Threads may share it."""
 
     def __init__(self, file: BinaryIO) -> None:
@@ -96,9 +79,6 @@ class Capture(NoCapture):
                 self._file.flush()
         except OSError as error:
             raise CaptureError(f"the capture cannot be written: {error}") from error
-
-
-Tap = NoCapture
 
 
 class _Ends:

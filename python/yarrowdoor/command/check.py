@@ -7,7 +7,7 @@ from typing import Iterator, List, Optional
 
 from ..address import Address
 from ..uri import TurnUri
-from .capture import Tap
+from ..wire import Tap
 from .credentials import Credentials
 from .doors import find_addresses, try_doors
 from .driver import leave_all, open_exchange

@@ -7,7 +7,7 @@ import time
 from typing import Dict, List, Optional, Tuple
 
 from ..uri import TurnUri
-from .capture import Tap
+from ..wire import Tap
 from .certificate import explain
 from .reach import Door, Heard, Verdict, Way, knock, lookup
 from .steps import Facts, Outcome, Step

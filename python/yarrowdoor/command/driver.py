@@ -6,11 +6,10 @@ import time
 from typing import Callable, Optional, Sequence, Tuple
 
 from ..client import Times
-from .capture import Tap
+from ..wire import Tap, connect_stream, connect_udp
 from .credentials import Credentials
 from .exchange import PATIENT, Exchange
 from .reach import Way
-from .wire import connect_stream, connect_udp
 
 __all__ = ["drive", "leave_all", "open_exchange"]
 

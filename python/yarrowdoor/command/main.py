@@ -13,9 +13,10 @@ from typing import Iterator, List, Optional
 
 from ..errors import LibraryError, Refused
 from ..library import load
+from ..wire import Tap
 from .arguments import parser
 from .bench import bench
-from .capture import Capture, CaptureError, NoCapture, Tap
+from .capture import Capture, CaptureError
 from .check import Plan, check
 from .credentials import Credentials, NoCredentials, resolve
 from .echo import echo
@@ -88,7 +89,7 @@ def _context(authority: Optional[str]) -> Optional[tls.SSLContext]:
 @contextlib.contextmanager
 def _tap(path: Optional[str]) -> Iterator[Tap]:
     if path is None:
-        yield NoCapture()
+        yield Tap()
         return
     with open(path, "wb", buffering=0) as file, Capture(file) as capture:
         yield capture

@@ -8,7 +8,7 @@ from typing import List, Optional
 from ..address import Address
 from ..client import Times
 from ..uri import TurnUri
-from .capture import Tap
+from ..wire import Tap
 from .credentials import Credentials
 from .doors import find_addresses, try_doors
 from .driver import open_exchange

@@ -19,9 +19,8 @@ from .. import reasons
 from ..address import Address
 from ..client import Client
 from ..servers import interleaved
-from .capture import Tap
+from ..wire import SilentHandshake, Tap, Wire, connect_stream, connect_udp
 from .certificate import Certificate, of_peer, read_refused
-from .wire import SilentHandshake, Wire, connect_stream, connect_udp
 
 __all__ = ["Door", "Heard", "Verdict", "Way", "knock", "lookup"]
 

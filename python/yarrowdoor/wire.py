@@ -1,4 +1,4 @@
-"""One socket to the server, which does not block: bytes out, bytes in, and each of both into a capture."""
+"""One socket to the server without an event loop: bytes out, bytes in, and each of both is told to a tap."""
 from __future__ import annotations
 
 import contextlib
@@ -6,17 +6,41 @@ import select
 import socket
 import ssl as tls
 import time
-from typing import Any, Dict, Optional, Union
+from typing import Any, Dict, Optional, Sequence, Union
 
-from ..address import SocketAddress, of_socket
-from .capture import Tap
+from .address import SocketAddress, of_socket
 
-__all__ = ["SilentHandshake", "Wire", "connect_stream", "connect_udp"]
+__all__ = ["SilentHandshake", "Tap", "Where", "Wire", "connect_stream", "connect_udp", "notice_silence"]
 
 # More than any datagram has, and any message of TURN.
 _MOST = 70_000
 # How long a stream may take no byte before it is given up, in seconds.
 _FULL = 2.0
+# The system gives up on a connection when nothing that was sent is confirmed for so long, in milliseconds (RFC 5482). Together with
+# what is sent in between, every 15 s, a path that drops all in silence is noticed within a minute.
+USER_TIMEOUT = 25_000
+_TCP_USER_TIMEOUT = getattr(socket, "TCP_USER_TIMEOUT", 18)
+# A stream on which nothing is sent is asked for a sign of life after so long, and again after so long, in seconds.
+KEEPALIVE = 15
+
+# A host and a port, and what else a socket says of its address.
+Where = Sequence[Union[str, int]]
+
+
+class Tap:
+    """What is told of each packet. This one keeps nothing."""
+
+    def datagram(self, source: Where, destination: Where, data: bytes, now: float) -> None:
+        """A datagram has left, or come, at this time in seconds since 1970."""
+
+    def opened(self, local: Where, remote: Where, now: float) -> None:
+        """A connection was made."""
+
+    def piece(self, source: Where, destination: Where, data: bytes, now: float) -> None:
+        """A piece of a stream has left, or come."""
+
+    def ended(self, source: Where, destination: Where, now: float) -> None:
+        """One end sends nothing more on a stream."""
 
 
 class SilentHandshake(TimeoutError):
@@ -33,8 +57,11 @@ class Wire:
         self.local: SocketAddress = of_socket(sock.getsockname())
         self.remote: SocketAddress = of_socket(sock.getpeername())
         self.unsent = 0
-        """How many datagrams were dropped, since the socket was full."""
+        """how many datagrams were dropped, since the socket was full"""
+        self.patience = _FULL if self.is_stream else 0.0
+        """how long a socket that is full is waited for, in seconds"""
         if self.is_stream:
+            notice_silence(sock)
             tap.opened(self.local, self.remote, time.time())
 
     @property
@@ -55,24 +82,23 @@ class Wire:
         return self._socket.getpeercert() if isinstance(self._socket, tls.SSLSocket) else None
 
     def send(self, data: bytes) -> None:
-        """Sends a datagram, or drops it where the socket is full; of a stream it sends all, or raises `TimeoutError`."""
-        if not self.is_stream:
-            try:
-                self._socket.send(data)
-            except BlockingIOError:
-                self.unsent += 1
-                return
-            self._tap.datagram(self.local, self.remote, data, time.time())
-            return
-        self._tap.piece(self.local, self.remote, data, time.time())
-        deadline, rest = time.monotonic() + _FULL, memoryview(data)
+        """Sends a datagram, or drops it where the socket stays full; of a stream it sends all, or raises `TimeoutError`."""
+        if self.is_stream:
+            self._tap.piece(self.local, self.remote, data, time.time())
+        deadline, rest = time.monotonic() + self.patience, memoryview(data)
         while rest:
             try:
                 rest = rest[self._socket.send(rest):]
             except (BlockingIOError, tls.SSLWantWriteError, tls.SSLWantReadError):
-                if time.monotonic() > deadline:
+                if time.monotonic() < deadline:
+                    select.select([], [self._socket], [], 0.05)
+                elif self.is_stream:
                     raise TimeoutError("the server reads nothing of the connection any more") from None
-                select.select([], [self._socket], [], 0.05)
+                else:
+                    self.unsent += 1
+                    return
+        if not self.is_stream:
+            self._tap.datagram(self.local, self.remote, data, time.time())
 
     def receive(self) -> Optional[bytes]:
         """A datagram, or a piece of the stream; nothing at the end of a stream, and None where there is nothing now."""
@@ -98,7 +124,7 @@ class Wire:
             self._socket.close()
 
 
-def connect_udp(host: str, port: int, tap: Tap) -> Wire:
+def connect_udp(host: str, port: int, tap: Tap = Tap()) -> Wire:
     """A socket over UDP to an IP address. `OSError` where there is no way to it."""
     family, kind, protocol, _, where = socket.getaddrinfo(host, port, type=socket.SOCK_DGRAM, flags=socket.AI_NUMERICHOST)[0]
     sock = socket.socket(family, kind, protocol)
@@ -110,7 +136,7 @@ def connect_udp(host: str, port: int, tap: Tap) -> Wire:
         raise
 
 
-def connect_stream(host: str, port: int, seconds: float, tap: Tap, context: Optional[tls.SSLContext] = None,
+def connect_stream(host: str, port: int, seconds: float, tap: Tap = Tap(), context: Optional[tls.SSLContext] = None,
                    name: str = "") -> Wire:
     """A connection over TCP to an IP address, or with a context over TLS to a server of this name, within so many seconds.
     `OSError` where there is none: `ssl.SSLCertVerificationError` where the certificate is the reason, and `SilentHandshake`."""
@@ -124,3 +150,12 @@ def connect_stream(host: str, port: int, seconds: float, tap: Tap, context: Opti
     except BaseException:
         sock.close()
         raise
+
+
+def notice_silence(sock: socket.socket) -> None:
+    """Has the system end a connection whose other end is silent, which takes it a quarter of an hour otherwise."""
+    options = [(socket.SOL_SOCKET, socket.SO_KEEPALIVE, 1), (socket.IPPROTO_TCP, socket.TCP_KEEPIDLE, KEEPALIVE),
+               (socket.IPPROTO_TCP, socket.TCP_KEEPINTVL, KEEPALIVE), (socket.IPPROTO_TCP, _TCP_USER_TIMEOUT, USER_TIMEOUT)]
+    with contextlib.suppress(OSError):
+        for level, name, value in options:
+            sock.setsockopt(level, name, value)
