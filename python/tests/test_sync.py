@@ -6,12 +6,15 @@ import threading
 import time
 import unittest
 import warnings
-from typing import Any, List
+from typing import Any, List, Tuple
 
 from yarrowdoor import AllocationFailed, Ended, PermissionFailed, Refused, WrongCredentials, sync
 
 from . import coturn as server
+from .server import Server
+from .threaded import Threaded
 
+REFRESH = b"\0\4"
 PORTS = "turn:127.0.0.1:{port}", "turn:127.0.0.1:{port}?transport=tcp"
 
 
@@ -60,6 +63,8 @@ class Coturn(unittest.TestCase):
                     with self.assertRaises(ValueError):
                         relay.send(b"x", ("localhost", 9))
                     address = relay.address
+                    mapped = relay.mapped_address
+                    self.assertEqual(mapped and mapped.host, "127.0.0.1")
                 self.assertTrue(relay.closed)
                 self.assertEqual(relay.address, address)
                 calls: List[Any] = [relay.receive, lambda: relay.send(b"x", self.peer.where), lambda: relay.bind(self.peer.where)]
@@ -120,15 +125,18 @@ class Coturn(unittest.TestCase):
     def test_a_wrong_password(self) -> None:
         with server.coturn() as at:
             start = time.monotonic()
-            with self.assertRaises(WrongCredentials):
+            with self.assertRaises(WrongCredentials) as raised:
                 sync.TurnClient(at.uri(), "user", "wrong").open()
             self.assertLess(time.monotonic() - start, 10)
+            self.assertEqual(raised.exception.code, 401)
 
     def test_a_denied_peer(self) -> None:
         with server.coturn("--denied-peer-ip", "10.0.0.0-10.255.255.255") as at:
             with sync.TurnClient(at.uri(), "user", "pass") as relay:
-                with self.assertRaises(PermissionFailed):
-                    relay.send(b"x", ("10.1.2.3", 9))
+                for _ in range(2):
+                    with self.assertRaises(PermissionFailed) as raised:
+                        relay.send(b"x", ("10.1.2.3", 9))
+                    self.assertEqual(raised.exception.code, 403)
                 with self.assertRaisesRegex(Refused, "^no-allocation"):
                     relay.permit("2001:db8::1")
                 self.echo(relay)
@@ -137,21 +145,65 @@ class Coturn(unittest.TestCase):
         with server.coturn() as at:
             relay = sync.TurnClient(at.uri(PORTS[1]), "user", "pass")
             relay.open()
-        with self.assertRaisesRegex(Ended, "^the connection to the server has ended: "):
+        with self.assertRaisesRegex(Ended, "^the connection to the server has ended: ") as raised:
             relay.receive(timeout=30)
+        self.assertIsInstance(raised.exception.__cause__, ConnectionError)
         self.assertTrue(relay.closed)
+        with self.assertRaisesRegex(Ended, "^the connection to the server has ended: "):
+            next(iter(relay))
 
     def test_one_that_nobody_closes(self) -> None:
         """Its relayed address is deleted, and nobody waits for that."""
         with server.coturn() as at:
             relay: Any = sync.TurnClient(at.uri(), "user", "pass")
             relay.open()
-            pump = relay._pump
+            session = relay._kept
             with self.assertWarnsRegex(ResourceWarning, "^unclosed turn:"):
                 del relay
                 gc.collect()
+            session.thread.join(1.5)  # after two seconds it ends without an answer
+            self.assertFalse(session.thread.is_alive())
             with self.assertRaisesRegex(Ended, "^the client was closed$"):
-                pump.receive(5)
+                session.check()
+
+    def test_grants_are_released_and_kept(self) -> None:
+        with server.coturn() as at, sync.TurnClient(at.uri(), "user", "pass") as relay:
+            relay.bind(self.peer.where)
+            grants: List[Any] = [self.peer.where, "127.0.0.1"]
+            for about in grants:
+                relay.release(about)
+                relay.keep(about)
+                with self.assertRaisesRegex(Refused, "^not-granted$"):
+                    relay.release("192.0.2.7" if isinstance(about, str) else ("192.0.2.7", 9))
+            self.echo(relay)
+
+    def test_credentials_are_asked_for_when_it_opens(self) -> None:
+        asked: List[int] = []
+
+        def credentials() -> Tuple[str, str]:
+            asked.append(1)
+            return "user", "pass"
+
+        with server.coturn() as at:
+            relay = sync.TurnClient(at.uri(), credentials=credentials)
+            self.assertEqual(asked, [])
+            with relay:
+                self.echo(relay)
+            self.assertEqual(asked, [1])
+            with sync.TurnClient(at.uri(), credentials=("user", "pass")) as relay:
+                self.echo(relay)
+            with self.assertRaises(TypeError):
+                sync.TurnClient(at.uri(), credentials=lambda: "user").open()  # type: ignore[arg-type,return-value]
+            with self.assertRaises(TypeError):
+                sync.TurnClient(at.uri(), "user", "pass", credentials=("user", "pass"))
+
+    def test_data_that_nobody_takes(self) -> None:
+        with server.coturn() as at, sync.TurnClient(at.uri(), "user", "pass", queue=2) as relay:
+            for _ in range(3):
+                relay.send(b"hello", self.peer.where)
+            while not relay.dropped:
+                time.sleep(0.01)
+            self.assertEqual([relay.receive(timeout=0)[0] for _ in range(2)], [b"hello"] * 2)
 
     def test_no_socket_is_left(self) -> None:
         with server.coturn() as at, warnings.catch_warnings():
@@ -172,7 +224,7 @@ class Sockets(unittest.TestCase):
                 if kind == socket.SOCK_STREAM:
                     silent.listen()
                 relay = sync.TurnClient(uri.format(port=silent.getsockname()[1]), "user", "pass", timeout=0.3)
-                with self.assertRaisesRegex(AllocationFailed, "^no relayed address: no answer in 0.3 s$"):
+                with self.assertRaisesRegex(AllocationFailed, r"^no answer from turn:127\.0\.0\.1:\S* in [0-9.]+ s$"):
                     relay.open()
                 with self.assertRaises(Ended):
                     relay.address
@@ -183,12 +235,25 @@ class Sockets(unittest.TestCase):
         with socket.create_server(("127.0.0.1", 0)) as listener:
             relay = sync.TurnClient(PORTS[1].format(port=listener.getsockname()[1]), "user", "pass", timeout=30)
             threading.Thread(target=self.end_stream, args=(listener,), daemon=True).start()
-            with self.assertRaisesRegex(AllocationFailed, "^no relayed address: .* the server closed it$"):
+            with self.assertRaisesRegex(AllocationFailed, "^the connection to the server has ended: .* the server closed the conn"):
                 relay.open()
 
     def end_stream(self, listener: socket.socket) -> None:
         with listener.accept()[0] as own:
             own.recv(100)  # else it is a reset
+
+    def test_a_grant_that_comes_late_is_given_back(self) -> None:
+        """Each answer takes 0.3 s, so that the relayed address is granted when its client has given up."""
+        with Threaded(Server(), forger=lambda data: [b"none"], delay=0.3) as endpoint:
+            relay = sync.TurnClient(endpoint.uri, "user", "pass", timeout=0.45)
+            with self.assertRaisesRegex(AllocationFailed, "^no answer from "):
+                relay.open()
+            with self.assertRaisesRegex(Ended, "^the client was closed$"):
+                relay.permit("192.0.2.7")
+            start = time.monotonic()
+            while not any(it[:2] == REFRESH for it in endpoint.received) or endpoint.server.allocations:
+                self.assertLess(time.monotonic() - start, 5)
+                time.sleep(0.01)
 
     def test_a_closed_port(self) -> None:
         port = server.free_port()
@@ -202,6 +267,10 @@ class Sockets(unittest.TestCase):
     def test_wrong_arguments(self) -> None:
         with self.assertRaises(ValueError):
             sync.TurnClient("http://example.org", "user", "pass")
+        with self.assertRaisesRegex(ValueError, "^queue is at least 1"):
+            sync.TurnClient("turn:127.0.0.1", "user", "pass", queue=0)
+        with self.assertRaises(TypeError):
+            sync.TurnClient("turn:127.0.0.1", "user")
         with self.assertRaises(Ended):
             sync.TurnClient("turn:127.0.0.1", "user", "pass").receive()
         with warnings.catch_warnings():

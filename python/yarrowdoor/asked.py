@@ -8,9 +8,9 @@ from typing import Dict, NamedTuple, Optional, Union
 from . import reasons
 from .address import Address
 from .counters import Counters
-from .errors import Hint
+from .errors import ChannelFailed, Hint, PermissionFailed
 
-__all__ = ["About", "Asked", "Key", "Record", "channel", "permission"]
+__all__ = ["About", "Asked", "Key", "Record", "channel", "failure", "key_of", "permission"]
 
 # Whose grant it is: of a permission the IP address, of a channel the peer.
 About = Union[str, Address]
@@ -34,6 +34,18 @@ def permission(ip: str) -> Key:
 def channel(peer: Address) -> Key:
     """What a channel is asked for by."""
     return Key(reasons.CHANNEL_BIND, peer)
+
+
+def key_of(about: About) -> Key:
+    """What a permission, or a channel, is asked for by."""
+    return permission(about) if isinstance(about, str) else channel(about)
+
+
+def failure(key: Key, hint: Hint) -> Union[PermissionFailed, ChannelFailed]:
+    """The refusal of a permission, or of a channel."""
+    if isinstance(key.about, str):
+        return PermissionFailed(f"no permission for {key.about}", hint)
+    return ChannelFailed(f"no channel to {key.about}", hint)
 
 
 @dataclass

@@ -5,13 +5,14 @@ import base64
 import hashlib
 import hmac
 import time
-from typing import Awaitable, Callable, NamedTuple, Optional, Tuple, Union
+from typing import Awaitable, Callable, NamedTuple, Optional, Tuple, TypeVar, Union
 
 from .settings import credential
 
 __all__ = ["Credentials", "CredentialsLike", "Text", "ask", "check_source", "one_source", "rest_credentials"]
 
 Text = Union[str, bytes]
+_Source = TypeVar("_Source")
 
 
 class Credentials(NamedTuple):
@@ -53,16 +54,17 @@ def check_source(source: object) -> None:
         credential(name, value)
 
 
-def one_source(user: Optional[Text], password: Optional[Text], credentials: Optional[CredentialsLike]) -> CredentialsLike:
+def one_source(user: Optional[Text], password: Optional[Text], credentials: Optional[_Source]) -> Union[Tuple[Text, Text], _Source]:
     """The credentials of a call that takes them as two arguments, or as one. `TypeError` where it has neither, or both."""
-    if credentials is None:
-        if user is None or password is None:
-            raise TypeError("user and password are missing, or credentials=")
-        credentials = user, password
-    elif user is not None or password is not None:
-        raise TypeError("either user and password, or credentials=")
-    check_source(credentials)
-    return credentials
+    if credentials is not None:
+        if user is not None or password is not None:
+            raise TypeError("either user and password, or credentials=")
+        check_source(credentials)
+        return credentials
+    if user is None or password is None:
+        raise TypeError("user and password are missing, or credentials=")
+    check_source((user, password))
+    return user, password
 
 
 async def ask(source: CredentialsLike) -> Credentials:

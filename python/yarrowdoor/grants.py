@@ -2,13 +2,13 @@
 from __future__ import annotations
 
 from dataclasses import dataclass
-from typing import AbstractSet, Callable, Dict, Set, Union
+from typing import AbstractSet, Callable, Dict, Set
 
 from .address import Address
-from .asked import About, Key, channel, permission
+from .asked import About, Key, channel, failure, key_of, permission
 from .client import Client
 from .clock import Clock
-from .errors import ChannelFailed, Hint, PermissionFailed, Refused
+from .errors import Hint, PermissionFailed, Refused
 from .journal import Journal
 from .notices import Lost, Notices
 from .requests import Made, Requests
@@ -95,7 +95,7 @@ class Grants:
 
     def set_kept(self, about: About, is_kept: bool) -> None:
         """Says whether the permission of an IP address, or the channel of a peer, is refreshed."""
-        client, key = self._open_client(), permission(about) if isinstance(about, str) else channel(about)
+        client, key = self._open_client(), key_of(about)
         if isinstance(about, str):
             client.set_permission_kept(about, is_kept)
         else:
@@ -122,15 +122,10 @@ class Grants:
             self._journal.failed(key, hint, was_granted)
         self._granted.discard(key)
         self._released.discard(key)
-        error: Union[PermissionFailed, ChannelFailed]
-        if isinstance(key.about, str):
-            error = PermissionFailed(f"no permission for {key.about}", hint)
-            if not was_released:
-                self._let_rest(key.about, hint)
-        else:
-            error = ChannelFailed(f"no channel to {key.about}", hint)
+        if isinstance(key.about, str) and not was_released:
+            self._let_rest(key.about, hint)
         is_lost = was_granted and not was_released  # What was released was to end.
-        if not self._requests.settle(key, error) and is_lost and key.about is not None:
+        if not self._requests.settle(key, failure(key, hint)) and is_lost and key.about is not None:
             self._notices.tell_lost(Lost("permission" if isinstance(key.about, str) else "channel", key.about))
         return is_lost and hint is None
 

@@ -7,6 +7,7 @@ import contextvars
 from typing import Any, Callable, Deque, Optional, Tuple
 
 from .address import Address
+from .waiting import Waiting
 
 __all__ = ["Inbox", "Receiver"]
 
@@ -44,16 +45,12 @@ class Taker(asyncio.Future[None]):
             self.get_loop().call_soon(fn, self, context=context)
 
 
-class Inbox:
+class Inbox(Waiting):
     """Data of peers that waits to be taken: at most `size` packets. With a receiver nothing waits."""
 
     def __init__(self, size: int, receiver: Optional[Receiver]) -> None:
-        if size < 1:
-            raise ValueError(f"queue is at least 1, and not {size}")
-        self.dropped = 0
+        super().__init__(size)
         self.has_receiver = receiver is not None
-        self._size = size
-        self._packets: Deque[Tuple[bytes, Address]] = collections.deque()
         self._takers: Deque[Taker] = collections.deque()
         self._has_ended = False
         self.put: Receiver = self._guarded(receiver) if receiver is not None else self._keep
@@ -63,19 +60,12 @@ class Inbox:
         event loop would take as long as all else that is done for a datagram."""
 
     def _keep(self, data: bytes, peer: Address) -> None:
-        if self._has_kept(data, peer):
+        if self.keep(data, peer):
             self._wake_taker(at_once=False)
 
     def _keep_last(self, data: bytes, peer: Address) -> None:
-        if self._has_kept(data, peer):
+        if self.keep(data, peer):
             self._wake_taker(at_once=True)
-
-    def _has_kept(self, data: bytes, peer: Address) -> bool:
-        if len(self._packets) >= self._size:
-            self.dropped += 1
-            return False
-        self._packets.append((data, peer))
-        return True
 
     @staticmethod
     def _guarded(receiver: Receiver) -> Receiver:
@@ -88,13 +78,9 @@ class Inbox:
                 asyncio.get_running_loop().call_exception_handler(context)
         return put
 
-    def pop(self) -> Optional[Tuple[bytes, Address]]:
-        """The next data, and its peer, or None where there is none yet."""
-        return self._packets.popleft() if self._packets else None
-
     async def take(self) -> Optional[Tuple[bytes, Address]]:
         """The next data, and its peer; None when all is taken and the client has ended."""
-        while not self._packets:
+        while not self.packets:
             if self._has_ended:
                 return None
             taker = Taker()
@@ -104,10 +90,10 @@ class Inbox:
             except asyncio.CancelledError:
                 if taker in self._takers:
                     self._takers.remove(taker)
-                if self._packets:
+                if self.packets:
                     self._wake_taker(at_once=False)  # another one, since this one takes nothing
                 raise
-        return self._packets.popleft()
+        return self.packets.popleft()
 
     def end(self) -> None:
         """No more data comes: who waits for some learns it."""

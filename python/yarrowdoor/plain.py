@@ -1,175 +1,124 @@
-"""A client over a wire, without an event loop: it does what is due, and takes what comes."""
+"""A session without an event loop: the calls of a client over a wire."""
 from __future__ import annotations
 
-import errno
+import math
+import threading
 import time
-from typing import Callable, Optional, Set
+from typing import Any
 
-from . import reasons
 from .address import Address
-from .answers import (
-    AllocateTcpSocket, AllocationCreated, AllocationCreateFailed, ChannelCreated, ChannelCreateFailed, Event, Ignored, PeerData,
-    PermissionCreated, PermissionCreateFailed, TcpClose, WaitUntil,
-)
-from .asked import About
-from .client import Buffer, Client
-from .clock import Clock
-from .errors import Refused
+from .asked import About, failure, key_of
+from .client import Buffer
+from .credentials import Text
+from .driver import drive
+from .errors import Ended, Refused, because
 from .wire import Wire
+from .worker import Worker
 
 __all__ = ["PlainSession"]
 
 # A datagram over IPv4 carries so many bytes, and coturn reads no longer message of a stream.
 MAX_MESSAGE = 65_507
-# What one look at a socket takes of it, so that no sender keeps this program from all else.
-MAX_TAKEN = 64
+# How long the answer to a delete is waited for, in seconds.
+DELETE_WAIT = 2.0
 
 
-class PlainSession:
-    """A client and its wire. Whoever has it calls `work` at `wakeup`, and `take` when there is something to read."""
+class PlainSession(Worker):
+    """A client over a wire. Each call may be made by any thread, while one drives it."""
 
-    def __init__(self, wire: Wire, client: Client) -> None:
-        self.wire, self.client, self.clock = wire, client, Clock()
-        self.wakeup = 0.0
-        """when there is something to do next, in seconds of `time.monotonic`"""
-        self.is_over = False
-        self.error: Optional[OSError] = None
-        """the last error of the socket since the server was heard"""
-        self.address: Optional[Address] = None
-        self.has_no_address = False
-        """whether the client has given up the allocation"""
-        self.granted: Set[About] = set()
-        """IP addresses with a permission, and peers with a channel"""
-        self.failed: Set[About] = set()
-        self.on_data: Callable[[bytes, Address], None] = lambda data, peer: None
-        self._frames = reasons.Frames()
+    def __init__(self, wire: Wire, server: str, user: Text, password: Text, **settings: Any) -> None:
+        super().__init__(wire, server, user, password, **settings)
+        self.thread = threading.Thread(target=self._run, name="yarrowdoor", daemon=True)
+        """what drives it after `open`"""
 
-    # Requests
+    def open(self, timeout: float) -> None:
+        """Has a thread of its own drive it until it has ended, and waits for a relayed address. `AllocationFailed` where there is
+        none, also after so many seconds."""
+        self.thread.start()
+        with self.change:
+            self.change.wait_for(self._is_settled, timeout)
+            if self.address is None:
+                self.leave()
+                raise self.why or self.diagnosis.no_address()
 
-    def permit(self, ip: str) -> None:
-        """Asks for a permission. `Refused` where there is no relayed address of its family."""
-        self.failed.discard(ip)
+    def _run(self) -> None:
         try:
-            self.client.create_permission(ip, self.clock.now())
+            drive([self], lambda: self.is_over, math.inf)
+        except Exception as error:
+            self.diagnosis.breaks(f"the client has ended: {error}", error)
+            raise
+        finally:
+            self.close()
+
+    def _is_settled(self) -> bool:
+        return self.address is not None or self.is_over or 0 < self.judged <= time.monotonic()
+
+    def ask(self, about: About) -> None:
+        """Asks for the permission of an IP address, or the channel of a peer, unless it is there or asked for. `Ended`; `Refused`
+        as the client does it."""
+        with self.change:
+            self.check()
+            if about in self.asked or about in self.granted:
+                return
+            self.failed.discard(about)
+            self.record.forget(key_of(about))
+            if self._request(about):
+                self.asked.add(about)
+                self.wake()
+
+    def _request(self, about: About) -> bool:
+        """Makes a request, and says whether it is to be waited for."""
+        if not isinstance(about, str):
+            self.client.bind_channel(about, self.clock.now())
+            return True
+        try:
+            self.client.create_permission(about, self.clock.now())
         except Refused as refusal:
             if refusal.reason != "already-exists":
                 raise
+            if self.client.have_permission(about):
+                self.granted.add(about)
+        return about not in self.granted
 
-    def bind(self, peer: Address) -> None:
-        """Asks for a channel. `Refused` as the client does it."""
-        self.failed.discard(peer)
-        self.client.bind_channel(peer, self.clock.now())
+    def grant(self, about: About) -> None:
+        """The same, and waits for the answer, while another thread drives. `PermissionFailed` or `ChannelFailed` where it is no."""
+        with self.change:
+            self.ask(about)
+            self.change.wait_for(lambda: about not in self.asked or self.is_leaving or self.is_over)
+            self.check()
+            if about not in self.granted:
+                raise failure(key_of(about), self.record.error_of(key_of(about)))
+
+    def set_kept(self, about: About, is_kept: bool) -> None:
+        """Says whether a permission, or a channel, is refreshed. `Ended`; `Refused` (`not-granted`) where there is none."""
+        with self.change:
+            self.check()
+            if isinstance(about, str):
+                self.client.set_permission_kept(about, is_kept)
+            else:
+                self.client.set_channel_kept(about, is_kept)
 
     def send(self, data: Buffer, peer: Address) -> None:
-        """Sends data to a peer. `Refused` without a permission; `ValueError` for data that is too long for a message."""
-        packet = self.client.send_to(peer, data, self.clock.now()).data
-        if len(packet) > MAX_MESSAGE:
-            raise ValueError(f"the message to {peer} has {len(packet)} bytes with its header, and at most {MAX_MESSAGE} fit")
-        self._write(packet)
+        """Sends data to a peer. `Ended`; `Refused` without a permission; `ValueError` for data that is too long for a message."""
+        with self.change:
+            self.check()
+            packet = self.client.data_to(peer, data, self.clock.now())
+            if len(packet) > MAX_MESSAGE:
+                raise ValueError(f"the message to {peer} has {len(packet)} bytes with its header, and at most {MAX_MESSAGE} fit")
+            self._write(packet)
 
     def leave(self) -> None:
-        """Gives the relayed address back, where there may be one. `work` and `take` until `is_over`."""
-        try:
-            self.client.delete(self.clock.now())
-        except Refused:
-            self.is_over = True
+        """Has the relayed address given back, also one that the server is yet to grant, and all ended in two seconds."""
+        self.leave_by, self.is_leaving = min(self.leave_by, time.monotonic() + DELETE_WAIT), True
+        self.wake()
 
-    def close(self) -> None:
-        """Closes the socket, and frees the client."""
-        self.is_over = True
-        self.wire.close()
-        self.client.close()
+    def check(self) -> None:
+        """`Ended` where no call is made any more."""
+        if self.is_leaving or self.is_over:
+            raise self.ending()
 
-    # What is due
-
-    def work(self) -> None:
-        """Does all that is due now."""
-        while not self.is_over:
-            now = self.clock.now()
-            for packet in iter(lambda: self.client.poll_transmit(now), None):
-                self.sent(packet.data)
-                self._write(packet.data)
-            self._take_events()
-            rest = self.client.poll(now)
-            if isinstance(rest, WaitUntil):
-                if rest.time > now:
-                    self.wakeup = time.monotonic() + self.clock.seconds(rest.time)
-                    return
-            elif isinstance(rest, AllocateTcpSocket):
-                self.client.allocated_tcp_socket(rest, None, now)  # A peer's connection, which nobody here wants.
-            elif not isinstance(rest, TcpClose):
-                self._take_events()
-                self.is_over = True
-
-    def take(self) -> None:
-        """Takes what has come."""
-        for _ in range(MAX_TAKEN):
-            try:
-                data = self.wire.receive()
-            except OSError as error:
-                self._fails(error)
-                return
-            if data is None or self.is_over:
-                return
-            self._take(data)
-            if not data and self.wire.is_stream:
-                self._fails(ConnectionResetError(errno.ECONNRESET, "the server closed the connection"))
-                return
-
-    def _take(self, data: bytes) -> None:
-        answer = self.client.recv(data, self.clock.now())
-        if isinstance(answer, PeerData):
-            self.on_data(answer.data, answer.peer)
-            if not self.wire.is_stream or answer.start == 4 and self._frames.is_one(data, len(answer.data)):
-                return  # Nothing else is in it.
-        for packet in self._frames.messages(data) if self.wire.is_stream else (data,):
-            message = reasons.read(packet)
-            if message is not None and message.is_response:
-                self.heard(message, packet, isinstance(answer, Ignored))
-        if self.wire.is_stream:
-            for more in iter(lambda: self.client.poll_recv(self.clock.now()), None):
-                self.on_data(more.data, more.peer)
-
-    def _write(self, data: bytes) -> None:
-        try:
-            self.wire.send(data)
-        except OSError as error:
-            self._fails(error)
-
-    def _fails(self, error: OSError) -> None:
-        """The socket has an error. One over UDP does not end it: the network may come back."""
-        self.error = error
-        self.refused(error)
-        if self.wire.is_stream:
-            self.client.protocol_error()
-            self.is_over = True
-
-    def _take_events(self) -> None:
-        while (event := self.client.poll_event()) is not None:
-            self.told(event)
-            if isinstance(event, AllocationCreated):
-                self.address = event.address
-            elif isinstance(event, AllocationCreateFailed):
-                self.has_no_address = True
-            elif isinstance(event, (PermissionCreated, PermissionCreateFailed)):
-                self._settles(event.ip, isinstance(event, PermissionCreated))
-            elif isinstance(event, (ChannelCreated, ChannelCreateFailed)):
-                self._settles(event.peer, isinstance(event, ChannelCreated))
-
-    def _settles(self, about: About, is_granted: bool) -> None:
-        (self.granted if is_granted else self.failed).add(about)
-        (self.failed if is_granted else self.granted).discard(about)
-
-    # What is told to those who are more than this
-
-    def sent(self, packet: bytes) -> None:
-        """A packet of the client leaves."""
-
-    def heard(self, message: reasons.Message, packet: bytes, is_ignored: bool) -> None:
-        """The server has answered something, which the client has taken, or ignored."""
-
-    def refused(self, error: OSError) -> None:
-        """The socket has an error, which ends a stream."""
-
-    def told(self, event: Event) -> None:
-        """The client has told an event."""
+    def ending(self) -> Ended:
+        """Why no call is made any more, as a new error for each."""
+        if self.is_leaving or self.why is None:
+            return Ended("the client was closed")
+        return because(Ended(*self.why.args), self.why.__cause__)

@@ -12,6 +12,7 @@ from .address import Address
 from .errors import AllocationFailed, YarrowdoorError, because
 from .link import DatagramLink, Link, StreamLink
 from .uri import TurnUri
+from .wire import Wire, connect_stream, connect_udp
 
 __all__ = ["NoneSucceeded", "Server", "first_of", "interleaved"]
 
@@ -66,6 +67,17 @@ class Server:
     async def stream(self, host: str) -> StreamLink:
         """One more connection to a server over TCP or TLS, from another port."""
         return await self._stream(host, (self._local_addr[0], 0) if self._local_addr is not None else None)
+
+    def wire(self, seconds: float) -> Wire:
+        """A socket to the server for no event loop: over UDP to the first address of its name, else to the first one that takes a
+        connection, each within so many seconds. `AllocationFailed` where there is none."""
+        try:
+            if self.uri.transport != "udp":
+                return connect_stream(self.uri.host, self.uri.port, seconds, context=self._ssl, name=self._name)
+            found = socket.getaddrinfo(self.uri.host, self.uri.port, type=socket.SOCK_DGRAM, family=self._family)
+            return connect_udp(_scoped(found[0][4]), self.uri.port)
+        except OSError as error:
+            raise because(AllocationFailed(f"no connection to {self.uri}: {error}"), error)
 
     async def _stream(self, host: str, own: Optional[Tuple[str, int]]) -> StreamLink:
         loop, uri, name = asyncio.get_running_loop(), self.uri, self._name if self._ssl else None

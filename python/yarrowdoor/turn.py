@@ -101,7 +101,7 @@ class TurnClient(Told, Lifetime):
         server = Server(self.uri, ssl, sock, local_addr=local_addr, family=socket_family)
         Lifetime.__init__(self, server, Inbox(queue, receiver), redirects)
         Told.__init__(self, self._inbox, Notices())
-        self._source = one_source(user, password, credentials)
+        self._source: CredentialsLike = one_source(user, password, credentials)
         self._credentials: Optional[Credentials] = None
         self._times, self._anonymous, self._max_stale_nonces = times, anonymous, max_stale_nonces
         self._pause, self._keepalive, self._refresh_ahead = (int(it * 1e9) for it in (pause, keepalive, refresh_ahead))

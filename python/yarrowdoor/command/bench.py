@@ -7,7 +7,8 @@ from dataclasses import dataclass
 from typing import List, Optional, TextIO
 
 from ..address import Address
-from .driver import drive, leave_all
+from ..driver import drive
+from .driver import leave_all
 from .exchange import Exchange
 from .output import Bar
 from .pair import Server, find_way, join

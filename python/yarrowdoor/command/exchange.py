@@ -7,9 +7,8 @@ from dataclasses import dataclass, field
 from typing import Dict, List, Optional
 
 from .. import reasons
-from ..address import Address
 from ..answers import Event
-from ..client import Client, Times
+from ..client import Times
 from ..plain import PlainSession
 from ..wire import Wire
 from .challenge import Challenge
@@ -55,14 +54,11 @@ class Exchange(PlainSession):
     def __init__(self, wire: Wire, credentials: Optional[Credentials], relay: str = "udp", family: int = 4,
                  times: Optional[Times] = PATIENT) -> None:
         named = credentials or Credentials("check", "check")
-        super().__init__(wire, Client(wire.local, wire.remote, named.user, named.password, transport=wire.transport,
-                                      allocation=relay, families=(family,), times=times, max_stale_nonces=256, pause=5_000_000,
-                                      keepalive=15_000_000_000, refresh_ahead=150_000_000_000))
+        super().__init__(wire, str(wire.remote), named.user, named.password, allocation=relay, families=(family,), times=times)
         self.relay, self.family, self._can_sign = relay, family, credentials is not None
         self.begun = time.monotonic()
         self.judged = 0.0
         """when an unsigned error counts as the answer"""
-        self.mapped: Optional[Address] = None
         self.lifetime: Optional[int] = None
         """of the relayed address at first, in seconds"""
         self.challenge: Optional[Challenge] = None
@@ -100,10 +96,10 @@ class Exchange(PlainSession):
     # What happens
 
     def heard(self, message: reasons.Message, packet: bytes, is_ignored: bool) -> None:
-        request = self._requests.get(message.transaction)
+        super().heard(message, packet, is_ignored)
+        request, now = self._requests.get(message.transaction), time.monotonic()
         if request is None:
             return
-        self.error, now = None, time.monotonic()
         code, phrase = message.error or (0, "")
         told = f"{code} {phrase}" if code else "a success"
         log.info("%s: %s answered by %s", self.wire.local, _METHODS.get(request.method, request.method), told)
@@ -117,9 +113,10 @@ class Exchange(PlainSession):
         request.answers.append(Said(code, phrase, not is_ignored, now))
         self.judged = now + GRACE if code and is_ignored else self.judged
         if request.method == reasons.ALLOCATE and not code and not is_ignored:
-            self.mapped, self.lifetime = message.mapped, _seconds(reasons.attribute(packet, reasons.LIFETIME))
+            self.lifetime = _seconds(reasons.attribute(packet, reasons.LIFETIME))
 
     def sent(self, packet: bytes) -> None:
+        super().sent(packet)
         message = reasons.read(packet)
         if message is not None and message.is_request and message.transaction not in self._requests:
             self._requests[message.transaction] = _Request(message.method, time.monotonic())

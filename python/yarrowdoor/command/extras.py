@@ -6,9 +6,10 @@ import time
 from typing import Callable, List
 
 from .. import reasons
-from ..errors import Refused
+from ..driver import drive
+from ..errors import Ended, Refused
 from . import advice
-from .driver import drive, leave_all
+from .driver import leave_all
 from .exchange import Exchange
 from .relays import allocate
 from .steps import Outcome, Step
@@ -42,8 +43,8 @@ def nonce_step(exchange: Exchange, longest: float, told: Callable[[int], None]) 
         if passed >= longest or exchange.stale > before or exchange.is_over:
             break
         try:
-            exchange.permit(str(nobody))
-        except Refused:
+            exchange.ask(str(nobody))
+        except (Ended, Refused):
             break
         drive([exchange], lambda: exchange.stale > before, min(pause, longest - passed))
         told(number + 1)

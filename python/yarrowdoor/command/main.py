@@ -11,7 +11,7 @@ import ssl as tls
 import sys
 from typing import Iterator, List, Optional
 
-from ..errors import LibraryError, Refused
+from ..errors import Ended, LibraryError, Refused
 from ..library import load
 from ..wire import Tap
 from .arguments import parser
@@ -50,7 +50,7 @@ def main(words: Optional[List[str]] = None) -> int:
         return _tell(options, str(error), _CANNOT)
     except CannotRelay as error:
         return _tell(options, str(error), status_of([error.step]))
-    except Refused as refusal:
+    except (Ended, Refused) as refusal:
         return _tell(options, f"the server no longer lets packets through ({refusal})", _FAILS)
     except KeyboardInterrupt:
         return _INTERRUPTED

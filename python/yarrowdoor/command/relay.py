@@ -6,8 +6,9 @@ import socket
 from typing import List, Optional, TextIO, Tuple
 
 from ..address import Address, of_socket
-from ..errors import Refused
-from .driver import drive, leave_all
+from ..driver import drive
+from ..errors import Ended, Refused
+from .driver import leave_all
 from .exchange import Exchange
 from .pair import CannotRelay, Server, find_way, open_relay
 from .relays import grant_step, permission_step
@@ -69,7 +70,7 @@ def _carry(exchange: Exchange, local: socket.socket, peer: Address) -> None:
                 return
             except OSError:
                 continue  # The program before is gone, says the system.
-            with contextlib.suppress(Refused, ValueError):  # What is too long for a message is lost.
+            with contextlib.suppress(Ended, Refused, ValueError):  # What is too long for a message is lost.
                 exchange.send(data, peer)
 
     exchange.on_data = from_peer

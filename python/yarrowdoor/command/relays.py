@@ -3,14 +3,15 @@ from __future__ import annotations
 
 import ipaddress
 import time
-from typing import Callable, Optional, Sequence, Tuple, Union
+from typing import Optional, Sequence, Tuple
 
 from .. import reasons
 from ..address import Address
-from ..errors import Refused
+from ..asked import About
+from ..driver import drive
+from ..errors import Ended, Refused
 from . import advice
 from .credentials import Credentials
-from .driver import drive
 from .exchange import Exchange
 from .steps import Facts, Outcome, Step
 
@@ -101,7 +102,7 @@ def family_step(exchange: Exchange, family: int, seconds: float) -> Step:
 def permission_step(exchanges: Sequence[Exchange], addresses: Sequence[Address], seconds: float) -> Step:
     """Lets the relayed addresses send to each other."""
     asks = [(it, address.host) for it, address in zip(exchanges, addresses)]
-    failed, spent = _grants("permission", reasons.CREATE_PERMISSION, asks, lambda it, about: it.permit(str(about)), seconds)
+    failed, spent = _grants(reasons.CREATE_PERMISSION, asks, seconds)
     if failed is None:
         return Step("permission", Outcome.OK, f"for {addresses[0].host}", spent)
     said = failed.answer_to(reasons.CREATE_PERMISSION)
@@ -112,7 +113,7 @@ def permission_step(exchanges: Sequence[Exchange], addresses: Sequence[Address],
 def grant_step(exchanges: Sequence[Exchange], addresses: Sequence[Address], seconds: float) -> Step:
     """Binds the relayed addresses to channels of each other."""
     asks = [*zip(exchanges, addresses)]
-    failed, spent = _grants("channel", reasons.CHANNEL_BIND, asks, _bind, seconds)
+    failed, spent = _grants(reasons.CHANNEL_BIND, asks, seconds)
     if failed is None:
         return Step("channel", Outcome.OK, f"to {addresses[0]}", spent)
     said = failed.answer_to(reasons.CHANNEL_BIND)
@@ -121,19 +122,13 @@ def grant_step(exchanges: Sequence[Exchange], addresses: Sequence[Address], seco
                 "messages of 36 bytes of header then, in place of 4.")
 
 
-def _bind(exchange: Exchange, about: Union[str, Address]) -> None:
-    if isinstance(about, Address):
-        exchange.bind(about)
-
-
-def _grants(name: str, method: int, asks: Sequence[Tuple[Exchange, Union[str, Address]]],
-            ask: Callable[[Exchange, Union[str, Address]], None], seconds: float) -> Tuple[Optional[Exchange], float]:
+def _grants(method: int, asks: Sequence[Tuple[Exchange, About]], seconds: float) -> Tuple[Optional[Exchange], float]:
     """Asks each exchange's server for a grant: which exchange was refused, and how long it took."""
     begun = time.monotonic()
     for exchange, about in asks:
         try:
-            ask(exchange, about)
-        except Refused:
+            exchange.ask(about)
+        except (Ended, Refused):
             return exchange, 0.0
 
     def is_settled() -> bool:

@@ -10,8 +10,8 @@ from typing import Callable, Dict, List, Sequence, Tuple
 
 from .. import reasons
 from ..address import Address
-from ..errors import Refused
-from .driver import drive
+from ..driver import drive
+from ..errors import Ended, Refused
 from .exchange import Exchange
 from .steps import Facts, Outcome, Step
 
@@ -74,7 +74,7 @@ def send_back(exchange: Exchange) -> None:
     def answer(data: bytes, peer: Address) -> None:
         try:
             exchange.send(data, peer)
-        except Refused:
+        except (Ended, Refused):
             pass  # Its permission has ended, or it never had one: the packet counts as lost.
 
     exchange.on_data = answer
@@ -126,7 +126,7 @@ def echo_step(trip: Trip, way: str, count: int, size: int, pause: float, told: C
     begun = time.monotonic()
     try:
         found = measure(trip, count, size, pause, told, wait)
-    except Refused as refusal:
+    except (Ended, Refused) as refusal:
         said, spent = f"nothing can be sent: {refusal}", time.monotonic() - begun
         return Step(way, Outcome.FAILED, said, spent, "What the server had granted has ended.")
     spent = time.monotonic() - begun
