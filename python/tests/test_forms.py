@@ -190,7 +190,7 @@ class Streams(Case):
 
     async def test_a_server(self) -> None:
         problems: List[Any] = []
-        asyncio.get_running_loop().set_exception_handler(lambda loop, context: problems.append(context["exception"]))
+        asyncio.get_running_loop().set_exception_handler(lambda loop, context: problems.append(context))
 
         async def answer(reader: asyncio.StreamReader, writer: asyncio.StreamWriter) -> None:
             asked = await reader.readexactly(4)
@@ -210,7 +210,8 @@ class Streams(Case):
                 self.assertEqual(await asyncio.wait_for(pairs[0][0].readexactly(4), 30), b"PING")
                 while not problems:
                     await asyncio.sleep(0.01)
-                self.assertIsInstance(problems[0], KeyError)
+                self.assertIsInstance(problems[0]["exception"], KeyError)
+                self.assertEqual(problems[0]["message"], "the function of a start_server raised")
             self.assertFalse(server.is_serving())
             await server.wait_closed()
             for _, writer in pairs:

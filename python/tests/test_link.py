@@ -48,13 +48,27 @@ class Datagrams(unittest.IsolatedAsyncioTestCase):
 
     async def test_a_burst(self) -> None:
         """Some datagrams are read at a time, and not all: others have their turn."""
-        sent = [b"%d" % number for number in range(2 * BATCH + 1)]
+        sent = [b"%d" % number for number in range(6 * BATCH + 1)]
         for data in sent:
             self.server.sendto(data, self.sock.getsockname())
         await asyncio.wait_for(self.wait_for(len(sent)), 20)
         self.assertEqual(self.user.came, sent)
         counts = [self.user.rounds.count(it) for it in sorted(set(self.user.rounds))]
         self.assertEqual(max(counts), BATCH)
+
+    async def test_one_that_comes_alone_is_read_alone(self) -> None:
+        """That nothing else waits is seldom asked: it costs as much as to read a datagram."""
+        reads: List[int] = []
+
+        def recv(size: int) -> bytes:
+            reads.append(size)
+            return self.sock.recv(size)
+
+        with unittest.mock.patch.object(self.link, "_recv", recv):
+            for count in range(1, 33):
+                self.server.sendto(b"x", self.sock.getsockname())
+                await asyncio.wait_for(self.wait_for(count), 20)
+        self.assertLess(len(reads), 40)
 
     async def test_nothing_comes_after_the_end(self) -> None:
         for _ in range(3):

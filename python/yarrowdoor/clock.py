@@ -2,6 +2,7 @@
 from __future__ import annotations
 
 import asyncio
+import functools
 import time
 from typing import Callable, Optional
 
@@ -16,7 +17,8 @@ class Clock:
 
     def __init__(self, rate: float = 1.0) -> None:
         boot: int = getattr(time, "CLOCK_BOOTTIME", -1)
-        self._read: Callable[[], int] = time.monotonic_ns if boot < 0 else lambda: time.clock_gettime_ns(boot)
+        of_boot: Callable[[], int] = functools.partial(time.clock_gettime_ns, boot)
+        self._read = time.monotonic_ns if boot < 0 else of_boot
         self._start, self._rate = self._read(), rate
 
     def now(self) -> int:

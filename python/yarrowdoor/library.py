@@ -12,7 +12,6 @@ import os
 import pathlib
 import re
 import struct
-import threading
 import weakref
 from typing import Callable, Iterator, NoReturn, Optional, Tuple, Union
 
@@ -125,12 +124,12 @@ class Route:
     """What the calls have in common that pass data on, from one socket or to one: of their requests the time is set for each, and
     the peer where data is sent."""
 
-    __slots__ = ("at", "peer", "time")
+    __slots__ = ("at", "peer", "peer_now", "time")
 
     def __init__(self, kind: int, transport: int, from_: bytes = NO_ADDRESS, to: bytes = NO_ADDRESS) -> None:
         request = bytearray(REQUEST.pack(0, kind, 0, transport, 0, from_, to, NO_ADDRESS, NO_ADDRESS))
         self.time, self.peer = memoryview(request).cast("Q"), memoryview(request)[PEER_PLACE]
-        self.at = _at(request)
+        self.at, self.peer_now = _at(request), NO_ADDRESS
 
     @classmethod
     def received(cls, transport: int, from_: bytes, to: bytes) -> Route:
@@ -150,8 +149,8 @@ class Handle:
     `ValueError`.
     """
 
-    __slots__ = ("__weakref__", "_acquire", "_answer", "_answer_at", "_beyond", "_call", "_client_at", "_finalizer", "_len",
-                 "_lengths", "_library", "_release", "_request", "_request_at", "_room", "_room_at", "_room_len", "_view")
+    __slots__ = ("__weakref__", "_answer", "_answer_at", "_beyond", "_call", "_client_at", "_finalizer", "_give", "_len",
+                 "_lengths", "_library", "_request", "_request_at", "_room", "_room_at", "_room_len", "_take", "_view")
 
     def __init__(self, library: Library, settings: bytes, user: bytes, password: bytes, seed: bytes, guard: bytes = b"") -> None:
         """A new client. `settings` are packed (`SETTINGS`). `ValueError`, or `MemoryError`, where there is none."""
@@ -160,11 +159,12 @@ class Handle:
         error = library.new(settings, user, sizes[0], password, sizes[1], seed, sizes[2], ctypes.byref(place))
         if error:
             fail(error)
-        lock = threading.Lock()
+        # Who takes the token may call. One step of the interpreter takes it, in a third of the time that a lock needs.
+        token = [None]
         self._library = library
         self._client_at: object = ctypes.c_void_p.from_param(place.value)
         self._call: Callable[..., int] = library.call
-        self._acquire, self._release = lock.acquire, lock.release
+        self._take, self._give = token.pop, token.append
         self._finalizer = weakref.finalize(self, library.free, place)
         # At exit a daemon thread may still be in a call. The system takes the memory back.
         self._finalizer.atexit = False
@@ -184,13 +184,19 @@ class Handle:
 
     def free(self) -> None:
         """Frees the client, which sends nothing. A second time it does nothing."""
-        if not self._acquire(False):
-            raise Busy("another thread uses this client")
+        self._begin()
         try:
             self._call = _freed
             self._finalizer()
         finally:
-            self._release()
+            self._give(None)
+
+    def _begin(self) -> None:
+        """Takes the token, which is given back after the call. `Busy` where another thread has it."""
+        try:
+            self._take()
+        except IndexError:
+            raise Busy("another thread uses this client") from None
 
     def beyond_answer(self) -> bytes:
         """The bytes behind the answer, as `guard` set them: a call must not change them."""
@@ -202,8 +208,7 @@ class Handle:
 
         `Busy`, `ValueError` where it is no call, and `MemoryError`, after which the client is valid, and may have ended.
         """
-        if not self._acquire(False):
-            raise Busy("another thread uses this client")
+        self._begin()
         try:
             kind = self._make(now, kind, id, transport, from_, to, peer, local, data)
             answer = Answer._make(ANSWER.unpack_from(self._answer))
@@ -211,7 +216,7 @@ class Handle:
                 return answer, self._read_all(answer.len, answer.left)
             return answer, b""
         finally:
-            self._release()
+            self._give(None)
 
     # These two are the way of each packet, so they do what `_make` does by themselves, and set no answer to 0 before: of the
     # fields only those are read that the kind has.
@@ -221,8 +226,7 @@ class Handle:
 
         Of another kind than PEER_DATA_RANGE the answer is to be read by `last`.
         """
-        if not self._acquire(False):
-            raise Busy("another thread uses this client")
+        self._begin()
         try:
             route.time[0] = now
             given = data if data.__class__ is bytes else _pointed(data)
@@ -234,7 +238,7 @@ class Handle:
         except (TypeError, ValueError) as error:
             _fail_time(now, error)
         finally:
-            self._release()
+            self._give(None)
         if kind <= SMALL_BUFFER:
             fail(kind)
         return kind, 0, 0, NO_ADDRESS
@@ -244,11 +248,11 @@ class Handle:
 
         Of another kind than PACKET the answer is to be read by `last`.
         """
-        if not self._acquire(False):
-            raise Busy("another thread uses this client")
+        self._begin()
         try:
             route.time[0] = now
-            route.peer[:] = peer
+            if peer is not route.peer_now:
+                route.peer[:] = route.peer_now = peer
             given = data if data.__class__ is bytes else _pointed(data)
             self._len.value = size = len(given)
             if size > _MAX_USUAL and size > len(self._room) - MAX_OVERHEAD:
@@ -259,20 +263,19 @@ class Handle:
         except (TypeError, ValueError) as error:
             _fail_time(now, error)
         finally:
-            self._release()
+            self._give(None)
         if kind <= SMALL_BUFFER:
             fail(kind)
         return kind, b""
 
     def last(self) -> Tuple[Answer, bytes]:
         """The answer of the last call, and all bytes of it. Fields that its kind does not have may be those of an earlier one."""
-        if not self._acquire(False):
-            raise Busy("another thread uses this client")
+        self._begin()
         try:
             answer = Answer._make(ANSWER.unpack_from(self._answer))
             return answer, self._read_all(answer.len, answer.left) if answer.kind == PEER_DATA else b""
         finally:
-            self._release()
+            self._give(None)
 
     def _make(self, now: int, kind: int, id: int, transport: int, from_: bytes, to: bytes, peer: bytes, local: bytes,
               data: Buffer) -> int:

@@ -16,6 +16,8 @@ __all__ = ["DatagramLink", "Link", "LinkUser", "StreamLink"]
 
 # The longest datagram, in bytes, and so many are read before the event loop goes on.
 MAX_DATAGRAM, BATCH = 65_535, 32
+# After so many datagrams that came alone it is looked whether another one waits: that there is none costs as much as to read one.
+ALONE = 8
 # So many messages of the client wait for a socket over UDP that is full. A further one is lost, as a network may lose it.
 MAX_LATE = 64
 
@@ -99,13 +101,16 @@ class DatagramLink(Link):
         self.local, self.remote = of_socket(sock.getsockname()), of_socket(sock.getpeername())
         self._recv, self._send = sock.recv, sock.send
         self._late: Deque[bytes] = collections.deque()
+        # How many datagrams are read before the event loop goes on, and how many came alone since it was looked for more.
+        self._batch, self._alone = 1, 0
         self._loop.add_reader(self._number, self._read)
 
     def _read(self) -> None:
-        for at in range(BATCH):
+        for at in range(self._batch):
             try:
                 data = self._recv(MAX_DATAGRAM)
             except (BlockingIOError, InterruptedError):
+                self._batch = max(1, at)
                 if at == 0:
                     self._read_on()
                 return
@@ -116,6 +121,9 @@ class DatagramLink(Link):
             self._received(data, self)
             if self.is_over:
                 return
+        self._alone += 1
+        if self._batch > 1 or self._alone >= ALONE:
+            self._batch, self._alone = min(2 * self._batch, BATCH), 0
 
     def _read_on(self) -> None:
         """Registers the socket again. After an error of it uvloop tells once that there is something to read, and never again."""
@@ -133,7 +141,9 @@ class DatagramLink(Link):
             self._late.append(data)
 
     def send_data(self, data: bytes) -> bool:
-        return not self.is_over and not self._late and self._send_now(data)
+        if self.is_over or self._late:
+            return False
+        return self._send_now(data)
 
     def _send_now(self, data: bytes) -> bool:
         try:
