@@ -90,6 +90,13 @@ fn payloads_through<C: TurnClientApi>(
     Ok(pieces.payloads)
 }
 
+/// The drawn length of the next piece of so many bytes.
+pub fn drawn_cut(draws: &mut Draws, len: usize) -> usize
+    ensures { result ≤ len }
+{
+    len.min((draws.below(24) as usize).saturating_add(1))
+}
+
 /// Makes a call whose reply is of no interest.
 fn make_only<C: TurnClientApi>(alloc: Global, client: &mut C, call: &Call) -> Result<(), Fault>
     requires { IsCallable Udp call.now }
@@ -144,7 +151,7 @@ impl Pieces {
         match self.cut {
             Cut::Whole => len,
             Cut::Bytes => len.min(1),
-            Cut::Drawn => len.min((self.draws.below(24) as usize).saturating_add(1)),
+            Cut::Drawn => drawn_cut(&mut self.draws, len),
         }
     }
 

@@ -1,5 +1,7 @@
 //! One drawn run: the caller, whose calls are checked against the model, each one.
 
+mod flood;
+
 use crate::acts::{Act, act_of};
 use crate::looks::{first_expiry, is_idle};
 use crate::numbers::are_distinct;
@@ -266,7 +268,7 @@ impl Drive {
     fn pass_in<C: TurnClientApi>(&mut self, client: &mut C, packet: &Packet) -> Result<(), Fault> {
         let may_count = self.model.believe(self.kind, packet.truth, self.now)?;
         let transport = self.kind.transport;
-        let words = recv_words(self.alloc, transport, packet)?;
+        let words = words_of(self.alloc, transport, packet)?;
         let outcome = self.receive(client, words.as_str())?;
         if matches!(outcome, Outcome::Handled) {
             expect(may_count, "a response counts twice")?;
@@ -303,6 +305,16 @@ impl Drive {
         }
         Ok(outcome)
     }
+}
+
+/// The words of the call that passes in a packet.
+fn words_of(
+    alloc: Global,
+    transport: TransportType,
+    packet: &Packet,
+) -> Result<String, Fault> {
+    let bytes = packet.bytes.as_slice();
+    Ok(recv_words(alloc, transport, packet.from, packet.to, bytes)?)
 }
 
 /// The time after a jump, which may go back.

@@ -17,14 +17,18 @@
 //!
 //! ```text
 //! rt run
+//! rt try -- lines 7
 //! ```
 //!
-//! Begin with [`whole_run`](whole::whole_run).
+//! The second prints the lines of the run with this seed, each call followed by its answer, and judges nothing: that is what
+//! `tools/machines` reads. There challenges flood the client at the end, and the lines of a run over TCP are followed by
+//! those of the same calls with the streams in other pieces. Begin with [`whole_run`](whole::whole_run).
 #![tactic(auto)]
 
 mod acts;
 mod cuts;
 mod drive;
+mod lines;
 mod looks;
 mod numbers;
 mod outcome;
@@ -33,19 +37,51 @@ mod whole;
 mod words;
 
 use std::alloc::Global;
+use std::env;
 use std::io;
 use std::process::ExitCode;
 use turn_hostile_net::fault::Fault;
 use turn_hostile_net::world::{KINDS, Kind, NAMES};
-use whole::{Counts, whole_run};
+use whole::{Counts, run_lines, whole_run};
 
 /// The number of runs.
 const SEEDS: u64 = 1_000;
 
 fn main(rt: HostRuntime) -> ExitCode {
-    match print_runs(&rt, rt.alloc()) {
+    match answer(&rt, rt.alloc()) {
         Ok(true) => ExitCode::SUCCESS,
         _ => ExitCode::FAILURE,
+    }
+}
+
+/// Makes all runs and judges them, or after the words `lines SEED` prints the lines of one. Returns whether nothing went
+/// wrong.
+fn answer(rt: &(impl Print + env::Env + Alloc<A = Global>), alloc: Global) -> io::Result<bool> {
+    let mut words = env::args(rt)?;
+    words.next();
+    let (Some(word), Some(seed)) = (words.next(), words.next()) else {
+        return print_runs(rt, alloc);
+    };
+    match seed.as_str().parse::<u64>() {
+        Ok(seed) if word.as_str() == "lines" => print_lines(rt, alloc, seed),
+        _ => Ok(false),
+    }
+}
+
+/// Prints the lines of the run of this seed.
+fn print_lines(rt: &impl Print, alloc: Global, seed: u64) -> io::Result<bool> {
+    let Some(kind) = KINDS.get((seed % 9) as usize) else {
+        return Ok(false);
+    };
+    match run_lines(alloc, *kind, seed) {
+        Ok(text) => {
+            print!(rt; "{text}")?;
+            Ok(true)
+        }
+        Err(fault) => {
+            print_fault(rt, seed, fault)?;
+            Ok(false)
+        }
     }
 }
 

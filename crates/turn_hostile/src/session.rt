@@ -6,6 +6,7 @@ ghost use Rattle.turn_stun.specs.declared.transport.TransportType.TheVariants.{U
 
 use crate::numbers::number_in;
 use crate::outcome::{Outcome, outcome_of};
+use crate::words::head_words;
 use std::alloc::Global;
 use std::slice;
 use turn_auth::credentials::TurnCredentials;
@@ -103,7 +104,7 @@ impl Session {
 /// # Errors
 ///
 /// `Wrong` if the line is no call, and `OutOfMemory` if memory allocation fails.
-fn made<C: TurnClientApi>(alloc: Global, client: &mut C, line: &[u8]) -> Result<Reply, Fault> {
+pub fn made<C: TurnClientApi>(alloc: Global, client: &mut C, line: &[u8]) -> Result<Reply, Fault> {
     let call = call_of(alloc, line)?;
     Ok(reply_to(alloc, client, &call)?)
 }
@@ -135,6 +136,9 @@ fn calls_of(alloc: Global, trace: &str) -> Result<Vec<Call>, Fault>
     Ok(calls)
 }
 
+/// The user name of a client, and its password.
+const CREDENTIALS: (&[u8], &[u8]) = (b"user", b"pass");
+
 /// The seed of the client's transaction IDs.
 fn seed_bytes(seed: u64) -> [u8; 32] {
     let [a, b, c, d, e, f, g, h] = seed.to_le_bytes();
@@ -142,6 +146,26 @@ fn seed_bytes(seed: u64) -> [u8; 32] {
         a, b, c, d, e, f, g, h, 0, 0, 0, 0, 0, 0, 0, 0, 0, 0, 0, 0, 0, 0, 0, 0, 0, 0, 0, 0, 0, 0,
         0, 0,
     ]
+}
+
+/// The transport over which the server relays for a client of this kind.
+fn allocation_of(kind: Kind) -> TransportType
+    ensures { kind.transport ≡ TransportType.Udp → result ≡ TransportType.Udp }
+{
+    match kind.transport {
+        TransportType::Udp => TransportType::Udp,
+        TransportType::Tcp => kind.relays,
+    }
+}
+
+/// The line of the head of a client of this kind.
+///
+/// # Errors
+///
+/// If memory allocation fails.
+pub fn head_line(alloc: Global, kind: Kind, seed: u64) -> Result<String, Fault> {
+    let seed = seed_bytes(seed);
+    Ok(head_words(alloc, kind, allocation_of(kind), CREDENTIALS, &seed)?)
 }
 
 /// A client of this kind, and its server.
@@ -152,10 +176,7 @@ fn seed_bytes(seed: u64) -> [u8; 32] {
 pub fn head_of(alloc: Global, kind: Kind, seed: u64) -> Result<Head, Fault>
     ensures { IfOk result (λ head. head.ends.transport ≡ TransportType.Udp → head.request.allocation ≡ TransportType.Udp) }
 {
-    let allocation = match kind.transport {
-        TransportType::Udp => TransportType::Udp,
-        TransportType::Tcp => kind.relays,
-    };
+    let (user, password) = CREDENTIALS;
     Ok(Head {
         ends: Ends {
             transport: kind.transport,
@@ -163,12 +184,12 @@ pub fn head_of(alloc: Global, kind: Kind, seed: u64) -> Result<Head, Fault>
             remote: server(),
         },
         request: Request {
-            allocation,
+            allocation: allocation_of(kind),
             families: (kind.first, kind.second),
             algorithms: (IntegrityAlgorithm::Sha1, None),
             anonymous: Feature::Auto,
         },
-        credentials: TurnCredentials::new(alloc, b"user", b"pass")?,
+        credentials: TurnCredentials::new(alloc, user, password)?,
         seed: seed_bytes(seed),
         waits: None,
     })

@@ -2,6 +2,7 @@
 
 use crate::cuts::same_payloads;
 use crate::drive::Drive;
+use crate::lines::{cut_text, run_text};
 use crate::session::{head_of, replayed};
 use std::alloc::Global;
 use turn_client_api::TurnClientApi;
@@ -70,6 +71,52 @@ fn driven(alloc: Global, kind: Kind, seed: u64) -> Result<Drive, Fault> {
     let drive = drive_through(alloc, kind, seed, &mut client);
     drop(client);
     drive
+}
+
+/// The lines of the run of this seed, whose calls are not judged, and of a flood of challenges at its end. Over TCP those
+/// of the same calls with its streams in other pieces follow.
+///
+/// # Errors
+///
+/// `OutOfMemory` if memory allocation fails.
+pub fn run_lines(alloc: Global, kind: Kind, seed: u64) -> Result<String, Fault> {
+    let head = head_of(alloc, kind, seed)?;
+    let mut client = new_client(alloc, head)?;
+    let drive = drive_on(alloc, kind, seed, &mut client);
+    drop(client);
+    let drive = drive?;
+    let trace = drive.session.trace.as_str();
+    let mut text = run_text(alloc, kind, seed, trace)?;
+    if kind.transport == TransportType::Tcp {
+        text.push_str(cut_text(alloc, kind, seed, trace)?.as_str())?;
+    }
+    Ok(text)
+}
+
+/// The drawn calls of this seed and the flood, whatever the client does wrong.
+fn drive_on<C: TurnClientApi>(
+    alloc: Global,
+    kind: Kind,
+    seed: u64,
+    client: &mut C,
+) -> Result<Drive, Fault> {
+    let mut drive = Drive::new(alloc, kind, seed)?;
+    for _ in 0..STEPS {
+        if drive.session.calls >= CALLS {
+            break;
+        }
+        unless_wrong(drive.step(client))?;
+    }
+    unless_wrong(drive.flood(client))?;
+    Ok(drive)
+}
+
+/// What the client does wrong is seen in the lines.
+fn unless_wrong(done: Result<(), Fault>) -> Result<(), Fault> {
+    match done {
+        Err(Fault::Wrong(_)) => Ok(()),
+        _ => done,
+    }
 }
 
 fn drive_through<C: TurnClientApi>(

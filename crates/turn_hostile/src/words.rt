@@ -5,9 +5,8 @@ use std::alloc::{AllocError, Global};
 use std::fmt;
 use std::net::{IpAddr, SocketAddr};
 use turn_hostile_net::marks::Kept;
-use turn_hostile_net::packet::Packet;
-use turn_hostile_net::world::{local, server};
-use turn_types::TransportType;
+use turn_hostile_net::world::{Kind, local, server};
+use turn_types::{AddressFamily, TransportType};
 
 /// An IP address, as a line has it.
 #[derive(Clone, Copy)]
@@ -101,7 +100,7 @@ impl fmt::Display for Act {
     }
 }
 
-/// The words of the call that passes in a packet over this transport.
+/// The words of the call that passes in bytes over this transport, from the first address to the second.
 ///
 /// # Errors
 ///
@@ -109,11 +108,58 @@ impl fmt::Display for Act {
 pub fn recv_words(
     alloc: Global,
     transport: TransportType,
-    packet: &Packet,
+    from: SocketAddr,
+    to: SocketAddr,
+    bytes: &[u8],
 ) -> Result<String, AllocError> {
-    let (transport, bytes) = (transport_word(transport), Bytes(packet.bytes.as_slice()));
-    let (from, to) = (Address(packet.from), Address(packet.to));
+    let (transport, bytes) = (transport_word(transport), Bytes(bytes));
+    let (from, to) = (Address(from), Address(to));
     format!(in alloc; "recv {transport} {from} {to} {bytes}")
+}
+
+/// The words of the call that lists the permissions of this relayed address.
+///
+/// # Errors
+///
+/// If memory allocation fails.
+pub fn permissions_words(
+    alloc: Global,
+    transport: TransportType,
+    relayed: SocketAddr,
+) -> Result<String, AllocError> {
+    let (transport, relayed) = (transport_word(transport), Address(relayed));
+    format!(in alloc; "permissions {transport} {relayed}")
+}
+
+/// The head of a trace of a client of this kind, with these credentials and this seed.
+///
+/// # Errors
+///
+/// If memory allocation fails.
+pub fn head_words(
+    alloc: Global,
+    kind: Kind,
+    allocation: TransportType,
+    credentials: (&[u8], &[u8]),
+    seed: &[u8],
+) -> Result<String, AllocError> {
+    let (transport, allocation) = (transport_word(kind.transport), transport_word(allocation));
+    let (from, to) = (Address(local()), Address(server()));
+    let families = families_word(kind);
+    let (user, password) = (Bytes(credentials.0), Bytes(credentials.1));
+    let seed = Bytes(seed);
+    format!(in alloc;
+        "{transport} {from} {to} {allocation} {families} sha1 auto {user} {password} {seed}"
+    )
+}
+
+fn families_word(kind: Kind) -> &'static str {
+    match (kind.first, kind.second) {
+        (AddressFamily::IPV4, None) => "4",
+        (AddressFamily::IPV6, None) => "6",
+        (AddressFamily::IPV4, Some(_)) => "4,6",
+        (AddressFamily::IPV6, Some(_)) => "6,4",
+    }
 }
 
 fn write_with_ip<W: fmt::Write>(

@@ -36,6 +36,8 @@ pub enum Part<'a> {
     Error(u16),
     /// REALM `realm`.
     Realm,
+    /// REALM `other`.
+    OtherRealm,
     /// NONCE, the bytes of this number.
     Nonce(u32),
 }
@@ -110,6 +112,7 @@ fn add(out: &mut MessageWriteVec, part: Part<'_>) -> Result<(), Fault> {
         Part::Data(bytes) => out.add_attribute(&Data::new(bytes)),
         Part::Error(code) => out.add_attribute(&ErrorCode::new(code.max(300).min(699), b"")),
         Part::Realm => out.add_attribute(&Realm::new(b"realm")),
+        Part::OtherRealm => out.add_attribute(&Realm::new(b"other")),
         Part::Nonce(number) => out.add_attribute(&Nonce::new(&number.to_be_bytes())),
     };
     Ok(added?)
