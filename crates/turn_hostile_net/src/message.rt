@@ -12,7 +12,9 @@ use turn_stun::message::header::{MessageClass, MessageType};
 use turn_stun::message::method::Method;
 use turn_stun::message::write::MessageWriteVec;
 use turn_stun::transaction::TransactionId;
-use turn_types::attribute::{ConnectionId, Data, Lifetime, XorPeerAddress, XorRelayedAddress};
+use turn_types::attribute::{
+    ConnectionId, Data, Icmp, Lifetime, XorPeerAddress, XorRelayedAddress,
+};
 
 /// The MD5 of `user:realm:pass`, with which both sides sign (RFC 8489, section 18.5.1.1).
 const KEY: &[u8; 16] = &[
@@ -32,6 +34,8 @@ pub enum Part<'a> {
     Connection(u32),
     /// DATA.
     Data(&'a [u8]),
+    /// ICMP, a port that is not reached.
+    Icmp,
     /// ERROR-CODE, from 300 to 699.
     Error(u16),
     /// REALM `realm`.
@@ -110,6 +114,7 @@ fn add(out: &mut MessageWriteVec, part: Part<'_>) -> Result<(), Fault> {
         Part::Peer(address) => out.add_attribute(&XorPeerAddress::new(address)),
         Part::Connection(id) => out.add_attribute(&ConnectionId::new(id)),
         Part::Data(bytes) => out.add_attribute(&Data::new(bytes)),
+        Part::Icmp => out.add_attribute(&Icmp::new(3, 3, 0)),
         Part::Error(code) => out.add_attribute(&ErrorCode::new(code.max(300).min(699), b"")),
         Part::Realm => out.add_attribute(&Realm::new(b"realm")),
         Part::OtherRealm => out.add_attribute(&Realm::new(b"other")),

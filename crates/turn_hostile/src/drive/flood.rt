@@ -11,9 +11,10 @@ use turn_hostile_net::message::{Part, Signer, Title, message};
 use turn_hostile_net::packet::{Packet, Truth};
 use turn_hostile_net::request::{Request, request_in};
 use turn_hostile_net::response::packet_of;
-use turn_hostile_net::world::{FRIENDS, MS, peer, server};
+use turn_hostile_net::world::{FRIENDS, MS, PEERS, local, peer, server};
 use turn_stun::message::header::MessageClass;
 use turn_types::TransportType;
+use turn_types::message::DATA;
 
 /// How often something may be sent: more challenges than a client answers.
 const TIMES: u32 = 24;
@@ -82,8 +83,22 @@ impl Drive {
         Ok(packet_to(request.end, bytes, self.now))
     }
 
-    /// Sends off a packet that answers no request, and passes in what has arrived by now.
+    /// An ICMP report about a drawn peer (RFC 8656, section 11.6).
+    fn icmp_report(&mut self) -> Result<Packet, Fault> {
+        let title = Title {
+            method: DATA,
+            class: MessageClass::Indication,
+            id: self.draws.id(),
+        };
+        let parts = [Part::Peer(peer(self.draws.below(PEERS))), Part::Icmp];
+        let bytes = message(self.alloc, title, &parts, Signer::Nobody, &[])?;
+        Ok(packet_to(local(), bytes, self.now))
+    }
+
+    /// Brings an ICMP report and a packet that answers no request, and passes in what has arrived by now.
     fn bring_strays<C: TurnClientApi>(&mut self, client: &mut C) -> Result<(), Fault> {
+        let report = self.icmp_report()?;
+        self.hand_in(client, &report)?;
         let facts = &self.model.facts;
         self.network.stray(self.alloc, self.kind, facts, self.now)?;
         for _ in 0..MANY {
