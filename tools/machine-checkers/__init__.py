@@ -1,0 +1,9 @@
+"""Checkers of runs, a module for each clause: `faults(runs)` yields each call that breaks the clause, and how.
+
+They are written from what the clauses say (docs/GUARANTEES.md) and from the RFCs, and know no code of the client. `runs` are
+the runs that one seed printed: over TCP the second has the streams of the first in other pieces.
+"""
+
+CLAUSES = [
+    "granted", "numbers", "bound", "given", "heard", "counted", "challenges", "realm", "cuts", "alarm", "events", "processed",
+]  # fmt: skip

@@ -1,0 +1,78 @@
+"""The lines of runs: a head, and then a call and its answer in turn (docs/LINES.md)."""
+import ipaddress
+from dataclasses import dataclass
+
+NONE = "-"
+
+
+def bytes_in(word):
+    return b"" if word == NONE else bytes.fromhex(word)
+
+
+def ip_in(word):
+    """`a.b.c.d`, or 32 hexadecimal digits in brackets."""
+    return ipaddress.ip_address(bytes.fromhex(word[1:-1])) if word.startswith("[") else ipaddress.ip_address(word)
+
+
+def address_in(word):
+    ip, _, port = word.rpartition(":")
+    return ip_in(ip), int(port)
+
+
+@dataclass
+class Call:
+    """A call, its words without the time, and the words of its answer."""
+
+    number: int
+    time: int
+    words: list
+    answer: list
+
+    @property
+    def name(self):
+        return self.words[0]
+
+    @property
+    def is_look(self):
+        return self.name in ("relayed", "permissions", "have")
+
+    def wait(self):
+        """Until when the caller may wait, if this is a `poll` after which nothing is pending."""
+        if self.name == "poll" and self.answer[0] == "wait" and int(self.answer[1]) > self.time:
+            return int(self.answer[1])
+        return None
+
+
+@dataclass
+class Run:
+    """The run of a client."""
+
+    transport: str
+    local: tuple
+    server: tuple
+    relays: str
+    families: list
+    user: bytes
+    password: bytes
+    calls: list
+
+
+def run_of(lines):
+    head = lines[0].split(" ")
+    calls = []
+    for number in range(1, len(lines) - 1, 2):
+        words = lines[number].split(" ")
+        calls.append(Call(number, int(words[0]), words[1:], lines[number + 1].split(" ")))
+    ends = address_in(head[1]), address_in(head[2])
+    return Run(head[0], *ends, head[3], head[4].split(","), bytes_in(head[7]), bytes_in(head[8]), calls)
+
+
+def runs_in(text):
+    """The runs in a text, each begun by its head."""
+    parts = []
+    for line in text.splitlines():
+        if line.startswith(("udp ", "tcp ")):
+            parts.append([])
+        if parts:
+            parts[-1].append(line)
+    return [run_of(part) for part in parts]
