@@ -12,7 +12,7 @@ def faults(runs):
     count = 0
     for call, facts in walk(runs[0]):
         step = facts.take(call)
-        if any(message.method == request.message.method for request, message in step.replies):
+        if call.answer != ["ignored"] and any(message.method == request.message.method for request, message in step.replies):
             count = 0
         if any(one.mode == "control" for _, _, one in step.challenges) and call.answer == ["handled"]:
             count += 1

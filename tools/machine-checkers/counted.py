@@ -10,15 +10,17 @@ from .facts import walk
 
 
 def faults(runs):
-    is_allocated, again = False, Counter()
+    is_allocated, accepted, again = False, set(), Counter()
     for call, facts in walk(runs[0]):
         step = facts.take(call)
         if call.name == "relayed":
             is_allocated = call.answer != ["list", "0"]
         if step.sent is not None:
-            request = facts.requests.get(step.sent.id)
-            again[step.sent.id] += request is not None and request.reply is not None
+            again[step.sent.id] += step.sent.id in accepted
             if again[step.sent.id] > 1:
                 yield call, "a request is sent again and again that a signed reply had answered"
+        if call.answer == ["handled"]:
+            # a client that has ended ignores all, and one that has given the request up ignores its reply
+            accepted |= {request.message.id for request, _ in step.replies}
         if is_allocated and step.copies and call.answer == ["handled"]:
             yield call, "a second signed reply to one request is accepted"

@@ -51,7 +51,9 @@ def faults(runs):
     for call, facts in walk(runs[0]):
         step = facts.take(call)
         claims.latest = max(claims.latest, call.time)
-        learn(claims, facts, step, call.time)
+        if call.answer == ["handled"]:
+            # it ignores the reply to a request that it has given up
+            learn(claims, facts, step, call.time)
         if call.name == "bind" and call.answer == ["ok"]:
             claims.ask(address_in(call.words[2]), call.time)
         if call.name == "delete" and call.answer == ["ok"] or call.name == "relayed" and call.answer == ["list", "0"]:
