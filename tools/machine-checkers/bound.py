@@ -19,10 +19,9 @@ def used(call, run):
 def faults(runs):
     run = runs[0]
     for call, facts in walk(run):
-        before = dict(facts.bound)
-        facts.take(call)
+        step = facts.take(call)
         connection = used(call, run)
-        if connection and before.get(connection[0]) != connection[1]:
+        if connection and step.before.bound.get(connection[0]) != connection[1]:
             yield call, f"the connection from {connection[0]} serves {connection[1]} without its success"
         if call.name == "event" and call.answer[0] == "connected" and address_in(call.answer[1]) not in facts.bound.values():
             yield call, f"{call.answer[1]} is told as connected without a success"

@@ -42,9 +42,20 @@ class Input:
 
 
 @dataclass
+class Held:
+    """What permits a peer: the permission of its IP address, its channel, or its bound data connection."""
+
+    permitted: dict
+    channels: dict
+    bound: dict
+
+
+@dataclass
 class Step:
     """What one call did."""
 
+    # what was held before it
+    before: Held
     inputs: list = field(default_factory=list)
     # the requests whose first signed reply came, and those to which a further one came
     replies: list = field(default_factory=list)
@@ -63,7 +74,7 @@ class Facts:
         self.sockets, self.bound = {}, {}
 
     def take(self, call):
-        step = Step()
+        step = Step(Held(dict(self.permitted), dict(self.channels), dict(self.bound)))
         if call.name == "transmit" and call.answer[0] == "send":
             self.sent(call, step)
         elif call.name == "recv" and address_in(call.words[2]) == self.run.server and call.words[1] == self.run.transport:

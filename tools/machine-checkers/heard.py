@@ -14,31 +14,26 @@ def is_reported(one, peer):
     return message is not None and message.kind == stun.INDICATION and message.values(stun.ICMP) and peer in message.addresses(stun.PEER)
 
 
-def may_carry(one, peer, facts):
+def may_carry(one, peer, held):
     """Whether a payload of this peer may have come by this input."""
     if one.mode == "bound":
-        return facts.bound.get(one.local) == peer
+        return held.bound.get(one.local) == peer
     if one.message is None:
         channel = stun.channel_of(one.raw)
-        return channel is not None and facts.channels.get(channel[0]) == peer
-    return peer in one.message.addresses(stun.PEER) and peer[0] in facts.permitted
+        return channel is not None and held.channels.get(channel[0]) == peer
+    return peer in one.message.addresses(stun.PEER) and peer[0] in held.permitted
 
 
 def faults(runs):
-    received = b""
     for call, facts in walk(runs[0]):
-        permitted, channels, bound = dict(facts.permitted), dict(facts.channels), dict(facts.bound)
         step = facts.take(call)
-        if call.name not in ("recv", "poll_recv") or call.answer[0] not in ("data", "icmp"):
-            continue
-        peer, later = address_in(call.answer[2]), (facts.permitted, facts.channels, facts.bound)
-        facts.permitted, facts.channels, facts.bound = permitted, channels, bound
-        if call.answer[0] == "icmp" and not (peer[0] in permitted and any(is_reported(one, peer) for one in step.inputs)):
-            yield call, f"an ICMP report about {peer} is told, which has no permission"
+        if call.answer[0] == "icmp":
+            peer = address_in(call.answer[2])
+            if not (peer[0] in step.before.permitted and any(is_reported(one, peer) for one in step.inputs)):
+                yield call, f"an ICMP report about {peer} is told, which has no permission"
         if call.answer[0] == "data":
-            payload = bytes_in(call.answer[3])
-            if not any(may_carry(one, peer, facts) for one in step.inputs):
+            peer, payload = address_in(call.answer[2]), bytes_in(call.answer[3])
+            if not any(may_carry(one, peer, step.before) for one in step.inputs):
                 yield call, f"data of {peer} is returned, which is not permitted"
             elif not any(payload in one.raw for one in step.inputs):
                 yield call, f"data of {peer} is returned that was not received"
-        facts.permitted, facts.channels, facts.bound = later
