@@ -1,4 +1,5 @@
 """STUN messages and ChannelData messages, as far as the checkers need them (RFC 8489; RFC 8656; RFC 6062)."""
+import functools
 import hashlib
 import hmac
 import ipaddress
@@ -60,10 +61,16 @@ class Message:
         if not self.integrity or self.integrity[0] != INTEGRITY:
             return False
         _, at, value = self.integrity
-        text = self.raw[:2] + (at + 24 - 20).to_bytes(2, "big") + self.raw[4:at]
-        return hmac.new(key, text, hashlib.sha1).digest() == value
+        return integrity_of(key, self.raw[:2] + (at + 24 - 20).to_bytes(2, "big") + self.raw[4:at]) == value
 
 
+# each checker reads the same messages
+@functools.lru_cache(maxsize=10_000)
+def integrity_of(key, text):
+    return hmac.new(key, text, hashlib.sha1).digest()
+
+
+@functools.lru_cache(maxsize=10_000)
 def message_of(raw):
     """The message that these bytes are, or None."""
     if len(raw) < 20 or raw[0] & 0xC0 or raw[4:8] != COOKIE or len(raw) != 20 + int.from_bytes(raw[2:4], "big") or len(raw) % 4:
