@@ -11,23 +11,22 @@ INPUT = ("recv", "poll_recv")
 
 
 class Active:
-    """What was active when it was looked at last, and what the caller has called since."""
+    """What was active when it was looked at last, what of it had its success and its time, and what was called since."""
 
     def __init__(self):
-        self.permitted, self.relayed, self.since = set(), set(), None
+        self.active, self.granted, self.since = {}, {}, None
 
     def look(self, call, facts):
-        """What became active by a call that processes no input, or outlived a `poll` at its expiry."""
-        name = "permitted" if call.name == "permissions" else "relayed"
-        listed = {ip_in(word) for word in call.answer[2:]} if name == "permitted" else {address_in(word) for word in call.answer[3::2]}
-        before, known = getattr(self, name), getattr(facts, name)
-        if name == "permitted":
-            # those of the other family are listed apart
-            family = {4: 6, 6: 4}[address_in(call.words[2])[0].version]
-            listed |= {ip for ip in before if ip.version == family}
-        setattr(self, name, listed)
+        """What became active by a call that processes no input, or outlived a `poll` after its expiry."""
+        if call.name == "relayed":
+            # a list of addresses, and lists of permissions, one for each address
+            kind, listed, known = "relayed", {address_in(word) for word in call.answer[3::2]}, facts.relayed
+        else:
+            kind, listed, known = call.words[2], {ip_in(word) for word in call.answer[2:]}, facts.permitted
+        before, granted = self.active.get(kind, set()), self.granted.get(kind, set())
+        self.active[kind], self.granted[kind] = listed, listed & set(known)
         if self.since not in INPUT:
-            yield from (one for one in listed if one not in before or one not in known)
+            yield from (one for one in listed if one not in before or one in granted and one not in known)
 
 
 def faults(runs):
