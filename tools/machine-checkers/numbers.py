@@ -11,7 +11,7 @@ class Claims:
     """The peer of each number, and until when it certainly is a channel's."""
 
     def __init__(self):
-        self.held, self.asked, self.latest, self.least = {}, {}, 0, None
+        self.held, self.asked, self.sent, self.latest, self.families = {}, {}, set(), 0, set()
 
     def ask(self, peer, now):
         """The caller requests a channel: it is pending until its request times out."""
@@ -26,6 +26,21 @@ class Claims:
             waiting = self.asked.get(peer, [])
             self.held[number] = (peer, waiting.pop(0) if waiting else 0)
         return None
+
+    def send(self, message):
+        """A request for a channel is sent. Returns its number, its peer and another peer that has the number, if it is new and
+        its allocation is there: one that waits in the queue or is retransmitted may outlive its channel."""
+        number, peer = int.from_bytes(message.first(stun.CHANNEL_NUMBER)[:2], "big"), message.addresses(stun.PEER)[0]
+        if message.id in self.sent or peer[0].version not in self.families:
+            return None
+        self.sent.add(message.id)
+        other = self.name(number, peer)
+        return (number, peer, other) if other else None
+
+    def list(self, addresses):
+        """These allocations are there, and no channel of another family."""
+        self.families = {ip.version for ip, _ in addresses}
+        self.held = {number: held for number, held in self.held.items() if held[0][0].version in self.families}
 
     def settle(self, number, peer, until):
         if self.held.get(number, (None, 0))[0] == peer:
@@ -56,13 +71,12 @@ def faults(runs):
             learn(claims, facts, step, call.time)
         if call.name == "bind" and call.answer == ["ok"]:
             claims.ask(address_in(call.words[2]), call.time)
-        if call.name == "delete" and call.answer == ["ok"] or call.name == "relayed" and call.answer == ["list", "0"]:
-            claims.held = {}
+        if call.name == "relayed":
+            claims.list([address_in(word) for word in call.answer[3::2]])
         if step.sent is not None and step.sent.method == stun.CHANNEL_BIND:
-            number, peer = int.from_bytes(step.sent.first(stun.CHANNEL_NUMBER)[:2], "big"), step.sent.addresses(stun.PEER)[0]
-            other = claims.name(number, peer)
-            if other:
-                yield call, f"the number {number:#x} is requested for {peer}, and is that of {other}"
+            clash = claims.send(step.sent)
+            if clash:
+                yield call, f"the number {clash[0]:#x} is requested for {clash[1]}, and is that of {clash[2]}"
         if call.name != "send":
             used = {}
         elif call.answer[0] == "send" and (channel := stun.channel_of(bytes_in(call.answer[4]))):

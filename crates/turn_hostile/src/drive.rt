@@ -1,6 +1,6 @@
 //! One drawn run: the caller, whose calls are checked against the model, each one.
 
-mod flood;
+mod ending;
 
 use crate::acts::{Act, act_of};
 use crate::looks::{first_expiry, is_idle};
@@ -308,11 +308,7 @@ impl Drive {
 }
 
 /// The words of the call that passes in a packet.
-fn words_of(
-    alloc: Global,
-    transport: TransportType,
-    packet: &Packet,
-) -> Result<String, Fault> {
+fn words_of(alloc: Global, transport: TransportType, packet: &Packet) -> Result<String, Fault> {
     let bytes = packet.bytes.as_slice();
     Ok(recv_words(alloc, transport, packet.from, packet.to, bytes)?)
 }

@@ -21,8 +21,8 @@
 //! ```
 //!
 //! The second prints the lines of the run with this seed, each call followed by its answer, and judges nothing: that is what
-//! `tools/machines` reads. There challenges flood the client at the end, and the lines of a run over TCP are followed by
-//! those of the same calls with the streams in other pieces. Begin with [`whole_run`](whole::whole_run).
+//! `tools/machines` reads. There challenges flood the client at the end, or time passes in silence, and the lines of a run over
+//! TCP are followed by those of the same calls with the streams in other pieces. Begin with [`whole_run`](whole::whole_run).
 #![tactic(auto)]
 
 mod acts;
@@ -37,9 +37,8 @@ mod whole;
 mod words;
 
 use std::alloc::Global;
-use std::env;
-use std::io;
 use std::process::ExitCode;
+use std::{env, io};
 use turn_hostile_net::fault::Fault;
 use turn_hostile_net::world::{KINDS, Kind, NAMES};
 use whole::{Counts, run_lines, whole_run};

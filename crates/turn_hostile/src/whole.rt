@@ -73,8 +73,8 @@ fn driven(alloc: Global, kind: Kind, seed: u64) -> Result<Drive, Fault> {
     drive
 }
 
-/// The lines of the run of this seed, whose calls are not judged, and of a flood of challenges at its end. Over TCP those
-/// of the same calls with its streams in other pieces follow.
+/// The lines of the run of this seed, whose calls are not judged, with an end that no other run has. Over TCP those of the
+/// same calls with its streams in other pieces follow.
 ///
 /// # Errors
 ///
@@ -93,7 +93,7 @@ pub fn run_lines(alloc: Global, kind: Kind, seed: u64) -> Result<String, Fault> 
     Ok(text)
 }
 
-/// The drawn calls of this seed and the flood, whatever the client does wrong.
+/// The drawn calls of this seed and their end, whatever the client does wrong.
 fn drive_on<C: TurnClientApi>(
     alloc: Global,
     kind: Kind,
@@ -107,7 +107,7 @@ fn drive_on<C: TurnClientApi>(
         }
         unless_wrong(drive.step(client))?;
     }
-    unless_wrong(drive.flood(client))?;
+    unless_wrong(drive.end(client))?;
     Ok(drive)
 }
 

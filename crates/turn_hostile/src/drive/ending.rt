@@ -1,4 +1,5 @@
-//! The end of a run whose lines are printed: whatever is sent is challenged, and the server grants nothing more.
+//! The end of a run whose lines are printed: the server grants nothing more. Either whatever is sent is challenged, or time
+//! passes in silence, until permissions are over.
 
 use super::{Drive, MANY, words_of};
 use crate::acts::Act;
@@ -11,7 +12,7 @@ use turn_hostile_net::message::{Part, Signer, Title, message};
 use turn_hostile_net::packet::{Packet, Truth};
 use turn_hostile_net::request::{Request, request_in};
 use turn_hostile_net::response::packet_of;
-use turn_hostile_net::world::{FRIENDS, MS, PEERS, local, peer, server};
+use turn_hostile_net::world::{FRIENDS, MS, PEERS, SECOND, local, peer, server};
 use turn_stun::message::header::MessageClass;
 use turn_types::TransportType;
 use turn_types::message::DATA;
@@ -22,14 +23,52 @@ const TIMES: u32 = 24;
 /// How long the caller waits in between.
 const PAUSE: u64 = 200 * MS;
 
+/// How often the caller calls in silence.
+const SILENT_TIMES: u32 = 8;
+
+/// How long nobody answers before it calls again: in all longer than a permission lasts (RFC 8656, section 9).
+const SILENCE: u64 = 50 * SECOND;
+
 impl Drive {
-    /// Requests a permission and a channel for each peer, and challenges what is sent then. What strangers send, what has
-    /// arrived before and what is forged comes too. Nothing is judged here.
+    /// Ends the run. Nothing is judged here.
     ///
     /// # Errors
     ///
     /// `Wrong` if what is sent is no request, and `OutOfMemory` if memory allocation fails.
-    pub fn flood<C: TurnClientApi>(&mut self, client: &mut C) -> Result<(), Fault> {
+    pub fn end<C: TurnClientApi>(&mut self, client: &mut C) -> Result<(), Fault> {
+        if self.draws.percent(50) {
+            self.flood(client)
+        } else {
+            self.fall_silent(client)
+        }
+    }
+
+    /// Polls, reports and sends as time passes. What is sent is lost.
+    fn fall_silent<C: TurnClientApi>(&mut self, client: &mut C) -> Result<(), Fault> {
+        for _ in 0..SILENT_TIMES {
+            self.now = self.now.saturating_add(SILENCE);
+            self.call_while(client, "event")?;
+            self.call_while(client, "transmit")?;
+            self.session.make(client, self.now, "poll")?;
+        }
+        Ok(())
+    }
+
+    /// Polls, and makes this call until it has nothing more to tell.
+    fn call_while<C: TurnClientApi>(&mut self, client: &mut C, words: &str) -> Result<(), Fault> {
+        self.session.make(client, self.now, "poll")?;
+        for _ in 0..MANY {
+            let outcome = self.session.make(client, self.now, words)?;
+            if !matches!(outcome, Outcome::Event(_) | Outcome::Packet(..)) {
+                break;
+            }
+        }
+        Ok(())
+    }
+
+    /// Requests a permission and a channel for each peer, and challenges what is sent then. What strangers send, what has
+    /// arrived before and what is forged comes too.
+    fn flood<C: TurnClientApi>(&mut self, client: &mut C) -> Result<(), Fault> {
         for friend in 0..FRIENDS {
             let to = peer(friend);
             self.ask(client, Act::Permit(self.kind.relays, to.ip()))?;
@@ -72,10 +111,11 @@ impl Drive {
 
     /// A challenge of a realm that is not the server's.
     fn of_another_realm(&mut self, request: Request) -> Result<Packet, Fault> {
+        let id = request.id;
         let title = Title {
             method: request.method,
             class: MessageClass::Error,
-            id: request.id,
+            id,
         };
         let nonce = Part::Nonce(self.draws.number());
         let parts = [Part::Error(438), Part::OtherRealm, nonce];
@@ -85,10 +125,11 @@ impl Drive {
 
     /// An ICMP report about a drawn peer (RFC 8656, section 11.6).
     fn icmp_report(&mut self) -> Result<Packet, Fault> {
+        let id = self.draws.id();
         let title = Title {
             method: DATA,
             class: MessageClass::Indication,
-            id: self.draws.id(),
+            id,
         };
         let parts = [Part::Peer(peer(self.draws.below(PEERS))), Part::Icmp];
         let bytes = message(self.alloc, title, &parts, Signer::Nobody, &[])?;
