@@ -645,13 +645,38 @@ YARROWDOOR_INLINE int yarrowdoor_is_same_address(const yarrowdoor_address *a, co
 
 #if !defined(YARROWDOOR_NO_INLINE) || defined(YARROWDOOR_DEFINE)
 
-/* A request of this kind at this time, with its other numbers 0 and no addresses. */
+/* Sets an address to none. */
+static inline void yarrowdoor_clear_address(yarrowdoor_address *address)
+{
+    memset(address->ip, 0, sizeof address->ip);
+    address->flow = 0;
+    address->scope = 0;
+    address->port = 0;
+    address->family = YARROWDOOR_NO_ADDRESS;
+    address->reserved = 0;
+}
+
+/* Makes a request one of this kind at this time, with its other numbers 0 and no addresses. It is set in parts: a
+   memset of so many bytes is slower where it becomes a string instruction. */
+static inline void yarrowdoor_begin(yarrowdoor_request *request, uint32_t kind, uint64_t now)
+{
+    request->time = now;
+    request->kind = kind;
+    request->id = 0;
+    request->transport = 0;
+    request->reserved = 0;
+    yarrowdoor_clear_address(&request->from);
+    yarrowdoor_clear_address(&request->to);
+    yarrowdoor_clear_address(&request->peer);
+    yarrowdoor_clear_address(&request->local);
+}
+
+/* A request of this kind at this time, with its other numbers 0 and no addresses, as a value: yarrowdoor_begin
+   spares a copy of it. */
 static inline yarrowdoor_request yarrowdoor_request_of(uint32_t kind, uint64_t now)
 {
     yarrowdoor_request request;
-    memset(&request, 0, sizeof request);
-    request.time = now;
-    request.kind = kind;
+    yarrowdoor_begin(&request, kind, now);
     return request;
 }
 
@@ -733,20 +758,23 @@ YARROWDOOR_INLINE yarrowdoor_settings yarrowdoor_settings_of(uint32_t transport,
 
 YARROWDOOR_INLINE enum yarrowdoor_kind yarrowdoor_poll(yarrowdoor *client, uint64_t now, yarrowdoor_answer *answer)
 {
-    yarrowdoor_request request = yarrowdoor_request_of(YARROWDOOR_CALL_POLL, now);
+    yarrowdoor_request request;
+    yarrowdoor_begin(&request, YARROWDOOR_CALL_POLL, now);
     return yarrowdoor_call_plain(client, &request, answer);
 }
 
 YARROWDOOR_INLINE enum yarrowdoor_kind yarrowdoor_poll_transmit(yarrowdoor *client, uint64_t now, uint8_t *buffer,
                                                                 size_t buffer_len, yarrowdoor_answer *answer)
 {
-    yarrowdoor_request request = yarrowdoor_request_of(YARROWDOOR_CALL_POLL_TRANSMIT, now);
+    yarrowdoor_request request;
+    yarrowdoor_begin(&request, YARROWDOOR_CALL_POLL_TRANSMIT, now);
     return yarrowdoor_call_bytes(client, &request, NULL, 0, buffer, buffer_len, answer);
 }
 
 YARROWDOOR_INLINE enum yarrowdoor_kind yarrowdoor_poll_event(yarrowdoor *client, yarrowdoor_answer *answer)
 {
-    yarrowdoor_request request = yarrowdoor_request_of(YARROWDOOR_CALL_POLL_EVENT, 0);
+    yarrowdoor_request request;
+    yarrowdoor_begin(&request, YARROWDOOR_CALL_POLL_EVENT, 0);
     return yarrowdoor_call_plain(client, &request, answer);
 }
 
@@ -755,7 +783,8 @@ YARROWDOOR_INLINE enum yarrowdoor_kind yarrowdoor_recv(yarrowdoor *client, uint3
                                                        const uint8_t *bytes, size_t bytes_len, uint64_t now,
                                                        uint8_t *buffer, size_t buffer_len, yarrowdoor_answer *answer)
 {
-    yarrowdoor_request request = yarrowdoor_request_of(YARROWDOOR_CALL_RECV, now);
+    yarrowdoor_request request;
+    yarrowdoor_begin(&request, YARROWDOOR_CALL_RECV, now);
     request.transport = transport;
     request.from = *from;
     request.to = *to;
@@ -765,14 +794,16 @@ YARROWDOOR_INLINE enum yarrowdoor_kind yarrowdoor_recv(yarrowdoor *client, uint3
 YARROWDOOR_INLINE enum yarrowdoor_kind yarrowdoor_poll_recv(yarrowdoor *client, uint64_t now, uint8_t *buffer,
                                                             size_t buffer_len, yarrowdoor_answer *answer)
 {
-    yarrowdoor_request request = yarrowdoor_request_of(YARROWDOOR_CALL_POLL_RECV, now);
+    yarrowdoor_request request;
+    yarrowdoor_begin(&request, YARROWDOOR_CALL_POLL_RECV, now);
     return yarrowdoor_call_bytes(client, &request, NULL, 0, buffer, buffer_len, answer);
 }
 
 YARROWDOOR_INLINE enum yarrowdoor_kind yarrowdoor_read(yarrowdoor *client, uint8_t *buffer, size_t buffer_len,
                                                        yarrowdoor_answer *answer)
 {
-    yarrowdoor_request request = yarrowdoor_request_of(YARROWDOOR_CALL_READ, 0);
+    yarrowdoor_request request;
+    yarrowdoor_begin(&request, YARROWDOOR_CALL_READ, 0);
     return yarrowdoor_call_bytes(client, &request, NULL, 0, buffer, buffer_len, answer);
 }
 
@@ -781,7 +812,8 @@ YARROWDOOR_INLINE enum yarrowdoor_kind yarrowdoor_send_to(yarrowdoor *client, ui
                                                           size_t data_len, uint64_t now, uint8_t *buffer,
                                                           size_t buffer_len, yarrowdoor_answer *answer)
 {
-    yarrowdoor_request request = yarrowdoor_request_of(YARROWDOOR_CALL_SEND_TO, now);
+    yarrowdoor_request request;
+    yarrowdoor_begin(&request, YARROWDOOR_CALL_SEND_TO, now);
     request.transport = transport;
     request.peer = *peer;
     return yarrowdoor_call_bytes(client, &request, data, data_len, buffer, buffer_len, answer);
@@ -791,7 +823,8 @@ YARROWDOOR_INLINE enum yarrowdoor_kind yarrowdoor_create_permission(yarrowdoor *
                                                                     const yarrowdoor_address *peer, uint64_t now,
                                                                     yarrowdoor_answer *answer)
 {
-    yarrowdoor_request request = yarrowdoor_request_of(YARROWDOOR_CALL_CREATE_PERMISSION, now);
+    yarrowdoor_request request;
+    yarrowdoor_begin(&request, YARROWDOOR_CALL_CREATE_PERMISSION, now);
     request.transport = transport;
     request.peer = *peer;
     return yarrowdoor_call_plain(client, &request, answer);
@@ -801,7 +834,8 @@ YARROWDOOR_INLINE enum yarrowdoor_kind yarrowdoor_have_permission(const yarrowdo
                                                                   const yarrowdoor_address *peer,
                                                                   yarrowdoor_answer *answer)
 {
-    yarrowdoor_request request = yarrowdoor_request_of(YARROWDOOR_CALL_HAVE_PERMISSION, 0);
+    yarrowdoor_request request;
+    yarrowdoor_begin(&request, YARROWDOOR_CALL_HAVE_PERMISSION, 0);
     request.transport = transport;
     request.peer = *peer;
     return yarrowdoor_look_at(client, &request, answer);
@@ -811,7 +845,8 @@ YARROWDOOR_INLINE enum yarrowdoor_kind yarrowdoor_set_permission_kept(yarrowdoor
                                                                       const yarrowdoor_address *peer,
                                                                       uint32_t is_kept, yarrowdoor_answer *answer)
 {
-    yarrowdoor_request request = yarrowdoor_request_of(YARROWDOOR_CALL_SET_PERMISSION_KEPT, 0);
+    yarrowdoor_request request;
+    yarrowdoor_begin(&request, YARROWDOOR_CALL_SET_PERMISSION_KEPT, 0);
     request.transport = transport;
     request.peer = *peer;
     request.id = is_kept;
@@ -822,7 +857,8 @@ YARROWDOOR_INLINE enum yarrowdoor_kind yarrowdoor_bind_channel(yarrowdoor *clien
                                                                const yarrowdoor_address *peer, uint64_t now,
                                                                yarrowdoor_answer *answer)
 {
-    yarrowdoor_request request = yarrowdoor_request_of(YARROWDOOR_CALL_BIND_CHANNEL, now);
+    yarrowdoor_request request;
+    yarrowdoor_begin(&request, YARROWDOOR_CALL_BIND_CHANNEL, now);
     request.transport = transport;
     request.peer = *peer;
     return yarrowdoor_call_plain(client, &request, answer);
@@ -832,7 +868,8 @@ YARROWDOOR_INLINE enum yarrowdoor_kind yarrowdoor_set_channel_kept(yarrowdoor *c
                                                                    const yarrowdoor_address *peer, uint32_t is_kept,
                                                                    yarrowdoor_answer *answer)
 {
-    yarrowdoor_request request = yarrowdoor_request_of(YARROWDOOR_CALL_SET_CHANNEL_KEPT, 0);
+    yarrowdoor_request request;
+    yarrowdoor_begin(&request, YARROWDOOR_CALL_SET_CHANNEL_KEPT, 0);
     request.transport = transport;
     request.peer = *peer;
     request.id = is_kept;
@@ -842,7 +879,8 @@ YARROWDOOR_INLINE enum yarrowdoor_kind yarrowdoor_set_channel_kept(yarrowdoor *c
 YARROWDOOR_INLINE enum yarrowdoor_kind yarrowdoor_tcp_connect(yarrowdoor *client, const yarrowdoor_address *peer,
                                                               uint64_t now, yarrowdoor_answer *answer)
 {
-    yarrowdoor_request request = yarrowdoor_request_of(YARROWDOOR_CALL_TCP_CONNECT, now);
+    yarrowdoor_request request;
+    yarrowdoor_begin(&request, YARROWDOOR_CALL_TCP_CONNECT, now);
     request.peer = *peer;
     return yarrowdoor_call_plain(client, &request, answer);
 }
@@ -855,7 +893,8 @@ YARROWDOOR_INLINE enum yarrowdoor_kind yarrowdoor_allocated_tcp_socket(yarrowdoo
                                                                        const yarrowdoor_address *local, uint64_t now,
                                                                        yarrowdoor_answer *answer)
 {
-    yarrowdoor_request request = yarrowdoor_request_of(YARROWDOOR_CALL_ALLOCATED_TCP_SOCKET, now);
+    yarrowdoor_request request;
+    yarrowdoor_begin(&request, YARROWDOOR_CALL_ALLOCATED_TCP_SOCKET, now);
     request.id = id;
     request.transport = transport;
     request.from = *from;
@@ -871,7 +910,8 @@ YARROWDOOR_INLINE enum yarrowdoor_kind yarrowdoor_tcp_closed(yarrowdoor *client,
                                                              const yarrowdoor_address *remote, uint64_t now,
                                                              yarrowdoor_answer *answer)
 {
-    yarrowdoor_request request = yarrowdoor_request_of(YARROWDOOR_CALL_TCP_CLOSED, now);
+    yarrowdoor_request request;
+    yarrowdoor_begin(&request, YARROWDOOR_CALL_TCP_CLOSED, now);
     request.from = *local;
     request.to = *remote;
     return yarrowdoor_call_plain(client, &request, answer);
@@ -879,20 +919,23 @@ YARROWDOOR_INLINE enum yarrowdoor_kind yarrowdoor_tcp_closed(yarrowdoor *client,
 
 YARROWDOOR_INLINE enum yarrowdoor_kind yarrowdoor_delete(yarrowdoor *client, uint64_t now, yarrowdoor_answer *answer)
 {
-    yarrowdoor_request request = yarrowdoor_request_of(YARROWDOOR_CALL_DELETE, now);
+    yarrowdoor_request request;
+    yarrowdoor_begin(&request, YARROWDOOR_CALL_DELETE, now);
     return yarrowdoor_call_plain(client, &request, answer);
 }
 
 YARROWDOOR_INLINE enum yarrowdoor_kind yarrowdoor_protocol_error(yarrowdoor *client, yarrowdoor_answer *answer)
 {
-    yarrowdoor_request request = yarrowdoor_request_of(YARROWDOOR_CALL_PROTOCOL_ERROR, 0);
+    yarrowdoor_request request;
+    yarrowdoor_begin(&request, YARROWDOOR_CALL_PROTOCOL_ERROR, 0);
     return yarrowdoor_call_plain(client, &request, answer);
 }
 
 YARROWDOOR_INLINE enum yarrowdoor_kind yarrowdoor_relayed_address(const yarrowdoor *client, uint32_t index,
                                                                   yarrowdoor_answer *answer)
 {
-    yarrowdoor_request request = yarrowdoor_request_of(YARROWDOOR_CALL_RELAYED_ADDRESSES, 0);
+    yarrowdoor_request request;
+    yarrowdoor_begin(&request, YARROWDOOR_CALL_RELAYED_ADDRESSES, 0);
     request.id = index;
     return yarrowdoor_look_at(client, &request, answer);
 }
@@ -901,7 +944,8 @@ YARROWDOOR_INLINE enum yarrowdoor_kind yarrowdoor_permission(const yarrowdoor *c
                                                              const yarrowdoor_address *relayed, uint32_t index,
                                                              yarrowdoor_answer *answer)
 {
-    yarrowdoor_request request = yarrowdoor_request_of(YARROWDOOR_CALL_PERMISSIONS, 0);
+    yarrowdoor_request request;
+    yarrowdoor_begin(&request, YARROWDOOR_CALL_PERMISSIONS, 0);
     request.transport = transport;
     request.from = *relayed;
     request.id = index;

@@ -36,6 +36,18 @@ static uint64_t draw(void)
     return state;
 }
 
+/* Where the memory of a request held other bytes, each that is not named is 0. */
+static void begun(void)
+{
+    yarrowdoor_request r, bare;
+    memset(&bare, 0, sizeof bare);
+    bare.kind = YARROWDOOR_CALL_POLL;
+    bare.time = 7;
+    memset(&r, 0xee, sizeof r);
+    yarrowdoor_begin(&r, YARROWDOOR_CALL_POLL, 7);
+    check("a request that was begun", memcmp(&r, &bare, sizeof r) != 0, 0);
+}
+
 /* A request that lacks nothing. */
 static yarrowdoor_request whole(uint32_t kind)
 {
@@ -518,6 +530,7 @@ int main(void)
 {
     yarrowdoor_address local = yarrowdoor_ipv4(192, 168, 0, 1, 1000), remote = yarrowdoor_ipv4(10, 0, 0, 2, 2000);
     yarrowdoor_settings settings = yarrowdoor_settings_of(YARROWDOOR_UDP, &local, &remote);
+    begun();
     bad_settings(&settings);
     check("a new client", new_client(&settings, 4, 4, 32, &teased), 0);
     check("a new client", new_client(&settings, 4, 4, 32, &plain), 0);

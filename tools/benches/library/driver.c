@@ -161,7 +161,8 @@ static uint64_t find_data(void)
 /* A request of no call. */
 static uint64_t no_call(uint32_t row, yarrowdoor_answer *answer)
 {
-    yarrowdoor_request request = yarrowdoor_request_of(0, now);
+    yarrowdoor_request request;
+    yarrowdoor_begin(&request, 0, now);
     return row == NO_LOOK ? yarrowdoor_look_at(client, &request, answer) : yarrowdoor_call_plain(client, &request, answer);
 }
 
