@@ -6,7 +6,7 @@
 // Each `NAME.edit` has a line `file:`, lines `old:` and `new:` in pairs, whose `old` text stands in the file once, and a line `seen:`
 // with the test: `test/FILE.js::NAME`. Where the file is one of wasm/, the modules are linked again from dist/wasm. Without a name
 // all are tried, N (2) side by side. It prints a line for each, and ends with 0 where each is seen.
-import { execFile } from "node:child_process";
+import { spawn } from "node:child_process";
 import { cp, mkdtemp, readFile, readdir, rm, writeFile } from "node:fs/promises";
 import { tmpdir } from "node:os";
 import path from "node:path";
@@ -36,9 +36,18 @@ async function plant({ file, olds, news }, folder) {
     await writeFile(where, text);
 }
 
+/** Runs a command in a group of its own. One that takes too long is ended with all that it has started, as `node --test` does. */
 function run(command, words, options) {
-    return new Promise((resolve) => execFile(command, words, { timeout: MOST_TIME, killSignal: "SIGKILL", ...options },
-        (error, out, complaint) => resolve({ isGood: !error, text: out + complaint })));
+    return new Promise((resolve, reject) => {
+        const child = spawn(command, words, { detached: true, stdio: ["ignore", "pipe", "pipe"], ...options }), parts = [];
+        const timer = setTimeout(() => process.kill(-child.pid, "SIGKILL"), MOST_TIME);
+        [child.stdout, child.stderr].forEach((stream) => stream.on("data", (part) => parts.push(part)));
+        child.on("error", reject);
+        child.on("close", (code) => {
+            clearTimeout(timer);
+            resolve({ isGood: code === 0, text: Buffer.concat(parts).toString() });
+        });
+    });
 }
 
 /** Links the modules of a copy again. */
