@@ -1,0 +1,79 @@
+// What can be done to the run at the step that is chosen.
+import { make } from "./dom.js";
+import { CALLS } from "./lines.js";
+
+/** The arguments of a new call, as one would type them. */
+const TEMPLATES = Object.freeze({
+    permit: "TRANSPORT 10.0.0.9", have: "TRANSPORT 10.0.0.3", release: "TRANSPORT 10.0.0.3", keep: "TRANSPORT 10.0.0.3",
+    bind: "TRANSPORT 10.0.0.9:9000", connect: "10.0.0.3:9000", send: "TRANSPORT 10.0.0.3:9000 68656c6c6f",
+    permissions: "TRANSPORT 10.0.0.4:40000", recv: "WAY REMOTE LOCAL 00", closed: "LOCAL REMOTE",
+    socket: "0 tcp LOCAL REMOTE 10.0.0.3:9000 192.168.0.1:1001",
+});
+
+const MILLISECOND = 1_000_000n;
+
+function number(label, value, most) {
+    const input = make("input", { type: "number", value, min: 1, max: most, step: 1 });
+    return { input, element: make("label", {}, label, input) };
+}
+
+/** A form with one number, and a button that passes it on where it is one. */
+function numberForm(name, label, value, most, done) {
+    const { input, element } = number(label, value, most);
+    const submit = (event) => {
+        event.preventDefault();
+        input.reportValidity() && done(BigInt(input.value));
+    };
+    return make("form", { onsubmit: submit }, element, make("button", {}, name));
+}
+
+/** The part of the page for changes. */
+export class ChangeView {
+    #element;
+    #deeds;
+
+    /**
+     * @param {HTMLElement} element
+     * @param {{ edit: (edit: string, choose?: number) => void, sign: () => void, silence: (nanoseconds: bigint) => void }} deeds
+     */
+    constructor(element, deeds) {
+        this.#element = element;
+        this.#deeds = deeds;
+    }
+
+    /**
+     * @param {import("./story.js").Story} story
+     * @param {import("./story.js").Shown} step
+     */
+    show(story, step) {
+        const { index, packet, isDropped } = step, isLast = story.steps.slice(index + 1).every((other) => other.isDropped);
+        const isPiece = packet?.isReceived && packet.transport === "tcp" && packet.bytes.length > 1;
+        const isMessage = packet?.isReceived && packet.frames.length === 1 && packet.frames[0].kind === "message";
+        this.#element.replaceChildren(
+            make("div", { class: "bar" }, this.#button("Leave it out", `drop ${index}`, isDropped), this.#button("Repeat it", `repeat ${index}`, isDropped, index + 1),
+                this.#button("Swap it with the next", `swap ${index}`, isDropped || isLast, index + 1),
+                make("button", { type: "button", id: "sign", disabled: !isMessage || isDropped, onclick: () => this.#deeds.sign() }, "Sign it as the server")),
+            numberForm("Delay it", "Milliseconds", 100, 10_000_000, (value) => this.#deeds.edit(`delay ${index} ${value * MILLISECOND}`)),
+            numberForm("Be silent behind it", "Seconds", 60, 100_000, (value) => this.#deeds.silence(value * 1_000n * MILLISECOND)),
+            isPiece ? numberForm("Cut it", "Behind so many bytes", packet.bytes.length >> 1, packet.bytes.length - 1, (value) => this.#deeds.edit(`cut ${index} ${value}`)) : "",
+            this.#adding(story, step));
+    }
+
+    #button(name, edit, isDisabled, choose) {
+        return make("button", { type: "button", disabled: isDisabled, onclick: () => this.#deeds.edit(edit, choose) }, name);
+    }
+
+    /** The form for a call behind the step. */
+    #adding({ head }, { index, time }) {
+        const [way, local, remote, transport] = head.split(" ");
+        const lineOf = (name) => [time, name, TEMPLATES[name]?.replace("TRANSPORT", transport).replace("WAY", way).replace("LOCAL", local).replace("REMOTE", remote)]
+            .filter((word) => word !== undefined).join(" ");
+        const select = make("select", { id: "call", onchange: () => (input.value = lineOf(select.value)) }, Object.keys(CALLS).map((name) => make("option", {}, name)));
+        const input = make("input", { id: "call-line", class: "code", value: lineOf("poll"), spellcheck: "false", autocomplete: "off" });
+        const submit = (event) => {
+            event.preventDefault();
+            this.#deeds.edit(`add ${index + 1} ${input.value.trim()}`, index + 1);
+        };
+        return make("form", { onsubmit: submit }, make("label", {}, "A call behind it", select), make("label", { class: "wide" }, "Its line", input), make("button", {}, "Add"));
+    }
+}

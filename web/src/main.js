@@ -1,0 +1,28 @@
+// Loads the module and the list of runs, and shows the page.
+import { Library } from "../yarrowdoor/src/library.js";
+import { byId } from "./dom.js";
+import { Page } from "./page.js";
+import { QUESTIONS } from "./questions.js";
+import { RunsView, showQuestions } from "./runs-view.js";
+
+async function list() {
+    const response = await fetch("runs/index.json");
+    if (!response.ok) {
+        throw new Error(`the list of runs cannot be read: ${response.status}`);
+    }
+    return response.json();
+}
+
+async function start() {
+    const [library, runs] = await Promise.all([Library.shared(), list()]), page = new Page(library, runs, new RunsView(runs));
+    showQuestions(QUESTIONS, (question) => page.ask(question));
+    byId("skip").addEventListener("click", () => byId("ladder").focus());
+    byId("all-runs").open = matchMedia("(min-width: 60rem)").matches;
+    await page.openAddress();
+}
+
+start().catch((error) => {
+    byId("alert").replaceChildren(`The page cannot start: ${error.message}`);
+    byId("alert").hidden = false;
+    throw error;
+});

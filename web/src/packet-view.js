@@ -1,0 +1,117 @@
+// The step that is chosen: its packet field by field and byte by byte, and why it may have been ignored.
+import { BytesView } from "./bytes-view.js";
+import { withValue } from "./decode.js";
+import { make } from "./dom.js";
+import { toHex } from "./hex.js";
+import { answerText, shortened, signsOf } from "./words.js";
+import { typedValue, writeValue } from "./values.js";
+
+/** Where a section of an RFC is to be read. */
+function sectionLink(section) {
+    const [, rfc, number] = /^RFC ([0-9]+), (.+)$/.exec(section) ?? [];
+    return rfc ? make("a", { href: `https://www.rfc-editor.org/rfc/rfc${rfc}#section-${number}`, rel: "noreferrer" }, `RFC ${rfc}, ${number}`) : "";
+}
+
+/** What is not met comes first. */
+const rank = ({ isMet }) => (isMet === false ? 0 : 1);
+
+/** The part of the page for a packet. */
+export class PacketView {
+    #element;
+    #edit;
+    /** The step that is shown, so that the same byte stays chosen when it changes. */
+    #shown = { index: -1, at: 0 };
+
+    /**
+     * @param {HTMLElement} element
+     * @param {(edit: string) => void} edit is called with an edit that a reader makes
+     */
+    constructor(element, edit) {
+        this.#element = element;
+        this.#edit = edit;
+    }
+
+    /**
+     * @param {import("./story.js").Shown} step
+     * @param {import("./checks.js").Check[]} checks
+     */
+    show(step, checks) {
+        if (this.#shown.index !== step.index) {
+            this.#shown = { index: step.index, at: 0 };
+        }
+        this.#element.replaceChildren(...this.#answer(step), ...this.#checks(step, checks), ...(step.packet ? this.#packet(step) : []));
+    }
+
+    #answer(step) {
+        const way = step.packet, call = shortened(step.words.slice(1).join(" "));
+        return [
+            make("p", {}, make("code", {}, call), way && !way.isReceived && `: ${way.bytes.length} bytes over ${way.transport.toUpperCase()} from ${way.from} to ${way.to}`),
+            make("p", { class: "answer" }, "Answer: ", make("span", { class: step.answer === "ignored" ? "bad" : "" }, answerText(step.answer))),
+            ...signsOf(step).map(([sign, words]) => make("p", { class: "new" }, `${sign} ${words}`)),
+        ];
+    }
+
+    #checks(step, checks) {
+        if (checks.length === 0) {
+            return [];
+        }
+        const item = ({ isMet, text, section }) => make("li", { class: isMet === undefined ? "soft" : isMet ? "good" : "bad" },
+            `${isMet === undefined ? "–" : isMet ? "✓" : "✕"} ${text} `, section && make("span", {}, "(", sectionLink(section), ")"));
+        const failed = checks.some(({ isMet }) => isMet === false), ordered = [...checks].sort((one, other) => rank(one) - rank(other));
+        const title = step.answer === "ignored" ? "Why it was ignored" : "What the page can check";
+        const note = step.answer === "ignored" && !failed ? "None of the rules that the page knows says why: docs/MACHINE.md has all of them."
+            : "A hint by rules that the page checks itself. The client does not say why.";
+        return [make("h3", {}, title), make("ul", { class: "checks" }, ordered.map(item)), make("p", { class: "soft" }, note)];
+    }
+
+    #packet({ index, packet }) {
+        const rows = packet.frames.flatMap((frame) => frame.fields.map((field) => ({ frame, field })));
+        const elements = rows.map(({ frame, field }) => this.#row(index, packet, frame, field));
+        const mark = (at) => {
+            const found = rows.findIndex(({ field }) => at !== undefined && at >= field.start && at < field.end);
+            elements.forEach((element, place) => element.classList.toggle("marked", place === found));
+            view.mark(...(found < 0 ? [0, 0] : [rows[found].field.start, rows[found].field.end]));
+        };
+        const view = new BytesView(packet.bytes, this.#shown.at, {
+            width: this.#element.clientWidth,
+            look: (at, isChosen) => {
+                this.#shown.at = isChosen ? at : this.#shown.at;
+                mark(at ?? this.#shown.at);
+            },
+            set: packet.isReceived ? (at, value) => this.#edit(`set ${index} ${at} ${toHex([value])}`) : undefined,
+        });
+        elements.forEach((element, place) => {
+            element.addEventListener("pointerenter", () => mark(rows[place].field.start));
+            element.addEventListener("pointerleave", () => mark(this.#shown.at));
+            element.querySelector("th")?.addEventListener("click", () => view.choose(rows[place].field.start, false));
+        });
+        const titles = packet.frames.map(({ title, fault }) => (fault ? `${title} (${fault})` : title));
+        const body = make("tbody", {}, elements), head = make("thead", {}, make("tr", {}, ["Field", "Value", "Section"].map((name) => make("th", { scope: "col" }, name))));
+        return [make("h3", {}, titles.join(", ") || "no bytes"), make("div", { class: "scroll" }, make("table", {}, head, body)), ...view.elements];
+    }
+
+    #row(index, packet, frame, field) {
+        const { attribute } = field, note = attribute && !attribute.counts ? " (behind the integrity: it does not count)" : "";
+        const value = make("td", {}, field.value + note);
+        if (attribute && packet.isReceived) {
+            value.append(" ", make("button", { type: "button", "aria-label": `Change ${field.name}`, onclick: () => this.#form(value, index, packet, frame, field) }, "Change"));
+        }
+        return make("tr", {}, make("th", { scope: "row" }, field.name), value, make("td", {}, sectionLink(field.section)));
+    }
+
+    /** What a reader types in place of a value. */
+    #form(cell, index, packet, frame, field) {
+        const { kind, value } = field.attribute, { text, hint } = typedValue(kind, value, frame.id);
+        const input = make("input", { class: "code", value: text, "aria-label": `${field.name}: ${hint}`, spellcheck: "false" });
+        const said = make("span", { class: "bad", role: "alert" });
+        const put = (bytes) => this.#edit(`bytes ${index} ${toHex(withValue(packet.bytes, frame, field, bytes))}`);
+        const submit = (event) => {
+            event.preventDefault();
+            const bytes = writeValue(kind, input.value, frame.id);
+            bytes ? put(bytes) : said.replaceChildren(`That is not ${hint}.`);
+        };
+        cell.replaceChildren(make("form", { class: "bits", onsubmit: submit }, input, make("button", {}, "Set"),
+            make("button", { type: "button", onclick: () => put(undefined) }, "Leave out"), said));
+        input.focus();
+    }
+}

@@ -1,0 +1,58 @@
+// A step in words, for the ladder and for screen readers.
+import { seconds } from "./dom.js";
+
+/** What frames a packet has: `Allocate success`, `2 frames: ..`. */
+function framesText({ frames }) {
+    const titles = frames.map(({ title }) => title);
+    return titles.length > 1 ? `${titles.length} frames: ${titles.join(", ")}` : titles[0] ?? "";
+}
+
+/** A text with bytes as a count, where they are many. */
+export function shortened(text) {
+    return text.replace(/\b[0-9a-f]{25,}\b/g, (digits) => `(${digits.length / 2} bytes)`);
+}
+
+/** An answer in words: times in seconds, long bytes as their count. */
+export function answerText(answer) {
+    if (answer === undefined) {
+        return "not made";
+    }
+    const [kind, ...rest] = answer.split(" ");
+    return kind === "wait" ? `wait until ${seconds(BigInt(rest[0]))}` : shortened(answer);
+}
+
+/**
+ * What a step is, and its answer, apart: for a packet the packet, and what came of it.
+ * @param {import("./story.js").Shown} step
+ */
+export function stepText({ name, packet, words, answer, isDropped }) {
+    if (packet?.isReceived) {
+        return { what: framesText(packet), answer: isDropped ? "left out" : answerText(answer) };
+    }
+    if (packet) {
+        return { what: `${name === "send" ? "send: " : ""}${framesText(packet)}`, answer: "" };
+    }
+    return { what: shortened(words.slice(1).join(" ")), answer: isDropped ? "left out" : answerText(answer) };
+}
+
+/**
+ * The signs of a step, each with its words: whether it is new or left out, and whether its answer differs.
+ * @param {import("./story.js").Shown} step
+ * @returns {[string, string][]}
+ */
+export function signsOf({ isEdited, isDropped, before, origin }) {
+    return [
+        ...(isDropped ? [["−", "left out"]] : isEdited ? [["+", origin === undefined ? "new" : "changed"]] : []),
+        ...(before === undefined ? [] : [["≠", `differs: it was ${answerText(before)}`]]),
+    ];
+}
+
+/**
+ * All of a step in one sentence.
+ * @param {import("./story.js").Shown} step
+ */
+export function sentence(step) {
+    const { what, answer } = stepText(step), way = !step.packet ? "" : step.packet.isReceived ? `received from ${step.packet.from}: ` : `sent to ${step.packet.to}: `;
+    const signs = signsOf(step).map(([, words]) => words).join(", ");
+    return [`Step ${step.index + 1}, at ${seconds(step.time)}`, `${way}${what}`, answer, signs].filter(Boolean).join("; ");
+}
