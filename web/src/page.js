@@ -128,6 +128,7 @@ export class Page {
         this.#ladder.show(this.#story, this.#step);
         this.choose(this.#step);
         byId("main").dataset.run = this.#run.name;
+        byId("main").dataset.case = String(this.#number);
         byId("main").dataset.edits = String(this.#history.edits.length);
         byId("main").setAttribute("aria-busy", "false");
     }

@@ -1,0 +1,187 @@
+"""By keyboard alone, with a screen reader, in a narrow window, in the dark."""
+import os
+import pathlib
+import shutil
+import unittest
+
+from selenium.webdriver.common.keys import Keys
+
+from web.test.browser import browser
+
+EXCHANGE = "#run=exchange/data_is_delivered_and_answered"
+# The ratio of contrast of each text with what is behind it, least first (WCAG 2.2, 1.4.3), with the text.
+CONTRAST = """
+const parsed = (text) => (text.match(/[0-9.]+/g) ?? []).map(Number);
+const light = ([r, g, b]) => [r, g, b].map((it) => it / 255).map((it) => (it <= 0.04045 ? it / 12.92 : ((it + 0.055) / 1.055) ** 2.4))
+    .reduce((sum, it, at) => sum + it * [0.2126, 0.7152, 0.0722][at], 0);
+const behind = (it) => {
+    for (; it; it = it.parentElement) {
+        const chosen = it.matches("[role=option][aria-selected=true]") && it.querySelector(".row");
+        const [r, g, b, a = 1] = parsed(chosen ? getComputedStyle(chosen).fill : getComputedStyle(it).backgroundColor);
+        if (r !== undefined && a > 0) { return [r, g, b]; }
+    }
+    return [255, 255, 255];
+};
+const found = [], walker = document.createTreeWalker(document.body, NodeFilter.SHOW_TEXT);
+while (walker.nextNode()) {
+    const text = walker.currentNode.textContent.trim(), it = walker.currentNode.parentElement;
+    if (!text || !it.checkVisibility() || it.closest(".unseen, :disabled, option, script")) { continue; }
+    const style = getComputedStyle(it), isDrawn = it.namespaceURI.endsWith("svg");
+    const [one, other] = [light(parsed(isDrawn ? style.fill : style.color)), light(behind(it))].sort((a, b) => b - a);
+    found.push([(one + 0.05) / (other + 0.05), text.slice(0, 40)]);
+}
+return found.sort(([one], [other]) => one - other);
+"""
+# What runs out of the window on the right, or is laid out in no width; parts that scroll by themselves are apart.
+OUTSIDE = """
+const width = document.documentElement.clientWidth, found = [];
+for (const it of document.querySelectorAll("body *")) {
+    const box = it.getBoundingClientRect();
+    if (box.width && it.checkVisibility() && !it.closest("#ladder, textarea, .bytes, .scroll, .skip, .unseen, svg") && (box.right > width + 1 || box.left < -1)) {
+        found.push(`${it.tagName}#${it.id}.${it.className} ${box.left}-${box.right}`);
+    }
+}
+return [document.documentElement.scrollWidth > width, found];
+"""
+
+
+class Everybody(unittest.TestCase):
+    def setUp(self):
+        self.page = browser()
+        self.page.scheme("light")
+        self.page.size(1300)
+
+    def tearDown(self):
+        self.assertEqual(self.page.errors(), [])
+
+    def tab_to(self, is_it, key=Keys.TAB):
+        """Presses Tab until what has the focus is it, and gives how often."""
+        for count in range(1, 400):
+            self.page.keys(key)
+            if is_it(*self.page.focused()):
+                return count
+        self.fail("it is not reached by Tab")
+
+    def test_a_forged_reply_is_seen_by_keyboard_alone(self):
+        self.page.load()
+        count = self.tab_to(lambda tag, _, text: tag == "button" and text.startswith("Forge a success"))
+        self.assertLessEqual(count, 3)
+        self.page.keys(Keys.ENTER)
+        self.page.until("return document.getElementById('asked').textContent.startsWith('Forge')")
+        self.page.settle()
+        self.assertEqual((self.page.focused()[1], self.page.answers()[self.page.chosen()]), ("ladder", "ignored"))
+
+    def test_a_bit_is_flipped_by_keyboard_alone(self):
+        self.page.load(EXCHANGE)
+        self.tab_to(lambda tag, *_: tag == "button")
+        self.page.keys(Keys.ENTER)
+        self.assertEqual(self.page.focused()[1], "ladder")
+        self.page.keys(*[Keys.ARROW_DOWN] * 7)
+        self.page.settle()
+        self.assertEqual(self.page.chosen(), 7)
+        self.tab_to(lambda tag, *_: self.page.driver.execute_script("return document.activeElement.getAttribute('role')") == "gridcell")
+        self.page.keys(Keys.END)
+        self.tab_to(lambda tag, *_: self.page.driver.execute_script("return document.activeElement.dataset.bit") == "0")
+        self.page.keys(Keys.SPACE)
+        self.page.settle()
+        self.assertEqual(self.page.answers()[7], "ignored")
+        self.tab_to(lambda tag, ident, _: ident == "undo", Keys.SHIFT + Keys.TAB)
+        self.page.keys(Keys.ENTER)
+        self.page.settle()
+        self.assertEqual(self.page.answers()[7], "handled")
+
+    def test_keys_go_through_the_ladder(self):
+        self.page.open(EXCHANGE)
+        self.page.find("#ladder").click()
+        for key, step in ((Keys.END, 11), (Keys.ARROW_UP, 10), (Keys.HOME, 0), (Keys.ARROW_UP, 0), (Keys.PAGE_DOWN, None)):
+            self.page.keys(key)
+            self.page.settle()
+            self.assertTrue(step is None and self.page.chosen() > 1 or self.page.chosen() == step)
+            active = self.page.find("#ladder").get_attribute("aria-activedescendant")
+            self.assertEqual(active, f"step-{self.page.chosen()}")
+
+    def test_the_focus_can_be_seen(self):
+        self.page.load()
+        for _ in range(12):
+            self.page.keys(Keys.TAB)
+            style = self.page.driver.execute_script("const it = getComputedStyle(document.activeElement); return [it.outlineStyle, parseFloat(it.outlineWidth)]")
+            self.assertEqual(style[0], "solid")
+            self.assertGreaterEqual(style[1], 2)
+
+    def test_each_control_has_a_name_and_a_role(self):
+        self.page.open(EXCHANGE + "&step=3")
+        self.page.driver.execute_script("document.querySelectorAll('details').forEach((it) => (it.open = true))")
+        self.page.driver.execute_cdp_cmd("Accessibility.enable", {})
+        nodes = self.page.driver.execute_cdp_cmd("Accessibility.getFullAXTree", {})["nodes"]
+        told = [(it["role"]["value"], it.get("name", {}).get("value", ""), {each["name"] for each in it.get("properties", [])}) for it in nodes if not it["ignored"]]
+        nameless = [role for role, name, properties in told if "focusable" in properties and role != "RootWebArea" and not name.strip()]
+        self.assertEqual(nameless, [])
+        roles = {role for role, _, _ in told}
+        self.assertLessEqual({"banner", "navigation", "main", "listbox", "option", "grid", "gridcell", "toolbar", "heading", "contentinfo"}, roles)
+        options = [name for role, name, _ in told if role == "option" and name.startswith("Step ")]
+        self.assertEqual(len(options), 12)
+        self.assertEqual(options[3], "Step 4, at 0.05 s; received from 10.0.0.2:2000: Allocate success; handled")
+        self.assertIn("flip bit 0 of byte 0, which is 1", [name for _, name, _ in told])
+
+    def test_headings_ids_and_language_are_in_order(self):
+        self.page.open(EXCHANGE)
+        levels = self.page.driver.execute_script("return [...document.querySelectorAll('h1, h2, h3')].map((it) => Number(it.tagName[1]))")
+        self.assertEqual((levels[0], levels.count(1)), (1, 1))
+        self.assertTrue(all(after - before <= 1 for before, after in zip(levels, levels[1:])))
+        ids = self.page.driver.execute_script("return [...document.querySelectorAll('[id]')].map((it) => it.id)")
+        self.assertEqual(len(ids), len(set(ids)))
+        self.assertEqual(self.page.driver.execute_script("return [document.documentElement.lang, document.title !== '']"), ["en", True])
+        small = self.page.driver.execute_script("return [...document.querySelectorAll('button, select, input')].filter((it) => it.checkVisibility() && "
+                                                "it.getBoundingClientRect().height < 24).map((it) => it.textContent)")
+        self.assertEqual(small, [])
+
+    def test_what_differs_is_told_in_words_and_signs_as_well_as_in_colour(self):
+        self.page.open()
+        self.page.ask("Flip one bit")
+        row = self.page.find("#ladder [aria-selected=true]")
+        self.assertIn("ignored; changed, differs: it was handled", row.get_attribute("aria-label"))
+        self.assertIn("+≠", row.get_attribute("textContent"))
+        self.assertEqual(len(row.find_elements("css selector", ".cross")), 1)
+        self.assertEqual(self.page.driver.execute_script("return document.querySelectorAll('#ladder .cross').length"), 2)
+        told = self.page.driver.execute_script("return document.getElementById('status').textContent")
+        self.assertTrue(told.startswith("Step 8, at 0.1 s; received from"), told)
+
+    def test_all_text_has_contrast_in_light_and_in_dark(self):
+        for scheme in ("light", "dark"):
+            self.page.scheme(scheme)
+            self.page.open()
+            for question in ("Forge a success", "Let the nonce go stale"):
+                with self.subTest(scheme, question=question):
+                    self.page.ask(question)
+                    self.page.driver.execute_script("document.querySelectorAll('details').forEach((it) => (it.open = true))")
+                    found = self.page.driver.execute_script(CONTRAST)
+                    self.assertGreater(len(found), 100)
+                    self.assertGreaterEqual(found[0][0], 4.5, found[:5])
+        back = self.page.driver.execute_script("return getComputedStyle(document.body).backgroundColor")
+        self.assertEqual(back, "rgb(22, 23, 27)")
+
+    def test_nothing_runs_out_of_a_narrow_window(self):
+        for width in (360, 500, 800, 959, 960, 1300):
+            with self.subTest(width=width):
+                self.page.size(width)
+                self.page.open()
+                self.page.ask("Forge a success")
+                self.page.driver.execute_script("document.querySelectorAll('details').forEach((it) => (it.open = true))")
+                self.assertEqual(self.page.driver.execute_script(OUTSIDE), [False, []])
+                box = self.page.driver.execute_script("const it = document.querySelector('#ladder svg').getBoundingClientRect(); return it.width")
+                self.assertLessEqual(box, width)
+
+    def test_pictures_show_the_page(self):
+        folder = pathlib.Path(self.page.folder).parent / "pictures"
+        folder.mkdir(exist_ok=True)
+        for name, width, height, scheme in (("forged", 1200, 780, "light"), ("forged-narrow", 390, 844, "dark")):
+            self.page.scheme(scheme)
+            self.page.size(width, height)
+            self.page.load()
+            self.page.ask("Forge a success")
+            self.page.driver.execute_script("scrollTo(0, arguments[0] ? document.getElementById('title').getBoundingClientRect().top + scrollY - 12 : 0)", width < 500)
+            self.page.driver.execute_script("document.activeElement.blur()")
+            (folder / f"{name}.png").write_bytes(self.page.driver.get_screenshot_as_png())
+            self.assertGreater((folder / f"{name}.png").stat().st_size, 20_000)
+        if os.environ.get("WEB_PICTURES"):
+            shutil.copytree(folder, os.environ["WEB_PICTURES"], dirs_exist_ok=True)

@@ -1,0 +1,61 @@
+"""Each run of the page gets the answers of its transcript."""
+import pathlib
+import unittest
+
+from web.test.browser import ROOT, browser, tool
+
+# Shows each run, with its last step chosen, and gives the answers of its rows and the lines of the state beside it.
+SHOW = """
+const [places, done] = arguments, found = [];
+const byId = (id) => document.getElementById(id);
+const isShown = (run, number) => byId("main").dataset.run === run && byId("main").dataset.case === String(number)
+    && byId("state").dataset.step === document.querySelector("#ladder [aria-selected=true]")?.dataset.index;
+for (const [run, number] of places) {
+    const end = performance.now() + 60000;
+    byId("state").dataset.step = "";
+    location.hash = `#run=${run}&case=${number}&step=999999`;
+    while (!isShown(run, number) && performance.now() < end) {
+        await new Promise((resolve) => setTimeout(resolve, 1));
+    }
+    const rows = [...document.querySelectorAll("#ladder [role=option]")].map(({ dataset }) => dataset.answer);
+    found.push([isShown(run, number), rows, byId("alert").textContent, byId("summary").textContent, byId("state").innerText]);
+}
+done(found);
+"""
+
+
+class Runs(unittest.TestCase):
+    def test_each_run_gets_the_answers_of_its_transcript(self):
+        page, runs = browser(), list(tool("web").runs())
+        page.open()
+        cases = [(run["name"], number, case) for run in runs for number, case in enumerate(run["cases"])]
+        for start in range(0, len(cases), 40):
+            some = cases[start:start + 40]
+            shown = page.driver.execute_async_script(SHOW, [[name, number] for name, number, _ in some])
+            for (name, number, case), (is_shown, rows, alert, summary, state) in zip(some, shown):
+                with self.subTest(name, case=number):
+                    self.assertTrue(is_shown)
+                    self.assertEqual(rows, [answer for _, answer in case["calls"]])
+                    self.assertEqual((alert, summary), ("", f"{len(rows)} steps, as recorded."))
+                    self.assertIn("Next wake-up", state)
+        self.assertEqual(page.errors(), [])
+
+    def test_the_list_has_each_transcript_whose_lines_are_calls(self):
+        page = browser()
+        page.open()
+        links = page.driver.execute_script("return [...document.querySelectorAll('#runs a')].map((link) => link.dataset.run)")
+        files = {f"{it.parent.name}/{it.stem}" for it in pathlib.Path(ROOT / "transcripts").glob("*/*.txt")}
+        apart = {name for name in files if name.split("/")[0] in ("states", "bad", "heads", "sizes", "large")}
+        self.assertEqual(set(links), files - apart - {"data/a_packet_to_an_ipv6_peer_has_room_for_65504_bytes"})
+        self.assertEqual(page.text("count"), str(len(links)))
+
+    def test_a_word_finds_runs_by_what_they_show(self):
+        page = browser()
+        page.open()
+        page.driver.execute_script("document.getElementById('all-runs').open = true")
+        page.find("#filter").send_keys("key grants nothing")
+        titles = page.driver.execute_script("return [...document.querySelectorAll('#runs a')].map((link) => link.textContent)")
+        self.assertEqual(titles, ["Who has another key grants nothing", "Who has no key grants nothing"])
+        page.find("#runs a").click()
+        page.until("return document.getElementById('main').dataset.run === 'refusals/who_has_another_key_grants_nothing'")
+        self.assertEqual(page.text("title"), "Who has another key grants nothing")
