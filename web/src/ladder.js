@@ -1,7 +1,7 @@
 // The ladder: client, server and peers as lines downwards, packets as arrows between them, calls in order. It is a list box, in which
 // one step is chosen.
 import { draw, seconds } from "./dom.js";
-import { sentence, signsOf, stepText } from "./words.js";
+import { readable, sentence, signsOf, stepText } from "./words.js";
 
 const ROW = 30, HEAD = 26, ARROW = 21, LABEL = 13, TEXT_WIDTH = 7.3;
 
@@ -19,7 +19,7 @@ function peersOf({ steps }) {
 /** Where each party stands, in a width: several peers stand apart where there is room. */
 function columnsOf(story, width) {
     const peers = peersOf(story), isNarrow = width < 520, most = isNarrow ? 1 : 3, isOne = peers.length > most;
-    const names = isOne ? ["peers"] : peers.map((peer) => (isNarrow ? "peer" : peer)), client = isNarrow ? 84 : 110;
+    const names = isOne ? ["peers"] : peers.map((peer) => (isNarrow ? "peer" : readable(peer))), client = isNarrow ? 84 : 110;
     const last = width - (isNarrow ? 26 : 62), server = names.length ? client + (last - client) * (names.length > 1 ? 0.5 : 0.66) : last;
     const at = (index) => (names.length === 1 ? last : server + ((last - server) * (index + 1)) / names.length);
     return {

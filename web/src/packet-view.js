@@ -3,7 +3,7 @@ import { BytesView } from "./bytes-view.js";
 import { withValue } from "./decode.js";
 import { make } from "./dom.js";
 import { toHex } from "./hex.js";
-import { answerText, shortened, signsOf } from "./words.js";
+import { answerText, readable, shortened, signsOf } from "./words.js";
 import { typedValue, writeValue } from "./values.js";
 
 /** Where a section of an RFC is to be read. */
@@ -45,7 +45,7 @@ export class PacketView {
     #answer(step) {
         const way = step.packet, call = shortened(step.words.slice(1).join(" "));
         return [
-            make("p", {}, make("code", {}, call), way && !way.isReceived && `: ${way.bytes.length} bytes over ${way.transport.toUpperCase()} from ${way.from} to ${way.to}`),
+            make("p", {}, make("code", {}, call), way && !way.isReceived && `: ${way.bytes.length} bytes over ${way.transport.toUpperCase()} from ${readable(way.from)} to ${readable(way.to)}`),
             make("p", { class: "answer" }, "Answer: ", make("span", { class: step.answer === "ignored" ? "bad" : "" }, answerText(step.answer))),
             ...signsOf(step).map(([sign, words]) => make("p", { class: "new" }, `${sign} ${words}`)),
         ];
@@ -56,7 +56,7 @@ export class PacketView {
             return [];
         }
         const item = ({ isMet, text, section }) => make("li", { class: isMet === undefined ? "soft" : isMet ? "good" : "bad" },
-            `${isMet === undefined ? "–" : isMet ? "✓" : "✕"} ${text} `, section && make("span", {}, "(", sectionLink(section), ")"));
+            `${isMet === undefined ? "–" : isMet ? "✓" : "✕"} ${readable(text)} `, section && make("span", {}, "(", sectionLink(section), ")"));
         const failed = checks.some(({ isMet }) => isMet === false), ordered = [...checks].sort((one, other) => rank(one) - rank(other));
         const title = step.answer === "ignored" ? "Why it was ignored" : "What the page can check";
         const note = step.answer === "ignored" && !failed ? "None of the rules that the page knows says why: docs/MACHINE.md has all of them."
@@ -86,17 +86,17 @@ export class PacketView {
             element.querySelector("th")?.addEventListener("click", () => view.choose(rows[place].field.start, false));
         });
         const titles = packet.frames.map(({ title, fault }) => (fault ? `${title} (${fault})` : title));
-        const body = make("tbody", {}, elements), head = make("thead", {}, make("tr", {}, ["Field", "Value", "Section"].map((name) => make("th", { scope: "col" }, name))));
+        const body = make("tbody", {}, elements), head = make("thead", {}, make("tr", {}, ["Field", "Value"].map((name) => make("th", { scope: "col" }, name))));
         return [make("h3", {}, titles.join(", ") || "no bytes"), make("div", { class: "scroll" }, make("table", {}, head, body)), ...view.elements];
     }
 
     #row(index, packet, frame, field) {
         const { attribute } = field, note = attribute && !attribute.counts ? " (behind the integrity: it does not count)" : "";
-        const value = make("td", {}, field.value + note);
+        const value = make("td", { class: "long" }, readable(field.value) + note);
         if (attribute && packet.isReceived) {
             value.append(" ", make("button", { type: "button", "aria-label": `Change ${field.name}`, onclick: () => this.#form(value, index, packet, frame, field) }, "Change"));
         }
-        return make("tr", {}, make("th", { scope: "row" }, field.name), value, make("td", {}, sectionLink(field.section)));
+        return make("tr", {}, make("th", { scope: "row" }, field.name, field.section && make("small", {}, sectionLink(field.section))), value);
     }
 
     /** What a reader types in place of a value. */

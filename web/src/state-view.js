@@ -1,6 +1,6 @@
 // The state of the client after the step that is chosen.
 import { make, seconds } from "./dom.js";
-import { answerText } from "./words.js";
+import { answerText, readable } from "./words.js";
 
 /** What is told of a client, and where it comes from. */
 function row(name, value, isDerived) {
@@ -8,20 +8,20 @@ function row(name, value, isDerived) {
 }
 
 function grantRow({ kind, text, progress, until, detail }) {
-    const when = until !== undefined ? `until ${seconds(until)}` : progress === "active" ? "" : "";
-    return make("tr", {}, make("th", { scope: "row" }, kind), make("td", {}, [text, detail].filter(Boolean).join(", ")), make("td", {}, progress), make("td", {}, when));
+    const when = until === undefined ? progress : `${progress} until ${seconds(until)}`;
+    return make("tr", {}, make("th", { scope: "row" }, kind), make("td", { class: "long" }, [readable(text), detail].filter(Boolean).join(", ")), make("td", {}, when));
 }
 
 function grantsTable({ grants, more }) {
     if (grants.length === 0) {
         return make("p", { id: "no-grants" }, "No allocation, no permission, no channel.");
     }
-    const head = make("tr", {}, ["Grant", "Of", "Is", "Ends"].map((name) => make("th", { scope: "col" }, name)));
+    const head = make("tr", {}, ["Grant", "Of", "Is"].map((name) => make("th", { scope: "col" }, name)));
     const table = make("table", { id: "grants" }, make("thead", {}, head), make("tbody", {}, grants.map(grantRow)));
     return make("div", { class: "scroll" }, table, more > 0 && make("p", { class: "soft" }, `and ${more} more`));
 }
 
-const list = (items) => (items.length ? items.join("; ") : "none");
+const list = (items) => (items.length ? readable(items.join("; ")) : "none");
 
 /**
  * Shows a state.
@@ -33,14 +33,9 @@ export function showState(element, state, { phase, outstanding, now }) {
     const wakeUp = state.isClosed ? "none: the client has ended" : state.wakeUp === undefined ? answerText(state.next)
         : `at ${seconds(state.wakeUp)}${state.wakeUp > now ? `, in ${seconds(state.wakeUp - now)}` : ""}`;
     const requests = state.isClosed ? [] : outstanding.map(({ title, step, sent }) => `${title} of step ${step + 1}${sent > 1 ? `, sent ${sent} times` : ""}`);
-    const packets = state.packets.map((line) => `${(line.split(" ")[4] ?? "").length / 2} bytes to ${line.split(" ")[3]}`);
+    const packets = state.packets.map((line) => `${(line.split(" ")[4] ?? "").length / 2} bytes to ${readable(line.split(" ")[3])}`);
     element.replaceChildren(
         make("dl", {}, row("Phase", phase, !state.isClosed && phase !== "Allocated"), row("Next wake-up", wakeUp), row("Events that wait", list(state.events)),
             row("Packets that are due", list(packets)), row("Outstanding", list(requests), true)),
         grantsTable(state));
-}
-
-/** Shows that a state is being computed, where that takes long. */
-export function showWaiting(element) {
-    element.setAttribute("aria-busy", "true");
 }

@@ -3,6 +3,7 @@ import { parseIp } from "../yarrowdoor/src/address.js";
 import { addressText } from "./answers.js";
 import { fromHex, toHex } from "./hex.js";
 import { errorName } from "./names.js";
+import { readable } from "./words.js";
 
 const COOKIE = Object.freeze([0x21, 0x12, 0xa4, 0x42]), FAMILIES = Object.freeze({ 1: "IPv4", 2: "IPv6" });
 const TRANSPORTS = Object.freeze({ 17: "UDP", 6: "TCP" });
@@ -84,7 +85,7 @@ const KINDS = {
         hint: "4 hexadecimal digits",
         write: (text) => (/^[0-9a-f]{4}$/.test(text.trim()) ? Uint8Array.of(...fromHex(text.trim()), 0, 0) : undefined),
     },
-    address: { read: addressOf, typed: (value, id) => addressOf(value, id) ?? "", hint: "an IP address and a port", write: bytesOfAddress },
+    address: { read: addressOf, typed: (value, id) => readable(addressOf(value, id) ?? ""), hint: "an IP address and a port", write: bytesOfAddress },
     error: { read: errorOf, typed: (value) => errorOf(value)?.replace(/ \(.*?\)/, "").replace(/"/g, "") ?? "", hint: "a code and words", write: bytesOfError },
     family: { read: named(FAMILIES), typed: (value) => named(FAMILIES)(value) ?? "", hint: "IPv4 or IPv6", write: byName(FAMILIES) },
     transport: { read: named(TRANSPORTS), typed: (value) => named(TRANSPORTS)(value) ?? "", hint: "UDP or TCP", write: byName(TRANSPORTS) },

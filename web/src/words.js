@@ -7,9 +7,17 @@ function framesText({ frames }) {
     return titles.length > 1 ? `${titles.length} frames: ${titles.join(", ")}` : titles[0] ?? "";
 }
 
-/** A text with bytes as a count, where they are many. */
+/**
+ * A text with the IPv6 addresses of lines as RFC 5952 writes them.
+ * @param {string} text
+ */
+export function readable(text) {
+    return text.replace(/\[([0-9a-f]{32})\]/g, (_, digits) => new URL(`http://[${digits.match(/.{4}/g).join(":")}]`).hostname);
+}
+
+/** The same, with bytes as a count, where they are many. */
 export function shortened(text) {
-    return text.replace(/\b[0-9a-f]{25,}\b/g, (digits) => `(${digits.length / 2} bytes)`);
+    return readable(text).replace(/\b[0-9a-f]{25,}\b/g, (digits) => `(${digits.length / 2} bytes)`);
 }
 
 /** An answer in words: times in seconds, long bytes as their count. */
@@ -52,7 +60,7 @@ export function signsOf({ isEdited, isDropped, before, origin }) {
  * @param {import("./story.js").Shown} step
  */
 export function sentence(step) {
-    const { what, answer } = stepText(step), way = !step.packet ? "" : step.packet.isReceived ? `received from ${step.packet.from}: ` : `sent to ${step.packet.to}: `;
+    const { what, answer } = stepText(step), way = !step.packet ? "" : step.packet.isReceived ? `received from ${readable(step.packet.from)}: ` : `sent to ${readable(step.packet.to)}: `;
     const signs = signsOf(step).map(([, words]) => words).join(", ");
     return [`Step ${step.index + 1}, at ${seconds(step.time)}`, `${way}${what}`, answer, signs].filter(Boolean).join("; ");
 }

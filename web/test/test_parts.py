@@ -76,7 +76,7 @@ class Parts(unittest.TestCase):
 
     def test_values_are_read_as_they_were_written(self):
         ident = bytes(range(12))
-        for kind, text in (("address", "203.0.113.66:6666"), ("address", "[20010db8000000000000000000000001]:65535"), ("seconds", "4294967295"),
+        for kind, text in (("address", "203.0.113.66:6666"), ("address", "[2001:db8::1]:65535"), ("seconds", "4294967295"),
                            ("channel", "4001"), ("family", "IPv6"), ("transport", "TCP"), ("number", "7")):
             value = call("values", "writeValue", kind, text, ident)
             self.assertEqual(call("values", "typedValue", kind, value, ident)["text"], text)

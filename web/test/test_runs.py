@@ -42,16 +42,18 @@ class Runs(unittest.TestCase):
 
     def test_the_list_has_each_transcript_whose_lines_are_calls(self):
         page = browser()
-        page.open()
+        page.load()
         links = page.driver.execute_script("return [...document.querySelectorAll('#runs a')].map((link) => link.dataset.run)")
         files = {f"{it.parent.name}/{it.stem}" for it in pathlib.Path(ROOT / "transcripts").glob("*/*.txt")}
-        apart = {name for name in files if name.split("/")[0] in ("states", "bad", "heads", "sizes", "large")}
+        # Lines that are no calls, heads alone, and lines that are too long to look at.
+        apart = {name for name in files if name.split("/")[0] in ("states", "bad", "sizes", "large")}
+        apart |= {f"heads/{name}" for name in ("a_head_without_calls_has_no_answer", "the_last_line_needs_no_feed")}
         self.assertEqual(set(links), files - apart - {"data/a_packet_to_an_ipv6_peer_has_room_for_65504_bytes"})
         self.assertEqual(page.text("count"), str(len(links)))
 
     def test_a_word_finds_runs_by_what_they_show(self):
         page = browser()
-        page.open()
+        page.load()
         page.driver.execute_script("document.getElementById('all-runs').open = true")
         page.find("#filter").send_keys("key grants nothing")
         titles = page.driver.execute_script("return [...document.querySelectorAll('#runs a')].map((link) => link.textContent)")
