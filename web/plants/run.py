@@ -39,12 +39,15 @@ def plant(edit, folder):
 
 
 def run(test, folder):
-    """What a test comes to in a folder: `passed`, `failed` by an assertion, or what else it says."""
+    """What a test comes to in a folder: `passed`, `failed` by an assertion, or how else it ended; and what it says of that."""
     done = subprocess.run([folder / "tools" / "test-web", test], capture_output=True, text=True, cwd=folder, env={
         **os.environ, "YARROWDOOR_WASM": os.environ.get("YARROWDOOR_WASM", str(TOP / "dist" / "wasm"))})
     if done.returncode == 0 and re.search(r"^Ran [1-9]", done.stdout, re.MULTILINE):
-        return "passed"
-    return "failed" if done.returncode == 1 and "AssertionError" in done.stderr else f"ended with {done.returncode}: {done.stderr[-300:]}"
+        return "passed", ""
+    said = re.findall(r"^AssertionError.*", done.stderr, re.MULTILINE)
+    if done.returncode == 1 and said:
+        return "failed", said[0][:200]
+    return f"ended with {done.returncode}", done.stderr[-300:]
 
 
 def try_one(name):
@@ -53,11 +56,11 @@ def try_one(name):
         folder, edit = pathlib.Path(room) / "top", fields_of(name)
         for part in PARTS:
             shutil.copytree(TOP / part, folder / part, ignore=shutil.ignore_patterns("__pycache__"))
-        good = run(edit["seen"][0], folder)
+        good, complaint = run(edit["seen"][0], folder)
         plant(edit, folder)
-        planted = run(edit["seen"][0], folder)
+        planted, said = run(edit["seen"][0], folder)
     is_seen = (good, planted) == ("passed", "failed")
-    print(f"{'seen' if is_seen else 'NOT SEEN'}: {name}: {edit['seen'][0]}: without it {good}, with it {planted}", flush=True)
+    print(f"{'seen' if is_seen else 'NOT SEEN'}: {name}: {edit['seen'][0]}: without it {good}, with it {planted}: {complaint or said}", flush=True)
     return is_seen
 
 

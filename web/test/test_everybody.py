@@ -2,8 +2,10 @@
 import os
 import pathlib
 import shutil
+import tempfile
 import unittest
 
+from selenium.webdriver.common.action_chains import ActionChains
 from selenium.webdriver.common.keys import Keys
 
 from web.test.browser import browser
@@ -172,16 +174,22 @@ class Everybody(unittest.TestCase):
                 self.assertLessEqual(box, width)
 
     def test_pictures_show_the_page(self):
-        folder = pathlib.Path(self.page.folder).parent / "pictures"
-        folder.mkdir(exist_ok=True)
-        for name, width, height, scheme in (("forged", 1200, 780, "light"), ("forged-narrow", 390, 844, "dark")):
-            self.page.scheme(scheme)
-            self.page.size(width, height)
+        with tempfile.TemporaryDirectory() as folder:
+            self.page.size(1200, 780)
             self.page.load()
             self.page.ask("Forge a success")
-            self.page.driver.execute_script("scrollTo(0, arguments[0] ? document.getElementById('title').getBoundingClientRect().top + scrollY - 12 : 0)", width < 500)
-            self.page.driver.execute_script("document.activeElement.blur()")
-            (folder / f"{name}.png").write_bytes(self.page.driver.get_screenshot_as_png())
-            self.assertGreater((folder / f"{name}.png").stat().st_size, 20_000)
-        if os.environ.get("WEB_PICTURES"):
-            shutil.copytree(folder, os.environ["WEB_PICTURES"], dirs_exist_ok=True)
+            self.picture(folder, "forged")
+            self.page.ask("Flip one bit")
+            self.page.driver.find_elements("css selector", ".bytes [role=gridcell]")[43].click()
+            ActionChains(self.page.driver).move_to_element(self.page.find("#questions-title")).perform()
+            self.page.driver.execute_script("document.querySelector('#packet .bits').scrollIntoView({block: 'end'})")
+            self.picture(folder, "flipped")
+            if os.environ.get("WEB_PICTURES"):
+                shutil.copytree(folder, os.environ["WEB_PICTURES"], dirs_exist_ok=True)
+
+    def picture(self, folder, name):
+        self.page.driver.execute_script("document.activeElement.blur()")
+        picture = self.page.driver.get_screenshot_as_png()
+        # A page without its run is some 20 kB: most of it is one colour.
+        self.assertGreater(len(picture), 60_000)
+        (pathlib.Path(folder) / f"{name}.png").write_bytes(picture)
