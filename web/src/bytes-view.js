@@ -30,8 +30,8 @@ export class BytesView {
 
     #cell(byte, at) {
         return make("span", {
-            role: "gridcell", tabindex: -1, "aria-selected": "false", "aria-label": `byte ${at}: ${toHex([byte])}`, onclick: () => this.choose(at, true),
-            onpointerenter: () => this.#look(at, false), onpointerleave: () => this.#look(undefined, false),
+            role: "gridcell", tabindex: -1, "aria-selected": "false", "aria-label": `byte ${at}: ${toHex([byte])}`,
+            onclick: () => this.choose(at, true), onpointerenter: () => this.#look(at, false), onpointerleave: () => this.#look(undefined, false),
         }, toHex([byte]));
     }
 
@@ -39,10 +39,12 @@ export class BytesView {
     get elements() {
         const rows = [];
         for (let at = 0; at < this.#cells.length; at += this.#perRow) {
-            rows.push(make("div", { role: "row" }, make("span", { class: "at", "aria-hidden": "true" }, at.toString(16).padStart(4, "0")),
-                this.#cells.slice(at, at + this.#perRow)));
+            const place = make("span", { class: "at", "aria-hidden": "true" }, at.toString(16).padStart(4, "0"));
+            rows.push(make("div", { role: "row" }, place, this.#cells.slice(at, at + this.#perRow)));
         }
-        const grid = make("div", { class: "bytes", role: "grid", "aria-label": "Bytes of the packet", onkeydown: (event) => this.#key(event) }, rows);
+        const grid = make("div", {
+            class: "bytes", role: "grid", "aria-label": "Bytes of the packet", onkeydown: (event) => this.#key(event),
+        }, rows);
         this.choose(this.#chosen, false);
         const more = this.#bytes.length - this.#cells.length;
         return [grid, more > 0 ? make("p", { class: "soft" }, `and ${more} bytes more`) : undefined, this.#form].filter(Boolean);
@@ -84,15 +86,19 @@ export class BytesView {
     #fill() {
         const at = this.#chosen, byte = this.#bytes[at];
         if (!this.#set) {
-            this.#form.replaceChildren(make("span", { class: "soft" }, `byte ${at}: ${toHex([byte])}. What the client sends is its own, and is not changed.`));
+            const text = `Byte ${at}: ${toHex([byte])}. What the client sends is its own, and is not changed.`;
+            this.#form.replaceChildren(make("span", { class: "soft" }, text));
             return;
         }
         const bits = [7, 6, 5, 4, 3, 2, 1, 0].map((bit) => make("button", {
-            type: "button", "aria-pressed": String(Boolean(byte & (1 << bit))), "aria-label": `flip bit ${bit} of byte ${at}, which is ${(byte >> bit) & 1}`,
-            "data-bit": bit, onclick: () => this.#set(at, byte ^ (1 << bit)),
+            type: "button", "aria-pressed": String(Boolean(byte & (1 << bit))), "data-bit": bit,
+            "aria-label": `flip bit ${bit} of byte ${at}, which is ${(byte >> bit) & 1}`,
+            onclick: () => this.#set(at, byte ^ (1 << bit)),
         }, String((byte >> bit) & 1)));
-        const input = make("input", { class: "code", value: toHex([byte]), size: 2, maxlength: 2, "aria-label": `byte ${at}, two hexadecimal digits`,
-            onchange: () => /^[0-9a-f]{2}$/i.test(input.value) ? this.#set(at, parseInt(input.value, 16)) : (input.value = toHex([byte])) });
+        const put = () => (/^[0-9a-f]{2}$/i.test(input.value) ? this.#set(at, parseInt(input.value, 16)) : (input.value = toHex([byte])));
+        const input = make("input", {
+            class: "code", value: toHex([byte]), size: 2, maxlength: 2, "aria-label": `byte ${at}, two hexadecimal digits`, onchange: put,
+        });
         this.#form.replaceChildren(make("span", {}, `Byte ${at}:`), input, make("span", {}, "flip a bit:"), ...bits);
     }
 }

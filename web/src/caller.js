@@ -8,7 +8,8 @@ const MOST = 400;
 /** The calls at one time, up to an answer of `poll` that says to wait for a later one. */
 function callsAt(client, now, lines) {
     for (;;) {
-        for (const [name, call] of [["event", () => lineOf(client.pollEvent())], ["transmit", () => packetLine(client.pollTransmit(now))]]) {
+        const calls = { event: () => lineOf(client.pollEvent()), transmit: () => packetLine(client.pollTransmit(now)) };
+        for (const [name, call] of Object.entries(calls)) {
             do {
                 lines.push(`${now} ${name}`);
             } while (call() !== "none" && lines.length < MOST);

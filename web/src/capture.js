@@ -4,7 +4,7 @@ import { joined } from "./hex.js";
 
 const UDP = 17, TCP = 6, TTL = 64, MAX_PIECE = 65_000, SYN = 2, PUSH = 8, ACK = 16;
 const bytes16 = (...numbers) => numbers.flatMap((number) => [(number >> 8) & 255, number & 255]);
-const bytes32 = (...numbers) => numbers.flatMap((number) => [number >>> 24, (number >>> 16) & 255, (number >>> 8) & 255, number & 255]);
+const bytes32 = (...numbers) => bytes16(...numbers.flatMap((number) => [number >>> 16, number & 0xffff]));
 
 /** The Internet checksum (RFC 1071). */
 function checksum(bytes) {
@@ -42,8 +42,8 @@ class Capture {
     write(from, to, protocol, head, checksumAt, data, time) {
         const [source, destination] = [end(from), end(to)], size = head.length + data.length;
         const pseudo = [...source.ip, ...destination.ip, ...bytes32(size, protocol)];
-        const sum = checksum(joined(pseudo, head, data)) || 0xffff;
-        const body = joined(ipHeader(source, destination, protocol, size), head.slice(0, checksumAt), bytes16(sum), head.slice(checksumAt + 2), data);
+        const sum = checksum(joined(pseudo, head, data)) || 0xffff, ip = ipHeader(source, destination, protocol, size);
+        const body = joined(ip, head.slice(0, checksumAt), bytes16(sum), head.slice(checksumAt + 2), data);
         // Times are microseconds here, as of a number of seconds that has no more digits.
         const micros = Math.trunc((Number(time) / 1e9) * 1e6);
         this.parts.push(joined(bytes32(Math.floor(micros / 1e6), micros % 1_000_000, body.length, body.length), body));

@@ -49,13 +49,16 @@ export class ChangeView {
         const { index, packet, isDropped } = step, isLast = story.steps.slice(index + 1).every((other) => other.isDropped);
         const isPiece = packet?.isReceived && packet.transport === "tcp" && packet.bytes.length > 1;
         const isMessage = packet?.isReceived && packet.frames.length === 1 && packet.frames[0].kind === "message";
+        const { edit, silence } = this.#deeds, size = packet?.bytes.length ?? 0;
+        const sign = make("button", { type: "button", id: "sign", disabled: !isMessage || isDropped, onclick: () => this.#deeds.sign() },
+            "Sign it as the server");
         this.#element.replaceChildren(
-            make("div", { class: "bar" }, this.#button("Leave it out", `drop ${index}`, isDropped), this.#button("Repeat it", `repeat ${index}`, isDropped, index + 1),
-                this.#button("Swap it with the next", `swap ${index}`, isDropped || isLast, index + 1),
-                make("button", { type: "button", id: "sign", disabled: !isMessage || isDropped, onclick: () => this.#deeds.sign() }, "Sign it as the server")),
-            numberForm("Delay it", "Milliseconds", 100, 10_000_000, (value) => this.#deeds.edit(`delay ${index} ${value * MILLISECOND}`)),
-            numberForm("Be silent behind it", "Seconds", 60, 100_000, (value) => this.#deeds.silence(value * 1_000n * MILLISECOND)),
-            isPiece ? numberForm("Cut it", "Behind so many bytes", packet.bytes.length >> 1, packet.bytes.length - 1, (value) => this.#deeds.edit(`cut ${index} ${value}`)) : "",
+            make("div", { class: "bar" }, this.#button("Leave it out", `drop ${index}`, isDropped),
+                this.#button("Repeat it", `repeat ${index}`, isDropped, index + 1),
+                this.#button("Swap it with the next", `swap ${index}`, isDropped || isLast, index + 1), sign),
+            numberForm("Delay it", "Milliseconds", 100, 10_000_000, (value) => edit(`delay ${index} ${value * MILLISECOND}`)),
+            numberForm("Be silent behind it", "Seconds", 60, 100_000, (value) => silence(value * 1_000n * MILLISECOND)),
+            isPiece ? numberForm("Cut it", "Behind so many bytes", size >> 1, size - 1, (value) => edit(`cut ${index} ${value}`)) : "",
             this.#adding(story, step));
     }
 
@@ -65,15 +68,16 @@ export class ChangeView {
 
     /** The form for a call behind the step. */
     #adding({ head }, { index, time }) {
-        const [way, local, remote, transport] = head.split(" ");
-        const lineOf = (name) => [time, name, TEMPLATES[name]?.replace("TRANSPORT", transport).replace("WAY", way).replace("LOCAL", local).replace("REMOTE", remote)]
-            .filter((word) => word !== undefined).join(" ");
-        const select = make("select", { id: "call", onchange: () => (input.value = lineOf(select.value)) }, Object.keys(CALLS).map((name) => make("option", {}, name)));
+        const [WAY, LOCAL, REMOTE, TRANSPORT] = head.split(" "), words = { WAY, LOCAL, REMOTE, TRANSPORT };
+        const lineOf = (name) => `${time} ${name} ${TEMPLATES[name] ?? ""}`.replace(/[A-Z]{3,}/g, (word) => words[word]).trim();
+        const options = Object.keys(CALLS).map((name) => make("option", {}, name));
+        const select = make("select", { id: "call", onchange: () => (input.value = lineOf(select.value)) }, options);
         const input = make("input", { id: "call-line", class: "code", value: lineOf("poll"), spellcheck: "false", autocomplete: "off" });
         const submit = (event) => {
             event.preventDefault();
             this.#deeds.edit(`add ${index + 1} ${input.value.trim()}`, index + 1);
         };
-        return make("form", { onsubmit: submit }, make("label", {}, "A call behind it", select), make("label", { class: "wide" }, "Its line", input), make("button", {}, "Add"));
+        const labels = [make("label", {}, "A call behind it", select), make("label", { class: "wide" }, "Its line", input)];
+        return make("form", { onsubmit: submit }, labels, make("button", {}, "Add"));
     }
 }

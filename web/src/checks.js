@@ -5,6 +5,8 @@ import { toHex } from "./hex.js";
 import { SIGNERS, canSign, integrityOf, keyOf } from "./integrity.js";
 import { ATTRIBUTE, CLASS, METHOD } from "./names.js";
 import { requestsBefore, signerOf } from "./requests.js";
+import { hasEnded, hasPermission } from "./state.js";
+import { linesUpTo } from "./story.js";
 
 /**
  * A rule: whether it is met, or undefined where that cannot be told; what was found; and the section that has the rule.
@@ -14,11 +16,15 @@ import { requestsBefore, signerOf } from "./requests.js";
 const check = (isMet, text, section) => ({ isMet, text, section });
 
 function source({ from, to, transport }, { head }) {
-    const [way, local, remote] = head.split(" "), isControl = to === local;
-    const isRight = transport === way && from === remote && (isControl || way === "tcp");
-    const text = isRight ? `it came from the server, ${remote}` : transport !== way ? `it came over ${transport}, and the client is reached over ${way}`
-        : from !== remote ? `it came from ${from}, and the server is ${remote}` : `it came to ${to}, and the client is at ${local}`;
-    return check(isRight, text, "RFC 8489, 6.3");
+    const [way, local, remote] = head.split(" "), section = "RFC 8489, 6.3";
+    if (transport !== way) {
+        return check(false, `it came over ${transport}, and the client is reached over ${way}`, section);
+    }
+    if (from !== remote) {
+        return check(false, `it came from ${from}, and the server is ${remote}`, section);
+    }
+    const isRight = to === local || way === "tcp";
+    return check(isRight, isRight ? `it came from the server, ${remote}` : `it came to ${to}, and the client is at ${local}`, section);
 }
 
 function asks(request) {
@@ -31,52 +37,86 @@ function transaction(frame, requests, now) {
         return check(false, "no request of this client has its transaction ID", section);
     }
     if (request.answered !== undefined) {
-        return check(false, `it answers ${asks(request)}, which step ${request.answered + 1} has answered: a response counts once`, section);
+        const by = `which step ${request.answered + 1} has answered: a response counts once`;
+        return check(false, `it answers ${asks(request)}, ${by}`, section);
     }
     return now < request.timedOut ? check(true, `it answers ${asks(request)}, which is outstanding`, section)
         : check(false, `it answers ${asks(request)}, which has timed out`, section);
 }
 
 /** Whether the attribute that signs is there, and right under the key of the run. */
-async function integrity(packet, frame, signer, settings) {
-    const { realm, algorithm } = signer, { type } = SIGNERS[algorithm], field = attributeOf(frame, type), section = algorithm === "sha1" ? "RFC 8489, 14.5" : "RFC 8489, 14.6";
+async function integrity(packet, frame, { realm, algorithm }, settings) {
+    const { type, name, section } = SIGNERS[algorithm], field = attributeOf(frame, type);
     if (!field) {
-        return check(false, `it is not signed: there is no ${algorithm === "sha1" ? "MESSAGE-INTEGRITY" : "MESSAGE-INTEGRITY-SHA256"}`, section);
+        return check(false, `it is not signed: there is no ${name}`, section);
     }
     if (!canSign()) {
         return check(undefined, "it is signed; whether rightly, this page can say only over https or from this machine", section);
     }
-    const message = packet.bytes.slice(frame.start, frame.end);
-    const wanted = await integrityOf(message, field.start - frame.start, await keyOf(settings, realm, algorithm), algorithm);
+    const message = packet.bytes.slice(frame.start, frame.end), key = await keyOf(settings, realm, algorithm);
+    const wanted = await integrityOf(message, field.start - frame.start, key, algorithm);
     const isRight = toHex(wanted) === toHex(field.attribute.value);
-    return check(isRight, isRight ? "it is signed with the key that client and server share" : "its signature is wrong: the key, or a byte before it, is another one", section);
+    return check(isRight, isRight ? "it is signed with the key that client and server share"
+        : "its signature is wrong: the key, or a byte before it, is another one", section);
 }
 
-/** Whether an error response is a challenge, which is taken before any signature is checked (docs/PROTOCOL.md, "Integrity"). */
-function isChallenge(frame) {
-    const value = (type) => attributeOf(frame, type)?.attribute.value, error = value(ATTRIBUTE.ERROR_CODE);
+/** The code and the realm of an error response that may be a challenge, or undefined (docs/PROTOCOL.md, "Integrity"). */
+function challengeIn(frame) {
+    const value = (type) => attributeOf(frame, type)?.attribute.value;
+    const [error, realm, nonce] = [ATTRIBUTE.ERROR_CODE, ATTRIBUTE.REALM, ATTRIBUTE.NONCE].map(value);
     const code = error?.length >= 4 ? (error[2] & 7) * 100 + error[3] : 0;
-    return frame.messageClass === CLASS.ERROR && (code === 401 || code === 438) && value(ATTRIBUTE.REALM) && value(ATTRIBUTE.NONCE);
+    const isOne = frame.messageClass === CLASS.ERROR && (code === 401 || code === 438) && realm?.length && nonce?.length;
+    return isOne ? { code, realm } : undefined;
+}
+
+/** Whether a challenge counts, which is decided before any signature is checked: the first one fixes the realm. */
+function challenge({ code, realm }, signer) {
+    if (signer && toHex(realm) !== toHex(signer.realm)) {
+        return check(false, "it is a challenge for another realm than that of the first one", "RFC 8489, 9.2.5");
+    }
+    return signer && code === 401 ? check(false, "it is a 401, which is a challenge only before a request was signed", "RFC 8489, 9.2.5")
+        : check(true, "it is a challenge, which nobody has to have signed", "RFC 8489, 9.2.4");
 }
 
 async function response(packet, frame, step, story) {
-    const requests = requestsBefore(story, step.index), found = [transaction(frame, requests, step.time)], signer = signerOf(requests);
-    if (isChallenge(frame)) {
-        return [...found, check(true, "it is a challenge, which nobody has to have signed", "RFC 8489, 9.2.4")];
+    const requests = requestsBefore(story, step.index), signer = signerOf(requests), isChallenge = challengeIn(frame);
+    const found = [transaction(frame, requests, step.time)];
+    if (isChallenge && (!signer || isChallenge.code === 438)) {
+        return [...found, challenge(isChallenge, signer)];
     }
-    if (!signer) {
-        return [...found, check(false, "nothing was signed yet, so that only a challenge can be taken", "RFC 8489, 9.2.5")];
-    }
-    return [...found, await integrity(packet, frame, signer, story.settings)];
+    const isFirst = check(undefined, "nothing was signed yet: but for a challenge, any response ends the client", "RFC 8489, 9.2.5");
+    return [...found, signer ? await integrity(packet, frame, signer, story.settings) : isFirst];
 }
 
-function indication(frame, step) {
+/** Of requests, and of indications but for data, a client takes only a ConnectionAttempt, and that not always. */
+function attempt({ method, title }) {
+    const section = "RFC 6062, 4.4";
+    return method === METHOD.CONNECTION_ATTEMPT ? check(undefined, "it offers a connection of a peer, which may have one already", section)
+        : check(false, `it is a ${title}, which no server sends to a client`, section);
+}
+
+/** Data of a peer (RFC 8656, section 11.6): its last peer counts, and the client itself says whether that has a permission. */
+function indication(frame, step, story, library) {
     if (frame.method !== METHOD.DATA) {
-        return [check(step.answer !== "ignored", "an indication that carries no data, or offers a connection", "RFC 8656, 11.6")];
+        return [attempt(frame)];
     }
-    const peer = frame.fields.filter(({ attribute }) => attribute?.type === ATTRIBUTE.XOR_PEER_ADDRESS).at(-1)?.value;
-    const isPermitted = step.answer !== "ignored";
-    return [check(isPermitted, isPermitted ? `its peer, ${peer}, has a permission` : `its peer, ${peer ?? "none"}, has no permission, or it carries no data`, "RFC 8656, 11.6")];
+    const values = (type) => frame.fields.filter(({ attribute }) => attribute?.counts && attribute.type === type);
+    const peer = values(ATTRIBUTE.XOR_PEER_ADDRESS).at(-1)?.value, section = "RFC 8656, 11.6";
+    const data = check(values(ATTRIBUTE.DATA).length + values(ATTRIBUTE.ICMP).length > 0, "it carries data, or an ICMP report", section);
+    if (peer === undefined || peer.startsWith("malformed")) {
+        return [check(false, "it names no peer", section), data];
+    }
+    const isPermitted = hasPermission(library, story, linesUpTo(story, step.index - 1), peer);
+    return [check(isPermitted, `its peer, ${peer}, has ${isPermitted ? "a" : "no"} permission`, section),
+        data.isMet ? data : check(false, "it carries neither data nor an ICMP report", section)];
+}
+
+/** The step that bound a channel (RFC 8656, section 12.2), by the packets: what the client has bound no call tells. */
+function channel({ channel: number }, step, story) {
+    const shown = number.toString(16), requests = [...requestsBefore(story, step.index).values()];
+    const bound = requests.findLast((request) => request.answered !== undefined && request.channel === shown);
+    return check(Boolean(bound), bound ? `step ${bound.answered + 1} answered the request for channel ${shown}`
+        : `no answer of the server has bound channel ${shown}`, "RFC 8656, 12.6");
 }
 
 function fingerprint(packet, frame) {
@@ -85,11 +125,12 @@ function fingerprint(packet, frame) {
         return [];
     }
     const isRight = crc32(packet.bytes.slice(frame.start, field.start)) === parseInt(toHex(field.attribute.value), 16);
-    return [check(undefined, `its FINGERPRINT is ${isRight ? "right" : "wrong"}, which this client does not look at`, "RFC 8489, 14.7")];
+    const text = `its FINGERPRINT is ${isRight ? "right" : "wrong"}, which this client does not look at`;
+    return [check(undefined, text, "RFC 8489, 14.7")];
 }
 
 /** The checksum of a FINGERPRINT (RFC 8489, section 14.7): CRC-32 of ITU V.42, XORed with `STUN`. */
-function crc32(bytes) {
+export function crc32(bytes) {
     let sum = -1;
     for (const byte of bytes) {
         sum ^= byte;
@@ -100,37 +141,39 @@ function crc32(bytes) {
     return (~sum ^ 0x5354554e) >>> 0;
 }
 
-async function frameChecks(packet, frame, step, story) {
+async function frameChecks(packet, frame, step, story, library) {
     if (frame.fault) {
         return [check(false, frame.fault, "RFC 8489, 5")];
     }
     if (frame.kind === "channel") {
-        const isBound = step.answer !== "ignored", number = frame.channel.toString(16);
-        return [check(isBound, isBound ? `channel ${number} is bound to a peer` : `no peer has the channel ${number}`, "RFC 8656, 12.6")];
+        return [channel(frame, step, story)];
     }
     if (frame.kind === "bytes") {
         return [];
     }
     if (frame.messageClass === CLASS.INDICATION) {
-        return indication(frame, step);
+        return indication(frame, step, story, library);
     }
     if (frame.messageClass === CLASS.REQUEST) {
-        return [check(undefined, "it is a request of the server, of which only a ConnectionAttempt is taken", "RFC 6062, 4.4")];
+        return [attempt(frame)];
     }
     return [...await response(packet, frame, step, story), ...fingerprint(packet, frame)];
 }
 
 /**
  * What the page finds of a packet that was passed in.
+ * @param {import("../yarrowdoor/src/library.js").Library} library
  * @param {import("./story.js").Story} story
  * @param {number} index
  * @returns {Promise<Check[]>}
  */
-export async function checksOf(story, index) {
+export async function checksOf(library, story, index) {
     const step = story.steps[index], { packet } = step;
-    if (!packet?.isReceived) {
+    if (!packet?.isReceived || step.isDropped) {
         return [];
     }
-    const frames = await Promise.all(packet.frames.map((frame) => frameChecks(packet, frame, step, story)));
-    return [source(packet, story), ...frames.flat()];
+    const isOver = hasEnded(library, story, linesUpTo(story, index - 1), step.time);
+    const over = check(false, "the client had ended before: it takes no message any more", "docs/MACHINE.md");
+    const frames = await Promise.all(packet.frames.map((frame) => frameChecks(packet, frame, step, story, library)));
+    return [...(isOver ? [over] : []), source(packet, story), ...frames.flat()];
 }

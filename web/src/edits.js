@@ -90,7 +90,8 @@ function checkedLine(run, line) {
 
 /** The run in which one step comes later: behind those that come before its new time. */
 function delayed(run, at, step, by) {
-    const line = atTime(step.line, timeOf(step.line) + by), without = { ...run, steps: run.steps.filter((_, other) => other !== at) };
+    const line = atTime(step.line, timeOf(step.line) + by);
+    const without = { ...run, steps: run.steps.filter((_, other) => other !== at) };
     const behind = without.steps.slice(at).findIndex((other) => timeOf(other.line) > timeOf(line));
     return inserted(without, behind < 0 ? without.steps.length : at + behind, { ...step, line });
 }
@@ -107,9 +108,9 @@ function cut(run, { at, step, bytes }, word) {
 
 /** The run in which a step and the next one have changed places; each place keeps its time. */
 function swapped(run, at, step) {
-    const next = run.steps.findIndex((other, place) => place > at && !other.isDropped), other = run.steps[next] ?? bad("there is no next step");
-    const first = { ...other, line: atTime(other.line, timeOf(step.line)) }, second = { ...step, line: atTime(step.line, timeOf(other.line)) };
-    return replaced(replaced(run, at, first), next, second);
+    const next = run.steps.findIndex((other, place) => place > at && !other.isDropped);
+    const other = run.steps[next] ?? bad("there is no next step"), moved = (one, to) => ({ ...one, line: atTime(one.line, timeOf(to.line)) });
+    return replaced(replaced(run, at, moved(other, step)), next, moved(step, other));
 }
 
 function set(run, { at, step, bytes }, word, value) {
@@ -141,7 +142,10 @@ const EDITS = {
     delay: (run, [word, by]) => (({ at, step }) => delayed(run, at, step, time(by)))(stepAt(run, word)),
     later: (run, [word, by]) => laterFrom(run, placeOf(word, run.steps.length), time(by)),
     cut: (run, [word, place]) => cut(run, packetAt(run, word), place),
-    line: (run, [word, ...line]) => (({ at, step }) => replaced(run, at, { ...step, line: checkedLine(run, line.join(" ")) }))(stepAt(run, word)),
+    line: (run, [word, ...line]) => {
+        const { at, step } = stepAt(run, word);
+        return replaced(run, at, { ...step, line: checkedLine(run, line.join(" ")) });
+    },
     add: (run, [word, ...line]) => inserted(run, placeOf(word, run.steps.length), { line: checkedLine(run, line.join(" ")) }),
     seed: (run, [text]) => withSeed(run, text),
 };

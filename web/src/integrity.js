@@ -2,9 +2,10 @@
 import { joined } from "./hex.js";
 import { md5 } from "./md5.js";
 
-/** What signs: the attribute's type, the engine's name, and the bytes of the value. */
+/** What signs: the attribute's type, name and section, the engine's name of the hash, and the bytes of the value. */
 export const SIGNERS = Object.freeze({
-    sha1: { type: 0x0008, hash: "SHA-1", size: 20 }, sha256: { type: 0x001c, hash: "SHA-256", size: 32 },
+    sha1: { type: 0x0008, name: "MESSAGE-INTEGRITY", section: "RFC 8489, 14.5", hash: "SHA-1", size: 20 },
+    sha256: { type: 0x001c, name: "MESSAGE-INTEGRITY-SHA256", section: "RFC 8489, 14.6", hash: "SHA-256", size: 32 },
 });
 
 const COLON = new TextEncoder().encode(":");
@@ -54,7 +55,8 @@ export async function integrityOf(bytes, at, key, algorithm) {
 export async function signed(bytes, at, key, algorithm) {
     const { type, size } = SIGNERS[algorithm], place = at ?? bytes.length;
     const value = await integrityOf(bytes, place, key, algorithm);
-    const found = joined(bytes.slice(0, place), [type >> 8, type & 255, 0, size], value, at === undefined ? [] : bytes.slice(at + 4 + size));
+    const rest = at === undefined ? [] : bytes.slice(at + 4 + size);
+    const found = joined(bytes.slice(0, place), [type >> 8, type & 255, 0, size], value, rest);
     const len = found.length - 20;
     found[2] = len >> 8;
     found[3] = len & 255;

@@ -1,6 +1,7 @@
-// The ladder: client, server and peers as lines downwards, packets as arrows between them, calls in order. It is a list box, in which
-// one step is chosen.
+// The ladder: client, server and peers as lines downwards, packets as arrows between them, calls in order. It is a list box, in
+// which one step is chosen.
 import { draw, seconds } from "./dom.js";
+import { METHOD } from "./names.js";
 import { readable, sentence, signsOf, stepText } from "./words.js";
 
 const ROW = 30, HEAD = 26, ARROW = 21, LABEL = 13, TEXT_WIDTH = 7.3;
@@ -10,17 +11,23 @@ function peersOf({ steps }) {
     const found = new Set();
     for (const { name, words, answer, packet } of steps) {
         const peer = name === "send" ? words[3] : /^(?:data|icmp) \S+ (\S+)/.exec(answer ?? "")?.[1];
-        const sent = packet?.frames.flatMap(({ fields }) => fields).filter((field) => field.name === "XOR-PEER-ADDRESS" && /Data|Send/.test(packet.frames[0].title));
-        [peer, ...(sent ?? []).map(({ value }) => value)].filter(Boolean).forEach((address) => found.add(address));
+        [peer, ...(packet?.frames ?? []).map(peerIn)].filter(Boolean).forEach((address) => found.add(address));
     }
-    return [...found].filter((address) => !address.startsWith("malformed"));
+    return [...found];
+}
+
+/** The peer whose data a frame carries in an indication, or undefined. */
+function peerIn({ method, fields }) {
+    const peer = [METHOD.DATA, METHOD.SEND].includes(method) ? fields.find(({ name }) => name === "XOR-PEER-ADDRESS")?.value : undefined;
+    return peer?.startsWith("malformed") ? undefined : peer;
 }
 
 /** Where each party stands, in a width: several peers stand apart where there is room. */
 function columnsOf(story, width) {
     const peers = peersOf(story), isNarrow = width < 520, most = isNarrow ? 1 : 3, isOne = peers.length > most;
     const names = isOne ? ["peers"] : peers.map((peer) => (isNarrow ? "peer" : readable(peer))), client = isNarrow ? 84 : 110;
-    const last = width - (isNarrow ? 26 : 62), server = names.length ? client + (last - client) * (names.length > 1 ? 0.5 : 0.66) : last;
+    const last = width - (isNarrow ? 26 : 62), share = names.length > 1 ? 0.5 : 0.66;
+    const server = names.length ? client + (last - client) * share : last;
     const at = (index) => (names.length === 1 ? last : server + ((last - server) * (index + 1)) / names.length);
     return {
         client, server, end: width, peers: names.map((name, index) => ({ name, x: at(index) })),
@@ -45,8 +52,7 @@ function cross(x, y) {
 /** The peer that a packet goes to or comes from, behind the server, or undefined. */
 function farPeer({ packet, answer, name, words }) {
     if (packet.isReceived) {
-        const peer = packet.frames.length === 1 && packet.frames[0].title.startsWith("Data ") ? packet.frames[0].fields.find(({ name: it }) => it === "XOR-PEER-ADDRESS")?.value : undefined;
-        return /^(?:data|icmp) \S+ (\S+)/.exec(answer ?? "")?.[1] ?? peer;
+        return /^(?:data|icmp) \S+ (\S+)/.exec(answer ?? "")?.[1] ?? packet.frames.map(peerIn).find(Boolean);
     }
     return name === "send" ? words[3] : undefined;
 }
@@ -55,21 +61,24 @@ function arrow(step, y, columns) {
     const { client, server } = columns, isIgnored = step.answer === "ignored" || step.isDropped, peer = farPeer(step);
     const x = peer === undefined ? undefined : columns.peer(peer), isReceived = step.packet.isReceived;
     const way = draw("line", { class: `way ${isIgnored ? "lost" : ""}`, x1: client, x2: server, y1: y, y2: y });
-    const far = x === undefined ? [] : [draw("line", { class: "way far", x1: server, x2: x, y1: y, y2: y }), ...(isReceived ? [] : [tip(x, y, false)])];
-    return [way, ...far, isIgnored ? cross(client + 12, y) : tip(isReceived ? client : server, y, isReceived)];
+    const far = x === undefined ? [] : [draw("line", { class: "way far", x1: server, x2: x, y1: y, y2: y })];
+    const end = x === undefined || isReceived ? [] : [tip(x, y, false)];
+    return [way, ...far, ...end, isIgnored ? cross(client + 12, y) : tip(isReceived ? client : server, y, isReceived)];
 }
 
 function label(step, y, columns) {
     const { what, answer } = stepText(step), x = columns.client + 8, text = answer ? `${what} → ${answer}` : what;
-    const kind = step.answer === "ignored" || /^refused/.test(step.answer ?? "") ? "bad" : !step.packet && /^(none|wait)/.test(step.answer ?? "") ? "soft" : "";
-    return draw("text", { x, y, class: `${kind} ${step.isDropped ? "gone" : ""}` }, shortened(text, columns.end - x - 4));
+    const isBad = /^(ignored|refused)/.test(step.answer ?? ""), isSoft = !step.packet && /^(none|wait)/.test(step.answer ?? "");
+    return draw("text", { x, y, class: `${isBad ? "bad" : isSoft ? "soft" : ""} ${step.isDropped ? "gone" : ""}` }, shortened(text, columns.end - x - 4));
 }
 
 function row(step, before, columns) {
-    const top = HEAD + step.index * ROW, isLater = !before || before.time !== step.time, signs = signsOf(step).map(([sign]) => sign).join("");
-    const middle = step.packet ? top + LABEL : top + 19;
-    return draw("g", { id: `step-${step.index}`, role: "option", "aria-selected": "false", "aria-label": sentence(step), "data-index": step.index,
-        "data-answer": step.answer, "data-line": step.line, "data-before": step.before },
+    const top = HEAD + step.index * ROW, isLater = !before || before.time !== step.time;
+    const signs = signsOf(step).map(([sign]) => sign).join(""), middle = step.packet ? top + LABEL : top + 19;
+    return draw("g", {
+        id: `step-${step.index}`, role: "option", "aria-selected": "false", "aria-label": sentence(step), "data-index": step.index,
+        "data-answer": step.answer, "data-line": step.line, "data-before": step.before,
+    },
         draw("rect", { class: "row", x: 0, y: top, width: columns.end, height: ROW }),
         draw("rect", { class: "edge", x: 0, y: top, width: 4, height: ROW }),
         isLater && draw("text", { x: 26, y: top + 19, class: "soft" }, seconds(step.time).slice(0, 11)),
@@ -79,7 +88,8 @@ function row(step, before, columns) {
 }
 
 function lifelines({ client, server, peers }, height) {
-    return [client, server, ...peers.map(({ x }) => x)].map((x) => draw("line", { class: "life", x1: x, x2: x, y1: HEAD - 4, y2: height }));
+    const line = (x) => draw("line", { class: "life", x1: x, x2: x, y1: HEAD - 4, y2: height });
+    return [client, server, ...peers.map(({ x }) => x)].map(line);
 }
 
 function headings({ client, server, peers }) {

@@ -23,7 +23,7 @@ const METHOD_NAMES = Object.freeze({
 export const ATTRIBUTE = Object.freeze({
     MESSAGE_INTEGRITY: 0x0008, ERROR_CODE: 0x0009, CHANNEL_NUMBER: 0x000c, LIFETIME: 0x000d, XOR_PEER_ADDRESS: 0x0012, DATA: 0x0013,
     REALM: 0x0014, NONCE: 0x0015, XOR_RELAYED_ADDRESS: 0x0016, MESSAGE_INTEGRITY_SHA256: 0x001c, CONNECTION_ID: 0x002a,
-    FINGERPRINT: 0x8028,
+    ICMP: 0x8004, FINGERPRINT: 0x8028,
 });
 
 /** Attributes by their types: the name, the section, and how the value is read. */

@@ -9,7 +9,8 @@ import { typedValue, writeValue } from "./values.js";
 /** Where a section of an RFC is to be read. */
 function sectionLink(section) {
     const [, rfc, number] = /^RFC ([0-9]+), (.+)$/.exec(section) ?? [];
-    return rfc ? make("a", { href: `https://www.rfc-editor.org/rfc/rfc${rfc}#section-${number}`, rel: "noreferrer" }, `RFC ${rfc}, ${number}`) : "";
+    const href = `https://www.rfc-editor.org/rfc/rfc${rfc}#section-${number}`;
+    return rfc ? make("a", { href, rel: "noreferrer" }, section) : section;
 }
 
 /** What is not met comes first. */
@@ -43,10 +44,10 @@ export class PacketView {
     }
 
     #answer(step) {
-        const way = step.packet, call = shortened(step.words.slice(1).join(" "));
+        const way = step.packet, call = shortened(step.words.slice(1).join(" ")), answer = answerText(step.answer);
         return [
-            make("p", {}, make("code", {}, call), way && !way.isReceived && `: ${way.bytes.length} bytes over ${way.transport.toUpperCase()} from ${readable(way.from)} to ${readable(way.to)}`),
-            make("p", { class: "answer" }, "Answer: ", make("span", { class: step.answer === "ignored" ? "bad" : "" }, answerText(step.answer))),
+            make("p", {}, make("code", {}, call), way && !way.isReceived && `: ${way.bytes.length} bytes to ${readable(way.to)}`),
+            make("p", { class: "answer" }, "Answer: ", make("span", { class: step.answer === "ignored" ? "bad" : "" }, answer)),
             ...signsOf(step).map(([sign, words]) => make("p", { class: "new" }, `${sign} ${words}`)),
         ];
     }
@@ -57,9 +58,11 @@ export class PacketView {
         }
         const item = ({ isMet, text, section }) => make("li", { class: isMet === undefined ? "soft" : isMet ? "good" : "bad" },
             `${isMet === undefined ? "–" : isMet ? "✓" : "✕"} ${readable(text)} `, section && make("span", {}, "(", sectionLink(section), ")"));
-        const failed = checks.some(({ isMet }) => isMet === false), ordered = [...checks].sort((one, other) => rank(one) - rank(other));
+        const failed = checks.some(({ isMet }) => isMet === false);
+        const ordered = [...checks].sort((one, other) => rank(one) - rank(other));
         const title = step.answer === "ignored" ? "Why it was ignored" : "What the page can check";
-        const note = step.answer === "ignored" && !failed ? "None of the rules that the page knows says why: docs/MACHINE.md has all of them."
+        const note = step.answer === "ignored" && !failed
+            ? "None of the rules that the page knows says why: docs/MACHINE.md has all of them."
             : "A hint by rules that the page checks itself. The client does not say why.";
         return [make("h3", {}, title), make("ul", { class: "checks" }, ordered.map(item)), make("p", { class: "soft" }, note)];
     }
@@ -86,17 +89,20 @@ export class PacketView {
             element.querySelector("th")?.addEventListener("click", () => view.choose(rows[place].field.start, false));
         });
         const titles = packet.frames.map(({ title, fault }) => (fault ? `${title} (${fault})` : title));
-        const body = make("tbody", {}, elements), head = make("thead", {}, make("tr", {}, ["Field", "Value"].map((name) => make("th", { scope: "col" }, name))));
-        return [make("h3", {}, titles.join(", ") || "no bytes"), make("div", { class: "scroll" }, make("table", {}, head, body)), ...view.elements];
+        const head = make("thead", {}, make("tr", {}, ["Field", "Value"].map((name) => make("th", { scope: "col" }, name))));
+        const table = make("div", { class: "scroll" }, make("table", {}, head, make("tbody", {}, elements)));
+        return [make("h3", {}, titles.join(", ") || "no bytes"), table, ...view.elements];
     }
 
     #row(index, packet, frame, field) {
         const { attribute } = field, note = attribute && !attribute.counts ? " (behind the integrity: it does not count)" : "";
         const value = make("td", { class: "long" }, readable(field.value) + note);
         if (attribute && packet.isReceived) {
-            value.append(" ", make("button", { type: "button", "aria-label": `Change ${field.name}`, onclick: () => this.#form(value, index, packet, frame, field) }, "Change"));
+            const change = () => this.#form(value, index, packet, frame, field);
+            value.append(" ", make("button", { type: "button", "aria-label": `Change ${field.name}`, onclick: change }, "Change"));
         }
-        return make("tr", {}, make("th", { scope: "row" }, field.name, field.section && make("small", {}, sectionLink(field.section))), value);
+        const section = field.section && make("small", {}, sectionLink(field.section));
+        return make("tr", {}, make("th", { scope: "row" }, field.name, section), value);
     }
 
     /** What a reader types in place of a value. */

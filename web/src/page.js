@@ -40,7 +40,8 @@ export class Page {
     #ladder = new Ladder(byId("ladder"), (index) => this.choose(index));
     #packet = new PacketView(byId("packet"), (edit) => this.edit([edit]));
     #change = new ChangeView(byId("change"), {
-        edit: (edit, step) => this.edit([edit], step), sign: () => this.#guard(() => this.#sign()), silence: (time) => this.#guard(() => this.#silence(time)),
+        edit: (edit, step) => this.edit([edit], step), sign: () => this.#guard(() => this.#sign()),
+        silence: (time) => this.#guard(() => this.#silence(time)),
     });
 
     /**
@@ -111,7 +112,8 @@ export class Page {
         byId("about").replaceChildren(about);
         byId("asked").hidden = true;
         byId("case-line").hidden = cases.length < 2;
-        byId("case").replaceChildren(...cases.map((_, at) => make("option", { value: at, selected: at === this.#number }, `${at + 1} of ${cases.length}`)));
+        byId("case").replaceChildren(...cases.map((_, at) => (
+            make("option", { value: at, selected: at === this.#number }, `${at + 1} of ${cases.length}`))));
         this.#list.mark(name);
     }
 
@@ -120,7 +122,7 @@ export class Page {
         const { steps, differs, isOriginal } = this.#story, edits = steps.filter((step) => step.isEdited || step.isDropped).length;
         this.#step = Math.min(this.#step, steps.length - 1);
         byId("summary").replaceChildren(isOriginal ? `${steps.length} steps, as recorded.`
-            : `${edits} ${edits === 1 ? "step is" : "steps are"} changed; ${differs} ${differs === 1 ? "answer differs" : "answers differ"} from the original run.`);
+            : `${counted(edits, "step is", "steps are")} changed; ${counted(differs, "answer differs", "answers differ")} from the original run.`);
         byId("undo").disabled = byId("reset").disabled = !this.#history.canUndo;
         byId("redo").disabled = !this.#history.canRedo;
         byId("next").disabled = differs === 0;
@@ -140,7 +142,8 @@ export class Page {
     choose(index) {
         this.#step = index;
         const step = this.#story.steps[index];
-        history.replaceState(null, "", fragmentOf({ run: this.#run.name, number: this.#number, groups: this.#history.groups, step: index }));
+        const place = { run: this.#run.name, number: this.#number, groups: this.#history.groups, step: index };
+        history.replaceState(null, "", fragmentOf(place));
         this.#ladder.choose(index);
         byId("packet-title").replaceChildren(`Step ${index + 1}`);
         byId("state-title").replaceChildren(`State after step ${index + 1}`);
@@ -154,10 +157,10 @@ export class Page {
     }
 
     async #showMore(story, index, isStill) {
-        const lines = linesUpTo(story, index), state = stateAfter(this.#library, story.head, story.settings, lines, possibleEnds(story, index));
-        const now = story.steps[index].time;
-        showState(byId("state"), state, { phase: phaseAfter(story, index, state), outstanding: outstandingAfter(story, index), now });
-        const checks = await checksOf(story, index);
+        const state = stateAfter(this.#library, story.head, story.settings, linesUpTo(story, index), possibleEnds(story, index));
+        const read = { phase: phaseAfter(story, index, state), outstanding: outstandingAfter(story, index), now: story.steps[index].time };
+        showState(byId("state"), state, read);
+        const checks = await checksOf(this.#library, story, index);
         if (isStill()) {
             checks.length && this.#packet.show(story.steps[index], checks);
             byId("state").dataset.step = String(index);
@@ -204,16 +207,19 @@ export class Page {
     }
 
     async #sign() {
-        const { packet, index } = this.#story.steps[this.#step], [frame] = packet.frames, signer = signerOf(requestsBefore(this.#story, index));
+        const { packet, index } = this.#story.steps[this.#step], signer = signerOf(requestsBefore(this.#story, index));
         if (!signer || !canSign()) {
-            throw new BadEdit(signer ? "this page signs only over https or from this machine" : "no key is known before the client has signed a request");
+            throw new BadEdit(signer ? "this page signs only over https or from this machine"
+                : "no key is known before the client has signed a request");
         }
-        const key = await keyOf(this.#story.settings, signer.realm, signer.algorithm), field = attributeOf(frame, SIGNERS[signer.algorithm].type);
+        const key = await keyOf(this.#story.settings, signer.realm, signer.algorithm);
+        const field = attributeOf(packet.frames[0], SIGNERS[signer.algorithm].type);
         this.edit([`bytes ${index} ${toHex(await signed(packet.bytes, field?.start, key, signer.algorithm))}`]);
     }
 
     #silence(duration) {
-        const { time, index } = this.#story.steps[this.#step], lines = linesOfSilence(this.#library, this.#story.head, linesUpTo(this.#story, index), time, duration);
+        const { time, index } = this.#story.steps[this.#step], before = linesUpTo(this.#story, index);
+        const lines = linesOfSilence(this.#library, this.#story.head, before, time, duration);
         const later = index + 1 < this.#story.steps.length ? [`later ${index + 1} ${duration}`] : [];
         this.edit([...later, ...lines.map((line, at) => `add ${index + 1 + at} ${line}`)], index + lines.length);
     }
@@ -236,9 +242,9 @@ export class Page {
             this.#complain("The run has no packet.");
             return;
         }
-        const link = make("a", { href: URL.createObjectURL(new Blob([bytes], { type: "application/vnd.tcpdump.pcap" })), download: `${this.#run.name.split("/")[1]}.pcap` });
-        link.click();
-        URL.revokeObjectURL(link.href);
+        const href = URL.createObjectURL(new Blob([bytes], { type: "application/vnd.tcpdump.pcap" }));
+        make("a", { href, download: `${this.#run.name.split("/")[1]}.pcap` }).click();
+        URL.revokeObjectURL(href);
     }
 
     #key(event) {
@@ -266,6 +272,9 @@ export class Page {
         }
     }
 }
+
+/** So many of something, in words for one and for many. */
+const counted = (count, one, many) => `${count} ${count === 1 ? one : many}`;
 
 /** What an error says, as a sentence. */
 function reason(error) {

@@ -38,7 +38,8 @@ const idOf = (step) => step.packet.frames[0].id;
 async function forge(story) {
     const reply = received(story, METHOD.ALLOCATE, CLASS.SUCCESS), id = idOf(reply);
     const relayed = attribute(ATTRIBUTE.XOR_RELAYED_ADDRESS, writeValue("address", "203.0.113.66:6666", id));
-    const forged = message(METHOD.ALLOCATE | CLASS.SUCCESS, id, relayed, attribute(ATTRIBUTE.LIFETIME, writeValue("seconds", "3600", id)));
+    const lifetime = attribute(ATTRIBUTE.LIFETIME, writeValue("seconds", "3600", id));
+    const forged = message(METHOD.ALLOCATE | CLASS.SUCCESS, id, relayed, lifetime);
     return { edits: [`add ${reply.index} ${withBytes(reply.line, forged)}`], step: reply.index };
 }
 
@@ -57,7 +58,8 @@ async function yesterday(story, told) {
 }
 
 async function stale(story, told) {
-    const reply = received(story, METHOD.CREATE_PERMISSION, CLASS.SUCCESS), { realm, algorithm } = signerOf(requestsBefore(story, reply.index));
+    const reply = received(story, METHOD.CREATE_PERMISSION, CLASS.SUCCESS);
+    const { realm, algorithm } = signerOf(requestsBefore(story, reply.index));
     const error = attribute(ATTRIBUTE.ERROR_CODE, writeValue("error", "438 Stale Nonce", idOf(reply)));
     const challenge = message(METHOD.CREATE_PERMISSION | CLASS.ERROR, idOf(reply), error, attribute(ATTRIBUTE.REALM, realm),
         attribute(ATTRIBUTE.NONCE, text("fresh")));
@@ -70,7 +72,8 @@ async function stale(story, told) {
 }
 
 async function silence(story, told, library) {
-    const reply = received(story, METHOD.ALLOCATE, CLASS.SUCCESS), rest = story.steps.slice(reply.index).map(({ index }) => `drop ${index}`);
+    const reply = received(story, METHOD.ALLOCATE, CLASS.SUCCESS);
+    const rest = story.steps.slice(reply.index).map(({ index }) => `drop ${index}`);
     const lines = linesOfSilence(library, story.head, linesUpTo(story, reply.index - 1), reply.time, MINUTE);
     const edits = [...rest, ...lines.map((line, at) => `add ${story.steps.length + at} ${line}`)], failed = told(edits).steps;
     const end = failed.find(({ answer }) => answer === "closed" || answer?.startsWith("allocate-failed"));

@@ -7,8 +7,8 @@ import { ATTRIBUTE, CLASS } from "./names.js";
  * A request that the client sent: its transaction ID, the step that sent it first and how often it was sent, and the step that got
  * its response, if the client took one.
  * @typedef {{ id: string, method: number, title: string, step: number, time: bigint, sent: number, isSigned: boolean,
- *     realm: Uint8Array | undefined, algorithm: "sha1" | "sha256" | undefined, answered: number | undefined,
- *     timedOut: bigint }} Request
+ *     realm: Uint8Array | undefined, algorithm: "sha1" | "sha256" | undefined, channel: string | undefined,
+ *     answered: number | undefined, timedOut: bigint }} Request
  */
 
 /** A request waits at most about so long for the pause between two of them, in nanoseconds. */
@@ -36,9 +36,11 @@ function madeAt(steps, { index, time }) {
 
 function requestOf(frame, step, steps, life) {
     const field = (type) => attributeOf(frame, type)?.attribute.value, time = madeAt(steps, step);
-    const algorithm = field(ATTRIBUTE.MESSAGE_INTEGRITY_SHA256) ? "sha256" : field(ATTRIBUTE.MESSAGE_INTEGRITY) ? "sha1" : undefined;
+    const sha1 = field(ATTRIBUTE.MESSAGE_INTEGRITY) ? "sha1" : undefined;
+    const algorithm = field(ATTRIBUTE.MESSAGE_INTEGRITY_SHA256) ? "sha256" : sha1;
     return { id: toHex(frame.id), method: frame.method, title: frame.title, step: step.index, time, sent: 1, answered: undefined,
-        isSigned: algorithm !== undefined, realm: field(ATTRIBUTE.REALM), algorithm, timedOut: time + life };
+        isSigned: algorithm !== undefined, realm: field(ATTRIBUTE.REALM), algorithm, timedOut: time + life,
+        channel: attributeOf(frame, ATTRIBUTE.CHANNEL_NUMBER)?.value };
 }
 
 function note(found, step, steps, frame, life) {

@@ -30,7 +30,8 @@ export class RunsView {
     }
 
     #fill() {
-        const words = byId("filter").value.toLowerCase().split(/\s+/).filter(Boolean), found = this.#runs.filter((run) => matches(run, words));
+        const words = byId("filter").value.toLowerCase().split(/\s+/).filter(Boolean);
+        const found = this.#runs.filter((run) => matches(run, words));
         byId("found").replaceChildren(words.length ? `${found.length} of ${this.#runs.length} runs` : "");
         byId("runs").replaceChildren(...folders(found).flatMap((folder) => [make("h3", {}, folder),
             make("ul", {}, found.filter(({ name }) => name.startsWith(`${folder}/`)).map((run) => make("li", {}, runLink(run))))]));
@@ -42,7 +43,9 @@ export class RunsView {
     /** Marks the run that is shown. */
     mark(name) {
         this.#marked = name;
-        byId("runs").querySelectorAll("a").forEach((link) => (link.dataset.run === name ? link.setAttribute("aria-current", "page") : link.removeAttribute("aria-current")));
+        for (const link of byId("runs").querySelectorAll("a")) {
+            link.dataset.run === name ? link.setAttribute("aria-current", "page") : link.removeAttribute("aria-current");
+        }
     }
 }
 

@@ -9,7 +9,8 @@ function row(name, value, isDerived) {
 
 function grantRow({ kind, text, progress, until, detail }) {
     const when = until === undefined ? progress : `${progress} until ${seconds(until)}`;
-    return make("tr", {}, make("th", { scope: "row" }, kind), make("td", { class: "long" }, [readable(text), detail].filter(Boolean).join(", ")), make("td", {}, when));
+    const of = [readable(text), detail].filter(Boolean).join(", ");
+    return make("tr", {}, make("th", { scope: "row" }, kind), make("td", { class: "long" }, of), make("td", {}, when));
 }
 
 function grantsTable({ grants, more }) {
@@ -32,10 +33,11 @@ const list = (items) => (items.length ? readable(items.join("; ")) : "none");
 export function showState(element, state, { phase, outstanding, now }) {
     const wakeUp = state.isClosed ? "none: the client has ended" : state.wakeUp === undefined ? answerText(state.next)
         : `at ${seconds(state.wakeUp)}${state.wakeUp > now ? `, in ${seconds(state.wakeUp - now)}` : ""}`;
-    const requests = state.isClosed ? [] : outstanding.map(({ title, step, sent }) => `${title} of step ${step + 1}${sent > 1 ? `, sent ${sent} times` : ""}`);
+    const often = (sent) => (sent > 1 ? `, sent ${sent} times` : "");
+    const requests = state.isClosed ? [] : outstanding.map(({ title, step, sent }) => `${title} of step ${step + 1}${often(sent)}`);
     const packets = state.packets.map((line) => `${(line.split(" ")[4] ?? "").length / 2} bytes to ${readable(line.split(" ")[3])}`);
     element.replaceChildren(
-        make("dl", {}, row("Phase", phase, !state.isClosed && phase !== "Allocated"), row("Next wake-up", wakeUp), row("Events that wait", list(state.events)),
-            row("Packets that are due", list(packets)), row("Outstanding", list(requests), true)),
+        make("dl", {}, row("Phase", phase, !state.isClosed && phase !== "Allocated"), row("Next wake-up", wakeUp),
+            row("Events that wait", list(state.events)), row("Packets that are due", list(packets)), row("Outstanding", list(requests), true)),
         grantsTable(state));
 }

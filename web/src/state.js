@@ -3,7 +3,7 @@
 // when a grant ends.
 import { Refused } from "../yarrowdoor/src/errors.js";
 import { addressText, hostText, lineOf, packetLine } from "./answers.js";
-import { parseCall } from "./lines.js";
+import { parseCall, parseHead } from "./lines.js";
 import { clientAfter } from "./replay.js";
 
 /** How often a copy is polled at one time, and how many grants are listed. */
@@ -13,8 +13,8 @@ const FIRST_CHANNEL = 0x4000, MORE_CHANNELS = 4;
 
 /**
  * A grant, or one that is requested: what it is, `active`, `pending` or `reserved`, and until when, if it ends by itself.
- * @typedef {{ kind: "allocation" | "permission" | "channel" | "connection", text: string, progress: "active" | "pending" | "reserved",
- *     until: bigint | undefined, detail: string }} Grant
+ * @typedef {{ kind: "allocation" | "permission" | "channel" | "connection", text: string,
+ *     progress: "active" | "pending" | "reserved", until: bigint | undefined, detail: string }} Grant
  */
 /**
  * `isClosed` says that the client has ended; `next` is what `poll` answers, once the events and packets that wait are taken.
@@ -49,7 +49,7 @@ function refusal(call) {
     }
 }
 
-/** The peers of active channels, with the numbers: a copy takes ChannelData of each number that may be bound (RFC 8656, section 12). */
+/** The peers of active channels, with the numbers: a copy takes ChannelData of each number that may be bound. */
 function channelsOf(client, peers, now) {
     const found = new Map();
     for (let number = FIRST_CHANNEL; number < FIRST_CHANNEL + peers.length + MORE_CHANNELS; number++) {
@@ -63,7 +63,8 @@ function channelsOf(client, peers, now) {
 
 const hasIp = (ip, transport) => (client) => client.havePermission(ip, { transport });
 const hasAddress = (text) => (client) => client.relayedAddresses().some(({ address }) => addressText(address) === text);
-const hasChannel = (peer, transport) => (client, now) => refusal(() => client.bindChannel(peer, now, { transport }))?.reason === "already-exists";
+const isBound = (client, peer, transport, now) => refusal(() => client.bindChannel(peer, now, { transport }))?.reason === "already-exists";
+const hasChannel = (peer, transport) => (client, now) => isBound(client, peer, transport, now);
 const hasConnection = (peer, now) => (client) => !refusal(() => client.sendTo(peer, Uint8Array.of(0), now, { transport: "tcp" }));
 
 /** What is active, each with how another copy, at another time, is asked whether it is still there. */
@@ -138,6 +139,29 @@ class Copies {
     has(grant, time) {
         return this.use((client) => (settle(client, time), grant.isThere(client, time)));
     }
+}
+
+/**
+ * Whether the client has ended, once it has done all that is due at a time.
+ * @param {import("../yarrowdoor/src/library.js").Library} library
+ * @param {{ head: string }} story
+ * @param {readonly string[]} lines
+ * @param {bigint} now
+ */
+export function hasEnded(library, { head }, lines, now) {
+    return new Copies(library, head, lines).use((client) => settle(client, now).answer.kind === "closed");
+}
+
+/**
+ * Whether the client says that a peer has a permission.
+ * @param {import("../yarrowdoor/src/library.js").Library} library
+ * @param {{ head: string }} story
+ * @param {readonly string[]} lines
+ * @param {string} peer an address of the lines
+ */
+export function hasPermission(library, { head }, lines, peer) {
+    const { ip, transport } = parseCall(`0 have ${head.split(" ")[3]} ${peer.slice(0, peer.lastIndexOf(":"))}`, parseHead(head));
+    return new Copies(library, head, lines).use(hasIp(ip, transport));
 }
 
 /** The first time at which a grant is no longer there, or undefined where it never ends. */

@@ -19,7 +19,9 @@ import { fromField } from "./hex.js";
  *     packet: Packet | undefined }} Shown
  */
 /** @typedef {{ head: string, calls: [string, string][] }} Case */
-/** @typedef {{ head: string, settings: ReturnType<typeof parseHead>, steps: Shown[], isOriginal: boolean, differs: number }} Story */
+/**
+ * @typedef {{ head: string, settings: ReturnType<typeof parseHead>, steps: Shown[], isOriginal: boolean, differs: number }} Story
+ */
 
 /**
  * The packet of a step: what is passed in by `recv`, or what the answer is to be sent.
@@ -62,7 +64,8 @@ export function tell(library, original, edits) {
         run = edited(run, edit);
     }
     const made = run.steps.filter((step) => !step.isDropped), streams = new Streams(run.head.split(" ")[1]);
-    const answers = answersTo(library, run.head, made.map((step) => step.line)), answerOf = new Map(made.map((step, at) => [step, answers[at]]));
+    const answers = answersTo(library, run.head, made.map((step) => step.line));
+    const answerOf = new Map(made.map((step, at) => [step, answers[at]]));
     const steps = run.steps.map((step, index) => shownStep(step, index, answerOf.get(step), original, streams));
     return {
         head: run.head, settings: parseHead(run.head), steps, isOriginal: edits.length === 0,

@@ -81,14 +81,20 @@ const KINDS = {
         hint: "a number", write: from32,
     },
     channel: {
-        read: (value) => (value.length === 4 ? toHex(value.subarray(0, 2)) : undefined), typed: (value) => toHex(value.subarray(0, 2)),
+        read: (value) => (value.length === 4 ? toHex(value.subarray(0, 2)) : undefined),
+        typed: (value) => toHex(value.subarray(0, 2)),
         hint: "4 hexadecimal digits",
         write: (text) => (/^[0-9a-f]{4}$/.test(text.trim()) ? Uint8Array.of(...fromHex(text.trim()), 0, 0) : undefined),
     },
-    address: { read: addressOf, typed: (value, id) => readable(addressOf(value, id) ?? ""), hint: "an IP address and a port", write: bytesOfAddress },
-    error: { read: errorOf, typed: (value) => errorOf(value)?.replace(/ \(.*?\)/, "").replace(/"/g, "") ?? "", hint: "a code and words", write: bytesOfError },
-    family: { read: named(FAMILIES), typed: (value) => named(FAMILIES)(value) ?? "", hint: "IPv4 or IPv6", write: byName(FAMILIES) },
-    transport: { read: named(TRANSPORTS), typed: (value) => named(TRANSPORTS)(value) ?? "", hint: "UDP or TCP", write: byName(TRANSPORTS) },
+    address: {
+        read: addressOf, typed: (value, id) => readable(addressOf(value, id) ?? ""), hint: "an IP address and a port", write: bytesOfAddress,
+    },
+    error: {
+        read: errorOf, typed: (value) => errorOf(value)?.replace(/ \(.*?\)/, "").replace(/"/g, "") ?? "", hint: "a code and words",
+        write: bytesOfError,
+    },
+    family: { read: named(FAMILIES), typed: named(FAMILIES), hint: "IPv4 or IPv6", write: byName(FAMILIES) },
+    transport: { read: named(TRANSPORTS), typed: named(TRANSPORTS), hint: "UDP or TCP", write: byName(TRANSPORTS) },
 };
 
 /**

@@ -60,7 +60,8 @@ export function signsOf({ isEdited, isDropped, before, origin }) {
  * @param {import("./story.js").Shown} step
  */
 export function sentence(step) {
-    const { what, answer } = stepText(step), way = !step.packet ? "" : step.packet.isReceived ? `received from ${readable(step.packet.from)}: ` : `sent to ${readable(step.packet.to)}: `;
+    const { what, answer } = stepText(step), { packet } = step;
+    const way = !packet ? "" : packet.isReceived ? `received from ${readable(packet.from)}: ` : `sent to ${readable(packet.to)}: `;
     const signs = signsOf(step).map(([, words]) => words).join(", ");
     return [`Step ${step.index + 1}, at ${seconds(step.time)}`, `${way}${what}`, answer, signs].filter(Boolean).join("; ");
 }
