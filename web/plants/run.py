@@ -60,7 +60,8 @@ def try_one(name):
         plant(edit, folder)
         planted, said = run(edit["seen"][0], folder)
     is_seen = (good, planted) == ("passed", "failed")
-    print(f"{'seen' if is_seen else 'NOT SEEN'}: {name}: {edit['seen'][0]}: without it {good}, with it {planted}: {complaint or said}", flush=True)
+    verdict = f"{'seen' if is_seen else 'NOT SEEN'}: {name}: {edit['seen'][0]}"
+    print(f"{verdict}: without it {good}, with it {planted}: {complaint or said}", flush=True)
     return is_seen
 
 

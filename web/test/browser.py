@@ -8,7 +8,6 @@ import shutil
 import sys
 import tempfile
 import threading
-import time
 
 from selenium import webdriver
 from selenium.webdriver.chrome.options import Options
@@ -18,8 +17,8 @@ from selenium.webdriver.common.by import By
 from selenium.webdriver.common.keys import Keys
 
 ROOT = pathlib.Path(__file__).resolve().parent.parent.parent
-ARGUMENTS = ("--headless=new", "--no-sandbox", "--disable-gpu", "--disable-dev-shm-usage", "--hide-scrollbars", "--disable-lcd-text",
-             "--force-device-scale-factor=1")
+ARGUMENTS = ("--headless=new", "--no-sandbox", "--disable-gpu", "--disable-dev-shm-usage", "--hide-scrollbars",
+             "--disable-lcd-text", "--force-device-scale-factor=1")
 # Seconds in which the page does anything, on a machine that does much else.
 PATIENCE = 60
 
@@ -66,7 +65,8 @@ class Browser:
 
     def size(self, width, height=900):
         """Makes the page so wide, which a window cannot be where that is narrow."""
-        self.driver.execute_cdp_cmd("Emulation.setDeviceMetricsOverride", {"width": width, "height": height, "deviceScaleFactor": 1, "mobile": False})
+        metrics = {"width": width, "height": height, "deviceScaleFactor": 1, "mobile": False}
+        self.driver.execute_cdp_cmd("Emulation.setDeviceMetricsOverride", metrics)
 
     def scheme(self, name):
         """`light` or `dark`."""
@@ -93,18 +93,23 @@ class Browser:
 
     def settle(self):
         """Waits until the run is shown, with the state after the step that is chosen."""
-        self.until("return document.getElementById('main').getAttribute('aria-busy') === 'false'"
-                   " && document.getElementById('state').dataset.step === document.querySelector('[aria-selected=true][role=option]').dataset.index")
+        self.until("""
+            const chosen = document.querySelector("#ladder [aria-selected=true]"), byId = (id) => document.getElementById(id);
+            return byId("main").getAttribute("aria-busy") === "false" && byId("state").dataset.step === chosen?.dataset.index;
+        """)
 
     def until(self, script, *words):
         """Waits until a script is true, and gives what it returns."""
-        end = time.monotonic() + PATIENCE
-        while time.monotonic() < end:
-            found = self.driver.execute_script(script, *words)
-            if found:
-                return found
-            time.sleep(0.02)
-        raise AssertionError(f"not after {PATIENCE} s: {script}\n{self.errors()}")
+        found = self.driver.execute_async_script(f"""
+            const done = arguments[arguments.length - 1], end = performance.now() + {PATIENCE * 1000}, test = () => {{ {script} }};
+            const again = () => {{
+                const found = test();
+                found || performance.now() > end ? done(found) : setTimeout(again, 4);
+            }};
+            again();
+        """, *words)
+        assert found, f"not after {PATIENCE} s: {script}\n{self.errors()}"
+        return found
 
     def errors(self):
         """What the console has of errors since it was asked last."""
@@ -112,8 +117,10 @@ class Browser:
 
     def rows(self):
         """The steps of the ladder: each as its line, its answer, and the answer that it differs from."""
-        return self.driver.execute_script(
-            "return [...document.querySelectorAll('#ladder [role=option]')].map(({dataset: it}) => [it.line, it.answer ?? null, it.before ?? null])")
+        return self.driver.execute_script("""
+            const rows = [...document.querySelectorAll("#ladder [role=option]")];
+            return rows.map(({dataset: it}) => [it.line, it.answer ?? null, it.before ?? null]);
+        """)
 
     def answers(self):
         return [answer for _, answer, _ in self.rows()]
@@ -124,7 +131,8 @@ class Browser:
 
     def choose(self, index):
         """Chooses a step by a click on it."""
-        self.driver.execute_script("document.getElementById('step-' + arguments[0]).dispatchEvent(new MouseEvent('click', {bubbles: true}))", index)
+        script = "document.getElementById('step-' + arguments[0]).dispatchEvent(new MouseEvent('click', {bubbles: true}))"
+        self.driver.execute_script(script, index)
         self.settle()
 
     def text(self, element):
@@ -160,7 +168,8 @@ class Browser:
 
     def focused(self):
         """What has the focus: its tag, ID and text."""
-        return self.driver.execute_script("const it = document.activeElement; return [it.tagName.toLowerCase(), it.id, it.textContent.slice(0, 60)]")
+        script = "const it = document.activeElement; return [it.tagName.toLowerCase(), it.id, it.textContent.slice(0, 60)]"
+        return self.driver.execute_script(script)
 
 
 @functools.lru_cache(maxsize=None)

@@ -146,8 +146,11 @@ class Changes(unittest.TestCase):
 
     def test_a_line_that_is_no_call_is_refused_and_changes_nothing(self):
         self.page.choose(PERMITTED)
-        for line, why in (("100000000 have udp 10.0.0", "Bad argument"), ("x poll", "Bad moment"), ("1 think", "Bad call"), ("", "Bad moment"),
-                          ("1 poll now", "Bad argument"), ("01 poll", "Bad moment"), ("4611686018427387905 poll", "Bad moment")):
+        bad = {
+            "100000000 have udp 10.0.0": "Bad argument", "x poll": "Bad moment", "1 think": "Bad call", "": "Bad moment",
+            "1 poll now": "Bad argument", "01 poll": "Bad moment", "4611686018427387905 poll": "Bad moment",
+        }
+        for line, why in bad.items():
             with self.subTest(line):
                 field = self.page.find("#call-line")
                 field.clear()
@@ -175,7 +178,8 @@ class Changes(unittest.TestCase):
 
     def test_a_value_that_is_none_is_refused(self):
         self.page.choose(GRANT)
-        for name, value in (("LIFETIME", "soon"), ("LIFETIME", "4294967296"), ("XOR-RELAYED-ADDRESS", "10.0.0.4"), ("MESSAGE-INTEGRITY", "xy")):
+        bad = (("LIFETIME", "soon"), ("LIFETIME", "4294967296"), ("XOR-RELAYED-ADDRESS", "10.0.0.4"), ("MESSAGE-INTEGRITY", "xy"))
+        for name, value in bad:
             with self.subTest(name, value=value):
                 self.page.choose(GRANT)
                 self.page.find(f"button[aria-label='Change {name}']").click()

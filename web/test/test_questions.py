@@ -22,8 +22,8 @@ class Questions(unittest.TestCase):
     def test_each_question_shows_its_answer(self):
         page = browser()
         page.open()
-        names = page.driver.execute_script("return [...document.querySelectorAll('#questions button')].map((it) => it.firstChild.textContent)")
-        self.assertEqual(names, list(SHOWN))
+        script = "return [...document.querySelectorAll('#questions button')].map((it) => it.firstChild.textContent)"
+        self.assertEqual(page.driver.execute_script(script), list(SHOWN))
         for name, (answer, why, there, gone) in SHOWN.items():
             with self.subTest(name):
                 page.ask(name)

@@ -1,5 +1,4 @@
 """What is taken along: lines, links, captures. A link is written by anybody."""
-import json
 import pathlib
 import tempfile
 import time
@@ -48,13 +47,16 @@ class Takes(unittest.TestCase):
     def test_a_link_that_is_none_is_refused_and_shows_the_run(self):
         none = "The address names no run of this page."
         bad = {
-            "#run=exchange/nothing": none, "#run=../../etc/passwd": none, "#run=<img src=x onerror=alert(1)>": none, "#hello": none,
-            f"#run={EXCHANGE}&edit=think 1": "There is no edit think", f"#run={EXCHANGE}&edit=drop 99": "There is no place 99",
-            f"#run={EXCHANGE}&edit=set 3 9999 00": "There is no place 9999", f"#run={EXCHANGE}&edit=set 3 0 0g": "Bytes are hexadecimal digits",
+            "#run=exchange/nothing": none, "#run=../../etc/passwd": none, "#run=<img src=x onerror=alert(1)>": none,
+            "#hello": none, f"#run={EXCHANGE}&edit=think 1": "There is no edit think",
+            f"#run={EXCHANGE}&edit=drop 99": "There is no place 99",
+            f"#run={EXCHANGE}&edit=set 3 9999 00": "There is no place 9999",
+            f"#run={EXCHANGE}&edit=set 3 0 0g": "Bytes are hexadecimal digits",
             f"#run={EXCHANGE}&edit=drop 3;drop 3": "Step 4 is left out", f"#run={EXCHANGE}&edit=add 0 x": "Bad moment",
             f"#run={EXCHANGE}&edit=__proto__ 1": "There is no edit __proto__", f"#run={EXCHANGE}&edit=add 0 1 constructor": "Bad call",
             f"#run={EXCHANGE}&edit=seed 00": "A seed is 64", f"#run={EXCHANGE}&edit=cut 3 10": "Only what came over TCP",
-            f"#run={EXCHANGE}&edit=delay 3 9223372036854775807": "There is no time", f"#run={EXCHANGE}&edit=later 0 99999999999999999999": "There is no time",
+            f"#run={EXCHANGE}&edit=delay 3 9223372036854775807": "There is no time",
+            f"#run={EXCHANGE}&edit=later 0 99999999999999999999": "There is no time",
             f"#run={EXCHANGE}&edit=<b>bold</b>": "There is no edit <b>bold</b>",
         }
         for fragment, why in bad.items():
@@ -89,13 +91,13 @@ class Takes(unittest.TestCase):
     def test_the_page_asks_no_other_server_for_anything(self):
         self.page.open()
         self.page.ask("Forge a success")
-        names = json.loads(self.page.driver.execute_script("return JSON.stringify(performance.getEntriesByType('resource').map((it) => it.name))"))
+        names = self.page.driver.execute_script("return performance.getEntriesByType('resource').map((it) => it.name)")
         self.assertGreater(len(names), 10)
         self.assertEqual([name for name in names if not name.startswith(self.page.url)], [])
 
     def test_scripts_of_others_and_markup_are_refused(self):
         self.page.open()
-        script = """const it = document.createElement("script"); it.text = "document.title = 'planted'"; document.body.append(it); return document.title"""
+        script = "const it = document.createElement('script'); it.text = 'document.title = `planted`'; document.body.append(it)"
         with self.assertRaisesRegex(Exception, "TrustedScript|trusted"):
             self.page.driver.execute_script(script)
         self.assertNotEqual(self.page.driver.title, "planted")
