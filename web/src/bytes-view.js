@@ -31,7 +31,8 @@ export class BytesView {
     #cell(byte, at) {
         return make("span", {
             role: "gridcell", tabindex: -1, "aria-selected": "false", "aria-label": `byte ${at}: ${toHex([byte])}`,
-            onclick: () => this.choose(at, true), onpointerenter: () => this.#look(at, false), onpointerleave: () => this.#look(undefined, false),
+            onclick: () => this.choose(at, true), onpointerenter: () => this.#look(at, false),
+            onpointerleave: () => this.#look(undefined, false),
         }, toHex([byte]));
     }
 
@@ -95,9 +96,9 @@ export class BytesView {
             "aria-label": `flip bit ${bit} of byte ${at}, which is ${(byte >> bit) & 1}`,
             onclick: () => this.#set(at, byte ^ (1 << bit)),
         }, String((byte >> bit) & 1)));
-        const put = () => (/^[0-9a-f]{2}$/i.test(input.value) ? this.#set(at, parseInt(input.value, 16)) : (input.value = toHex([byte])));
-        const input = make("input", {
-            class: "code", value: toHex([byte]), size: 2, maxlength: 2, "aria-label": `byte ${at}, two hexadecimal digits`, onchange: put,
+        const isByte = (text) => /^[0-9a-f]{2}$/i.test(text), input = make("input", {
+            class: "code", value: toHex([byte]), size: 2, maxlength: 2, "aria-label": `byte ${at}, two hexadecimal digits`,
+            onchange: () => (isByte(input.value) ? this.#set(at, parseInt(input.value, 16)) : (input.value = toHex([byte]))),
         });
         this.#form.replaceChildren(make("span", {}, `Byte ${at}:`), input, make("span", {}, "flip a bit:"), ...bits);
     }

@@ -91,7 +91,8 @@ async function response(packet, frame, step, story) {
 /** Of requests, and of indications but for data, a client takes only a ConnectionAttempt, and that not always. */
 function attempt({ method, title }) {
     const section = "RFC 6062, 4.4";
-    return method === METHOD.CONNECTION_ATTEMPT ? check(undefined, "it offers a connection of a peer, which may have one already", section)
+    return method === METHOD.CONNECTION_ATTEMPT
+        ? check(undefined, "it offers a connection of a peer, which may have one already", section)
         : check(false, `it is a ${title}, which no server sends to a client`, section);
 }
 

@@ -39,7 +39,8 @@ function attributesOf(bytes, start, end, id) {
         }
         const value = bytes.subarray(at + 4, at + 4 + len), { name, section, value: kind } = attributeName(type);
         const counts = countsBehind(signer, type);
-        fields.push({ name, value: readValue(kind, value, id), section, start: at, end: next, attribute: { type, kind, counts, value } });
+        const attribute = { type, kind, counts, value };
+        fields.push({ name, value: readValue(kind, value, id), section, start: at, end: next, attribute });
         if (counts && (type === ATTRIBUTE.MESSAGE_INTEGRITY || type === ATTRIBUTE.MESSAGE_INTEGRITY_SHA256)) {
             signer = type;
         }

@@ -109,7 +109,8 @@ function cut(run, { at, step, bytes }, word) {
 /** The run in which a step and the next one have changed places; each place keeps its time. */
 function swapped(run, at, step) {
     const next = run.steps.findIndex((other, place) => place > at && !other.isDropped);
-    const other = run.steps[next] ?? bad("there is no next step"), moved = (one, to) => ({ ...one, line: atTime(one.line, timeOf(to.line)) });
+    const other = run.steps[next] ?? bad("there is no next step");
+    const moved = (one, to) => ({ ...one, line: atTime(one.line, timeOf(to.line)) });
     return replaced(replaced(run, at, moved(other, step)), next, moved(step, other));
 }
 

@@ -69,7 +69,8 @@ function arrow(step, y, columns) {
 function label(step, y, columns) {
     const { what, answer } = stepText(step), x = columns.client + 8, text = answer ? `${what} → ${answer}` : what;
     const isBad = /^(ignored|refused)/.test(step.answer ?? ""), isSoft = !step.packet && /^(none|wait)/.test(step.answer ?? "");
-    return draw("text", { x, y, class: `${isBad ? "bad" : isSoft ? "soft" : ""} ${step.isDropped ? "gone" : ""}` }, shortened(text, columns.end - x - 4));
+    const kind = `${isBad ? "bad" : isSoft ? "soft" : ""} ${step.isDropped ? "gone" : ""}`;
+    return draw("text", { x, y, class: kind }, shortened(text, columns.end - x - 4));
 }
 
 function row(step, before, columns) {

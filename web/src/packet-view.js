@@ -57,7 +57,7 @@ export class PacketView {
             return [];
         }
         const item = ({ isMet, text, section }) => make("li", { class: isMet === undefined ? "soft" : isMet ? "good" : "bad" },
-            `${isMet === undefined ? "–" : isMet ? "✓" : "✕"} ${readable(text)} `, section && make("span", {}, "(", sectionLink(section), ")"));
+            `${isMet === undefined ? "–" : isMet ? "✓" : "✕"} ${readable(text)} (`, sectionLink(section), ")");
         const failed = checks.some(({ isMet }) => isMet === false);
         const ordered = [...checks].sort((one, other) => rank(one) - rank(other));
         const title = step.answer === "ignored" ? "Why it was ignored" : "What the page can check";

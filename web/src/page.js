@@ -122,7 +122,7 @@ export class Page {
         const { steps, differs, isOriginal } = this.#story, edits = steps.filter((step) => step.isEdited || step.isDropped).length;
         this.#step = Math.min(this.#step, steps.length - 1);
         byId("summary").replaceChildren(isOriginal ? `${steps.length} steps, as recorded.`
-            : `${counted(edits, "step is", "steps are")} changed; ${counted(differs, "answer differs", "answers differ")} from the original run.`);
+            : `${counted(edits, "step is", "steps are")} changed; ${counted(differs, "answer differs", "answers differ")} from the original.`);
         byId("undo").disabled = byId("reset").disabled = !this.#history.canUndo;
         byId("redo").disabled = !this.#history.canRedo;
         byId("next").disabled = differs === 0;
@@ -158,8 +158,8 @@ export class Page {
 
     async #showMore(story, index, isStill) {
         const state = stateAfter(this.#library, story.head, story.settings, linesUpTo(story, index), possibleEnds(story, index));
-        const read = { phase: phaseAfter(story, index, state), outstanding: outstandingAfter(story, index), now: story.steps[index].time };
-        showState(byId("state"), state, read);
+        const phase = phaseAfter(story, index, state), outstanding = outstandingAfter(story, index);
+        showState(byId("state"), state, { phase, outstanding, now: story.steps[index].time });
         const checks = await checksOf(this.#library, story, index);
         if (isStill()) {
             checks.length && this.#packet.show(story.steps[index], checks);

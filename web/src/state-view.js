@@ -38,6 +38,7 @@ export function showState(element, state, { phase, outstanding, now }) {
     const packets = state.packets.map((line) => `${(line.split(" ")[4] ?? "").length / 2} bytes to ${readable(line.split(" ")[3])}`);
     element.replaceChildren(
         make("dl", {}, row("Phase", phase, !state.isClosed && phase !== "Allocated"), row("Next wake-up", wakeUp),
-            row("Events that wait", list(state.events)), row("Packets that are due", list(packets)), row("Outstanding", list(requests), true)),
+            row("Events that wait", list(state.events)), row("Packets that are due", list(packets)),
+            row("Outstanding", list(requests), true)),
         grantsTable(state));
 }

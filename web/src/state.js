@@ -63,8 +63,8 @@ function channelsOf(client, peers, now) {
 
 const hasIp = (ip, transport) => (client) => client.havePermission(ip, { transport });
 const hasAddress = (text) => (client) => client.relayedAddresses().some(({ address }) => addressText(address) === text);
-const isBound = (client, peer, transport, now) => refusal(() => client.bindChannel(peer, now, { transport }))?.reason === "already-exists";
-const hasChannel = (peer, transport) => (client, now) => isBound(client, peer, transport, now);
+const hasChannel = (peer, transport) => (client, now) => (
+    refusal(() => client.bindChannel(peer, now, { transport }))?.reason === "already-exists");
 const hasConnection = (peer, now) => (client) => !refusal(() => client.sendTo(peer, Uint8Array.of(0), now, { transport: "tcp" }));
 
 /** What is active, each with how another copy, at another time, is asked whether it is still there. */

@@ -87,7 +87,8 @@ const KINDS = {
         write: (text) => (/^[0-9a-f]{4}$/.test(text.trim()) ? Uint8Array.of(...fromHex(text.trim()), 0, 0) : undefined),
     },
     address: {
-        read: addressOf, typed: (value, id) => readable(addressOf(value, id) ?? ""), hint: "an IP address and a port", write: bytesOfAddress,
+        read: addressOf, typed: (value, id) => readable(addressOf(value, id) ?? ""), hint: "an IP address and a port",
+        write: bytesOfAddress,
     },
     error: {
         read: errorOf, typed: (value) => errorOf(value)?.replace(/ \(.*?\)/, "").replace(/"/g, "") ?? "", hint: "a code and words",

@@ -202,7 +202,7 @@ class Changes(unittest.TestCase):
         self.page.choose(0)
         self.page.press("Next difference")
         self.assertEqual(self.page.chosen(), PERMITTED)
-        self.assertEqual(self.page.text("summary"), "1 step is changed; 5 answers differ from the original run.")
+        self.assertEqual(self.page.text("summary"), "1 step is changed; 5 answers differ from the original.")
         self.assertIn("differs: it was handled", self.page.text("packet"))
 
 
