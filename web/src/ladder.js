@@ -146,8 +146,9 @@ export class Ladder {
         }
         this.#width = width;
         const { steps } = this.#story, columns = columnsOf(this.#story, width), height = HEAD + steps.length * ROW + 6;
-        this.#box.replaceChildren(draw("svg", { role: "presentation", width, height, viewBox: `0 0 ${width} ${height}` },
-            lifelines(columns, height), steps.map((step, at) => row(step, steps[at - 1], columns)), headings(columns)));
+        const names = draw("svg", { class: "names", "aria-hidden": "true", width, height: HEAD }, headings(columns));
+        this.#box.replaceChildren(names, draw("svg", { role: "presentation", width, height, viewBox: `0 0 ${width} ${height}` },
+            lifelines(columns, height), steps.map((step, at) => row(step, steps[at - 1], columns))));
         this.choose(this.#chosen);
     }
 

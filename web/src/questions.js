@@ -110,7 +110,7 @@ export const QUESTIONS = Object.freeze([
     { name: "Let the nonce go stale", run: EXCHANGE, ask: stale,
         about: "The server wants another nonce; the request is made again, and the late reply to the first one no longer counts." },
     { name: "Be silent for a minute", run: EXCHANGE, ask: silence,
-        about: "The server answers no more. The request goes out seven times, and then the client says that it failed." },
+        about: "The server answers no more. The request goes out seven times, and then the client ends." },
     { name: "Answer from elsewhere", run: EXCHANGE, ask: elsewhere,
         about: "The server's own signed success, byte by byte, comes from another address." },
     { name: "Send data as a stranger", run: EXCHANGE, ask: stranger,

@@ -5,6 +5,7 @@ import importlib.machinery
 import importlib.util
 import pathlib
 import shutil
+import signal
 import sys
 import tempfile
 import threading
@@ -46,6 +47,8 @@ class Browser:
         self.url = f"http://127.0.0.1:{self.server.server_address[1]}/"
         self.driver = webdriver.Chrome(service=Service(shutil.which("chromedriver")), options=self.options(room.name))
         atexit.register(self.close)
+        # Whoever stops the tests stops the browser too.
+        signal.signal(signal.SIGTERM, lambda *_: sys.exit(143))
         self.driver.set_script_timeout(10 * PATIENCE)
         self.is_loaded = False
 
