@@ -19,7 +19,9 @@ from selenium.webdriver.common.keys import Keys
 
 ROOT = pathlib.Path(__file__).resolve().parent.parent.parent
 ARGUMENTS = ("--headless=new", "--no-sandbox", "--disable-gpu", "--disable-dev-shm-usage", "--hide-scrollbars",
-             "--disable-lcd-text", "--force-device-scale-factor=1")
+             "--disable-lcd-text", "--force-device-scale-factor=1",
+             # Tests change the fragment more often than a person does, and Chromium would hold that back.
+             "--disable-ipc-flooding-protection")
 # Seconds in which the page does anything, on a machine that does much else.
 PATIENCE = 60
 
