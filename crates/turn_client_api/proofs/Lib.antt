@@ -1,1 +1,7 @@
+pub mod AddressLemmas
+pub mod AllocationLemmas
 mod ConfigLemmas
+pub mod EarlyLapseLemmas
+pub mod HasLemmas
+pub mod LapseSteps
+pub mod StreamEnds

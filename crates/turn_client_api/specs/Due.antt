@@ -1,6 +1,6 @@
 -- When something is due (RFC 8656, sections 7 to 12).
-use Rattle.std.specs.Prelude.{ℕ, ◌-◌, ◌/◌, min, max, nat_le, nat_lt, Bool, true, false, not, ◌&&◌, ◌||◌, if◌then◌else◌, List, [], ◌∷◌, ◌++◌, map, flat_map}
-use Rattle.std.specs.Prelude.{fold, length, Option, Some, None, option_and_then, option_to_list}
+use Rattle.std.specs.Prelude.{ℕ, ◌+◌, ◌-◌, ◌/◌, min, max, nat_le, nat_lt, Bool, true, false, not, ◌&&◌, ◌||◌, if◌then◌else◌, List, [], ◌∷◌, ◌++◌, map, flat_map}
+use Rattle.std.specs.Prelude.{filter_map, fold, length, Option, Some, None, option_and_then, option_to_list}
 use Rattle.std.specs.Option.{option_map_or}
 use Rattle.std.specs.List.{list_any}
 use Rattle.turn_agent.specs.Agent.{transaction_timeout}
@@ -85,6 +85,21 @@ keepalive_times s =
     if has_allocation_in_use s
     then map (λ keepalive. max (pause_end s) (option_map_or (later_by keepalive) s.last_send 0)) (option_to_list s.config.keepalive)
     else []
+
+-- ---- expiry
+
+-- from when on time removes the grant, reserves the active channel, or frees the reserved number; an
+-- expired allocation stays while a request for it is pending
+abbrev pub lapse_of : State → Grant → Option ℕ
+lapse_of s (Allocation a) = if a.is_expired && has_request (Allocation a) s then None else Some a.expiry
+lapse_of s (Permission ip (Active lease)) = Some lease.expiry
+lapse_of s (Channel number peer (Active lease)) = Some lease.expiry
+lapse_of s (Channel number peer (Reserved until)) = Some (until + 1)
+lapse_of s (Connection c) = c.deadline
+lapse_of s _ = None
+
+abbrev pub expiry_times : State → List ℕ
+expiry_times s = filter_map (lapse_of s) s.grants
 
 -- ---- when a client has to be polled again
 

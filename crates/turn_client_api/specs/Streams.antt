@@ -1,5 +1,5 @@
 -- The streams of a client over TCP, cut into frames (RFC 8656, section 12.5, and RFC 6062).
-use Rattle.std.specs.Prelude.{◌≢◌, ◌<◌, ℕ, zero, suc, Bool, true, false, not, if◌then◌else◌, List, [], map, filter, find, sum_by, length, take, drop, Option}
+use Rattle.std.specs.Prelude.{◌≢◌, ◌<◌, ℕ, zero, suc, Bool, true, false, not, if◌then◌else◌, List, [], ◌++◌, map, filter, find, sum_by, length, take, drop, Option}
 use Rattle.std.specs.Prelude.{Some, None, is_some}
 use Rattle.std.specs.declared.ops.Range.{Range}
 use Rattle.std.specs.declared.net.socket_addr.SocketAddr.{SocketAddr}
@@ -31,6 +31,10 @@ broken_at local s = record s { streams = map by s.streams }
   where
     by : Stream → Stream
     by stream = if same_address stream.local local then record stream { mode = Broken; bytes = [] } else stream
+
+-- the piece is appended to the buffered bytes
+abbrev pub stream_with_piece : Stream → List ℕ → Stream
+stream_with_piece stream piece = record stream { bytes = stream.bytes ++ piece }
 
 -- ---- one whole frame
 

@@ -15,7 +15,7 @@ use Rattle.turn_client_api.specs.Streams.{broken_at, stream_at, with_bytes, with
 use Rattle.turn_client_api.specs.declared.state.Mode.{Mode}
 use Rattle.turn_client_api.specs.declared.state.Mode.TheVariants.{Control, Broken}
 use Rattle.turn_client_api.specs.declared.state.Stream.{Stream}
-use Rattle.turn_client_laws.proofs.AddressLemmas.{same_address-true}
+use Rattle.turn_client_api.proofs.AddressLemmas.{same_address-true}
 use Rattle.turn_client_laws.proofs.MemoryLemmas.{behind}
 use Rattle.turn_client_core.specs.StreamSteps.{EndsBehind, PieceEnds, broken_piece_step, fed_frame_step, is_broken, others_from, piece_at, whole_piece_step}
 use Rattle.turn_client_core.proofs.TurnLemmas.{emptied-broken}

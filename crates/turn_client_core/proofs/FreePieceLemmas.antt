@@ -13,14 +13,13 @@ use Rattle.turn_auth.specs.LongTerm.{Challenge}
 use Rattle.turn_client_api.specs.Answers.{EndsAfterSteps, is_free_piece}
 use Rattle.turn_client_api.specs.Connections.{attempt_indicated, accepts_attempt}
 use Rattle.turn_client_api.specs.Grants.{purposes_of}
-use Rattle.turn_client_laws.specs.Handled.{stream_with_piece}
+use Rattle.turn_client_api.specs.Streams.{stream_with_piece, control_frame_step, framed_stream_step, is_bound, is_ready, stream_at, with_bytes}
 use Rattle.turn_client_api.specs.Judgement as J
 use Rattle.turn_client_api.specs.Judgement.{Judgement, connection_id_in, judgement_of, peer_in}
 use Rattle.turn_client_api.specs.Memory.{challenge_takes_memory, frame_takes_memory, is_free_frame, is_whole_frame, message_takes_memory, packet_takes_memory}
 use Rattle.turn_client_api.specs.Payloads.{Outcome, Handled, Ignored, challenge_step, is_message, message_step}
 use Rattle.turn_client_api.specs.Retry.{retried}
 use Rattle.turn_client_api.specs.State.{State}
-use Rattle.turn_client_api.specs.Streams.{control_frame_step, framed_stream_step, is_bound, is_ready, stream_at, with_bytes}
 use Rattle.turn_client_api.specs.declared.state.Mode.{Mode}
 use Rattle.turn_client_api.specs.declared.state.Mode.TheVariants.{Control, Broken}
 use Rattle.turn_client_api.specs.declared.state.Stream.{Stream}

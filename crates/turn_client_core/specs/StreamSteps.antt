@@ -9,11 +9,10 @@ use Rattle.turn_types.specs.declared.tcp.incoming.IncomingTcp.TheVariants.{Compl
 use Rattle.turn_agent.specs.Agent.{same_address}
 use Rattle.turn_client_api.specs.Answers.{EndsAfterSteps, stream_takes_none}
 use Rattle.turn_client_api.specs.Effect.{closed}
-use Rattle.turn_client_laws.specs.Handled.{stream_with_piece}
+use Rattle.turn_client_api.specs.Streams.{stream_with_piece, broken_at, framed_stream_step, owned, payload_in, sent_by, stream_at, with_bytes}
 use Rattle.turn_client_api.specs.Payloads.{Payload, Outcome, Handled, Ignored, PeerData, PeerIcmp}
 use Rattle.turn_client_api.specs.Receive.{place_kept, stream_step, then_all, whole_piece}
 use Rattle.turn_client_api.specs.State.{State}
-use Rattle.turn_client_api.specs.Streams.{broken_at, framed_stream_step, owned, payload_in, sent_by, stream_at, with_bytes}
 use Rattle.turn_client_api.specs.declared.state.Mode.{Mode}
 use Rattle.turn_client_api.specs.declared.state.Mode.TheVariants.{Control, Waiting, Bound, Broken}
 use Rattle.turn_client_api.specs.declared.state.Stream.{Stream}

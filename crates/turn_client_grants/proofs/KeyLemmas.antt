@@ -11,7 +11,7 @@ use Rattle.std.proofs.lemmas.List.Folds.{list_any-append}
 use Rattle.std.proofs.lemmas.Map.Entries.{option_filter}
 use Rattle.std.proofs.lemmas.Option.{same_Some}
 use Rattle.turn_agent.specs.Agent.{same_address}
-use Rattle.turn_client_laws.proofs.AddressLemmas.{same_address-true, same_ip-true}
+use Rattle.turn_client_api.proofs.AddressLemmas.{same_address-true, same_ip-true}
 use Rattle.turn_client_api.specs.Calls.{active_channel, is_in_progress, is_offer_of, progress_to, without_first}
 use Rattle.turn_client_api.specs.Effect.{new_allocation}
 use Rattle.turn_client_api.specs.Grants.{channel_at, channel_peer, is_channel_of, is_for, is_permission_of, permission_progress}

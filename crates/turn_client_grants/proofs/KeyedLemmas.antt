@@ -5,7 +5,7 @@ use Rattle.std.specs.declared.net.ip_addr.IpAddr.{IpAddr}
 use Rattle.std.specs.declared.net.socket_addr.SocketAddr.{SocketAddr}
 use Rattle.std.proofs.Common.{arith, subst}
 use Rattle.std.proofs.lemmas.Bool.{eqb-true}
-use Rattle.turn_client_laws.proofs.AddressLemmas.{same_address-self, same_address-true, same_ip-true}
+use Rattle.turn_client_api.proofs.AddressLemmas.{same_address-self, same_address-true, same_ip-true}
 use Rattle.turn_client_api.specs.Grants.{channel_at, is_channel_of, is_permission_of}
 use Rattle.turn_client_api.specs.declared.grant.Grant.{Grant}
 use Rattle.turn_client_api.specs.declared.grant.Grant.TheVariants.{Permission, Channel}

@@ -14,7 +14,7 @@ use Rattle.turn_client_api.specs.declared.grant.Relay.{Relay}
 use Rattle.turn_client_grants.specs.Failures.{close_in, close_room_for, event_room_for}
 use Rattle.turn_client_grants.proofs.PushLemmas.{few-of}
 use Rattle.turn_client_grants.proofs.RoomLemmas.{event_room_for-filtered}
-use Rattle.turn_client_laws.proofs.HasLemmas.{Has}
+use Rattle.turn_client_api.proofs.HasLemmas.{Has}
 use Rattle.std.proofs.lemmas.Bool.{and_parts, eq-eqb}
 use Rattle.turn_client_api.specs.Grants.{without_grants}
 use Rattle.turn_client_api.specs.Poll.{allocation_expires, is_lapsed_channel, lapsed_allocation, lapsed_in, last_channel_lapsed}

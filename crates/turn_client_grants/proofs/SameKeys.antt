@@ -15,7 +15,7 @@ use Rattle.std.proofs.lemmas.Bool.{eqb-true, eq-eqb}
 use Rattle.std.proofs.lemmas.Slice.Eq.{bytes_eq-Decides}
 use Rattle.turn_agent.specs.Agent.{same_address}
 use Rattle.turn_client_api.specs.Grants.{same_ip}
-use Rattle.turn_client_laws.proofs.AddressLemmas.{same_address-self, same_address-true, same_ip-true}
+use Rattle.turn_client_api.proofs.AddressLemmas.{same_address-self, same_address-true, same_ip-true}
 use Rattle.turn_client_grants.specs.contracts.key.KeyPartialEq.TheImpl as KeyImpl
 use Rattle.turn_client_grants.specs.declared.key.Key.{Key}
 use Rattle.turn_client_grants.specs.declared.key.Key.TheVariants as By

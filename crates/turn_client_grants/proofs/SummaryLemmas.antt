@@ -8,9 +8,8 @@ use Rattle.std.proofs.lemmas.List.Elements.{All-cons, All-nil}
 use Rattle.std.specs.declared.net.socket_addr.SocketAddr.{SocketAddr}
 use Rattle.turn_types.specs.declared.family.AddressFamily.{AddressFamily}
 use Rattle.turn_client_api.specs.Calls.{channels_to, progress_to, reserved_from}
-use Rattle.turn_client_api.specs.Due.{end_of, refresh_time}
+use Rattle.turn_client_api.specs.Due.{end_of, refresh_time, lapse_of, expiry_times}
 use Rattle.turn_client_api.specs.Grants.{as_allocation, family_of, is_of, is_of_family, is_of_request}
-use Rattle.turn_client_laws.specs.LawsBodies.{lapse_of, expiry_times}
 use Rattle.turn_client_api.specs.Poll.{first_unreported, unreported_in}
 use Rattle.turn_client_api.specs.State.{State, max_time}
 use Rattle.turn_client_api.specs.Transmit.{is_ranked, is_refresh_due, refresh_purpose}

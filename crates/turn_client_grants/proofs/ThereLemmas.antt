@@ -19,7 +19,7 @@ use Rattle.turn_client_api.specs.declared.grant.Progress.TheVariants.{Pending, A
 use Rattle.turn_client_api.specs.declared.grant.Purpose.{Purpose}
 use Rattle.turn_client_api.specs.declared.grant.Purpose.TheVariants.{ForPermission}
 use Rattle.turn_client_grants.specs.Lists.{first_among}
-use Rattle.turn_client_laws.proofs.AddressLemmas.{same_address-true}
+use Rattle.turn_client_api.proofs.AddressLemmas.{same_address-true}
 use Rattle.turn_client_grants.proofs.PushLemmas.{few-of}
 
 -- some client, for statements about every client

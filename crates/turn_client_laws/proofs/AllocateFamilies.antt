@@ -33,7 +33,7 @@ use Rattle.turn_client_laws.proofs.EditsOfCalls.{leaves-walk}
 use Rattle.turn_client_laws.proofs.EditsOfMessages.{edits-IsKept, granted-with}
 use Rattle.turn_client_laws.proofs.GrantedLemmas.{leaves-grants}
 use Rattle.turn_client_laws.proofs.GrantOriginLemmas.{has-mapped}
-use Rattle.turn_client_laws.proofs.HasLemmas.{Has, filter-has, has-append, has-filter, has-left, has-right, map-has}
+use Rattle.turn_client_api.proofs.HasLemmas.{Has, filter-has, has-append, has-filter, has-left, has-right, map-has}
 use Rattle.turn_client_laws.proofs.InAllocationLemmas.{any-has, has-any}
 use Rattle.turn_client_laws.proofs.StandLemmas.{contains-has, has-contains}
 use Rattle.turn_client_laws.proofs.TurnKeepLemmas.{before-kept}

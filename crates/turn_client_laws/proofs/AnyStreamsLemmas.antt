@@ -1,5 +1,5 @@
 -- The effect of a message is independent of the streams.
-use Rattle.turn_client_laws.proofs.HasLemmas.{cases_Option}
+use Rattle.turn_client_api.proofs.HasLemmas.{cases_Option}
 use Rattle.std.proofs.Common.{◌≡◌, ℕ, Bool, true, false, not, cond, ◌&&◌, ◌||◌, eqb, ltb, leb, List, [], ◌∷◌, length, fold, Option, Some, None, refl, ap, ◌∙◌, inl, inr}
 use Rattle.std.specs.Prelude.{is_some}
 use Rattle.std.specs.Option.{option_map_or}

@@ -18,8 +18,8 @@ use Rattle.turn_client_api.specs.Judgement.{is_bind_of}
 use Rattle.turn_client_api.specs.Payloads.{is_message}
 use Rattle.turn_client_laws.specs.Handled.{Input}
 use Rattle.turn_client_laws.specs.LawsBound.{IsBindInput}
-use Rattle.turn_client_laws.proofs.AddressLemmas.{same_address-true}
-use Rattle.turn_client_laws.proofs.HasLemmas.{Has, has-found}
+use Rattle.turn_client_api.proofs.AddressLemmas.{same_address-true}
+use Rattle.turn_client_api.proofs.HasLemmas.{Has, has-found}
 use Rattle.turn_client_laws.proofs.ChallengeJudgement.{AnswersBind, IsSignedReply, bind-says}
 use Rattle.turn_client_laws.proofs.StandLemmas.{has-contains}
 use Rattle.turn_client_laws.proofs.GrantOriginCallLemmas.{Binds}

@@ -22,8 +22,8 @@ use Rattle.turn_client_api.specs.declared.call.Call.TheVariants.{Delete}
 use Rattle.turn_client_laws.specs.LawsBound.{IsBindInput, IsBoundBy, IsBoundConnection, IsConnectedBy}
 use Rattle.turn_client_laws.specs.LawsGranted.{IsEndedNow, WasActive}
 use Rattle.turn_client_laws.specs.LawsHandled.{IsBoundAt}
-use Rattle.turn_client_laws.proofs.AddressLemmas.{same_address-true}
-use Rattle.turn_client_laws.proofs.HasLemmas.{Has, has-append, has-filter}
+use Rattle.turn_client_api.proofs.AddressLemmas.{same_address-true}
+use Rattle.turn_client_api.proofs.HasLemmas.{Has, has-append, has-filter}
 use Rattle.turn_client_laws.proofs.StandLemmas.{contains-has, has-contains}
 use Rattle.turn_client_laws.proofs.GrantOriginLemmas.{has-mapped}
 use Rattle.turn_client_laws.proofs.GrantOriginCallLemmas.{Binds, BindsOrLeaves, bind-leaves}

@@ -21,7 +21,7 @@ use Rattle.turn_client_api.specs.Connections.{accepts_attempt, attempt_indicated
 use Rattle.turn_client_api.specs.Payloads.{Outcome, Handled, Ignored}
 use Rattle.turn_client_api.specs.Poll.{answer_step, answer_by}
 use Rattle.turn_client_api.specs.declared.grant.Relay.{Relay}
-use Rattle.turn_client_laws.proofs.HasLemmas.{cases_Option}
+use Rattle.turn_client_api.proofs.HasLemmas.{cases_Option}
 
 -- ---- a test and a look-up
 

@@ -21,12 +21,12 @@ use Rattle.turn_client_api.specs.declared.call.Call.TheVariants.{Delete}
 use Rattle.turn_client_laws.specs.LawsGranted.{GrantsToPeers, HasChannelTo, IsChannelInput, IsEndedNow, IsGivenFor, IsGrantInput, IsGrantedBy, IsSameGrant}
 use Rattle.turn_client_laws.specs.LawsNumbers.{HasDistinctNumbers}
 use Rattle.turn_client_laws.specs.LawsStates.{HasGrantsAsked, HasItsGrant, is_asked_by}
-use Rattle.turn_client_laws.proofs.AddressLemmas.{same_address-true}
+use Rattle.turn_client_api.proofs.AddressLemmas.{same_address-true}
 use Rattle.turn_client_laws.proofs.DistinctNumbers.{AreApart-KeepsGrants}
 use Rattle.turn_client_laws.proofs.EditsOfMessages.{edits-IsKept, purposes-listed}
 use Rattle.turn_client_laws.proofs.GrantEdits.{grants-KeepsAllEdits}
 use Rattle.turn_client_laws.proofs.GrantedLemmas.{leaves-grants}
-use Rattle.turn_client_laws.proofs.HasLemmas.{Has, has-all}
+use Rattle.turn_client_api.proofs.HasLemmas.{Has, has-all}
 use Rattle.turn_client_laws.proofs.InAllocationLemmas.{any-has}
 use Rattle.turn_client_laws.proofs.ListedGrants.{AllHaveGrant, StayFounded, StayFounded-KeepsAllEdits, HasGrant}
 use Rattle.turn_client_laws.proofs.NumberLemmas.{AreApart, numbers}

@@ -16,7 +16,7 @@ use Rattle.turn_client_api.specs.Steps.{Leaves}
 use Rattle.turn_client_api.specs.declared.call.Call.{Call}
 use Rattle.turn_client_laws.specs.LawsNumbers.{number_of_channel}
 use Rattle.turn_client_laws.specs.LawsStates.{HasNumbersInRange, IsInRange}
-use Rattle.turn_client_laws.proofs.HasLemmas.{Has, all-has, filter_map-has, has-all, has-append, has-filter, has-filter_map}
+use Rattle.turn_client_api.proofs.HasLemmas.{Has, all-has, filter_map-has, has-all, has-append, has-filter, has-filter_map}
 use Rattle.turn_client_laws.proofs.GrantOriginLemmas.{has-mapped}
 use Rattle.turn_client_laws.proofs.TakenOfferLemmas.{was-first}
 use Rattle.turn_client_laws.proofs.Edits.{outline}

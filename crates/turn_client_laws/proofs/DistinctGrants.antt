@@ -30,7 +30,7 @@ use Rattle.turn_client_laws.proofs.EditsOfMessages.{edits-IsKept}
 use Rattle.turn_client_laws.proofs.TurnKeepLemmas.{before-kept}
 use Rattle.turn_client_laws.specs.LawsDoubles.{HasNoDoubles, is_double}
 use Rattle.turn_client_laws.specs.LawsOrder.{FitsPhase, IsUngranted}
-use Rattle.turn_client_laws.proofs.HasLemmas.{Has}
+use Rattle.turn_client_api.proofs.HasLemmas.{Has}
 use Rattle.turn_client_laws.proofs.InAllocationLemmas.{Room}
 use Rattle.turn_client_laws.proofs.NumberLemmas.{none-filter}
 use Rattle.turn_client_laws.proofs.DoubleLemmas.{AreSingle, IsNew, IsSingle, channel-which, connect-which, connection-which, none-IsNew, none-without_first, offer-IsNew, permission-which}

@@ -34,7 +34,7 @@ use Rattle.turn_client_api.specs.Connections.{is_connecting, is_indicated, max_i
 use Rattle.turn_client_api.specs.Transmit.{sent}
 use Rattle.turn_client_laws.specs.LawsOrder.{IsBegun, IsUngranted}
 use Rattle.turn_client_laws.specs.LawsStates.{is_asked_by}
-use Rattle.turn_client_laws.proofs.HasLemmas.{Has}
+use Rattle.turn_client_api.proofs.HasLemmas.{Has}
 use Rattle.turn_client_laws.proofs.InAllocationLemmas.{Room}
 use Rattle.turn_client_api.specs.declared.grant.Lease.{Lease}
 

@@ -44,9 +44,10 @@ use Rattle.turn_client_api.specs.declared.call.Call.{Call}
 use Rattle.turn_client_api.specs.declared.call.Call.TheVariants.{Delete, CreatePermission, BindChannel, TcpConnect, AllocatedTcpSocket, TcpClosed, SendTo, Recv, PollRecv, Poll, PollTransmit}
 use Rattle.turn_client_api.specs.declared.call.Call.TheVariants.{PollEvent, RelayedAddresses, Permissions, HavePermission, ProtocolError, SetPermissionKept, SetChannelKept}
 use Rattle.turn_client_laws.specs.LawsStates.{is_asked_by}
-use Rattle.turn_client_laws.proofs.AddressLemmas.{same_address-self}
-use Rattle.turn_client_laws.proofs.HasLemmas.{Has, filter-has, has-found, has-left, has-right, map-has}
-use Rattle.turn_client_laws.proofs.InAllocationLemmas.{allocation-room, Room, room-more, same_family-self, allocation-there}
+use Rattle.turn_client_api.proofs.AddressLemmas.{same_address-self}
+use Rattle.turn_client_api.proofs.HasLemmas.{Has, filter-has, has-found, has-left, has-right, map-has}
+use Rattle.turn_client_laws.proofs.InAllocationLemmas.{allocation-room, Room, room-more, same_family-self}
+use Rattle.turn_client_api.proofs.AllocationLemmas.{allocation-there}
 use Rattle.turn_client_laws.proofs.GrantOriginLemmas.{has-mapped}
 use Rattle.turn_client_laws.proofs.GrantOriginEffectLemmas.{same_ip-same}
 use Rattle.turn_client_laws.proofs.DoubleLemmas.{no-connection, no-permission}

@@ -37,7 +37,7 @@ use Rattle.turn_client_api.specs.Payloads.{Outcome, Handled, Ignored, answered_p
 use Rattle.turn_client_api.specs.declared.event.TurnEvent.TheVariants.{AllocationCreateFailed}
 use Rattle.turn_client_laws.specs.LawsReplies.{IsAccepted, IsReplyAccepted}
 use Rattle.turn_client_laws.specs.LawsOrder.{IsBegun, IsUngranted}
-use Rattle.turn_client_laws.proofs.HasLemmas.{Has, has-filter, has-filter_map, has-found, cases_Option}
+use Rattle.turn_client_api.proofs.HasLemmas.{Has, has-filter, has-filter_map, has-found, cases_Option}
 use Rattle.turn_client_laws.proofs.InAllocationLemmas.{allocation-room, has-any, not-both}
 use Rattle.turn_client_laws.proofs.NewIdLemmas.{fresh-free}
 use Rattle.turn_client_laws.proofs.GrantOriginLemmas.{has-mapped}

@@ -30,7 +30,7 @@ use Rattle.turn_client_api.specs.Requests.{request_started, channel_bind_method,
 use Rattle.turn_client_api.specs.Payloads.{is_answered}
 use Rattle.turn_client_laws.specs.LawsOrder.{IsBegun, IsUngranted}
 use Rattle.turn_client_api.specs.Poll.{as_reported, first_reported, unreported_in}
-use Rattle.turn_client_laws.proofs.HasLemmas.{Has, filter-has, has-filter, has-filter_map, has-left, map-has, first-has}
+use Rattle.turn_client_api.proofs.HasLemmas.{Has, filter-has, has-filter, has-filter_map, has-left, map-has, first-has}
 use Rattle.turn_client_laws.proofs.Edits.{IsAskable, IsSpelled, KeepsEdits, SparesAllocations, listing, outline, AllocationsStay, KeepsHeeded, aged}
 use Rattle.turn_client_laws.proofs.CaseLemmas.{by_test, by_found}
 use Rattle.turn_client_api.specs.Calls.{marked, with_marks}

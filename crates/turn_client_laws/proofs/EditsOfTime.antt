@@ -29,14 +29,13 @@ use Rattle.turn_client_api.specs.Poll.{offers_timed_out, permissions_lapsed, pol
 use Rattle.turn_client_api.specs.Transmit.{idle_step, is_due_in, keepalive_step, queue_step, refresh_purpose, refreshes_in, refreshes_of_rank, sent, transmit_step}
 use Rattle.turn_client_api.specs.Transmit as T
 use Rattle.turn_client_laws.specs.LawsStates.{is_asked_by}
-use Rattle.turn_client_laws.proofs.AddressLemmas.{same_address-self}
-use Rattle.turn_client_laws.proofs.HasLemmas.{Has, has-filter, has-filter_map, has-flat_map, has-found, first-has}
+use Rattle.turn_client_api.proofs.AddressLemmas.{same_address-self}
+use Rattle.turn_client_api.proofs.HasLemmas.{Has, has-filter, has-filter_map, has-flat_map, has-found, first-has, has-unreversed}
 use Rattle.turn_client_laws.proofs.InAllocationLemmas.{has-any, same_family-self}
 use Rattle.turn_client_laws.proofs.GrantOriginEffectLemmas.{same_ip-same}
-use Rattle.turn_client_laws.proofs.LapseLemmas.{has-unreversed}
 use Rattle.turn_client_laws.proofs.Edits.{IsAskable, KeepsEdits, SparesAllocations}
 use Rattle.turn_client_laws.proofs.EditsOfReplies.{closed-walk, each, either, found, one-of, removed, asked-walk, reserved-walk, spares-kind, spelled-else, unlisted-walk, told-alike}
-use Rattle.turn_client_laws.proofs.LapseSteps.{lapsed_in-does}
+use Rattle.turn_client_api.proofs.LapseSteps.{lapsed_in-does}
 use Rattle.turn_client_laws.proofs.CaseLemmas.{by_test, answer-by}
 
 -- ---- what is refreshed exists

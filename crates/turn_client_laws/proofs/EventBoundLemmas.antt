@@ -28,9 +28,9 @@ use Rattle.turn_client_laws.specs.LawsBodies.{TellsOfFailed, can_fail, max_failu
 use Rattle.turn_client_api.specs.declared.event.TurnEvent.{TurnEvent}
 use Rattle.turn_client_api.specs.declared.event.TurnEvent.TheVariants.{AllocationCreateFailed}
 use Rattle.turn_client_api.specs.declared.poll.TurnPollRet.{TurnPollRet}
-use Rattle.turn_client_laws.proofs.HasLemmas.{Has, has-found}
-use Rattle.turn_client_laws.proofs.LapseLemmas.{IsReserved, has-unreversed}
-use Rattle.turn_client_laws.proofs.LapseSteps.{lapsed_in-does}
+use Rattle.turn_client_api.proofs.HasLemmas.{Has, has-found, has-unreversed}
+use Rattle.turn_client_laws.proofs.LapseLemmas.{IsReserved}
+use Rattle.turn_client_api.proofs.LapseSteps.{lapsed_in-does}
 use Rattle.turn_client_laws.proofs.CaseLemmas.{by_test, by_found, answer-by}
 use Rattle.turn_client_laws.proofs.EditsOfReplies.{and-false}
 use Rattle.turn_client_api.specs.declared.grant.Lease.{Lease}

@@ -22,7 +22,7 @@ use Rattle.turn_client_api.specs.Payloads.{Outcome, Handled, is_message, message
 use Rattle.turn_client_api.specs.Streams.{control_frame_step, frame_step, waiting_frame_step, with_bytes}
 use Rattle.turn_client_laws.proofs.StreamMessageLemmas.{message-same}
 use Rattle.turn_client_laws.proofs.AnyStreamsLemmas.{both_with, message-alike}
-use Rattle.turn_client_laws.proofs.HasLemmas.{cases_Option}
+use Rattle.turn_client_api.proofs.HasLemmas.{cases_Option}
 
 -- ---- bytes and modes
 

@@ -17,7 +17,7 @@ use Rattle.turn_client_api.specs.Grants.{is_channel_of, is_connect_to, is_connec
 use Rattle.turn_client_api.specs.Effect.{new_allocation, relayed_in, taken_addresses}
 use Rattle.turn_client_api.specs.Calls.{channel_numbers, is_offer_of, offer_taken, without_first}
 use Rattle.turn_client_api.specs.Connections.{is_indicated, max_indicated}
-use Rattle.turn_client_laws.proofs.HasLemmas.{Has}
+use Rattle.turn_client_api.proofs.HasLemmas.{Has}
 use Rattle.turn_client_laws.proofs.NumberLemmas.{none-filter}
 use Rattle.turn_client_laws.proofs.DoubleLemmas.{none-without_first}
 use Rattle.turn_client_laws.proofs.Edits.{KeepsAllEdits, KeepsEdits, aged-outlines, outline}

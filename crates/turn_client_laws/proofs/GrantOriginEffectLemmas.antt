@@ -23,7 +23,7 @@ use Rattle.turn_client_api.specs.Judgement.{connection_id_in, lifetime_in}
 use Rattle.turn_client_api.specs.Effect.{lasting, lasting_if, all_gone, allocation_mismatch, channel_answered, channel_lifetime, connect_answered, effect, has_code, challenges_reset, min_lifetime}
 use Rattle.turn_client_api.specs.Effect.{permission_answered, permission_answered_for, permission_lifetime, permission_refused_too, listed_permissions_answered, prolonged, refreshed, reserved_time}
 use Rattle.turn_client_laws.specs.LawsGranted.{HasChannelTo, IsActiveGrant, IsSameGrant}
-use Rattle.turn_client_laws.proofs.HasLemmas.{Has}
+use Rattle.turn_client_api.proofs.HasLemmas.{Has}
 use Rattle.turn_client_laws.proofs.StandLemmas.{has-contains, kept-same, left-filter}
 use Rattle.turn_client_laws.proofs.GrantOriginLemmas.{ChannelsWithin, IsChannelIn, IsGivenOf, KeepsChannels, Takes, channels-append, channels-filter, channels-map, gives-left, gives-map, gives-one}
 use Rattle.turn_client_laws.proofs.GrantOriginLemmas.{gives-trans, takes-fold, takes-same, takes-trans, within-filter}

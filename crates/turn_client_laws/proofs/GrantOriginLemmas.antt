@@ -9,7 +9,7 @@ use Rattle.turn_client_api.specs.declared.grant.Purpose.{Purpose}
 use Rattle.turn_client_api.specs.declared.grant.Listing.{Listing}
 use Rattle.turn_client_api.specs.Grants.{purposes_of}
 use Rattle.turn_client_laws.specs.LawsGranted.{IsActiveGrant, IsSameGrant, IsGivenFor}
-use Rattle.turn_client_laws.proofs.HasLemmas.{Has, has-append, has-filter, filter-has, map-has}
+use Rattle.turn_client_api.proofs.HasLemmas.{Has, has-append, has-filter, filter-has, map-has}
 use Rattle.turn_client_laws.proofs.StandLemmas.{Covers, Left, covers-has, kept-same, kept-stood, kept-trans}
 
 -- the message grants it for one of these purposes

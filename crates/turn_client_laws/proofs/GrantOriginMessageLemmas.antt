@@ -27,7 +27,7 @@ use Rattle.turn_client_api.specs.Retry.{retried}
 use Rattle.turn_client_api.specs.Connections.{attempt_indicated, attempt_requested}
 use Rattle.turn_client_api.specs.Payloads.{Outcome, Handled, Ignored, answered_purposes, challenge_step, is_answered, message_step, response_step, signed_step, wrong_step}
 use Rattle.turn_client_laws.specs.LawsGranted.{IsGrant}
-use Rattle.turn_client_laws.proofs.HasLemmas.{Has, has-filter, cases_Option}
+use Rattle.turn_client_api.proofs.HasLemmas.{Has, has-filter, cases_Option}
 use Rattle.turn_client_laws.proofs.ChallengeJudgement.{AnswersAllocate, IsSignedReply, judgement-says}
 use Rattle.turn_client_laws.proofs.StandLemmas.{Covers, Leaves, Left, covers-left, has-contains, leaves-cond, leaves-same, left-one, left-same}
 use Rattle.turn_client_laws.proofs.GrantOriginLemmas.{ChannelsWithin, Gives, IsGiven, IsGivenOf, Takes, gives-append, gives-covers, gives-left, has-mapped, purposes-within, takes-fold}

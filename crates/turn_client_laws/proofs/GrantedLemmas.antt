@@ -28,13 +28,13 @@ use Rattle.turn_client_api.specs.Steps.{state_after}
 use Rattle.turn_client_api.specs.declared.call.Call.{Call}
 use Rattle.turn_client_api.specs.declared.call.Call.TheVariants.{Delete, AllocatedTcpSocket, Recv, PollRecv}
 use Rattle.turn_client_api.specs.Steps as S
-use Rattle.turn_client_laws.proofs.HasLemmas.{Has, has-filter}
+use Rattle.turn_client_api.proofs.HasLemmas.{Has, has-filter}
 use Rattle.turn_client_laws.proofs.StandLemmas.{Covers, Leaves, contains-has, covers-has, covers-left, covers-stood, has-contains, kept-stood, kept-trans, leaves-same}
 use Rattle.turn_client_laws.proofs.GrantOriginLemmas.{has-mapped}
 use Rattle.turn_client_laws.proofs.GrantOriginMessageLemmas.{message-brings}
 use Rattle.turn_client_laws.proofs.GrantOriginCallLemmas.{Binds, BindsOrLeaves, Leaves-KeepsEdits, bind-leaves, gone-leaves}
 use Rattle.turn_client_laws.proofs.EditsOfCalls.{quiet-walk, tcp_socket-walk}
-use Rattle.turn_client_laws.proofs.AddressLemmas.{same_address-true}
+use Rattle.turn_client_api.proofs.AddressLemmas.{same_address-true}
 use Rattle.turn_client_laws.proofs.BoundLemmas.{binds-turn, found-local}
 use Rattle.turn_client_laws.proofs.TurnBringLemmas.{IsBrought, leaves-bring}
 

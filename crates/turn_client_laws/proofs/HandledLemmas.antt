@@ -14,15 +14,15 @@ use Rattle.turn_client_api.specs.declared.state.Mode.TheVariants.{Control, Waiti
 use Rattle.turn_client_api.specs.declared.state.Stream.{Stream}
 use Rattle.turn_client_api.specs.Payloads.{Payload, Outcome, Handled, Ignored, PeerData, PeerIcmp}
 use Rattle.turn_client_api.specs.Streams.{broken_at, framed_by, framed_stream_step, go_on, is_ready, max_steps, owned, payload_in, poll_recv_step, next_frame_step, detached_frame_step}
-use Rattle.turn_client_api.specs.Streams.{steps_until_payload, with_bytes}
+use Rattle.turn_client_api.specs.Streams.{steps_until_payload, with_bytes, stream_with_piece}
 use Rattle.turn_client_api.specs.Receive.{first_frame_step, piece_step, place_kept, stream_step, then_all}
 use Rattle.turn_client_api.specs.Steps.{packet_step}
 use Rattle.turn_client_api.specs.declared.call.Call.{Call}
 use Rattle.turn_client_api.specs.declared.call.Call.TheVariants.{PollRecv, Recv}
-use Rattle.turn_client_laws.specs.Handled.{Input, datagram_input, stream_with_piece, fed_taken, frame_taken, handled, is_front, processed, payloads, piece_inputs, poll_recv_inputs, stream_inputs}
+use Rattle.turn_client_laws.specs.Handled.{Input, datagram_input, fed_taken, frame_taken, handled, is_front, processed, payloads, piece_inputs, poll_recv_inputs, stream_inputs}
 use Rattle.turn_client_laws.specs.Handled.{stream_inputs_taken, taken_in, taken_of_len, then_taken, stream_input, input_payload, inputs_taken, unless_given}
 use Rattle.turn_client_laws.specs.LawsPeers.{IsDeliveredByInput, IsPermittedInput, IsToldBy}
-use Rattle.turn_client_laws.proofs.HasLemmas.{Has, has-filter_map, has-left, cases_Option}
+use Rattle.turn_client_api.proofs.HasLemmas.{Has, has-filter_map, has-left, cases_Option}
 use Rattle.turn_client_laws.proofs.StandLemmas.{has-contains}
 use Rattle.turn_client_laws.proofs.PeerLemmas.{datagram-IsMessageFromPermitted, frame-IsFromPermitted}
 use Rattle.turn_client_laws.proofs.PacketLemmas.{packet-by}

@@ -30,8 +30,8 @@ use Rattle.turn_client_api.specs.Steps.{Leaves}
 use Rattle.turn_client_api.specs.declared.call.Call.{Call}
 use Rattle.turn_client_laws.specs.LawsGrantAllocations.{asked_family, IsAskedIn, ReplyHasAllocation, GrantsHaveAllocations}
 use Rattle.turn_client_laws.specs.LawsStates.{is_asked_by}
-use Rattle.turn_client_laws.proofs.AddressLemmas.{same_ip-true}
-use Rattle.turn_client_laws.proofs.HasLemmas.{Has, all-has, has-all, has-filter, has-filter_map, has-right, cases_Option, first-has}
+use Rattle.turn_client_api.proofs.AddressLemmas.{same_ip-true}
+use Rattle.turn_client_api.proofs.HasLemmas.{Has, all-has, has-all, has-filter, has-filter_map, has-right, cases_Option, first-has}
 use Rattle.turn_client_laws.proofs.InAllocationLemmas.{Backed, Housed, Houses, Room, Spares, SparesAll, all-spared, any-has, asked-more, has-any, housed-filter, housed-grant, housed-grants}
 use Rattle.turn_client_laws.proofs.InAllocationLemmas.{housed-listings, housed-shaped, housed-without, of-room, room-more, room-of, room-without, same_family-self, same_family-true, shape}
 use Rattle.turn_client_laws.proofs.TakenOfferLemmas.{no-offer, stays-first, was-first}

@@ -1,5 +1,5 @@
 -- Grants that have allocations: what happens to lists of grants and of listings.
-use Rattle.std.proofs.Common.{◌≡◌, ℕ, Bool, true, false, not, ◌&&◌, List, [], ◌∷◌, ◌++◌, map, filter, find, Some, None, inl, inr, refl, sym, subst, ap, ◌∙◌, filter_map}
+use Rattle.std.proofs.Common.{◌≡◌, ℕ, Bool, true, false, not, ◌&&◌, List, [], ◌∷◌, ◌++◌, map, filter, find, Some, None, inl, inr, refl, sym, subst, ap, ◌∙◌}
 use Rattle.std.specs.Prelude.{is_some}
 use Rattle.std.specs.List.{list_any}
 use Rattle.std.proofs.lemmas.Bool.{and_from, not_from_false, or_left, or_right, cases_Bool}
@@ -20,8 +20,9 @@ use Rattle.turn_client_api.specs.declared.grant.Listing.{Listing}
 use Rattle.turn_client_api.specs.Grants.{find_allocation_to, as_allocation, find_allocation, allocations, family_of, family_of_grant, family_of_ip, is_for, same_transport}
 use Rattle.turn_client_api.specs.Requests.{listings}
 use Rattle.turn_client_laws.specs.LawsGrantAllocations.{asked_family}
-use Rattle.turn_client_laws.proofs.HasLemmas.{Has, has-left, has-append, has-filter, filter-has, map-has, filter_map-has, has-filter_map, has-found, cases_Option}
+use Rattle.turn_client_api.proofs.HasLemmas.{Has, has-left, has-append, has-filter, filter-has, map-has, filter_map-has, has-found, cases_Option}
 use Rattle.turn_client_laws.proofs.GrantOriginLemmas.{has-mapped}
+use Rattle.turn_client_api.proofs.AllocationLemmas.{allocation-there}
 
 -- ---- families and tests
 
@@ -73,14 +74,6 @@ pub record Housed (gs : List Grant) (ls : List Listing) : Type 0 where
 -- what has an allocation keeps it
 abbrev pub Houses : State → State → Type 0
 Houses s t = Housed s.grants s.listed → Housed t.grants t.listed
-
--- an allocation that is read from the grants
-pub allocation-there : (a : Relay) (gs : List Grant) → Has a (filter_map as_allocation gs) → Has (Allocation a) gs
-allocation-there a gs h = let (g, there, is) = has-filter_map as_allocation a gs h in subst (λ (x : Grant). Has x gs) (the g is) there
-  where
-    the : (g : Grant) → as_allocation g ≡ Some a → g ≡ Allocation a
-    the (Allocation b) e = cc
-    the g e = cc
 
 pub room-of : (family : AddressFamily) (s : State) → is_some (find_allocation family s) ≡ true → Room s.grants family
 room-of family s h = elim (cases_Option (find_allocation family s)) [

@@ -15,7 +15,7 @@ use Rattle.turn_client_api.specs.Effect.{lasting}
 use Rattle.turn_client_api.specs.Calls.{is_open_to, keep_step, marked, marked_if, with_marks}
 use Rattle.turn_client_laws.specs.LawsKept.{IsSameButKept, KeepsAll}
 use Rattle.turn_client_laws.proofs.CaseLemmas.{by_test}
-use Rattle.turn_client_laws.proofs.HasLemmas.{Has, has-all}
+use Rattle.turn_client_api.proofs.HasLemmas.{Has, has-all}
 
 pub unkept-never : (s : State) (g : Grant) → is_kept g ≡ false → refresh_time s g ≡ None
 unfolding refresh_time

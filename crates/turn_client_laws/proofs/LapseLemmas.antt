@@ -2,7 +2,6 @@
 use Rattle.std.proofs.Common.{◌≡◌, ℕ, ◌<◌, Bool, true, false, ◌&&◌, ◌||◌, not, List, [], ◌∷◌, ◌++◌, filter, filter_map, find, fold, reverse, Option, Some, None, ◌⊎◌, inl, inr, refl, sym, subst, ◌∙◌}
 use Rattle.std.proofs.Common.{leb}
 use Rattle.std.specs.Prelude.{All, ⊤, slice_get}
-use Rattle.std.proofs.lemmas.List.{reverse-append}
 use Rattle.std.proofs.lemmas.Option.{none-some}
 use Rattle.std.proofs.lemmas.Bool.{not-true, leb-false, and_parts, cases_Bool, or_parts}
 use Rattle.std.specs.declared.net.socket_addr.SocketAddr.{SocketAddr}
@@ -25,9 +24,9 @@ use Rattle.turn_client_api.specs.Poll.{permissions_lapsed, refreshes_timed_out, 
 use Rattle.turn_client_api.specs.Poll.{unbound}
 use Rattle.turn_client_api.specs.declared.event.TurnEvent.{TurnEvent}
 use Rattle.turn_client_api.specs.declared.event.TurnEvent.TheVariants.{ChannelCreateFailed}
-use Rattle.turn_client_laws.proofs.HasLemmas.{Has, has-all, has-left, has-right, has-append, has-filter, filter_map-has, has-filter_map, has-found, cases_Option, first-has}
+use Rattle.turn_client_api.proofs.HasLemmas.{Has, has-all, has-reverse, has-unreversed, has-append, has-filter, filter_map-has, has-filter_map, has-found, cases_Option, first-has}
 use Rattle.turn_client_laws.proofs.ReadyLemmas.{Alive}
-use Rattle.turn_client_laws.proofs.LapseSteps.{lapsed_in-does}
+use Rattle.turn_client_api.proofs.LapseSteps.{lapsed_in-does}
 use Rattle.turn_client_laws.proofs.CaseLemmas.{by_test}
 use Rattle.turn_client_laws.proofs.InAllocationLemmas.{same_family-self, same_family-true}
 
@@ -62,19 +61,6 @@ shrinks-then s t u first later = record {
 append-empty : {X : Type 0} (xs ys : List X) → xs ++ ys ≡ [] → (xs ≡ []) × (ys ≡ [])
 append-empty [] ys e = (refl, e)
 append-empty (x ∷ xs) ys e = cc
-
-has-reverse : {X : Type 0} (x : X) (xs : List X) → Has x xs → Has x (reverse xs)
-has-reverse x [] h = absurd h
-has-reverse x (y ∷ xs) (inl e) = rw (reverse-append (y ∷ []) xs) (has-right x (reverse xs) (y ∷ []) (inl e))
-has-reverse x (y ∷ xs) (inr h) = rw (reverse-append (y ∷ []) xs) (has-left x (reverse xs) (y ∷ []) (has-reverse x xs h))
-
-pub has-unreversed : {X : Type 0} (x : X) (xs : List X) → Has x (reverse xs) → Has x xs
-has-unreversed x [] h = h
-has-unreversed x (y ∷ xs) h = elim (has-append x (reverse xs) (y ∷ []) (rw (reverse-append (y ∷ []) xs) at h)) [
-  | inl there ↦ inr (has-unreversed x xs there)
-  | inr (inl e) ↦ inl e
-  | inr (inr none) ↦ absurd none
-]
 
 -- ---- what each part of an expiry does
 

@@ -18,7 +18,7 @@ use Rattle.turn_client_api.specs.Judgement.{Judgement, Challenged, Fatal, bind_j
 use Rattle.turn_client_api.specs.Retry.{bind_time}
 use Rattle.turn_client_api.specs.Connections.{bind_again, bind_answered, bind_step, with_deadline}
 use Rattle.turn_client_api.specs.Payloads.{message_step}
-use Rattle.turn_client_laws.proofs.HasLemmas.{Has, has-filter}
+use Rattle.turn_client_api.proofs.HasLemmas.{Has, has-filter}
 use Rattle.turn_client_laws.proofs.ChallengeJudgement.{AnswersAllocate, AnswersBind, Says, bind-says, judgement-says}
 use Rattle.turn_client_laws.proofs.StandLemmas.{contains-has, has-contains}
 use Rattle.turn_client_laws.proofs.CaseLemmas.{bind-by, by_found}

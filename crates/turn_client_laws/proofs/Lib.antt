@@ -1,5 +1,4 @@
 pub mod AcceptedReplyLemmas
-pub mod AddressLemmas
 pub mod AllocateFamilies
 pub mod AnyStreamsLemmas
 pub mod BoundLemmas
@@ -14,7 +13,6 @@ pub mod CountLemmas
 pub mod DistinctGrants
 pub mod DistinctNumbers
 pub mod DoubleLemmas
-pub mod EarlyLapseLemmas
 pub mod Edits
 pub mod EditsOfCalls
 pub mod EditsOfMessages
@@ -31,14 +29,12 @@ pub mod GrantOriginLemmas
 pub mod GrantOriginMessageLemmas
 pub mod GrantedLemmas
 pub mod HandledLemmas
-pub mod HasLemmas
 pub mod HeldChallenge
 pub mod InAllocation
 pub mod InAllocationLemmas
 pub mod IndicatedOffers
 pub mod KeptLemmas
 pub mod LapseLemmas
-pub mod LapseSteps
 pub mod LateReplyLemmas
 pub mod ListedGrants
 pub mod MemoryLemmas

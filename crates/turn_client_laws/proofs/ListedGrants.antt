@@ -19,7 +19,7 @@ use Rattle.turn_client_api.specs.Calls.{is_offer_of, offer_taken}
 use Rattle.turn_client_api.specs.Steps.{Leaves}
 use Rattle.turn_client_api.specs.declared.call.Call.{Call}
 use Rattle.turn_client_laws.specs.LawsStates.{HasGrantsAsked, HasItsGrant, is_asked_by}
-use Rattle.turn_client_laws.proofs.HasLemmas.{Has, all-has, has-all, has-append, has-filter}
+use Rattle.turn_client_api.proofs.HasLemmas.{Has, all-has, has-all, has-append, has-filter}
 use Rattle.turn_client_laws.proofs.InAllocationLemmas.{any-has, has-any, not-both, stays}
 use Rattle.turn_client_laws.proofs.TakenOfferLemmas.{no-offer, stays-first}
 use Rattle.turn_client_laws.proofs.GrantOriginLemmas.{has-mapped}

@@ -28,7 +28,7 @@ use Rattle.turn_client_api.specs.declared.call.Call.{Call}
 use Rattle.turn_client_api.specs.declared.call.Call.TheVariants.{CreatePermission, BindChannel, TcpConnect}
 use Rattle.turn_client_laws.specs.LawsRequests.{AsksFor, IsListedAs, IsListedFor, IsMade, IsMadeAs, IsSentAgain}
 use Rattle.turn_client_laws.specs.LawsGone.{IsTakenBy, grant_identity}
-use Rattle.turn_client_laws.proofs.HasLemmas.{Has}
+use Rattle.turn_client_api.proofs.HasLemmas.{Has}
 use Rattle.turn_client_laws.proofs.MoveLemmas.{Moves, Never, Settles, adds-more, adds-one, adds-never, adds-same, by_test, loses-map}
 use Rattle.turn_client_laws.proofs.MoveLemmas.{loses-more, loses-same, settles-moves, settles-same}
 use Rattle.turn_client_laws.proofs.MoveMessageLemmas.{each-listing, made-of, request_made, requested-made}

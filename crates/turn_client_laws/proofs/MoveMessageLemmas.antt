@@ -38,7 +38,7 @@ use Rattle.turn_client_laws.specs.LawsReplies.{IsAccepted}
 use Rattle.turn_client_laws.specs.LawsRequests.{IsAnswer, IsListedAgain, IsMade, IsMadeAgain, Spells}
 use Rattle.turn_client_laws.specs.LawsGone.{GivesBack, IsTakenByReply, IsRemovedByInput, grant_identity}
 use Rattle.turn_client_laws.proofs.EditsOfMessages.{found-has, retried-has}
-use Rattle.turn_client_laws.proofs.HasLemmas.{Has, has-right}
+use Rattle.turn_client_api.proofs.HasLemmas.{Has, has-right}
 use Rattle.turn_client_laws.proofs.MoveLemmas.{Moves, Never, Settles, adds-filter, adds-more, adds-one, adds-same, loses-filter, loses-map, loses-more}
 use Rattle.turn_client_laws.proofs.MoveLemmas.{loses-same, loses-wider, on_test, settles-moves, settles-same, settles-wider}
 use Rattle.turn_client_laws.proofs.MoveReplyLemmas.{IsFor, response-fits}

@@ -21,18 +21,17 @@ use Rattle.turn_client_api.specs.declared.state.Phase.TheVariants.{New, Requesti
 use Rattle.turn_client_api.specs.Grants.{allocations, family_of, is_of, without_grants}
 use Rattle.turn_client_api.specs.Requests.{first_allocate, fresh_id, id_used, request_for, to_server}
 use Rattle.turn_client_api.specs.Effect.{closed, transaction_ended}
-use Rattle.turn_client_api.specs.Due.{has_event, has_reply, is_paused, keepalive_times}
+use Rattle.turn_client_api.specs.Due.{has_event, has_reply, is_paused, keepalive_times, expiry_times}
 use Rattle.turn_client_api.specs.Poll.{answer_by, answer_step, channel_lapsed, timed_out_purposes, timed_out_step, allocation_expires, is_lapsed_channel}
 use Rattle.turn_client_api.specs.Poll.{is_listed_for_allocation, lapsed, lapsed_allocation, lapsed_in, next_offer, offer_step, poll_step}
 use Rattle.turn_client_api.specs.Poll.{timed_step, as_reported, first_reported, unreported_in}
 use Rattle.turn_client_api.specs.Transmit.{idle_step, keepalive_step, queue_step, refreshes_in, reply_step, sent, sent_at_once, transmit_step}
 use Rattle.turn_client_api.specs.declared.call.Call.{Call}
 use Rattle.turn_client_api.specs.declared.call.Call.TheVariants.{Poll, PollTransmit}
-use Rattle.turn_client_laws.specs.LawsBodies.{expiry_times}
 use Rattle.turn_client_laws.specs.LawsRequests.{AsksFor, IsMade}
 use Rattle.turn_client_laws.specs.LawsGone.{IsTakenBy, IsTimeUp, grant_identity}
-use Rattle.turn_client_laws.proofs.EarlyLapseLemmas.{lapsed-none}
-use Rattle.turn_client_laws.proofs.HasLemmas.{Has, all-has, has-found}
+use Rattle.turn_client_api.proofs.EarlyLapseLemmas.{lapsed-none}
+use Rattle.turn_client_api.proofs.HasLemmas.{Has, all-has, has-found}
 use Rattle.turn_client_laws.proofs.LapseLemmas.{lapsed-shrinks}
 use Rattle.turn_client_laws.proofs.MoveCallLemmas.{Does, ListedAt, MadeAt, does-same, does-settled}
 use Rattle.turn_client_laws.proofs.MoveLemmas.{Adds, Loses, Never, Settles, adds-filter, adds-never, adds-one, adds-same, adds-then, by_test, loses-same}
@@ -41,7 +40,7 @@ use Rattle.turn_client_laws.proofs.GrantOriginLemmas.{has-mapped}
 use Rattle.turn_client_laws.proofs.MoveMessageLemmas.{made-of}
 use Rattle.turn_client_laws.proofs.MoveSocketLemmas.{by_found}
 use Rattle.turn_client_laws.proofs.StandLemmas.{has-contains}
-use Rattle.turn_client_laws.proofs.LapseSteps.{lapsed_in-does}
+use Rattle.turn_client_api.proofs.LapseSteps.{lapsed_in-does}
 
 -- ---- what is listed as time passes
 

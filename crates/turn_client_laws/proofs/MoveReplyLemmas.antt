@@ -23,7 +23,7 @@ use Rattle.turn_client_api.specs.Effect.{lasting_if, min_lifetime, listed_permis
 use Rattle.turn_client_api.specs.Payloads.{answered_purposes, response_step}
 use Rattle.turn_client_laws.specs.LawsGone.{GivesBack, grant_identity}
 use Rattle.turn_client_laws.proofs.GrantOriginLemmas.{has-mapped}
-use Rattle.turn_client_laws.proofs.HasLemmas.{Has, filter-has, has-filter, map-has}
+use Rattle.turn_client_api.proofs.HasLemmas.{Has, filter-has, has-filter, map-has}
 use Rattle.turn_client_laws.proofs.MoveLemmas.{Adds, IsOfBare, Never, Settles, adds-filter, adds-same, loses-filter, loses-map, loses-more, loses-same, on_test, settles-same, settles-then}
 
 -- one of these purposes is for the grant, or deletes all allocations

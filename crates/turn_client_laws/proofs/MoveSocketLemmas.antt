@@ -35,7 +35,7 @@ use Rattle.turn_client_api.specs.declared.call.Call.{Call}
 use Rattle.turn_client_api.specs.declared.call.Call.TheVariants.{Delete, AllocatedTcpSocket, TcpClosed, SendTo, ProtocolError}
 use Rattle.turn_client_laws.specs.LawsRequests.{IsMade}
 use Rattle.turn_client_laws.specs.LawsGone.{IsTakenBy, grant_identity}
-use Rattle.turn_client_laws.proofs.HasLemmas.{Has, map-has}
+use Rattle.turn_client_api.proofs.HasLemmas.{Has, map-has}
 use Rattle.turn_client_laws.proofs.MoveLemmas.{Loses, Never, Remains, Settles, adds-filter, adds-more, adds-one, adds-same, by_test, loses-filter, loses-more}
 use Rattle.turn_client_laws.proofs.MoveLemmas.{loses-same, on_test, settles-same, adds-never, loses-cons, loses-one}
 use Rattle.turn_client_laws.proofs.MoveCallLemmas.{Does, ListedAt, MadeAt, does-same, does-settled}

@@ -19,7 +19,7 @@ use Rattle.turn_client_api.specs.declared.call.Call.TheVariants.{PollTransmit, P
 use Rattle.turn_client_laws.specs.LawsHandled.{DiffersInStreams, ProcessesInputs, EndsAmidInputs, IsDoneBy, IsStreamEnd, TakesInput, InputsLead}
 use Rattle.turn_client_laws.specs.LawsRequests.{IsListedByInput, IsListingOf, IsMadeByInput, IsRequestOf}
 use Rattle.turn_client_laws.specs.LawsGone.{IsOverItself, IsStillThere, IsTakenBy, IsRemovedByInput}
-use Rattle.turn_client_laws.proofs.HasLemmas.{Has, has-filter}
+use Rattle.turn_client_api.proofs.HasLemmas.{Has, has-filter}
 use Rattle.turn_client_laws.proofs.MoveCallLemmas.{channel-does, connect-does, does-same, does-settled, permission-does}
 use Rattle.turn_client_laws.proofs.MoveLemmas.{IsOfBare, Moves, Remains, Settles, adds-filter, adds-same, loses-same, loses-wider, moves-same}
 use Rattle.turn_client_laws.proofs.MoveLemmas.{remains-here, settles-moves, settles-same, settles-wider}

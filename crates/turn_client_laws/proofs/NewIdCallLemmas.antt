@@ -15,7 +15,7 @@ use Rattle.turn_client_laws.specs.LawsReplies.{IsDrawn}
 use Rattle.turn_client_laws.specs.LawsRequests.{IsMadeAgain, IsRequestOf}
 use Rattle.turn_client_laws.specs.LawsHandled.{TakesInput}
 use Rattle.turn_client_laws.specs.LawsInputs.{IsBroughtBy}
-use Rattle.turn_client_laws.proofs.HasLemmas.{Has}
+use Rattle.turn_client_api.proofs.HasLemmas.{Has}
 use Rattle.turn_client_laws.proofs.MoveLemmas.{Adds}
 use Rattle.turn_client_laws.proofs.MoveMessageLemmas.{bind-turns, message-turns}
 use Rattle.turn_client_laws.proofs.MoveTurnLemmas.{all-obey}

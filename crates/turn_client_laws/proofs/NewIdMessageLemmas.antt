@@ -23,7 +23,7 @@ use Rattle.turn_client_api.specs.Effect.{allocate_denied, allocate_granted, chan
 use Rattle.turn_client_api.specs.Effect.{family_not_supported, has_code}
 use Rattle.turn_client_api.specs.Effect.{permission_answered, permission_answered_for, listed_permissions_answered, refreshed}
 use Rattle.turn_client_api.specs.Payloads.{answered_purposes, response_step, signed_step}
-use Rattle.turn_client_laws.proofs.HasLemmas.{Has, has-append}
+use Rattle.turn_client_api.proofs.HasLemmas.{Has, has-append}
 use Rattle.turn_client_laws.proofs.InAllocationLemmas.{any-has, has-any}
 
 -- ---- effects request nothing

@@ -10,7 +10,7 @@ use Rattle.turn_client_api.specs.declared.grant.Grant.TheVariants.{Channel, Offe
 use Rattle.turn_client_api.specs.Grants.{is_channel_of}
 use Rattle.turn_client_api.specs.Calls.{is_offer_of, without_first}
 use Rattle.turn_client_laws.specs.LawsNumbers.{number_of_channel}
-use Rattle.turn_client_laws.proofs.HasLemmas.{Has}
+use Rattle.turn_client_api.proofs.HasLemmas.{Has}
 
 -- the numbers of the channels among these grants
 abbrev pub numbers : List Grant → List ℕ

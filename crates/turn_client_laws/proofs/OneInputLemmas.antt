@@ -19,8 +19,8 @@ use Rattle.turn_client_api.specs.Payloads.{Outcome, Handled, Ignored, channel_se
 use Rattle.turn_client_api.specs.Streams.{frame_step}
 use Rattle.turn_client_laws.specs.Handled.{Input, processed}
 use Rattle.turn_client_laws.specs.LawsHandled.{IsOverControl}
-use Rattle.turn_client_laws.proofs.AddressLemmas.{same_address-true}
-use Rattle.turn_client_laws.proofs.HasLemmas.{has-found}
+use Rattle.turn_client_api.proofs.AddressLemmas.{same_address-true}
+use Rattle.turn_client_api.proofs.HasLemmas.{has-found}
 use Rattle.turn_client_laws.proofs.MoveLemmas.{on_test}
 
 module _ (P : State → Type 0) (bytes : List ℕ) (now : ℕ) (s : State) (same : P s) where

@@ -42,7 +42,7 @@ use Rattle.turn_client_api.specs.Payloads.{Handled, Ignored, PeerData, PeerIcmp,
 use Rattle.turn_client_api.specs.Payloads.{Outcome, data_indicated, data_of, channel_sent, message_step, datagram_step, is_message, is_channel_frame}
 use Rattle.turn_client_api.specs.Streams.{frame_step, control_frame_step, waiting_frame_step}
 use Rattle.turn_client_laws.specs.LawsPeers.{IsIndicated, IsMessageFromPermitted, IsFromPermitted, HasNoPeer}
-use Rattle.turn_client_laws.proofs.AddressLemmas.{same_ip-true}
+use Rattle.turn_client_api.proofs.AddressLemmas.{same_ip-true}
 use Rattle.turn_client_api.specs.declared.grant.Lease.{Lease}
 
 pub Contains-here : {X : Type 0} (x : X) (xs : List X) → Contains (x ∷ xs) x

@@ -35,8 +35,8 @@ use Rattle.turn_client_api.specs.Transmit.{idle_step, is_due_in, is_ranked, is_r
 use Rattle.turn_client_api.specs.Transmit.{refreshes_of_rank, reply_in}
 use Rattle.turn_client_api.specs.Transmit.{reply_step, sent, sent_at_once, transmit_step, without_first_reply}
 use Rattle.turn_client_api.specs.Alarm.{IsIdleUntil, Lasts}
-use Rattle.turn_client_laws.proofs.HasLemmas.{Has, has-append, has-left, has-right, map-has, flat_map-has, has-flat_map, has-found, filter-has, filter_map-has, has-filter_map, find-none, filter-none}
-use Rattle.turn_client_laws.proofs.HasLemmas.{least-le, all-has}
+use Rattle.turn_client_api.proofs.HasLemmas.{Has, has-append, has-left, has-right, map-has, flat_map-has, has-flat_map, has-found, filter-has, filter_map-has, has-filter_map, find-none, filter-none}
+use Rattle.turn_client_api.proofs.HasLemmas.{least-le, all-has}
 use Rattle.turn_client_laws.proofs.MoveLemmas.{cases_Option, none-found}
 use Rattle.turn_client_laws.proofs.GrantOriginLemmas.{has-mapped}
 use Rattle.std.proofs.lemmas.Bool.{and_parts}

@@ -9,7 +9,7 @@ use Rattle.turn_client_api.specs.declared.state.Stream.{Stream}
 use Rattle.turn_client_api.specs.Streams.{is_ready, max_steps, poll_recv_step, ready_len, steps_until_payload}
 use Rattle.turn_client_laws.specs.Handled.{poll_recv_inputs, inputs_taken}
 use Rattle.turn_client_laws.specs.LawsStreams.{HasNoFrame, NeedsMoreBytes}
-use Rattle.turn_client_laws.proofs.HasLemmas.{find-none, has-all}
+use Rattle.turn_client_api.proofs.HasLemmas.{find-none, has-all}
 use Rattle.turn_client_laws.proofs.StreamShortLemmas.{no_frame-none}
 
 none-by : (b : Bool) (some other : Option ℕ) → b ≡ false → other ≡ None → cond b some other ≡ None

@@ -24,7 +24,7 @@ use Rattle.turn_client_api.specs.Steps.{Leaves}
 use Rattle.turn_client_api.specs.declared.call.Call.{Call}
 use Rattle.turn_client_laws.specs.LawsSteps.{GoesOn, rank}
 use Rattle.turn_client_laws.specs.LawsOrder.{FitsPhase, IsUngranted}
-use Rattle.turn_client_laws.proofs.HasLemmas.{Has}
+use Rattle.turn_client_api.proofs.HasLemmas.{Has}
 use Rattle.turn_client_laws.proofs.InAllocationLemmas.{any-has, has-any}
 use Rattle.turn_client_laws.proofs.Edits.{KeepsAllEdits, KeepsEdits, aged-outlines, outline}
 use Rattle.turn_client_laws.proofs.EditsOfCalls.{leaves-walk}

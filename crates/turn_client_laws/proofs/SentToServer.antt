@@ -9,7 +9,7 @@ use Rattle.turn_client_api.specs.State.{State, initial}
 use Rattle.turn_client_api.specs.Steps.{Leaves}
 use Rattle.turn_client_api.specs.declared.call.Call.{Call}
 use Rattle.turn_client_laws.specs.LawsStates.{AsksServer, IsToServer}
-use Rattle.turn_client_laws.proofs.HasLemmas.{Has, all-has, has-all, has-append, has-filter}
+use Rattle.turn_client_api.proofs.HasLemmas.{Has, all-has, has-all, has-append, has-filter}
 use Rattle.turn_client_laws.proofs.GrantOriginLemmas.{has-mapped}
 use Rattle.turn_client_laws.proofs.Edits.{KeepsAllEdits, KeepsEdits}
 use Rattle.turn_client_laws.proofs.EditsOfCalls.{leaves-walk}

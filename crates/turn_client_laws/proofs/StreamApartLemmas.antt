@@ -3,7 +3,7 @@
 use Rattle.std.proofs.Common.{◌≡◌, ◌≢◌, ℕ, Bool, true, false, not, cond, List, [], ◌∷◌, ◌++◌, map, filter, Some, refl, sym, ◌∙◌, inl, inr}
 use Rattle.std.specs.Prelude.{All, find}
 use Rattle.std.specs.List.{IsDistinct, AllByRecursion}
-use Rattle.std.proofs.lemmas.Bool.{false_from_ne_true, cases_Bool}
+use Rattle.std.proofs.lemmas.Bool.{cases_Bool}
 use Rattle.std.proofs.lemmas.List.{map-append}
 use Rattle.std.proofs.lemmas.List.Elements.{All-nil, All-cons, All-head, All-tail, All-push}
 use Rattle.std.specs.declared.net.socket_addr.SocketAddr.{SocketAddr}
@@ -11,33 +11,17 @@ use Rattle.turn_agent.specs.Agent.{same_address}
 use Rattle.turn_client_api.specs.declared.state.Mode.TheVariants.{Waiting, Bound, Broken}
 use Rattle.turn_client_api.specs.declared.state.Stream.{Stream}
 use Rattle.turn_client_laws.specs.LawsStreams.{IsEmptyIfBroken}
-use Rattle.turn_client_laws.proofs.AddressLemmas.{same_address-true, same_address-self}
+use Rattle.turn_client_api.proofs.AddressLemmas.{differ-sym}
+use Rattle.turn_client_api.proofs.StreamEnds.{ends, IsNoneOf}
 use Rattle.turn_client_laws.proofs.MoveLemmas.{on_choice}
-use Rattle.turn_client_laws.proofs.HasLemmas.{has-found, map-has}
+use Rattle.turn_client_api.proofs.HasLemmas.{has-found, map-has}
 use Rattle.turn_client_laws.proofs.NumberLemmas.{all-of, distinct-last}
 use Rattle.turn_client_laws.proofs.StreamDrainLemmas.{broken_by, broken_by-Sets, bytes_by, bytes_by-Sets, mode_by, mode_by-KeepsHeld}
-
-abbrev pub ends : List Stream → List SocketAddr
-ends xs = map (λ stream. stream.local) xs
 
 abbrev pub Apart : List Stream → Type 0
 Apart xs = IsDistinct same_address (ends xs) × All IsEmptyIfBroken xs
 
--- what differs one way differs the other
-pub differ-sym : (a b : SocketAddr) → same_address a b ≡ false → same_address b a ≡ false
-differ-sym a b differ = false_from_ne_true (same_address b a) by
-  where
-    by : same_address b a ≡ true → ⊥
-    by e =
-        let same : b ≡ a = same_address-true b a e in
-        let clash : true ≡ false = sym (same_address-self a) ∙ rw same at differ in
-        cc
-
--- the local address is none of theirs
-abbrev pub IsNoneOf : SocketAddr → List Stream → Type 0
-IsNoneOf local xs = AllByRecursion (λ y. same_address local y ≡ false) (ends xs)
-
--- and none of theirs is the local address
+-- none of theirs is the local address
 abbrev AreOthers : SocketAddr → List Stream → Type 0
 AreOthers local xs = AllByRecursion (λ y. same_address y local ≡ false) (ends xs)
 

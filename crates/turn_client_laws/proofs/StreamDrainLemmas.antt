@@ -20,7 +20,7 @@ use Rattle.turn_client_laws.specs.LawsStreams.{HasNoFrame, NeedsMoreBytes}
 use Rattle.turn_client_laws.proofs.MoveLemmas.{on_choice, cases_Option, none-found}
 use Rattle.turn_client_laws.proofs.StreamMessageLemmas.{Rebound, frame-rebound}
 use Rattle.turn_client_laws.proofs.StreamWeightLemmas.{KeepsHeld, Sets, kept-Sets, later-Sets, weight, weight-le, weight-less}
-use Rattle.turn_client_laws.proofs.HasLemmas.{has-found, all-has}
+use Rattle.turn_client_api.proofs.HasLemmas.{has-found, all-has}
 
 -- ---- the bytes in a stream
 

@@ -10,7 +10,8 @@ use Rattle.turn_client_api.specs.declared.state.Stream.{Stream}
 use Rattle.turn_client_api.specs.Payloads.{Payload, Outcome}
 use Rattle.turn_client_api.specs.Streams.{go_on, is_ready, max_steps, poll_recv_step, next_frame_step, first_ready_step, steps_until_payload}
 use Rattle.turn_client_laws.specs.LawsStreams.{AreApart}
-use Rattle.turn_client_laws.proofs.StreamApartLemmas.{IsNoneOf, differ-sym, ends}
+use Rattle.turn_client_api.proofs.StreamEnds.{IsNoneOf, ends}
+use Rattle.turn_client_api.proofs.AddressLemmas.{differ-sym}
 use Rattle.turn_client_laws.proofs.StreamDrainLemmas.{turn-lighter}
 use Rattle.turn_client_laws.proofs.StreamStepLemmas.{poll_recv-apart}
 use Rattle.turn_client_laws.proofs.StreamWeightLemmas.{top, weight}

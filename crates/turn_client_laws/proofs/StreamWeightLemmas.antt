@@ -7,8 +7,8 @@ use Rattle.std.proofs.lemmas.List.Sums.{sum_by-cons}
 use Rattle.std.specs.declared.net.socket_addr.SocketAddr.{SocketAddr}
 use Rattle.turn_agent.specs.Agent.{same_address}
 use Rattle.turn_client_api.specs.declared.state.Stream.{Stream}
-use Rattle.turn_client_laws.proofs.AddressLemmas.{same_address-true, same_address-self}
-use Rattle.turn_client_laws.proofs.HasLemmas.{Has, has-found}
+use Rattle.turn_client_api.proofs.AddressLemmas.{same_address-true, same_address-self}
+use Rattle.turn_client_api.proofs.HasLemmas.{Has, has-found}
 
 -- the most bytes of the streams at this local address
 unfoldable pub top : SocketAddr → List Stream → ℕ

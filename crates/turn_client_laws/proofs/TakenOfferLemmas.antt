@@ -6,7 +6,7 @@ use Rattle.turn_client_api.specs.declared.grant.Grant.{Grant}
 use Rattle.turn_client_api.specs.declared.grant.Purpose.{Purpose}
 use Rattle.turn_client_api.specs.Grants.{is_for}
 use Rattle.turn_client_api.specs.Calls.{is_offer_of, without_first}
-use Rattle.turn_client_laws.proofs.HasLemmas.{Has}
+use Rattle.turn_client_api.proofs.HasLemmas.{Has}
 
 pub was-first : (which : Grant → Bool) (g : Grant) (gs : List Grant) → Has g (without_first which gs) → Has g gs
 was-first which g [] none = absurd none

@@ -23,7 +23,7 @@ use Rattle.turn_client_api.specs.Alarm.{AllHaveAllocation, IsBeforeGrants, HasWo
 use Rattle.turn_client_api.specs.declared.event.TurnEvent.{TurnEvent}
 use Rattle.turn_client_api.specs.declared.poll.TurnPollRet.{TurnPollRet}
 use Rattle.turn_client_api.specs.declared.poll.TurnPollRet.TheVariants as Do
-use Rattle.turn_client_laws.proofs.HasLemmas.{Has, has-found}
+use Rattle.turn_client_api.proofs.HasLemmas.{Has, has-found}
 use Rattle.turn_client_laws.proofs.ReadyLemmas.{Alive, IsReady, new-busy, ready-busy, ready-silent, reply-busy}
 use Rattle.turn_client_laws.proofs.LapseLemmas.{lapsed-alive, lapsed-no_offer, lapsed-shrinks}
 use Rattle.turn_client_laws.proofs.WakeupLemmas.{phase-old}

@@ -14,7 +14,7 @@ use Rattle.turn_client_api.specs.Steps.{EndsWithoutMemory, Leaves, state_after}
 use Rattle.turn_client_api.specs.declared.call.Call.{Call}
 use Rattle.turn_client_api.specs.declared.call.Call.TheVariants.{Recv, PollRecv}
 use Rattle.turn_client_laws.specs.LawsHandled.{DiffersInStreams, ProcessesInputs, EndsAmidInputs, IsDoneBy, IsOverControl, TakesInput, InputsLead}
-use Rattle.turn_client_laws.proofs.HasLemmas.{Has, has-left}
+use Rattle.turn_client_api.proofs.HasLemmas.{Has, has-left}
 use Rattle.turn_client_laws.proofs.MemoryLemmas.{memory-ends}
 use Rattle.turn_client_laws.proofs.OneInputLemmas.{input-by}
 use Rattle.turn_client_laws.proofs.StandLemmas.{has-contains}

@@ -30,7 +30,7 @@ use Rattle.turn_client_api.specs.declared.call.Call.TheVariants.{PollTransmit}
 use Rattle.turn_client_laws.specs.LawsPurposes.{HasTwoPurposes}
 use Rattle.turn_client_laws.specs.LawsRequests.{AsksFor, IsListedAgain, IsListedAs, IsListedFor}
 use Rattle.turn_client_laws.proofs.Edits.{listing}
-use Rattle.turn_client_laws.proofs.HasLemmas.{Has, filter-has, has-filter, map-has}
+use Rattle.turn_client_api.proofs.HasLemmas.{Has, filter-has, has-filter, map-has}
 use Rattle.turn_client_laws.proofs.InAllocationLemmas.{has-any}
 use Rattle.turn_client_laws.proofs.MemoryLemmas.{leaves-kept}
 use Rattle.turn_client_laws.proofs.MoveLemmas.{Adds}

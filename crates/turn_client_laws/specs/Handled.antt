@@ -12,7 +12,7 @@ use Rattle.turn_client_api.specs.declared.state.Mode.{Mode}
 use Rattle.turn_client_api.specs.declared.state.Mode.TheVariants.{Control, Waiting, Bound, Broken}
 use Rattle.turn_client_api.specs.declared.state.Stream.{Stream}
 use Rattle.turn_client_api.specs.Payloads.{Payload, Outcome, PeerData, PeerIcmp, datagram_step}
-use Rattle.turn_client_api.specs.Streams.{frame_step, is_ready, max_steps, owned, payload_in, stream_at, next_frame_step, with_bytes}
+use Rattle.turn_client_api.specs.Streams.{frame_step, is_ready, max_steps, owned, payload_in, stream_at, stream_with_piece, next_frame_step, with_bytes}
 use Rattle.turn_client_api.specs.Receive.{first_frame_step, is_from_server}
 use Rattle.turn_client_api.specs.declared.call.Call.{Call}
 use Rattle.turn_client_api.specs.declared.call.Call.TheVariants.{Recv, PollRecv}
@@ -103,10 +103,6 @@ then_taken now (_, s) = poll_recv_inputs now s
 abbrev pub is_front : List ℕ → Bool
 is_front [] = true
 is_front waited = false
-
--- the piece is appended to the buffered bytes
-abbrev pub stream_with_piece : Stream → List ℕ → Stream
-stream_with_piece stream piece = record stream { bytes = stream.bytes ++ piece }
 
 abbrev pub fed_taken : Stream → List ℕ → ℕ → State → List Input
 fed_taken stream piece now s = stream_inputs_taken (is_front stream.bytes) (stream_with_piece stream piece) now s

@@ -1,32 +1,15 @@
--- What spares a client's body work: when nothing changes, how many events are queued, and the parts of a
--- result.
-use Rattle.std.specs.Prelude.{◌≡◌, ◌≤◌, ◌<◌, ◌+◌, ℕ, max, min, Bool, true, false, ◌&&◌, if◌then◌else◌, List, filter, filter_map, flat_map, fold, length, map}
-use Rattle.std.specs.Prelude.{Option, Some, None}
+-- What spares a client's body work: how many events are queued, the parts of a result, the free channel number,
+-- and which streams are unchanged.
+use Rattle.std.specs.Prelude.{◌≡◌, ◌≤◌, ◌<◌, ◌+◌, ℕ, max, min, Bool, true, false, if◌then◌else◌, List, filter, filter_map, flat_map, fold, length, map}
 use Rattle.std.specs.declared.net.socket_addr.SocketAddr.{SocketAddr}
 use Rattle.turn_agent.specs.Agent.{transaction_timeout, same_address}
 use Rattle.turn_client_api.specs.State.{State, agent_of, max_time, later_by}
 use Rattle.turn_client_api.specs.declared.grant.Grant.{Grant}
-use Rattle.turn_client_api.specs.declared.grant.Grant.TheVariants.{Allocation, Permission, Channel, Connection}
-use Rattle.turn_client_api.specs.declared.grant.Progress.TheVariants.{Active, Reserved}
+use Rattle.turn_client_api.specs.declared.grant.Grant.TheVariants.{Allocation, Channel}
+use Rattle.turn_client_api.specs.declared.grant.Progress.TheVariants.{Reserved}
 use Rattle.turn_client_api.specs.declared.state.Stream.{Stream}
-use Rattle.turn_client_api.specs.Grants.{has_request}
 use Rattle.turn_client_api.specs.Calls.{is_number_taken}
 use Rattle.turn_client_api.specs.Due.{end_of, has_queued_request, keepalive_times, max_wait, pause_end, refresh_time}
-
--- ---- expiry
-
--- from when on time removes the grant, reserves the active channel, or frees the reserved number; an
--- expired allocation stays while a request for it is pending
-abbrev pub lapse_of : State → Grant → Option ℕ
-lapse_of s (Allocation a) = if a.is_expired && has_request (Allocation a) s then None else Some a.expiry
-lapse_of s (Permission ip (Active lease)) = Some lease.expiry
-lapse_of s (Channel number peer (Active lease)) = Some lease.expiry
-lapse_of s (Channel number peer (Reserved until)) = Some (until + 1)
-lapse_of s (Connection c) = c.deadline
-lapse_of s _ = None
-
-abbrev pub expiry_times : State → List ℕ
-expiry_times s = filter_map (lapse_of s) s.grants
 
 -- ---- events
 

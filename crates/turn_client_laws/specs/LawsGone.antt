@@ -23,7 +23,7 @@ use Rattle.turn_client_api.specs.Steps.{state_after}
 use Rattle.turn_client_api.specs.declared.call.Call.{Call}
 use Rattle.turn_client_api.specs.declared.call.Call.TheVariants.{Delete, AllocatedTcpSocket, TcpClosed, Recv, PollRecv, Poll}
 use Rattle.turn_client_laws.specs.LawsHandled.{IsDoneBy, IsStreamEnd}
-use Rattle.turn_client_laws.specs.LawsBodies.{expiry_times}
+use Rattle.turn_client_api.specs.Due.{expiry_times}
 use Rattle.turn_client_laws.specs.LawsReplies.{IsAccepted}
 use Rattle.turn_client_laws.specs.LawsRequests.{IsAnswer}
 

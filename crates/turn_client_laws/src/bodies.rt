@@ -4,13 +4,13 @@ ghost use Rattle.std.specs.Prelude.{◌≡◌, ◌≢◌, ℕ, ◌<◌, ◌≤�
 ghost use Rattle.turn_client_api.specs.State.{State};
 ghost use Rattle.turn_client_api.specs.declared.state.Phase.TheVariants.{Requesting};
 ghost use Rattle.turn_client_api.specs.declared.state.Stream.{Stream};
-ghost use Rattle.turn_client_api.specs.Due.{least_due};
+ghost use Rattle.turn_client_api.specs.Due.{least_due, expiry_times};
 ghost use Rattle.turn_client_api.specs.Calls.{free_number};
 ghost use Rattle.turn_client_api.specs.Poll.{lapsed, poll_step};
 ghost use Rattle.turn_client_api.specs.Streams.{frame_step, poll_recv_step, next_frame_step};
 ghost use Rattle.turn_client_laws.specs.Handled.{poll_recv_inputs};
 ghost use Rattle.turn_client_laws.specs.LawsStreams.{NeedsMoreBytes};
-ghost use Rattle.turn_client_laws.specs.LawsBodies.{AreTakenUpTo, IsAsideFrom, IsLeastFree, TellsOfFailed, expiry_times, max_failures, soonest};
+ghost use Rattle.turn_client_laws.specs.LawsBodies.{AreTakenUpTo, IsAsideFrom, IsLeastFree, TellsOfFailed, max_failures, soonest};
 
 /// Before the earliest time at which a grant expires, time changes nothing unless a transaction timed out.
 /// These times are the expiries of allocations, permissions and channels (RFC 8656, sections 8, 9 and 12),

@@ -10,7 +10,7 @@ use Rattle.turn_client_api.specs.Steps.{packet_step, state_after}
 use Rattle.turn_client_api.specs.declared.call.Call.{Call}
 use Rattle.turn_client_api.specs.declared.call.Call.TheVariants.{Delete, CreatePermission, BindChannel, TcpConnect, AllocatedTcpSocket, TcpClosed, SendTo, Recv, PollRecv, Poll, PollTransmit}
 use Rattle.turn_client_api.specs.declared.call.Call.TheVariants.{PollEvent, ProtocolError, RelayedAddresses, Permissions, HavePermission}
-use Rattle.turn_client_laws.proofs.HasLemmas.{Has, has-left, has-right}
+use Rattle.turn_client_api.proofs.HasLemmas.{Has, has-left, has-right}
 use Rattle.turn_client_laws.proofs.StandLemmas.{contains-has, has-contains}
 use Rattle.turn_client_runs.specs.Inputs.{IsAmong, delivered_by, answered_in, handled_in}
 use Rattle.turn_client_laws.proofs.HandledLemmas.{recv-IsToldBy}

@@ -12,7 +12,7 @@ use Rattle.turn_client_api.specs.Steps.{Leaves}
 use Rattle.turn_client_api.specs.Streams.{stream_at}
 use Rattle.turn_client_api.specs.declared.call.Call.{Call}
 use Rattle.turn_client_api.specs.declared.state.Stream.{Stream}
-use Rattle.turn_client_laws.proofs.AddressLemmas.{same_address-self}
+use Rattle.turn_client_api.proofs.AddressLemmas.{same_address-self}
 use Rattle.turn_client_laws.proofs.InAllocation.{leaves-GrantsHaveAllocations}
 use Rattle.turn_client_laws.proofs.SendOrderLemmas.{leaves-steadies}
 use Rattle.turn_client_core.specs.StreamSteps.{piece_at, piece_takes_none}

@@ -7,7 +7,7 @@ use Rattle.turn_client_api.specs.Receive.{recv_step}
 use Rattle.turn_client_api.specs.State.{State}
 use Rattle.turn_client_api.specs.Steps.{Leaves}
 use Rattle.turn_client_api.specs.declared.call.Call.{Call}
-use Rattle.turn_client_laws.proofs.AddressLemmas.{same_address-self}
+use Rattle.turn_client_api.proofs.AddressLemmas.{same_address-self}
 use Rattle.turn_client_laws.proofs.InAllocation.{leaves-GrantsHaveAllocations}
 use Rattle.turn_client_laws.proofs.SendOrderLemmas.{leaves-steadies}
 use Rattle.turn_client_proto.specs.OverUdp.{IsUdpClient}

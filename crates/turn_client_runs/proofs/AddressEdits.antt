@@ -15,7 +15,7 @@ use Rattle.turn_client_api.specs.Grants.{is_channel_of, is_connect_to, is_of, is
 use Rattle.turn_client_api.specs.Retry.{phase_after}
 use Rattle.turn_client_laws.specs.LawsOrder.{IsUngranted}
 use Rattle.turn_client_laws.proofs.Edits.{KeepsAllEdits, KeepsEdits, aged-outlines, outline}
-use Rattle.turn_client_laws.proofs.HasLemmas.{Has, has-append, has-filter}
+use Rattle.turn_client_api.proofs.HasLemmas.{Has, has-append, has-filter}
 
 -- one of these allocations has this address
 abbrev pub HasAddress : SocketAddr → List Grant → Type 0

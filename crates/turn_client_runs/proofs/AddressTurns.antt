@@ -17,7 +17,7 @@ use Rattle.turn_client_laws.specs.LawsHandled.{IsDoneBy, IsOverControl, TakesInp
 use Rattle.turn_client_laws.specs.LawsOrder.{IsUngranted}
 use Rattle.turn_client_laws.proofs.CaseLemmas.{by_test}
 use Rattle.turn_client_laws.proofs.EditsOfMessages.{bind-walk, message-walk}
-use Rattle.turn_client_laws.proofs.HasLemmas.{Has}
+use Rattle.turn_client_api.proofs.HasLemmas.{Has}
 use Rattle.turn_client_laws.proofs.StandLemmas.{Covers, contains-has}
 use Rattle.turn_client_laws.proofs.TurnBringLemmas.{IsBrought, leaves-bring}
 use Rattle.turn_client_runs.proofs.AddressEdits.{AddressesWithin, HasAddress, KeepsAddresses, KeepsAddresses-KeepsAllEdits, filter-within}

@@ -19,7 +19,7 @@ use Rattle.turn_client_api.specs.Retry.{first_or, is_allocate_or_connect, is_cha
 use Rattle.turn_client_api.specs.Steps.{state_after, state_after_all}
 use Rattle.turn_client_laws.proofs.Edits.{listing}
 use Rattle.turn_client_laws.proofs.EditsOfMessages.{retried-has}
-use Rattle.turn_client_laws.proofs.HasLemmas.{Has, has-found}
+use Rattle.turn_client_api.proofs.HasLemmas.{Has, has-found}
 use Rattle.turn_client_laws.proofs.MoveSocketLemmas.{gone-settles}
 use Rattle.turn_client_laws.proofs.MoveTurnLemmas.{listings-made}
 use Rattle.turn_client_laws.proofs.StandLemmas.{contains-has, has-contains}

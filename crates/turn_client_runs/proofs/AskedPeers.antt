@@ -21,7 +21,7 @@ use Rattle.turn_client_laws.proofs.ChannelPeers.{asked-peer}
 use Rattle.turn_client_laws.proofs.DistinctNumbers.{AreApart-KeepsGrants}
 use Rattle.turn_client_laws.proofs.EditsOfMessages.{edits-IsKept, purposes-listed}
 use Rattle.turn_client_laws.proofs.GrantEdits.{grants-KeepsAllEdits}
-use Rattle.turn_client_laws.proofs.HasLemmas.{Has, has-all}
+use Rattle.turn_client_api.proofs.HasLemmas.{Has, has-all}
 use Rattle.turn_client_laws.proofs.ListedGrants.{StayFounded, StayFounded-KeepsAllEdits}
 use Rattle.turn_client_laws.proofs.NumberLemmas.{AreApart}
 use Rattle.turn_client_laws.proofs.StandLemmas.{contains-has}

@@ -12,12 +12,12 @@ use Rattle.turn_client_api.specs.declared.call.Call.TheVariants.{Recv, PollRecv}
 use Rattle.turn_client_api.specs.declared.state.Mode.{Mode}
 use Rattle.turn_client_api.specs.declared.state.Mode.TheVariants.{Control, Bound, Broken}
 use Rattle.turn_client_api.specs.declared.state.Stream.{Stream}
-use Rattle.turn_client_laws.specs.Handled.{Input, stream_with_piece, fed_taken, frame_taken, handled, is_front, piece_inputs, poll_recv_inputs, stream_inputs, stream_inputs_taken}
+use Rattle.turn_client_laws.specs.Handled.{Input, fed_taken, frame_taken, handled, is_front, piece_inputs, poll_recv_inputs, stream_inputs, stream_inputs_taken}
+use Rattle.turn_client_api.specs.Streams.{stream_with_piece, is_ready, max_steps, payload_in, next_frame_step, with_bytes}
 use Rattle.turn_client_laws.specs.Handled.{stream_input, taken_first, taken_in, taken_of_len, then_taken, inputs_taken, unless_given}
 use Rattle.turn_client_api.specs.Payloads.{Payload, Outcome, Handled, Ignored}
 use Rattle.turn_client_api.specs.Receive.{first_frame_step}
-use Rattle.turn_client_api.specs.Streams.{is_ready, max_steps, payload_in, next_frame_step, with_bytes}
-use Rattle.turn_client_laws.proofs.HasLemmas.{Has, has-append, has-found, map-has}
+use Rattle.turn_client_api.proofs.HasLemmas.{Has, has-append, has-found, map-has}
 use Rattle.turn_client_laws.proofs.PacketLemmas.{packet-by}
 use Rattle.turn_client_laws.proofs.StandLemmas.{contains-has, has-contains}
 use Rattle.turn_client_runs.specs.Granted.{ComesIn, IsNextOf}

@@ -37,7 +37,7 @@ use Rattle.turn_client_laws.proofs.GrantOriginLemmas.{IsWithin, has-mapped, purp
 use Rattle.turn_client_laws.proofs.GrantOriginEffectLemmas.{effect-takes, same_ip-same}
 use Rattle.turn_client_laws.proofs.GrantOriginMessageLemmas.{asked_for}
 use Rattle.turn_client_laws.proofs.EditsOfReplies.{channel-there}
-use Rattle.turn_client_laws.proofs.HasLemmas.{Has, has-filter, has-filter_map}
+use Rattle.turn_client_api.proofs.HasLemmas.{Has, has-filter, has-filter_map}
 use Rattle.turn_client_laws.proofs.InAllocationLemmas.{any-has, has-any}
 use Rattle.turn_client_laws.proofs.StandLemmas.{has-contains}
 use Rattle.turn_client_runs.specs.Events.{IsNoRefresh, Reports}

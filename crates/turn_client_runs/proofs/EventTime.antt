@@ -26,9 +26,9 @@ use Rattle.turn_client_api.specs.Poll.{is_timed_out_offer, is_unbound, lapsed, l
 use Rattle.turn_client_api.specs.Poll.{timed_out_purposes, timed_out_step, timed_step}
 use Rattle.turn_client_laws.proofs.CaseLemmas.{answer-by, by_found, by_test}
 use Rattle.turn_client_laws.proofs.GrantOriginLemmas.{has-mapped}
-use Rattle.turn_client_laws.proofs.HasLemmas.{Has, has-append, has-filter, has-filter_map, has-found}
-use Rattle.turn_client_laws.proofs.LapseLemmas.{IsReserved, has-unreversed}
-use Rattle.turn_client_laws.proofs.LapseSteps.{lapsed_in-does}
+use Rattle.turn_client_api.proofs.HasLemmas.{Has, has-append, has-filter, has-filter_map, has-found, has-unreversed}
+use Rattle.turn_client_laws.proofs.LapseLemmas.{IsReserved}
+use Rattle.turn_client_api.proofs.LapseSteps.{lapsed_in-does}
 use Rattle.turn_client_laws.proofs.StandLemmas.{has-contains}
 use Rattle.turn_client_runs.specs.Events.{FailsInTime, HasFailed}
 use Rattle.turn_client_runs.proofs.EventLemmas.{Tells, adds-before, adds-none, told-one, tells-fold, tells-same, tells-trans}

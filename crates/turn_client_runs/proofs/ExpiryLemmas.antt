@@ -17,7 +17,7 @@ use Rattle.turn_client_api.specs.Effect.{closed, transaction_ended}
 use Rattle.turn_client_api.specs.Grants.{allocations}
 use Rattle.turn_client_api.specs.Poll.{answer_by, answer_step, is_listed_for_allocation, lapsed, next_offer, offer_step, poll_step, timed_out_step, timed_step}
 use Rattle.turn_client_laws.proofs.CaseLemmas.{by_found, by_test}
-use Rattle.turn_client_laws.proofs.HasLemmas.{Has, flat_map-has, has-left, has-right, least-le}
+use Rattle.turn_client_api.proofs.HasLemmas.{Has, flat_map-has, has-left, has-right, least-le}
 use Rattle.turn_client_laws.proofs.StandLemmas.{contains-has}
 use Rattle.turn_client_runs.specs.Sleeps.{WaitsForAllocations}
 

@@ -36,8 +36,8 @@ use Rattle.turn_client_laws.proofs.BoundLemmas.{binds-turn, found-local}
 use Rattle.turn_client_laws.proofs.GrantOriginCallLemmas.{Binds, BindsOrLeaves, bind-leaves, gone-leaves}
 use Rattle.turn_client_laws.proofs.GrantOriginLemmas.{has-mapped}
 use Rattle.turn_client_laws.proofs.GrantOriginMessageLemmas.{message-grants}
-use Rattle.turn_client_laws.proofs.AddressLemmas.{same_address-true}
-use Rattle.turn_client_laws.proofs.HasLemmas.{Has}
+use Rattle.turn_client_api.proofs.AddressLemmas.{same_address-true}
+use Rattle.turn_client_api.proofs.HasLemmas.{Has}
 use Rattle.turn_client_laws.proofs.StandLemmas.{Covers, covers-left}
 use Rattle.turn_client_laws.proofs.TurnBringLemmas.{IsBrought}
 use Rattle.turn_client_runs.specs.Granted.{IsOverIts}

@@ -41,7 +41,7 @@ use Rattle.turn_client_api.specs.Steps.{packet_step, state_after, state_after_al
 use Rattle.turn_client_api.specs.declared.call.Call.{Call}
 use Rattle.turn_client_api.specs.declared.call.Call.TheVariants.{Poll, PollTransmit, PollEvent, Recv}
 use Rattle.turn_client_laws.proofs.CaseLemmas.{answer-by}
-use Rattle.turn_client_laws.proofs.HasLemmas.{Has, all-has, cases_Option, filter-none, has-all, has-append}
+use Rattle.turn_client_api.proofs.HasLemmas.{Has, all-has, cases_Option, filter-none, has-all, has-append}
 use Rattle.turn_client_laws.proofs.GrantOriginLemmas.{has-mapped}
 use Rattle.turn_client_laws.proofs.LapseLemmas.{lapsed-shrinks}
 use Rattle.std.specs.declared.net.socket_addr.SocketAddr.TheVariants.{V4}

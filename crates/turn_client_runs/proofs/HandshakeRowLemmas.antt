@@ -38,7 +38,7 @@ use Rattle.turn_client_api.specs.Poll.{poll_step}
 use Rattle.turn_client_api.specs.Requests.{first_allocate, fresh_id, is_taken, listings, request_for, to_server}
 use Rattle.turn_client_api.specs.Steps.{state_after, state_after_all}
 use Rattle.turn_client_laws.specs.LawsRows.{relayed_v4}
-use Rattle.turn_client_laws.proofs.AddressLemmas.{same_address-self}
+use Rattle.turn_client_api.proofs.AddressLemmas.{same_address-self}
 use Rattle.turn_client_runs.specs.Handshake.{IsAllocating, IsFirstChallenge, RunsHandshake}
 use Rattle.turn_client_runs.specs.HandshakeRows.{HandshakeIsWorked, allocated_text, allocation_packet, challenge_text, handshake_calls, new_client}
 use Rattle.turn_client_runs.specs.Lasting.{IsWithin}

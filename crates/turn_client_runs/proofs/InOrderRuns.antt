@@ -30,12 +30,12 @@ use Rattle.turn_client_api.specs.Steps.{state_after, state_after_all}
 use Rattle.turn_client_api.specs.Streams.{stream_at, without_stream}
 use Rattle.turn_client_laws.specs.Handled.{Input, datagram_input, fed_taken, handled, piece_inputs, poll_recv_inputs, recv_inputs, stream_inputs}
 use Rattle.turn_client_laws.specs.LawsStreams.{AreApart}
-use Rattle.turn_client_laws.proofs.AddressLemmas.{same_address-self, same_address-true}
+use Rattle.turn_client_api.proofs.AddressLemmas.{same_address-self, same_address-true}
 use Rattle.turn_client_laws.proofs.CaseLemmas.{by_found, by_test}
 use Rattle.turn_client_laws.proofs.EditsOfCalls.{delete-walk, quiet-walk}
-use Rattle.turn_client_laws.proofs.HasLemmas.{Has, has-append, has-found, map-has}
+use Rattle.turn_client_api.proofs.HasLemmas.{Has, has-append, has-found, map-has}
 use Rattle.turn_client_laws.proofs.NumberLemmas.{all-of}
-use Rattle.turn_client_laws.proofs.StreamApartLemmas.{ends}
+use Rattle.turn_client_api.proofs.StreamEnds.{ends}
 use Rattle.turn_client_laws.proofs.StreamCallLemmas.{call-apart, initial-apart}
 use Rattle.turn_client_laws.proofs.StreamMessageLemmas.{Same, Same-KeepsEdits, message-same}
 use Rattle.turn_client_runs.specs.InOrder.{InputsFollow, Opens, OpensNone, bytes_out_of, held_at}

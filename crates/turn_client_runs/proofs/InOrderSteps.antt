@@ -13,16 +13,14 @@ use Rattle.turn_client_api.specs.declared.state.Stream.{Stream}
 use Rattle.turn_client_api.specs.Payloads.{Handled, Ignored, Outcome, Payload, PeerData}
 use Rattle.turn_client_api.specs.Receive.{first_frame_step, then_all}
 use Rattle.turn_client_api.specs.Streams.{broken_at, detached_frame_step, first_ready_step, frame_step, framed_by, go_on, is_ready, max_steps}
-use Rattle.turn_client_api.specs.Streams.{next_frame_step, payload_in, poll_recv_step, steps_until_payload}
-use Rattle.turn_client_api.specs.Streams.{with_bytes}
+use Rattle.turn_client_api.specs.Streams.{next_frame_step, payload_in, poll_recv_step, steps_until_payload, with_bytes, stream_with_piece}
 use Rattle.turn_client_laws.specs.Handled.{Input, fed_taken, inputs_taken, is_front, poll_recv_inputs}
-use Rattle.turn_client_laws.specs.Handled.{stream_inputs_taken, stream_with_piece, taken_first, taken_in, taken_of_len, then_taken}
+use Rattle.turn_client_laws.specs.Handled.{stream_inputs_taken, taken_first, taken_in, taken_of_len, then_taken}
 use Rattle.turn_client_laws.specs.Handled.{unless_given}
-use Rattle.turn_client_laws.proofs.AddressLemmas.{same_address-self, same_address-true}
+use Rattle.turn_client_api.proofs.AddressLemmas.{same_address-self, same_address-true, differ-sym}
 use Rattle.turn_client_laws.proofs.GrantOriginLemmas.{has-mapped}
-use Rattle.turn_client_laws.proofs.HasLemmas.{Has, has-filter, has-found}
+use Rattle.turn_client_api.proofs.HasLemmas.{Has, has-filter, has-found}
 use Rattle.turn_client_laws.proofs.OtherStreamLemmas.{turn-aside}
-use Rattle.turn_client_laws.proofs.StreamApartLemmas.{differ-sym}
 use Rattle.turn_client_laws.proofs.StreamDrainLemmas.{broken_by, bytes_by}
 use Rattle.turn_client_runs.specs.InOrder.{bytes_out_of, is_out_of}
 

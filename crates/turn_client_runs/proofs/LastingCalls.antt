@@ -37,8 +37,9 @@ use Rattle.turn_client_api.specs.Requests.{fresh_id, listings, queued, request_f
 use Rattle.turn_client_api.specs.Calls.{bind_channel, bind_channel_step, bound_by, channel_numbers, channel_step, channels_to, create_permission_step, free_number, in_allocation, is_allocated}
 use Rattle.turn_client_api.specs.Calls.{is_in_progress, is_number_taken, missing_permission, permission_step, reserved_from}
 use Rattle.turn_client_api.specs.Due.{pause_end}
-use Rattle.turn_client_laws.proofs.HasLemmas.{map-has, Has, filter_map-has, has-append, has-found, has-left, has-right}
-use Rattle.turn_client_laws.proofs.InAllocationLemmas.{any-has, Room, has-any, allocation-room, allocation-there, room-more}
+use Rattle.turn_client_api.proofs.HasLemmas.{map-has, Has, filter_map-has, has-append, has-found, has-left, has-right}
+use Rattle.turn_client_laws.proofs.InAllocationLemmas.{any-has, Room, has-any, allocation-room, room-more}
+use Rattle.turn_client_api.proofs.AllocationLemmas.{allocation-there}
 use Rattle.turn_client_runs.specs.History.{History}
 use Rattle.turn_client_runs.proofs.LastingHistory.{lone-more}
 use Rattle.turn_client_runs.proofs.LastingCounts.{passes, passes-all, passes-append, passes-none}

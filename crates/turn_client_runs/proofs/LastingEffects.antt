@@ -21,11 +21,11 @@ use Rattle.turn_client_api.specs.Grants.{as_allocation, channel_at, changed_allo
 use Rattle.turn_client_api.specs.Grants.{permission_progress, permission_state, purposes_of, same_ip}
 use Rattle.turn_client_api.specs.Judgement.{lifetime_in}
 use Rattle.turn_client_api.specs.Effect.{channel_answered, channel_lifetime, effect, lasting_if, min_lifetime, permission_answered, permission_lifetime, prolonged, refreshed}
-use Rattle.turn_client_laws.proofs.HasLemmas.{Has, filter-has, filter_map-has, first-has, has-filter_map, has-left, map-has}
+use Rattle.turn_client_api.proofs.HasLemmas.{Has, filter-has, filter_map-has, first-has, has-filter_map, has-left, map-has}
 use Rattle.turn_client_runs.proofs.LastingCounts.{passes, passes-two}
 use Rattle.turn_client_runs.specs.Lasting.{as_granted, Grants, ahead_of, expiry_of, with_expiry}
 use Rattle.turn_client_runs.proofs.LastingStands.{IsGranted, IsRefreshing, IsUnique, is_waiting}
-use Rattle.turn_client_laws.proofs.AddressLemmas.{same_ip-true}
+use Rattle.turn_client_api.proofs.AddressLemmas.{same_ip-true}
 use Rattle.turn_client_api.specs.declared.grant.Lease.{Lease}
 use Rattle.turn_client_api.specs.Effect.{granted_until}
 

@@ -11,7 +11,7 @@ use Rattle.turn_client_api.specs.Requests.{fresh_id}
 use Rattle.turn_client_api.specs.State.{State, agent_of}
 use Rattle.turn_client_api.specs.declared.call.Call.{Call}
 use Rattle.turn_client_api.specs.declared.grant.Grant.{Grant}
-use Rattle.turn_client_laws.proofs.HasLemmas.{Has, find-none, has-append}
+use Rattle.turn_client_api.proofs.HasLemmas.{Has, find-none, has-append}
 use Rattle.turn_client_laws.proofs.InAllocationLemmas.{has-any}
 use Rattle.turn_client_laws.proofs.NewIdLemmas.{fresh-free}
 use Rattle.turn_client_runs.specs.History.{History, IsSeldom, all_waits, extra_since, first_made, is_extra, waited, with_call}

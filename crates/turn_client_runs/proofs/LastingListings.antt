@@ -9,7 +9,7 @@ use Rattle.turn_client_api.specs.declared.grant.Grant.{Grant}
 use Rattle.turn_client_api.specs.declared.grant.Listing.{Listing}
 use Rattle.turn_client_api.specs.Grants.{is_of_request}
 use Rattle.turn_client_api.specs.Requests.{fresh_id}
-use Rattle.turn_client_laws.proofs.HasLemmas.{Has, filter-none}
+use Rattle.turn_client_api.proofs.HasLemmas.{Has, filter-none}
 use Rattle.turn_client_laws.proofs.InAllocationLemmas.{has-any}
 use Rattle.turn_client_laws.proofs.NewIdLemmas.{fresh-free}
 use Rattle.turn_client_runs.proofs.LastingStands.{AreRequests, IsRequest, listed_as, request-more}

@@ -17,12 +17,11 @@ use Rattle.turn_client_api.specs.declared.grant.Grant.TheVariants.{Allocation, P
 use Rattle.turn_client_api.specs.declared.grant.Relay.{Relay}
 use Rattle.turn_client_api.specs.declared.grant.Progress.TheVariants.{Active, Pending}
 use Rattle.turn_client_api.specs.Grants.{allocations, family_of}
-use Rattle.turn_client_api.specs.Due.{has_event, has_reply}
+use Rattle.turn_client_api.specs.Due.{has_event, has_reply, expiry_times, lapse_of}
 use Rattle.turn_client_api.specs.Poll.{answer_step, first_unreported, lapsed, next_offer, offer_step, poll_step, timed_out_step, timed_step, unreported_in}
-use Rattle.turn_client_laws.specs.LawsBodies.{expiry_times, lapse_of}
 use Rattle.turn_client_laws.proofs.CaseLemmas.{answer-by}
-use Rattle.turn_client_laws.proofs.EarlyLapseLemmas.{lapsed-none}
-use Rattle.turn_client_laws.proofs.HasLemmas.{Has, all-has, has-filter_map}
+use Rattle.turn_client_api.proofs.EarlyLapseLemmas.{lapsed-none}
+use Rattle.turn_client_api.proofs.HasLemmas.{Has, all-has, has-filter_map}
 use Rattle.turn_client_runs.specs.History.{History}
 use Rattle.turn_client_runs.specs.Lasting.{expiry_of}
 use Rattle.turn_client_runs.proofs.LastingStands.{IsGranted, IsKept, Stands, is_waiting}

@@ -18,9 +18,9 @@ use Rattle.turn_client_api.specs.Grants.{family_of, family_of_grant, has_request
 use Rattle.turn_client_api.specs.Due.{pause_end}
 use Rattle.turn_client_api.specs.declared.state.Queued.{Queued}
 use Rattle.turn_client_api.specs.Effect.{effect}
-use Rattle.turn_client_laws.proofs.AddressLemmas.{same_ip-true}
+use Rattle.turn_client_api.proofs.AddressLemmas.{same_ip-true}
 use Rattle.turn_client_laws.proofs.GrantOriginLemmas.{has-mapped}
-use Rattle.turn_client_laws.proofs.HasLemmas.{Has, filter-has, has-append, has-filter, has-left, has-right, map-has}
+use Rattle.turn_client_api.proofs.HasLemmas.{Has, filter-has, has-append, has-filter, has-left, has-right, map-has}
 use Rattle.turn_client_laws.proofs.InAllocationLemmas.{Room, any-has, has-any, room-more, same_family-true}
 use Rattle.turn_client_runs.specs.History.{History}
 use Rattle.turn_client_runs.specs.Lasting.{as_granted, Answers, Grants, ahead_of, expiry_of, with_expiry}

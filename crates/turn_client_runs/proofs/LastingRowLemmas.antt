@@ -32,7 +32,7 @@ use Rattle.turn_client_api.specs.Requests.{asked_lifetime, fresh_id, listings, r
 use Rattle.turn_client_api.specs.Steps.{state_after, state_after_all}
 use Rattle.turn_client_api.specs.Transmit.{is_refresh_due}
 use Rattle.turn_client_laws.specs.LawsRows.{granted_at, ip_of_peer, peer, relayed_v4}
-use Rattle.turn_client_laws.proofs.HasLemmas.{Has, all-has, has-all}
+use Rattle.turn_client_api.proofs.HasLemmas.{Has, all-has, has-all}
 use Rattle.turn_client_laws.proofs.TimelyLemmas.{poll-timely}
 use Rattle.turn_client_runs.specs.Lasting.{HasRoom, IsInForce, IsSteady, IsSuccess, IsWithin, RunsSteadily, ahead_of, expiry_of}
 use Rattle.turn_client_runs.specs.LastingRows.{RelayStaysUp, with_allocation, calls_of_700_s, granted_call, refreshed_grants, served}

@@ -46,7 +46,7 @@ use Rattle.turn_client_api.specs.Requests.{fresh_id}
 use Rattle.turn_client_api.specs.Steps.{packet_step, state_after, state_after_all}
 use Rattle.turn_client_api.specs.declared.call.Call.{Call}
 use Rattle.turn_client_api.specs.declared.call.Call.TheVariants.{BindChannel, CreatePermission, Recv, Poll, PollTransmit, PollEvent, SendTo}
-use Rattle.turn_client_laws.proofs.HasLemmas.{Has, filter-has, has-all, has-filter, map-has}
+use Rattle.turn_client_api.proofs.HasLemmas.{Has, filter-has, has-all, has-filter, map-has}
 use Rattle.turn_client_laws.proofs.InAllocationLemmas.{any-has, has-any, room-of}
 use Rattle.turn_client_laws.proofs.TwoPurposes.{purpose-with}
 use Rattle.turn_client_runs.specs.LastingRuns.{LastsThrough}
@@ -60,7 +60,7 @@ use Rattle.turn_client_runs.proofs.LastingStands.{pause-le, stands-early}
 use Rattle.turn_client_runs.proofs.LastingCounts.{passes}
 use Rattle.turn_client_runs.proofs.LastingCalls.{Asks, asked-goes, asked-kept, binds, creates}
 use Rattle.turn_client_laws.specs.LawsDoubles.{is_double}
-use Rattle.turn_client_laws.proofs.AddressLemmas.{same_ip-true}
+use Rattle.turn_client_api.proofs.AddressLemmas.{same_ip-true}
 use Rattle.turn_client_laws.proofs.StandLemmas.{contains-has, has-contains}
 use Rattle.std.specs.List.{AllByRecursion, IsDistinct}
 use Rattle.turn_client_runs.proofs.LastingAgain.{IsOneMore, goes-again, goes-retried, kept-again, kept-retried, retried-queue}

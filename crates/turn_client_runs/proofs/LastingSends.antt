@@ -22,9 +22,9 @@ use Rattle.turn_client_api.specs.Requests.{asked_lifetime, fresh_id, request_for
 use Rattle.turn_client_api.specs.Due.{is_paused, is_refreshable, pause_end, refresh_time}
 use Rattle.turn_client_api.specs.Transmit.{is_due_in, is_ranked, is_refresh_due, keepalive_step, next_refresh, queue_step, refresh_purpose, refresh_step, refreshes_in, refreshes_of_rank, reply_step}
 use Rattle.turn_client_api.specs.Transmit.{sent_at_once, transmit_step}
-use Rattle.turn_client_laws.proofs.HasLemmas.{Has, filter-has, filter_map-has, find-none, flat_map-has}
-use Rattle.turn_client_laws.proofs.InAllocationLemmas.{Room, allocation-there, of-room}
-use Rattle.turn_client_laws.proofs.HasLemmas.{has-found}
+use Rattle.turn_client_api.proofs.HasLemmas.{Has, filter-has, filter_map-has, find-none, flat_map-has, has-found}
+use Rattle.turn_client_laws.proofs.InAllocationLemmas.{Room, of-room}
+use Rattle.turn_client_api.proofs.AllocationLemmas.{allocation-there}
 use Rattle.turn_client_runs.specs.Lasting.{expiry_of}
 use Rattle.turn_client_runs.proofs.LastingStands.{IsGranted, due_of, kind-due}
 

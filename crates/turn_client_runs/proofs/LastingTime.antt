@@ -16,7 +16,7 @@ use Rattle.turn_client_api.specs.declared.state.Queued.{Queued}
 use Rattle.std.proofs.lemmas.Option.{none-some}
 use Rattle.std.proofs.lemmas.Bool.{le-ltb}
 use Rattle.turn_client_api.specs.Transmit.{next_refresh, next_transmit, queue_step, refresh_step, transmit_step}
-use Rattle.turn_client_laws.proofs.HasLemmas.{Has, filter_map-has, has-all}
+use Rattle.turn_client_api.proofs.HasLemmas.{Has, filter_map-has, has-all}
 use Rattle.turn_client_laws.proofs.InAllocationLemmas.{same_family-self}
 use Rattle.turn_client_runs.specs.Lasting.{AreInTime, ahead_of, expiry_of}
 use Rattle.turn_client_runs.specs.History.{History}

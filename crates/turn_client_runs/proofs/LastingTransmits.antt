@@ -27,7 +27,7 @@ use Rattle.turn_client_api.specs.Requests.{asked_lifetime, binding_indication, f
 use Rattle.turn_client_api.specs.Due.{has_reply, is_paused, is_refreshable, keepalive_times, refresh_time}
 use Rattle.turn_client_api.specs.Transmit.{is_due_in, is_refresh_due, keepalive_step, next_refresh, queue_step, refresh_purpose, refreshes_in, refreshes_of_rank, reply_step}
 use Rattle.turn_client_api.specs.Transmit.{sent_at_once, transmit_step, without_first_reply}
-use Rattle.turn_client_laws.proofs.HasLemmas.{Has, filter_map-has, first-has, has-append, has-filter, has-filter_map, has-flat_map, has-left, has-right}
+use Rattle.turn_client_api.proofs.HasLemmas.{Has, filter_map-has, first-has, has-append, has-filter, has-filter_map, has-flat_map, has-left, has-right}
 use Rattle.turn_client_laws.proofs.InAllocationLemmas.{same_family-self}
 use Rattle.turn_client_runs.specs.History.{History}
 use Rattle.turn_client_runs.proofs.LastingCounts.{passes, passes-more}

@@ -33,7 +33,7 @@ use Rattle.turn_client_laws.specs.LawsHandled.{DiffersInStreams, InputsLead, Pro
 use Rattle.turn_client_laws.specs.LawsRequests.{AsksFor, IsListedFor}
 use Rattle.turn_client_laws.proofs.CaseLemmas.{by_found, by_test}
 use Rattle.turn_client_laws.proofs.Edits.{listing}
-use Rattle.turn_client_laws.proofs.HasLemmas.{Has}
+use Rattle.turn_client_api.proofs.HasLemmas.{Has}
 use Rattle.turn_client_laws.proofs.MoveMessageLemmas.{turn-turns}
 use Rattle.turn_client_laws.proofs.MoveSocketLemmas.{gone-settles}
 use Rattle.turn_client_laws.proofs.MoveTurnLemmas.{listings-made}

@@ -39,8 +39,8 @@ use Rattle.turn_client_api.specs.Transmit.{idle_step, keepalive_step, queue_step
 use Rattle.turn_client_laws.specs.Handled.{Input, handled}
 use Rattle.turn_client_laws.proofs.CaseLemmas.{answer-by, by_found, by_test}
 use Rattle.turn_client_laws.proofs.GrantOriginLemmas.{has-mapped}
-use Rattle.turn_client_laws.proofs.HasLemmas.{Has}
-use Rattle.turn_client_laws.proofs.LapseSteps.{lapsed_in-does}
+use Rattle.turn_client_api.proofs.HasLemmas.{Has}
+use Rattle.turn_client_api.proofs.LapseSteps.{lapsed_in-does}
 use Rattle.turn_client_laws.proofs.RunKeepLemmas.{poll_recv-kept, recv-kept}
 use Rattle.turn_client_laws.proofs.TurnKeepLemmas.{before-kept}
 use Rattle.turn_client_runs.proofs.LoneConnects.{HasLoneConnects, KeepsLone, KeepsLone-IsKept, asks-filtered, asks-lone, asks-one, fold-lone, gone-lone, lone-filter}

@@ -31,7 +31,7 @@ use Rattle.turn_client_api.specs.Retry.{retried, state_after_retry}
 use Rattle.turn_client_laws.proofs.CaseLemmas.{bind-by, by_found, by_heeded, by_test, indicated-by, requested-by}
 use Rattle.turn_client_laws.proofs.Edits.{listing}
 use Rattle.turn_client_laws.proofs.GrantOriginLemmas.{has-mapped}
-use Rattle.turn_client_laws.proofs.HasLemmas.{Has, filter-none, has-append, has-filter, map-has}
+use Rattle.turn_client_api.proofs.HasLemmas.{Has, filter-none, has-append, has-filter, map-has}
 use Rattle.turn_client_laws.proofs.RunKeepLemmas.{IsKept}
 use Rattle.turn_client_laws.proofs.TwoPurposes.{purpose-with}
 use Rattle.turn_client_runs.proofs.LastingListings.{filter-swap}

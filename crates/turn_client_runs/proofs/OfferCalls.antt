@@ -4,7 +4,7 @@ use Rattle.std.specs.Prelude.{filter_map, is_some, slice_get}
 use Rattle.std.specs.Option.{option_map}
 use Rattle.std.specs.declared.net.socket_addr.SocketAddr.{SocketAddr}
 use Rattle.std.proofs.lemmas.Bool.{and_parts, eq-eqb, eqb-true}
-use Rattle.turn_client_laws.proofs.AddressLemmas.{same_address-self, same_address-true}
+use Rattle.turn_client_api.proofs.AddressLemmas.{same_address-self, same_address-true}
 use Rattle.std.proofs.lemmas.Option.{none-some, same_Some}
 use Rattle.turn_agent.specs.Agent.{same_address}
 use Rattle.turn_client_api.specs.State.{State, later_by}
@@ -27,7 +27,7 @@ use Rattle.turn_client_laws.proofs.CaseLemmas.{by_test}
 use Rattle.turn_client_laws.proofs.Edits.{KeepsEdits, aged}
 use Rattle.turn_client_laws.proofs.EditsOfCalls.{delete-walk, quiet-walk, tcp_socket-walk}
 use Rattle.turn_client_laws.proofs.GrantOriginLemmas.{has-mapped}
-use Rattle.turn_client_laws.proofs.HasLemmas.{Has, has-append, has-filter}
+use Rattle.turn_client_api.proofs.HasLemmas.{Has, has-append, has-filter}
 use Rattle.turn_client_laws.proofs.StandLemmas.{contains-has}
 use Rattle.turn_client_laws.proofs.TakenOfferLemmas.{was-first}
 use Rattle.turn_client_runs.specs.Offers.{TakesOffer, offer_to}

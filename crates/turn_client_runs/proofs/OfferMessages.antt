@@ -46,7 +46,7 @@ use Rattle.turn_client_api.specs.Requests.{connection_attempt_method, data_metho
 use Rattle.turn_client_laws.proofs.CaseLemmas.{bind-by, by_found, by_test}
 use Rattle.turn_client_laws.proofs.GrantOriginLemmas.{has-mapped}
 use Rattle.turn_client_laws.proofs.GrantOriginMessageLemmas.{challenge-grants, wrong-grants}
-use Rattle.turn_client_laws.proofs.HasLemmas.{Has, has-append, has-filter}
+use Rattle.turn_client_api.proofs.HasLemmas.{Has, has-append, has-filter}
 
 -- ---- what else a judgement says
 

@@ -39,9 +39,9 @@ use Rattle.turn_client_laws.specs.LawsGone.{GivesBack}
 use Rattle.turn_client_laws.specs.LawsHandled.{IsDoneBy, IsOverControl}
 use Rattle.turn_client_laws.specs.LawsPeers.{HasPermission}
 use Rattle.turn_client_laws.proofs.ChallengeJudgement.{judgement-says}
-use Rattle.turn_client_laws.proofs.AddressLemmas.{same_ip-true}
+use Rattle.turn_client_api.proofs.AddressLemmas.{same_ip-true}
 use Rattle.turn_client_laws.proofs.GrantOriginMessageLemmas.{SignedSuccess-is}
-use Rattle.turn_client_laws.proofs.HasLemmas.{Has, first-has, has-filter, has-filter_map, has-right}
+use Rattle.turn_client_api.proofs.HasLemmas.{Has, first-has, has-filter, has-filter_map, has-right}
 use Rattle.turn_client_laws.proofs.StandLemmas.{contains-has, has-contains}
 use Rattle.turn_client_laws.proofs.TurnBringLemmas.{IsBrought, leaves-bring}
 use Rattle.turn_client_runs.specs.Bound.{IsBoundSince}

@@ -17,7 +17,7 @@ use Rattle.turn_client_api.specs.declared.state.Mode.{Mode}
 use Rattle.turn_client_api.specs.declared.state.Mode.TheVariants.{Control, Waiting, Bound}
 use Rattle.turn_client_api.specs.declared.state.Stream.{Stream}
 use Rattle.turn_client_laws.proofs.HandledLemmas.{poll_recv-Gives, recv-AreOf, turn-IsFromPermitted}
-use Rattle.turn_client_laws.proofs.HasLemmas.{has-filter_map}
+use Rattle.turn_client_api.proofs.HasLemmas.{has-filter_map}
 use Rattle.turn_client_laws.proofs.StandLemmas.{contains-has}
 use Rattle.turn_client_runs.specs.Peers.{InputDelivers, IsPeerPermitted, IsDeliveredIn, TellsOfPermitted}
 use Rattle.turn_client_runs.specs.Inputs.{IsAmong, delivered_by, answered_in, handled_in, payloads_in}

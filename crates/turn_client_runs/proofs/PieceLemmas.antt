@@ -15,8 +15,8 @@ use Rattle.turn_client_api.specs.Payloads.{Payload, Outcome, Handled, Ignored, P
 use Rattle.turn_client_api.specs.Streams.{is_ready, sent_by, stream_at, next_frame_step, detached_frame_step, with_bytes}
 use Rattle.turn_client_api.specs.Receive.{first_frame_step, place_kept, recv_step, stream_step, then_all}
 use Rattle.turn_client_laws.specs.LawsStreams.{IsEmptyIfBroken}
-use Rattle.turn_client_laws.proofs.AddressLemmas.{same_address-self}
-use Rattle.turn_client_laws.proofs.HasLemmas.{has-all, has-found}
+use Rattle.turn_client_api.proofs.AddressLemmas.{same_address-self}
+use Rattle.turn_client_api.proofs.HasLemmas.{has-all, has-found}
 use Rattle.turn_client_laws.proofs.StreamWeightLemmas.{weight}
 use Rattle.turn_client_laws.proofs.TurnFrameLemmas.{bytes-twice}
 use Rattle.turn_client_runs.specs.Cut.{IsQuiet, bytes_at, fed_piece, outcome_payloads, left, meant, mode_at, whole, whole_of}

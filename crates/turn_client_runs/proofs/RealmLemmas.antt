@@ -13,7 +13,7 @@ use Rattle.turn_client_laws.specs.Handled.{Input, handled, processed}
 use Rattle.turn_client_laws.specs.LawsHandled.{DiffersInStreams, InputsLead}
 use Rattle.turn_client_laws.specs.LawsSteps.{KeepsRealm}
 use Rattle.turn_client_api.specs.Steps.{state_after, state_after_all}
-use Rattle.turn_client_laws.proofs.HasLemmas.{Has, has-append}
+use Rattle.turn_client_api.proofs.HasLemmas.{Has, has-append}
 use Rattle.turn_client_laws.proofs.MoveLemmas.{by_test}
 use Rattle.turn_client_laws.proofs.PhasesGoOn.{bind-keeps, call-keeps, keeps-same, message-keeps}
 use Rattle.turn_client_laws.proofs.StandLemmas.{contains-has}

@@ -11,16 +11,17 @@ use Rattle.turn_client_api.specs.declared.state.Mode.TheVariants.{Control, Waiti
 use Rattle.turn_client_api.specs.declared.state.Stream.{Stream}
 use Rattle.turn_client_api.specs.Calls.{with_stream}
 use Rattle.turn_client_api.specs.Connections.{connection_at}
-use Rattle.turn_client_laws.specs.Handled.{Input, stream_with_piece, fed_taken, frame_taken, is_front, piece_inputs, poll_recv_inputs, stream_inputs, stream_inputs_taken, taken_first, taken_in}
+use Rattle.turn_client_laws.specs.Handled.{Input, fed_taken, frame_taken, is_front, piece_inputs, poll_recv_inputs, stream_inputs, stream_inputs_taken, taken_first, taken_in}
+use Rattle.turn_client_api.specs.Streams.{stream_with_piece}
 use Rattle.turn_client_laws.specs.Handled.{taken_of_len, then_taken, inputs_taken, unless_given}
 use Rattle.turn_client_api.specs.Payloads.{Payload, Outcome, Handled, Ignored, PeerData}
 use Rattle.turn_client_api.specs.Receive.{connection_gone, first_frame_step, piece_step, stream_step, then_all}
 use Rattle.turn_client_api.specs.Streams.{broken_at, frame_step, framed_by, framed_stream_step, go_on, is_ready, max_steps, payload_in, poll_recv_step, next_frame_step, first_ready_step}
 use Rattle.turn_client_api.specs.Streams.{detached_frame_step, steps_until_payload, with_bytes, without_stream}
 use Rattle.turn_client_runs.specs.Received.{unless_broken}
-use Rattle.turn_client_laws.proofs.AddressLemmas.{same_address-true}
+use Rattle.turn_client_api.proofs.AddressLemmas.{same_address-true}
 use Rattle.turn_client_laws.proofs.GrantOriginLemmas.{has-mapped}
-use Rattle.turn_client_laws.proofs.HasLemmas.{Has, has-append, has-filter, has-found}
+use Rattle.turn_client_api.proofs.HasLemmas.{Has, has-append, has-filter, has-found}
 use Rattle.turn_client_laws.proofs.MoveLemmas.{by_test, on_test}
 use Rattle.turn_client_laws.proofs.StreamDrainLemmas.{broken_by, bytes_by, mode_by}
 use Rattle.turn_client_laws.proofs.StreamMessageLemmas.{Rebound, frame-rebound}

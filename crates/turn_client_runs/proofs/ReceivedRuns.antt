@@ -19,10 +19,9 @@ use Rattle.turn_client_api.specs.Payloads.{Outcome, Ignored, channel_sent, datag
 use Rattle.turn_client_api.specs.Receive.{is_from_server, recv_step, stream_step}
 use Rattle.turn_client_api.specs.Steps.{state_after, state_after_all}
 use Rattle.turn_client_api.specs.Streams.{stream_at}
-use Rattle.turn_client_laws.proofs.AddressLemmas.{same_address-self, same_address-true}
-use Rattle.turn_client_laws.proofs.HasLemmas.{Has, has-found}
+use Rattle.turn_client_api.proofs.AddressLemmas.{same_address-self, same_address-true, differ-sym}
+use Rattle.turn_client_api.proofs.HasLemmas.{Has, has-found}
 use Rattle.turn_client_laws.proofs.MoveLemmas.{by_test}
-use Rattle.turn_client_laws.proofs.StreamApartLemmas.{differ-sym}
 use Rattle.turn_client_laws.proofs.StreamCallLemmas.{others-opened}
 use Rattle.turn_client_laws.proofs.StreamMessageLemmas.{message-same}
 use Rattle.turn_client_runs.specs.Received.{HasArrived, piece_in_call, pieces_for, unless_broken}

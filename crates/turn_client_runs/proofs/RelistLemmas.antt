@@ -36,7 +36,7 @@ use Rattle.turn_client_api.specs.Requests.{connection_attempt_method, connection
 use Rattle.turn_client_api.specs.Retry.{retried, state_after_retry, with_held}
 use Rattle.turn_client_api.specs.Streams.{frame_step}
 use Rattle.turn_client_laws.proofs.GrantOriginLemmas.{has-mapped}
-use Rattle.turn_client_laws.proofs.HasLemmas.{Has, has-right}
+use Rattle.turn_client_api.proofs.HasLemmas.{Has, has-right}
 use Rattle.turn_client_laws.proofs.MoveLemmas.{Adds, Never, adds-filter, adds-more, adds-same, adds-wider, by_test, on_test}
 use Rattle.turn_client_laws.proofs.MoveMessageLemmas.{requested-made}
 use Rattle.turn_client_laws.proofs.MoveReplyLemmas.{response-fits}

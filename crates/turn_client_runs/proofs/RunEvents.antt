@@ -22,7 +22,7 @@ use Rattle.turn_client_laws.specs.LawsAllocates.{AllocatesInOrder}
 use Rattle.turn_client_laws.specs.LawsGone.{GivesBack}
 use Rattle.turn_client_laws.specs.LawsGranted.{IsActiveGrant}
 use Rattle.turn_client_laws.specs.LawsHandled.{IsDoneBy}
-use Rattle.turn_client_laws.proofs.HasLemmas.{Has, first-has}
+use Rattle.turn_client_api.proofs.HasLemmas.{Has, first-has}
 use Rattle.turn_client_laws.proofs.StandLemmas.{contains-has, has-contains}
 use Rattle.turn_client_laws.proofs.TurnBringLemmas.{leaves-bring}
 use Rattle.turn_client_runs.specs.Events.{Creates, EventsHaveCauses, FailsBy, FailsItself, HasEventCause, IsRefusedIn, Refuses, Reports, Waits, relayed_over}

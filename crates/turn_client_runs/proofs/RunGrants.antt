@@ -30,7 +30,7 @@ use Rattle.turn_client_laws.proofs.AllocateFamilies.{initial-AllocatesInOrder, l
 use Rattle.turn_client_laws.specs.LawsDoubles.{HasNoDoubles}
 use Rattle.turn_client_laws.proofs.DistinctGrants.{initial-single, leaves-single}
 use Rattle.turn_client_laws.proofs.DistinctNumbers.{initial-numbers, leaves-apart}
-use Rattle.turn_client_laws.proofs.HasLemmas.{Has}
+use Rattle.turn_client_api.proofs.HasLemmas.{Has}
 use Rattle.turn_client_laws.proofs.ListedGrants.{initial-HasGrantsAsked, leaves-HasGrantsAsked}
 use Rattle.turn_client_laws.proofs.SendOrderLemmas.{initial-steady, leaves-steadies}
 use Rattle.turn_client_laws.proofs.StandLemmas.{contains-has, covers-has, covers-stood, has-contains}

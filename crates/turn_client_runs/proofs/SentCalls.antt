@@ -47,7 +47,7 @@ use Rattle.turn_client_api.specs.Transmit.{idle_step, is_due_in, keepalive_step,
 use Rattle.turn_client_laws.specs.LawsHandled.{TakesInput}
 use Rattle.turn_client_laws.specs.LawsRequests.{AsksFor, IsListedFor}
 use Rattle.turn_client_laws.proofs.CaseLemmas.{answer-by, by_found, by_test}
-use Rattle.turn_client_laws.proofs.HasLemmas.{Has, first-has, has-filter_map, has-flat_map}
+use Rattle.turn_client_api.proofs.HasLemmas.{Has, first-has, has-filter_map, has-flat_map}
 use Rattle.turn_client_laws.proofs.LapseLemmas.{lapsed-shrinks}
 use Rattle.turn_client_laws.proofs.MoveLemmas.{Adds, adds-one, adds-same}
 use Rattle.turn_client_laws.proofs.MoveTurnLemmas.{listings-made}

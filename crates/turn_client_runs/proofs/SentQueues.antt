@@ -34,7 +34,7 @@ use Rattle.turn_client_api.specs.Requests.{connection_attempt_method, connection
 use Rattle.turn_client_api.specs.Retry.{retried, state_after_retry, with_held}
 use Rattle.turn_client_laws.proofs.CaseLemmas.{bind-by, by_found, by_heeded, by_test, indicated-by}
 use Rattle.turn_client_laws.proofs.EditsOfMessages.{purposes-listed}
-use Rattle.turn_client_laws.proofs.HasLemmas.{Has, has-found}
+use Rattle.turn_client_api.proofs.HasLemmas.{Has, has-found}
 use Rattle.turn_client_laws.proofs.MoveLemmas.{Adds, adds-one, adds-same}
 use Rattle.turn_client_runs.specs.Sent.{IsBindOf, IsNoBind}
 use Rattle.turn_client_runs.proofs.SentTexts.{refused-else, request-else, retried-else}

@@ -43,12 +43,12 @@ use Rattle.turn_client_api.specs.Transmit.{idle_step, keepalive_step, queue_step
 use Rattle.turn_client_laws.specs.LawsHandled.{TakesInput}
 use Rattle.turn_client_laws.specs.LawsRequests.{IsAnswer}
 use Rattle.turn_client_laws.specs.LawsStates.{AsksServer, IsToServer}
-use Rattle.turn_client_laws.proofs.AddressLemmas.{same_address-true}
+use Rattle.turn_client_api.proofs.AddressLemmas.{same_address-true}
 use Rattle.turn_client_laws.proofs.CaseLemmas.{by_found, by_test}
 use Rattle.turn_client_laws.proofs.Edits.{KeepsAllEdits}
 use Rattle.turn_client_laws.proofs.EditsOfCalls.{calls-walk}
 use Rattle.turn_client_laws.proofs.EditsOfMessages.{edits-IsKept, purposes-listed}
-use Rattle.turn_client_laws.proofs.HasLemmas.{Has, first-has, has-all, has-filter_map, has-found}
+use Rattle.turn_client_api.proofs.HasLemmas.{Has, first-has, has-all, has-filter_map, has-found}
 use Rattle.turn_client_laws.proofs.MoveMessageLemmas.{bind-turns, message-turns}
 use Rattle.turn_client_laws.proofs.MoveLemmas.{on_test}
 use Rattle.turn_client_laws.proofs.MoveSocketLemmas.{gone-settles}

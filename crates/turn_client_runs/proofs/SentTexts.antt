@@ -19,7 +19,7 @@ use Rattle.turn_client_api.specs.Requests.{accepted_reply, allocate_method, aske
 use Rattle.turn_client_api.specs.Requests.{connection_attempt_method, connection_bind_method, create_permission_method, dont_fragment_kind, error_kind, family_attributes, first_allocate, fresh_id}
 use Rattle.turn_client_api.specs.Requests.{lifetime_attribute, message_of, refresh_method, refused_reply, request_for, signed, transport_attribute}
 use Rattle.turn_client_api.specs.Retry.{first_or, is_allocate_or_connect, is_channel_bind, is_create_permission, is_refresh, retried}
-use Rattle.turn_client_laws.proofs.HasLemmas.{has-found}
+use Rattle.turn_client_api.proofs.HasLemmas.{has-found}
 use Rattle.turn_client_runs.specs.Sent.{IsNoBind}
 
 -- ---- the first two bytes stay

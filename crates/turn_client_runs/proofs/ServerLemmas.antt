@@ -25,7 +25,7 @@ use Rattle.turn_client_api.specs.Grants.{purposes_of}
 use Rattle.turn_client_api.specs.Judgement.{class_in, lifetime_in, method_in}
 use Rattle.turn_client_api.specs.Payloads.{is_message}
 use Rattle.turn_client_api.specs.Requests.{method_for}
-use Rattle.turn_client_laws.proofs.AddressLemmas.{same_address-self}
+use Rattle.turn_client_api.proofs.AddressLemmas.{same_address-self}
 use Rattle.turn_client_runs.specs.Lasting.{Grants, IsSuccess}
 use Rattle.turn_client_runs.specs.Server.{RequestsCanBeGranted, from_server, success_for}
 use Rattle.turn_client_runs.proofs.LastingRuns.{datagram-message}

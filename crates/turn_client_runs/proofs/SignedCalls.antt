@@ -27,7 +27,7 @@ use Rattle.turn_client_laws.proofs.Edits.{KeepsEdits}
 use Rattle.turn_client_laws.proofs.PhaseEdits.{phase-edits}
 use Rattle.turn_client_laws.proofs.EditsOfCalls.{IsQuiet, quiet-walk}
 use Rattle.turn_client_laws.proofs.EditsOfReplies.{and-false}
-use Rattle.turn_client_laws.proofs.HasLemmas.{Has}
+use Rattle.turn_client_api.proofs.HasLemmas.{Has}
 use Rattle.turn_client_laws.proofs.MoveTurnLemmas.{requests-made}
 use Rattle.turn_client_laws.proofs.PhasesGoOn.{call-keeps}
 use Rattle.turn_client_laws.proofs.RunKeepLemmas.{poll_recv-kept, recv-kept}

@@ -28,7 +28,7 @@ use Rattle.turn_client_api.specs.Requests.{fresh_id, request_for}
 use Rattle.turn_client_api.specs.Retry.{phase_after, retried, state_after_retry, with_held}
 use Rattle.turn_client_laws.proofs.AllocateFamilies.{StayInOrder, StayInOrder-KeepsAllEdits, in_order-stated, stated-in_order}
 use Rattle.turn_client_laws.proofs.EditsOfMessages.{edits-IsKept, purposes-listed, retried-has}
-use Rattle.turn_client_laws.proofs.HasLemmas.{Has, has-append, has-filter}
+use Rattle.turn_client_api.proofs.HasLemmas.{Has, has-append, has-filter}
 use Rattle.turn_client_laws.proofs.InAllocationLemmas.{any-has, not-both}
 use Rattle.turn_client_laws.proofs.MoveLemmas.{on_test}
 use Rattle.turn_client_laws.proofs.MoveMessageLemmas.{message-turns}

@@ -10,11 +10,11 @@ use Rattle.turn_client_api.specs.declared.state.Mode.TheVariants.{Broken}
 use Rattle.turn_client_api.specs.declared.state.Stream.{Stream}
 use Rattle.turn_client_api.specs.Streams.{broken_at, is_ready, stream_at, with_bytes}
 use Rattle.turn_client_laws.specs.LawsBodies.{IsAsideFrom}
-use Rattle.turn_client_laws.proofs.AddressLemmas.{same_address-true}
+use Rattle.turn_client_api.proofs.AddressLemmas.{same_address-true, differ-sym}
 use Rattle.turn_client_laws.proofs.FrameRestLemmas.{bytes_by}
 use Rattle.turn_client_laws.proofs.GrantOriginLemmas.{has-mapped}
-use Rattle.turn_client_laws.proofs.HasLemmas.{Has, has-found}
-use Rattle.turn_client_laws.proofs.StreamApartLemmas.{IsNoneOf, differ-sym, ends}
+use Rattle.turn_client_api.proofs.HasLemmas.{Has, has-found}
+use Rattle.turn_client_api.proofs.StreamEnds.{IsNoneOf, ends}
 
 -- ---- lists
 

@@ -15,11 +15,11 @@ use Rattle.turn_client_api.specs.Payloads.{Handled, Ignored, Outcome, Payload, P
 use Rattle.turn_client_api.specs.Receive.{connection_gone, first_frame_step, piece_step, stream_step, then_all}
 use Rattle.turn_client_api.specs.Steps.{state_after}
 use Rattle.turn_client_api.specs.Streams.{broken_at, detached_frame_step, first_ready_step, framed_by, go_on, is_ready, max_steps, next_frame_step, payload_in, poll_recv_step, steps_until_payload}
-use Rattle.turn_client_api.specs.Streams.{with_bytes, without_stream}
+use Rattle.turn_client_api.specs.Streams.{with_bytes, without_stream, stream_with_piece}
 use Rattle.turn_client_laws.specs.Handled.{Input, datagram_input, fed_taken, handled, inputs_taken, is_front, piece_inputs, poll_recv_inputs, processed, stream_input, stream_inputs}
-use Rattle.turn_client_laws.specs.Handled.{stream_inputs_taken, stream_with_piece, taken_first, taken_in, taken_of_len, then_taken, unless_given}
+use Rattle.turn_client_laws.specs.Handled.{stream_inputs_taken, taken_first, taken_in, taken_of_len, then_taken, unless_given}
 use Rattle.turn_client_laws.specs.LawsHandled.{TakesInput}
-use Rattle.turn_client_laws.proofs.HasLemmas.{Has, has-append, has-found}
+use Rattle.turn_client_api.proofs.HasLemmas.{Has, has-append, has-found}
 use Rattle.turn_client_laws.proofs.PacketLemmas.{packet-by}
 
 -- a stream with this local address and this mode is there

@@ -19,7 +19,7 @@ use Rattle.turn_client_laws.specs.LawsRequests.{AsksFor, IsListedAgain, IsListed
 use Rattle.turn_client_api.specs.Requests.{fresh_id}
 use Rattle.turn_client_api.specs.Steps.{state_after}
 use Rattle.turn_client_laws.proofs.Edits.{listing}
-use Rattle.turn_client_laws.proofs.HasLemmas.{Has}
+use Rattle.turn_client_api.proofs.HasLemmas.{Has}
 use Rattle.turn_client_laws.proofs.InAllocationLemmas.{has-any}
 use Rattle.turn_client_laws.proofs.MoveMessageLemmas.{turn-turns}
 use Rattle.turn_client_laws.proofs.MoveSocketLemmas.{gone-settles}

@@ -24,7 +24,7 @@ use Rattle.turn_client_api.specs.Judgement.{lifetime_in}
 use Rattle.turn_client_api.specs.declared.state.Phase.TheVariants.{Authenticating}
 use Rattle.turn_client_api.specs.Requests.{requested}
 use Rattle.turn_client_laws.proofs.CaseLemmas.{by_found, by_test}
-use Rattle.turn_client_laws.proofs.HasLemmas.{Has, has-filter}
+use Rattle.turn_client_api.proofs.HasLemmas.{Has, has-filter}
 use Rattle.turn_client_laws.proofs.InAllocationLemmas.{any-has, has-any, same_family-true}
 use Rattle.turn_client_runs.specs.Told.{is_awaited_by, is_like, is_to_come}
 use Rattle.turn_client_runs.proofs.LastingCounts.{passes, passes-append, passes-filter, passes-none}

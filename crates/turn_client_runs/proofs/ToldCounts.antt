@@ -4,7 +4,7 @@ use Rattle.std.specs.Prelude.{slice_get}
 use Rattle.std.specs.Option.{option_map_or}
 use Rattle.std.proofs.lemmas.Bool.{cases_Bool}
 use Rattle.std.proofs.lemmas.List.{reverse-append}
-use Rattle.turn_client_laws.proofs.HasLemmas.{Has, cases_Option}
+use Rattle.turn_client_api.proofs.HasLemmas.{Has, cases_Option}
 use Rattle.turn_client_runs.specs.Told.{count}
 use Rattle.turn_client_runs.proofs.LastingCounts.{passes, passes-append, passes-filter}
 

@@ -37,11 +37,11 @@ use Rattle.turn_client_api.specs.Retry.{bind_time, retried, state_after_retry, w
 use Rattle.turn_client_api.specs.State.{later_by}
 use Rattle.turn_client_laws.specs.Handled.{Input, processed}
 use Rattle.turn_client_laws.specs.LawsHandled.{DiffersInStreams, InputsLead}
-use Rattle.turn_client_laws.proofs.AddressLemmas.{same_address-self, same_address-true}
+use Rattle.turn_client_api.proofs.AddressLemmas.{same_address-self, same_address-true}
 use Rattle.turn_client_laws.proofs.BoundLemmas.{found-local}
 use Rattle.turn_client_laws.proofs.CaseLemmas.{bind-by, by_found, by_heeded, by_test}
 use Rattle.turn_client_laws.proofs.EditsOfMessages.{connection-there}
-use Rattle.turn_client_laws.proofs.HasLemmas.{Has, cases_Option}
+use Rattle.turn_client_api.proofs.HasLemmas.{Has, cases_Option}
 use Rattle.turn_client_laws.proofs.ListedGrants.{AllHaveGrant}
 use Rattle.turn_client_laws.proofs.OneInputLemmas.{input-by}
 use Rattle.turn_client_runs.specs.Told.{attempts_in, is_like, is_to_come}

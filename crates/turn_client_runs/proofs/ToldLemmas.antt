@@ -19,7 +19,7 @@ use Rattle.turn_client_api.specs.declared.grant.Progress.TheVariants.{Pending, A
 use Rattle.turn_client_api.specs.Grants.{failure_of, failures_among, wait, without_grants}
 use Rattle.turn_client_api.specs.Effect.{reserved}
 use Rattle.turn_client_api.specs.Poll.{failed}
-use Rattle.turn_client_laws.proofs.HasLemmas.{Has, has-filter}
+use Rattle.turn_client_api.proofs.HasLemmas.{Has, has-filter}
 use Rattle.turn_client_runs.specs.Told.{is_awaited_by, is_like, is_to_come}
 use Rattle.turn_client_runs.proofs.LastingCounts.{passes, passes-append, passes-filter}
 use Rattle.turn_client_runs.proofs.ToldCounts.{passes-both, passes-kept, passes-made, passes-reverse, passes-without}

@@ -39,12 +39,12 @@ use Rattle.turn_client_api.specs.Payloads.{Handled, Outcome, is_answered, respon
 use Rattle.turn_client_api.specs.Requests.{fresh_id}
 use Rattle.turn_stun.specs.Message.{id_of}
 use Rattle.turn_client_laws.specs.LawsStates.{is_asked_by}
-use Rattle.turn_client_laws.proofs.AddressLemmas.{same_address-self, same_address-true, same_ip-true}
+use Rattle.turn_client_api.proofs.AddressLemmas.{same_address-self, same_address-true, same_ip-true}
 use Rattle.turn_client_laws.proofs.CaseLemmas.{by_found, by_test}
 use Rattle.turn_client_laws.proofs.Edits.{listing}
 use Rattle.turn_client_laws.proofs.EditsOfReplies.{channel-there}
 use Rattle.turn_client_laws.proofs.GrantOriginEffectLemmas.{same_ip-same}
-use Rattle.turn_client_laws.proofs.HasLemmas.{Has, filter-has, first-has, has-filter, has-filter_map, has-left, map-has}
+use Rattle.turn_client_api.proofs.HasLemmas.{Has, filter-has, first-has, has-filter, has-filter_map, has-left, map-has}
 use Rattle.turn_client_laws.proofs.InAllocationLemmas.{any-has, has-any}
 use Rattle.turn_client_laws.proofs.ListedGrants.{AllHaveGrant, HasGrant}
 use Rattle.turn_client_laws.proofs.TwoPurposes.{purpose-with}

@@ -31,10 +31,10 @@ use Rattle.turn_client_api.specs.Calls.{bind_channel_step}
 use Rattle.turn_client_api.specs.Grants.{find_allocation_to, has_active_permission, is_connect_to, is_permission_of, permission_state, same_ip, with_grant}
 use Rattle.turn_client_api.specs.Requests.{fresh_id, requested}
 use Rattle.turn_client_api.specs.Steps.{state_after}
-use Rattle.turn_client_laws.proofs.AddressLemmas.{same_address-true, same_ip-true}
+use Rattle.turn_client_api.proofs.AddressLemmas.{same_address-true, same_ip-true}
 use Rattle.turn_client_laws.proofs.CaseLemmas.{by_test}
 use Rattle.turn_client_laws.proofs.DoubleLemmas.{no-permission}
-use Rattle.turn_client_laws.proofs.HasLemmas.{Has, filter_map-has, has-right}
+use Rattle.turn_client_api.proofs.HasLemmas.{Has, filter_map-has, has-right}
 use Rattle.turn_client_laws.proofs.InAllocationLemmas.{any-has, has-any}
 use Rattle.turn_client_runs.specs.Told.{is_about, is_connection, is_request_for, is_to_come, requested_by}
 use Rattle.turn_client_runs.proofs.LastingCounts.{passes, passes-append}

@@ -26,7 +26,7 @@ use Rattle.turn_client_laws.specs.LawsStates.{HasGrantsAsked, HasItsGrant}
 use Rattle.turn_client_laws.proofs.ConfiguredLemmas.{call-configured}
 use Rattle.turn_client_laws.proofs.EditsOfMessages.{edits-IsKept}
 use Rattle.turn_client_laws.proofs.FixedFields.{fixed-all-edits}
-use Rattle.turn_client_laws.proofs.HasLemmas.{Has, has-all}
+use Rattle.turn_client_api.proofs.HasLemmas.{Has, has-all}
 use Rattle.turn_client_laws.proofs.ListedGrants.{AllHaveGrant, StayFounded, StayFounded-KeepsAllEdits}
 use Rattle.turn_client_laws.proofs.StandLemmas.{has-contains}
 use Rattle.turn_client_laws.proofs.TurnChainLemmas.{calls-do}

@@ -23,9 +23,8 @@ use Rattle.turn_client_api.specs.Poll.{is_over, is_timed_out_offer, is_unbound, 
 use Rattle.turn_client_api.specs.Poll.{silent_step}
 use Rattle.turn_client_api.specs.Poll.{timed_out_purposes, timed_out_step, timed_step, unreported_in}
 use Rattle.turn_client_laws.proofs.CaseLemmas.{answer-by, by_found, by_test}
-use Rattle.turn_client_laws.proofs.HasLemmas.{Has, cases_Option, has-found}
-use Rattle.turn_client_laws.proofs.LapseLemmas.{has-unreversed}
-use Rattle.turn_client_laws.proofs.LapseSteps.{lapsed_in-does}
+use Rattle.turn_client_api.proofs.HasLemmas.{Has, cases_Option, has-found, has-unreversed}
+use Rattle.turn_client_api.proofs.LapseSteps.{lapsed_in-does}
 use Rattle.turn_client_runs.specs.Told.{is_like, is_to_come}
 use Rattle.turn_client_runs.proofs.LastingCounts.{passes, passes-append}
 use Rattle.turn_client_runs.proofs.ToldCounts.{passes-reverse}

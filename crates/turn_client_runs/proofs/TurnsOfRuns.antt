@@ -7,7 +7,7 @@ use Rattle.turn_client_laws.specs.LawsHandled.{IsDoneBy, TakesInput, InputsLead}
 use Rattle.turn_client_api.specs.Steps.{state_after, state_after_all}
 use Rattle.turn_client_api.specs.declared.call.Call.{Call}
 use Rattle.turn_client_api.specs.declared.call.Call.TheVariants.{Recv, PollRecv}
-use Rattle.turn_client_laws.proofs.HasLemmas.{Has}
+use Rattle.turn_client_api.proofs.HasLemmas.{Has}
 use Rattle.turn_client_laws.proofs.StandLemmas.{contains-has, has-contains}
 use Rattle.turn_client_laws.proofs.TurnBringLemmas.{IsBrought, lead-brings}
 use Rattle.turn_client_laws.proofs.TurnChainLemmas.{calls-do}

@@ -32,7 +32,7 @@ use Rattle.turn_client_api.specs.Streams.{broken_at, with_bytes, without_stream}
 use Rattle.turn_client_laws.specs.Handled.{Input, handled, processed}
 use Rattle.turn_client_laws.specs.LawsBound.{IsConnectedBy}
 use Rattle.turn_client_laws.specs.LawsHandled.{IsOverControl}
-use Rattle.turn_client_laws.proofs.AddressLemmas.{same_address-self}
+use Rattle.turn_client_api.proofs.AddressLemmas.{same_address-self}
 use Rattle.turn_client_laws.proofs.BoundStreamLemmas.{leaves-connection}
 use Rattle.turn_client_laws.proofs.CaseLemmas.{by_found, by_test}
 use Rattle.turn_client_laws.proofs.DoubleLemmas.{no-connection}
@@ -40,7 +40,7 @@ use Rattle.turn_client_laws.proofs.EditsOfCalls.{delete-walk, quiet-walk}
 use Rattle.turn_client_laws.proofs.GrantOriginCallLemmas.{Binds, BindsOrLeaves, bind-leaves}
 use Rattle.turn_client_laws.proofs.GrantOriginLemmas.{has-mapped}
 use Rattle.turn_client_laws.proofs.GrantedLemmas.{bringing, deadline-has}
-use Rattle.turn_client_laws.proofs.HasLemmas.{Has, has-append, has-filter}
+use Rattle.turn_client_api.proofs.HasLemmas.{Has, has-append, has-filter}
 use Rattle.turn_client_laws.proofs.InAllocationLemmas.{has-any}
 use Rattle.turn_client_laws.proofs.MoveLemmas.{on_choice}
 use Rattle.turn_client_laws.proofs.OneInputLemmas.{input-by}

@@ -8,8 +8,8 @@ use Rattle.turn_agent.proofs.AgentLemmas.{find-passes, position-IsFirst, positio
 use Rattle.std.specs.declared.net.socket_addr.SocketAddr.{SocketAddr}
 use Rattle.turn_agent.specs.Agent.{same_address}
 use Rattle.turn_client_api.specs.declared.state.Stream.{Stream}
-use Rattle.turn_client_laws.proofs.AddressLemmas.{same_address-true, same_address-self}
-use Rattle.turn_client_laws.proofs.StreamApartLemmas.{differ-sym, ends, IsNoneOf}
+use Rattle.turn_client_api.proofs.AddressLemmas.{same_address-true, same_address-self, differ-sym}
+use Rattle.turn_client_api.proofs.StreamEnds.{ends, IsNoneOf}
 use Rattle.turn_client_api.specs.State.{State}
 use Rattle.turn_types.specs.Frames.{frame_len}
 use Rattle.turn_client_streams.specs.Buffered.{is_control_mode, passed, with_content}

@@ -28,10 +28,9 @@ use Rattle.turn_client_api.specs.declared.poll.TurnPollRet.TheVariants as Poll
 use Rattle.turn_client_api.specs.declared.state.Phase.{Phase}
 use Rattle.turn_client_api.specs.declared.state.Phase.TheVariants.{New, Requesting, Authenticating, Allocated, Closed}
 use Rattle.turn_client_laws.proofs.CaseLemmas.{answer-by}
-use Rattle.turn_client_laws.proofs.HasLemmas.{Has, first-has, has-filter_map, has-found}
+use Rattle.turn_client_api.proofs.HasLemmas.{Has, first-has, has-filter_map, has-found, has-unreversed}
 use Rattle.turn_client_laws.proofs.InAllocationLemmas.{same_family-true}
-use Rattle.turn_client_laws.proofs.LapseLemmas.{has-unreversed}
-use Rattle.turn_client_laws.proofs.LapseSteps.{lapsed_in-does}
+use Rattle.turn_client_api.proofs.LapseSteps.{lapsed_in-does}
 use Rattle.turn_client_laws.proofs.StreamWeightLemmas.{weight}
 use Rattle.turn_driver.proofs.RestWeights.{GetsOn, IsParted, KeepsUp, fewer, five-same, gets-on-further, left_to_do, load, load-append, may-same, may_send, parted}
 use Rattle.turn_driver.proofs.RestWeights.{removed-load, resends_left, steps_of}

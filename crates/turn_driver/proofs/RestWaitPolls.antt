@@ -24,9 +24,8 @@ use Rattle.turn_client_api.specs.declared.poll.TurnPollRet.{TurnPollRet}
 use Rattle.turn_client_api.specs.declared.state.Phase.{Phase}
 use Rattle.turn_client_api.specs.declared.state.Phase.TheVariants.{New, Requesting, Authenticating, Allocated, Closed}
 use Rattle.turn_client_laws.proofs.CaseLemmas.{answer-by}
-use Rattle.turn_client_laws.proofs.HasLemmas.{Has, has-found}
-use Rattle.turn_client_laws.proofs.LapseLemmas.{has-unreversed}
-use Rattle.turn_client_laws.proofs.LapseSteps.{lapsed_in-does}
+use Rattle.turn_client_api.proofs.HasLemmas.{Has, has-found, has-unreversed}
+use Rattle.turn_client_api.proofs.LapseSteps.{lapsed_in-does}
 use Rattle.turn_client_laws.proofs.StreamWeightLemmas.{weight}
 use Rattle.turn_driver.proofs.RestPolls.{Closes, IsTold, Stands, answer-IsTold, gets-on-IsTold, lapsed-ages, offer-lighter, stands-self, stands-trans, timed-stands, told-by}
 use Rattle.turn_driver.proofs.RestWaits.{is_over, left_to_await, may_begin, may_keep, over, over-without}

@@ -24,7 +24,7 @@ use Rattle.turn_client_api.specs.declared.state.Phase.{Phase}
 use Rattle.turn_client_api.specs.declared.state.Phase.TheVariants.{New, Requesting, Authenticating, Allocated, Closed}
 use Rattle.turn_client_api.specs.declared.state.Queued.{Queued}
 use Rattle.turn_client_laws.proofs.GrantOriginEffectLemmas.{same_ip-same}
-use Rattle.turn_client_laws.proofs.HasLemmas.{Has, has-found}
+use Rattle.turn_client_api.proofs.HasLemmas.{Has, has-found}
 use Rattle.turn_client_laws.proofs.InAllocationLemmas.{same_family-self}
 use Rattle.turn_client_runs.proofs.LastingTransmits.{IsNext, next-of}
 use Rattle.turn_driver.proofs.RestSends.{reply-shorter}

@@ -17,7 +17,7 @@ ghost use Rattle.turn_client_api.specs.declared.grant.Grant.TheVariants.{Channel
 ghost use Rattle.turn_client_api.specs.declared.grant.Progress.TheVariants.{Pending};
 ghost use Rattle.turn_client_api.specs.declared.state.Phase.TheVariants.{Allocated};
 ghost use Rattle.turn_client_grants.specs.Due.{all_times, relay_ends};
-ghost use Rattle.turn_client_laws.specs.LawsBodies.{expiry_times};
+ghost use Rattle.turn_client_api.specs.Due.{expiry_times};
 ghost use Rattle.turn_client_grants.specs.Lists.{both_of, first_among, with_ahead};
 ghost use Rattle.turn_client_grants.specs.Refresh.{first_refresh};
 ghost use Rattle.turn_client_grants.specs.Table.{is_numbered, with_table};

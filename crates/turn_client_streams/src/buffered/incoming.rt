@@ -3,7 +3,7 @@
 ghost use Rattle.std.specs.Prelude.{◌≡◌, ◌<◌, [], length, option_map, Some, IfOk, IfSome, IsOk, OnOk, OnErr};
 ghost use Rattle.turn_types.specs.Frames.{frame_len};
 ghost use Rattle.turn_types.specs.Incoming.{ComesWith, IsNamedIncoming, incoming_bytes};
-ghost use Rattle.turn_client_laws.specs.Handled.{stream_with_piece};
+ghost use Rattle.turn_client_api.specs.Streams.{stream_with_piece};
 ghost use Rattle.turn_client_streams.specs.Buffered.{broken, front_frame, without_front};
 
 use crate::buffered::BufferedStream;

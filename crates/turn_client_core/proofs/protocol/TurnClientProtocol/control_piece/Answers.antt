@@ -1,5 +1,5 @@
 use Rattle.std.proofs.lemmas.Result.{on_err_weaker}
-use Rattle.turn_client_laws.specs.Handled.{stream_with_piece}
+use Rattle.turn_client_api.specs.Streams.{stream_with_piece}
 use Rattle.turn_client_api.specs.Answers.{outcome_of}
 use Rattle.turn_client_core.proofs.FreePieceLemmas.{free-rests, rests-behind}
 use Rattle.turn_client_core.proofs.ResultLemmas.{no-err}

@@ -3,12 +3,11 @@ use Rattle.std.specs.Prelude.{IfOk, None, OnErr, OnOk}
 use Rattle.std.proofs.lemmas.Result.{on_err_weaker}
 use Rattle.turn_types.specs.Incoming.{ComesWith, incoming_bytes}
 use Rattle.turn_client_api.specs.Answers.{outcome_of}
-use Rattle.turn_client_laws.specs.Handled.{stream_with_piece}
+use Rattle.turn_client_api.specs.Streams.{stream_with_piece, frame_step}
 use Rattle.turn_client_api.specs.Memory.{frame_takes_memory}
 use Rattle.turn_client_api.specs.Payloads.{Outcome}
 use Rattle.turn_client_api.specs.State.{State}
 use Rattle.turn_client_api.specs.Receive.{place_kept}
-use Rattle.turn_client_api.specs.Streams.{frame_step}
 use Rattle.turn_client_api.specs.declared.state.Stream.{Stream}
 use Rattle.turn_client_streams.specs.Buffered.{front_frame, without_front}
 use Rattle.turn_client_core.proofs.FreePieceLemmas.{free-front, free-is}

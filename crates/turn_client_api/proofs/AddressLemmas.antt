@@ -1,6 +1,6 @@
 -- What the tests of addresses say.
-use Rattle.std.proofs.Common.{◌≡◌, ℕ, true, List, refl, sym, ap, eqb, ◌&&◌, ◌∙◌}
-use Rattle.std.proofs.lemmas.Bool.{and_parts, eqb-true, eq-eqb}
+use Rattle.std.proofs.Common.{◌≡◌, ℕ, true, false, List, refl, sym, ap, eqb, ◌&&◌, ◌∙◌}
+use Rattle.std.proofs.lemmas.Bool.{and_parts, eqb-true, eq-eqb, false_from_ne_true}
 use Rattle.std.proofs.lemmas.Slice.Eq.{bytes_eq-Decides}
 use Rattle.std.specs.Cmp.Lexicographic.{pointwise, same_text}
 use Rattle.std.specs.Net.Addr.{ipv4_octets, ipv6_segments}
@@ -58,3 +58,13 @@ same_list xs = (bytes_eq-Decides xs xs).1 refl
 pub same_address-self : (a : SocketAddr) → same_address a a ≡ true
 same_address-self (At.V4 a) = rw (same_list (ipv4_octets (v4_ip a)), eqb-self (v4_port a)) refl
 same_address-self (At.V6 a) = rw (same_list (ipv6_segments (v6_ip a)), eqb-self (v6_port a), eqb-self (v6_flowinfo a), eqb-self (v6_scope_id a)) refl
+
+-- what differs one way differs the other
+pub differ-sym : (a b : SocketAddr) → same_address a b ≡ false → same_address b a ≡ false
+differ-sym a b differ = false_from_ne_true (same_address b a) by
+  where
+    by : same_address b a ≡ true → ⊥
+    by e =
+        let same : b ≡ a = same_address-true b a e in
+        let clash : true ≡ false = sym (same_address-self a) ∙ rw same at differ in
+        cc

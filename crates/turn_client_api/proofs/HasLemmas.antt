@@ -1,10 +1,11 @@
 -- What is in a list.
-use Rattle.std.proofs.Common.{◌≡◌, ℕ, zero, suc, ◌≤◌, min, Bool, true, false, List, [], ◌∷◌, ◌++◌, map, filter, flat_map, filter_map, find, fold, Option, Some, None, ◌⊎◌, inl, inr, refl, sym, subst}
+use Rattle.std.proofs.Common.{◌≡◌, ℕ, zero, suc, ◌≤◌, min, Bool, true, false, List, [], ◌∷◌, ◌++◌, map, filter, flat_map, filter_map, find, fold, reverse, Option, Some, None, ◌⊎◌, inl, inr, refl, sym, subst}
 use Rattle.std.proofs.Common.{arith}
 use Rattle.std.specs.Prelude.{All, slice_get}
 use Rattle.std.proofs.lemmas.Option.{none-some, same_Some}
 use Rattle.std.proofs.Math.Nat.{min-le_left, min-le_right}
 use Rattle.std.proofs.lemmas.Bool.{cases_Bool}
+use Rattle.std.proofs.lemmas.List.{reverse-append}
 
 -- x is in the list
 abbrev pub Has : {X : Type 0} → X → List X → Type 0
@@ -29,6 +30,19 @@ pub has-append : {X : Type 0} (x : X) (xs ys : List X) → Has x (xs ++ ys) → 
 has-append x [] ys h = inr h
 has-append x (y ∷ xs) ys (inl e) = inl (inl e)
 has-append x (y ∷ xs) ys (inr h) = elim (has-append x xs ys h) [ inl here ↦ inl (inr here) | inr there ↦ inr there ]
+
+pub has-reverse : {X : Type 0} (x : X) (xs : List X) → Has x xs → Has x (reverse xs)
+has-reverse x [] h = absurd h
+has-reverse x (y ∷ xs) (inl e) = rw (reverse-append (y ∷ []) xs) (has-right x (reverse xs) (y ∷ []) (inl e))
+has-reverse x (y ∷ xs) (inr h) = rw (reverse-append (y ∷ []) xs) (has-left x (reverse xs) (y ∷ []) (has-reverse x xs h))
+
+pub has-unreversed : {X : Type 0} (x : X) (xs : List X) → Has x (reverse xs) → Has x xs
+has-unreversed x [] h = h
+has-unreversed x (y ∷ xs) h = elim (has-append x (reverse xs) (y ∷ []) (rw (reverse-append (y ∷ []) xs) at h)) [
+  | inl there ↦ inr (has-unreversed x xs there)
+  | inr (inl e) ↦ inl e
+  | inr (inr none) ↦ absurd none
+]
 
 -- what stays passed, and was in the list
 pub has-filter : {X : Type 0} (p : X → Bool) (x : X) (xs : List X) → Has x (filter p xs) → Has x xs × (p x ≡ true)

@@ -17,12 +17,11 @@ use Rattle.turn_client_api.specs.Grants.{allocations, as_connection, failures_am
 use Rattle.turn_client_api.specs.Grants.{unlisted, without_grants}
 use Rattle.turn_client_api.specs.Poll.{failed, allocation_expires, failed_by_timeout, is_lapsed_channel, is_lapsed_permission, is_over, is_unbound, lapsed, lapsed_allocation, lapsed_in}
 use Rattle.turn_client_api.specs.Poll.{last_channel_lapsed, unbound}
-use Rattle.turn_client_laws.specs.LawsBodies.{lapse_of, expiry_times}
+use Rattle.turn_client_api.specs.Due.{lapse_of, expiry_times}
 use Rattle.turn_client_api.specs.declared.event.TurnEvent.{TurnEvent}
-use Rattle.turn_client_laws.proofs.HasLemmas.{Has, filter-none, filter_map-has, find-none, has-all, cases_Option}
-use Rattle.turn_client_laws.proofs.LapseLemmas.{has-unreversed}
-use Rattle.turn_client_laws.proofs.LapseSteps.{lapsed_in-does}
-use Rattle.turn_client_laws.proofs.InAllocationLemmas.{allocation-there}
+use Rattle.turn_client_api.proofs.HasLemmas.{Has, filter-none, filter_map-has, find-none, has-all, cases_Option, has-unreversed}
+use Rattle.turn_client_api.proofs.LapseSteps.{lapsed_in-does}
+use Rattle.turn_client_api.proofs.AllocationLemmas.{allocation-there}
 
 -- none of these passes the test
 abbrev PassesNone : (Grant → Bool) → List Grant → Type 0
