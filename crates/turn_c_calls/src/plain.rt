@@ -52,7 +52,7 @@ pub fn reply_to<C: TurnClientApi>(client: &mut C, call: &Call) -> Result<Reply, 
             local_addr,
             remote_addr,
             now,
-        } => tcp_closed(client, *local_addr, *remote_addr, *now),
+        } => Ok(tcp_closed(client, *local_addr, *remote_addr, *now)),
         Call::ProtocolError => protocol_error(client),
         Call::SetPermissionKept {
             transport,
@@ -149,13 +149,12 @@ fn tcp_closed<C: TurnClientApi>(
     local: SocketAddr,
     remote: SocketAddr,
     now: Instant,
-) -> Result<Reply, AllocError>
+) -> Reply
     requires { now ≤ 2 ^ 62 }
-    ensures ok { IfOk result (λ reply. (reply, C.state client.new) ≡ step (C.state client.old) (Call.TcpClosed local remote now)) }
-    ensures err { OnErr result (EndsForMemory (Call.TcpClosed local remote now) (C.state client.old) (C.state client.new)) }
+    ensures { (result, C.state client.new) ≡ step (C.state client.old) (Call.TcpClosed local remote now) }
 {
-    client.tcp_closed(local, remote, now)?;
-    Ok(Reply::Done)
+    client.tcp_closed(local, remote, now);
+    Reply::Done
 }
 
 fn protocol_error<C: TurnClientApi>(client: &mut C) -> Result<Reply, AllocError>

@@ -300,6 +300,10 @@ deleted now s = in_sequence (
 abbrev pub delete_step : ℕ → State → Result Unit DeleteError × State
 delete_step now s = if is_allocated s.phase then (Ok tt, deleted now s) else (Err Delete.NoAllocation, s)
 
+-- Families are still requested, and the client has not ended.
+abbrev pub FailsFamilies : State → Type 0
+FailsFamilies s = (is_closed s.phase ≡ false) × (1 ≤ length s.families)
+
 -- each address family that is still requested fails, and the client ends
 abbrev pub protocol_error_step : State → State
 protocol_error_step s = if is_closed s.phase then s else closed (fail_all s)

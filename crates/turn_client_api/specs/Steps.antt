@@ -55,6 +55,7 @@ EndsWithoutMemory (PollRecv now) s t = EndsAfterSteps now s t
 EndsWithoutMemory (Poll now) s t = t ≡ closed s
 EndsWithoutMemory (PollTransmit now) s t = t ≡ closed s
 EndsWithoutMemory ProtocolError s t = t ≡ closed s
+EndsWithoutMemory (TcpClosed local remote now) s t = ⊥
 EndsWithoutMemory (SendTo transport peer bytes now) s t = ⊥
 EndsWithoutMemory PollEvent s t = ⊥
 EndsWithoutMemory RelayedAddresses s t = ⊥

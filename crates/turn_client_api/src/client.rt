@@ -7,7 +7,7 @@ ghost use Rattle.turn_client_api.specs.State.{State, Requesting};
 ghost use Rattle.turn_client_api.specs.Addresses.{relayed_left, permitted_left};
 ghost use Rattle.turn_client_api.specs.Effect.{closed};
 ghost use Rattle.turn_client_api.specs.Calls.{allocated_tcp_socket_step, bind_channel_step, create_permission_step, delete_step, can_send_to, permissions_of};
-ghost use Rattle.turn_client_api.specs.Calls.{channel_kept_step, permission_kept_step, protocol_error_step, relayed_addresses_of, send_to_step, tcp_connect_step};
+ghost use Rattle.turn_client_api.specs.Calls.{FailsFamilies, channel_kept_step, permission_kept_step, protocol_error_step, relayed_addresses_of, send_to_step, tcp_connect_step};
 ghost use Rattle.turn_client_api.specs.Receive.{recv_step, tcp_closed_step};
 ghost use Rattle.turn_client_api.specs.Streams.{HoldsLittle, poll_recv_step};
 ghost use Rattle.turn_client_api.specs.Poll.{poll_step};
@@ -225,20 +225,10 @@ pub trait TurnClientApi: Debug + Drop {
 
     /// Reports that this data connection was closed. Unless the client has ended, `poll` then reports
     /// that the caller is to close its end. Data received over it can still be polled. Without such a
-    /// connection nothing changes.
-    ///
-    /// # Errors
-    ///
-    /// If memory allocation fails. Nothing changes then.
-    fn tcp_closed(
-        &mut self,
-        local_addr: SocketAddr,
-        remote_addr: SocketAddr,
-        now: Instant,
-    ) -> Result<(), AllocError>
+    /// connection nothing changes. Allocates no memory.
+    fn tcp_closed(&mut self, local_addr: SocketAddr, remote_addr: SocketAddr, now: Instant)
         requires now_in_range { now ≤ 2 ^ 62 }
-        ensures ok { OnOk result (state self.new ≡ tcp_closed_step local_addr remote_addr (state self.old)) }
-        ensures err { OnErr result (state self.new ≡ state self.old) };
+        ensures { state self.new ≡ tcp_closed_step local_addr remote_addr (state self.old) };
 
     /// Makes the packet that carries the data to this peer: over UDP a ChannelData message if the first
     /// active channel to the peer is not past its expiry, and else a Send indication (RFC 8656,
@@ -358,8 +348,10 @@ pub trait TurnClientApi: Debug + Drop {
     ///
     /// # Errors
     ///
-    /// If memory allocation for the events fails. The client has ended all the same.
+    /// If memory allocation for the events fails. The client has ended all the same. If no family is
+    /// requested, or the client had ended, there is no event, and no memory is allocated.
     fn protocol_error(&mut self) -> Result<(), AllocError>
         ensures ok { OnOk result (state self.new ≡ protocol_error_step (state self.old)) }
-        ensures err { OnErr result (state self.new ≡ closed (state self.old)) };
+        ensures err { OnErr result (state self.new ≡ closed (state self.old)) }
+        ensures free { OnErr result (FailsFamilies (state self.old)) };
 }

@@ -123,14 +123,7 @@ impl TurnClientApi for ClosedClient {
         Err(TcpAllocateError::NoAllocation)
     }
 
-    fn tcp_closed(
-        &mut self,
-        _local_addr: SocketAddr,
-        _remote_addr: SocketAddr,
-        _now: Instant,
-    ) -> Result<(), AllocError> {
-        Ok(())
-    }
+    fn tcp_closed(&mut self, _local_addr: SocketAddr, _remote_addr: SocketAddr, _now: Instant) {}
 
     fn send_to<T: AsSlice<u8> + Debug + Drop>(
         &mut self,

@@ -62,6 +62,7 @@ before-IsBehind to piece now s u e = by (stream_at to s) refl
 pub memory-ends : (call : Call) (s t : State) → EndsWithoutMemory call s t → (t ≡ s) ⊎ (t ≡ closed s) ⊎ (TakesInput call × EndsWithoutMemory call s t)
 memory-ends (Recv packet now) s t end = inr (inr (tt, end))
 memory-ends (PollRecv now) s t end = inr (inr (tt, end))
+memory-ends (TcpClosed local remote now) s t none = absurd none
 memory-ends (SendTo transport peer bytes now) s t none = absurd none
 memory-ends (Poll now) s t e = inr (inl e)
 memory-ends (PollTransmit now) s t e = inr (inl e)

@@ -103,6 +103,7 @@ ends-same (PollRecv now) s t carrier none ends = absurd (never-ends now s t none
 ends-same (Poll now) s t carrier none ends = closed-same s t ends
 ends-same (PollTransmit now) s t carrier none ends = closed-same s t ends
 ends-same ProtocolError s t carrier none ends = closed-same s t ends
+ends-same (TcpClosed local remote now) s t carrier none ends = absurd ends
 ends-same (SendTo transport peer bytes now) s t carrier none ends = absurd ends
 ends-same PollEvent s t carrier none ends = absurd ends
 ends-same RelayedAddresses s t carrier none ends = absurd ends

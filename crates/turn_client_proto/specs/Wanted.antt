@@ -1,6 +1,6 @@
 -- Which calls a failed memory allocation may end, and how.
 use Rattle.std.specs.Prelude.{◌≡◌, ◌⊎◌, Bool, true, false, Ok, IsSome, ⊤}
-use Rattle.turn_client_api.specs.Calls.{allocated_tcp_socket_step, bind_channel_step, create_permission_step, delete_step, tcp_connect_step}
+use Rattle.turn_client_api.specs.Calls.{FailsFamilies, allocated_tcp_socket_step, bind_channel_step, create_permission_step, delete_step, tcp_connect_step}
 use Rattle.turn_client_api.specs.State.{State}
 use Rattle.turn_client_api.specs.Steps.{EndsWithoutMemory, state_after}
 use Rattle.turn_client_api.specs.Transmit.{next_transmit}
@@ -11,8 +11,8 @@ use Rattle.turn_client_proto.specs.Run.{reply_of}
 use Rattle.turn_client_proto.specs.declared.runs.reply.Reply.{Reply}
 use Rattle.turn_client_proto.specs.declared.runs.reply.Reply.TheVariants as Replies
 
--- The call needs memory: it would be accepted, a packet is due, or for `poll` the first ALLOCATE awaits its response. Of
--- `recv` and `poll_recv` what they leave without memory says so.
+-- The call needs memory: it would be accepted, a packet is due, for `poll` the first ALLOCATE awaits its response, or for
+-- `protocol_error` families are to fail. Of `recv` and `poll_recv` what they leave without memory says so.
 abbrev pub WantsMemory : Call → State → Type 0
 WantsMemory (Calls.Delete now) s = (delete_step now s).0 ≡ Ok tt
 WantsMemory (Calls.CreatePermission transport peer now) s = (create_permission_step transport peer now s).0 ≡ Ok tt
@@ -21,6 +21,7 @@ WantsMemory (Calls.TcpConnect peer now) s = (tcp_connect_step peer now s).0 ≡ 
 WantsMemory (Calls.AllocatedTcpSocket id tuple peer local now) s = (allocated_tcp_socket_step id tuple peer local now s).0 ≡ Ok tt
 WantsMemory (Calls.Poll now) s = s.phase ≡ Requesting
 WantsMemory (Calls.PollTransmit now) s = IsSome (next_transmit now s)
+WantsMemory Calls.ProtocolError s = FailsFamilies s
 WantsMemory _ s = ⊤
 
 -- a memory allocation of the call failed, which the call needs, and the client is as the call leaves it then

@@ -119,7 +119,6 @@ impl TurnClientApi for TurnClient {
     ghost use Rattle.std.specs.Prelude.{◌≡◌, ◌≤◌, ◌^◌, IfOk, IsOk};
     ghost use Rattle.turn_client_api.specs.Alarm.{IsTimely};
     ghost use Rattle.turn_client_api.specs.Poll.{poll_step};
-    ghost use Rattle.turn_client_api.specs.Receive.{tcp_closed_step};
     ghost use Rattle.turn_client_proto.specs.Client.{state_of};
 
     ghost state = { state_of };
@@ -250,15 +249,7 @@ impl TurnClientApi for TurnClient {
         }
     }
 
-    fn tcp_closed(
-        &mut self,
-        local_addr: SocketAddr,
-        remote_addr: SocketAddr,
-        now: Instant,
-    ) -> Result<(), AllocError>
-        ensures after { state_of self.new ≡ tcp_closed_step local_addr remote_addr (state_of self.old) }
-        ensures free { IsOk result }
-    {
+    fn tcp_closed(&mut self, local_addr: SocketAddr, remote_addr: SocketAddr, now: Instant) {
         match self {
             TurnClient::Udp(client) => client.tcp_closed(local_addr, remote_addr, now),
             TurnClient::Tcp(client) => client.tcp_closed(local_addr, remote_addr, now),

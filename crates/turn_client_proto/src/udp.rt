@@ -8,7 +8,7 @@ ghost use Rattle.turn_client_api.specs.Effect.{closed};
 ghost use Rattle.turn_client_api.specs.Memory.{packet_takes_memory};
 ghost use Rattle.turn_client_api.specs.Payloads.{datagram_step};
 ghost use Rattle.turn_client_api.specs.Poll.{poll_step};
-ghost use Rattle.turn_client_api.specs.Receive.{is_from_server, tcp_closed_step};
+ghost use Rattle.turn_client_api.specs.Receive.{is_from_server};
 ghost use Rattle.turn_client_api.specs.State.{initial};
 ghost use Rattle.turn_client_api.specs.Streams.{HoldsLittle, poll_recv_step};
 ghost use Rattle.turn_client_core.specs.Lent.{IsReadIfAny};
@@ -210,17 +210,8 @@ impl TurnClientApi for TurnClientUdp {
             .allocated_tcp_socket(id, five_tuple, peer_addr, local_addr, now)
     }
 
-    fn tcp_closed(
-        &mut self,
-        local_addr: SocketAddr,
-        remote_addr: SocketAddr,
-        _now: Instant,
-    ) -> Result<(), AllocError>
-        ensures after { self.new ≡ tcp_closed_step local_addr remote_addr self.old }
-        ensures free { IsOk result }
-    {
-        self.core.tcp_closed(local_addr, remote_addr);
-        Ok(())
+    fn tcp_closed(&mut self, local_addr: SocketAddr, remote_addr: SocketAddr, _now: Instant) {
+        self.core.tcp_closed(local_addr, remote_addr)
     }
 
     fn send_to<T: AsSlice<u8> + Debug + Drop>(

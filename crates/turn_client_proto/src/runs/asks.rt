@@ -103,11 +103,10 @@ pub(crate) fn tcp_closed<C: TurnClientApi>(
     local_addr: SocketAddr,
     remote_addr: SocketAddr,
     now: Instant,
-) -> Result<Reply, AllocError>
+) -> Reply
     requires { now ≤ 2 ^ 62 }
-    ensures ok { IfOk result (λ reply. (reply, C.state client.new) ≡ step (C.state client.old) (Call.TcpClosed local_addr remote_addr now)) }
-    ensures no_memory { OnErr result (FailsForMemory (Call.TcpClosed local_addr remote_addr now) (C.state client.old) (C.state client.new)) }
+    ensures { (result, C.state client.new) ≡ step (C.state client.old) (Call.TcpClosed local_addr remote_addr now) }
 {
-    client.tcp_closed(local_addr, remote_addr, now)?;
-    Ok(Reply::Done)
+    client.tcp_closed(local_addr, remote_addr, now);
+    Reply::Done
 }

@@ -56,7 +56,7 @@ pub fn reply_to<C: TurnClientApi>(
             local_addr,
             remote_addr,
             now,
-        } => tcp_closed(client, *local_addr, *remote_addr, *now),
+        } => Ok(tcp_closed(client, *local_addr, *remote_addr, *now)),
         Call::SendTo {
             transport,
             to,

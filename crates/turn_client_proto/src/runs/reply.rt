@@ -72,6 +72,6 @@ pub enum Reply {
     SetPermissionKept(Result<(), KeepError>),
     /// `set_channel_kept` found the channel, or returned an error.
     SetChannelKept(Result<(), KeepError>),
-    /// `tcp_closed` or `protocol_error` succeeded.
+    /// `tcp_closed` was made, or `protocol_error` succeeded.
     Done,
 }

@@ -2,7 +2,7 @@
 
 ghost use Rattle.std.specs.Prelude.{◌≡◌, [], IsOk, OnOk, OnErr};
 ghost use Rattle.turn_client_api.specs.Answers.{event_step};
-ghost use Rattle.turn_client_api.specs.Calls.{protocol_error_step};
+ghost use Rattle.turn_client_api.specs.Calls.{FailsFamilies, protocol_error_step};
 ghost use Rattle.turn_client_api.specs.Effect.{closed, fail_all};
 
 use crate::protocol::TurnClientProtocol;
@@ -28,8 +28,7 @@ impl TurnClientProtocol {
     pub fn protocol_error(&mut self) -> Result<(), AllocError>
         ensures ok { OnOk result (self.new ≡ protocol_error_step self.old) }
         ensures err { OnErr result (self.new ≡ closed self.old) }
-        ensures free { self.old.families ≡ [] → IsOk result }
-        ensures ended { self.old.phase ≡ Phase.Closed → IsOk result }
+        ensures free { OnErr result (FailsFamilies self.old) }
     {
         if self.phase == Phase::Closed {
             return Ok(());
