@@ -16,7 +16,7 @@ use Rattle.turn_client_api.specs.Answers.{EndsAfterSteps, RecvEnds, before_other
 use Rattle.turn_client_api.specs.Steps.{EndsWithoutMemory, Leaves, state_after}
 use Rattle.turn_client_api.specs.declared.call.Call.{Call}
 use Rattle.turn_client_api.specs.declared.call.Call.TheVariants.{SendTo, Recv, PollRecv, Poll, PollTransmit, PollEvent, RelayedAddresses, Permissions}
-use Rattle.turn_client_api.specs.declared.call.Call.TheVariants.{HavePermission, ProtocolError, SetPermissionKept, SetChannelKept}
+use Rattle.turn_client_api.specs.declared.call.Call.TheVariants.{HavePermission, ProtocolError, SetPermissionKept, SetChannelKept, TcpClosed}
 use Rattle.turn_client_laws.specs.LawsHandled.{TakesInput}
 use Rattle.turn_client_laws.proofs.RunKeepLemmas.{IsKept, first_frame_step-kept, turns-kept}
 

@@ -14,7 +14,7 @@ use Rattle.turn_client_api.specs.Steps.{EndsWithoutMemory, Leaves, state_after}
 use Rattle.turn_client_api.specs.Streams.{broken_at, max_steps, poll_recv_step, steps_until_payload}
 use Rattle.turn_client_api.specs.declared.call.Call.{Call}
 use Rattle.turn_client_api.specs.declared.call.Call.TheVariants.{AllocatedTcpSocket, Delete, HavePermission, Permissions, Poll, PollEvent, PollRecv, PollTransmit, ProtocolError, Recv}
-use Rattle.turn_client_api.specs.declared.call.Call.TheVariants.{RelayedAddresses, SendTo}
+use Rattle.turn_client_api.specs.declared.call.Call.TheVariants.{RelayedAddresses, SendTo, TcpClosed}
 use Rattle.turn_client_api.specs.declared.state.Stream.{Stream}
 use Rattle.turn_client_core.specs.Lent.{IsReadIfAny, Returns}
 use Rattle.turn_client_laws.proofs.EditsOfCalls.{delete-walk, quiet-walk}
