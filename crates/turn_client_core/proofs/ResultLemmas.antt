@@ -1,6 +1,6 @@
 -- Results, and values that may be there.
-use Rattle.std.specs.Prelude.{Result, Ok, Err, OnErr, IsOk, is_none, is_some}
-use Rattle.std.proofs.Common.{◌≡◌, true, false, Option, Some, None, refl}
+use Rattle.std.specs.Prelude.{◌≤◌, Result, Ok, Err, OnErr, IsOk, is_none, is_some}
+use Rattle.std.proofs.Common.{◌≡◌, true, false, List, [], ◌∷◌, length, Option, Some, None, refl, rules}
 
 -- what holds in any case holds on an error
 pub on-err : {T E P : Type 0} (r : Result T E) → P → OnErr r P
@@ -21,6 +21,12 @@ on-both (Err e) f p q = f p q
 pub no-err : {T E : Type 0} (r : Result T E) → OnErr r ⊥ → IsOk r
 no-err (Ok x) h = refl
 no-err (Err e) h = absurd h
+
+-- what fails only for a list that is not empty
+pub err-some : {A T E : Type 0} (xs : List A) (r : Result T E) → (xs ≡ [] → IsOk r) → OnErr r (1 ≤ length xs)
+err-some xs (Ok x) ok = tt
+err-some {T = T} {E = E} [] (Err e) ok = let clash : IsOk {T = T} {E = E} (Err e) = ok refl in absurd cc
+err-some (x ∷ xs) (Err e) ok = search rules
 
 pub none-is : {A : Type 0} (o : Option A) → is_none o ≡ true → o ≡ None
 none-is None e = refl

@@ -2,7 +2,7 @@
 
 ghost use Rattle.std.specs.Prelude.{◌≡◌, [], IsOk, OnOk, OnErr};
 ghost use Rattle.turn_client_api.specs.Answers.{event_step};
-ghost use Rattle.turn_client_api.specs.Calls.{FailsFamilies, protocol_error_step};
+ghost use Rattle.turn_client_api.specs.Calls.{FailsFamilies, is_closed, protocol_error_step};
 ghost use Rattle.turn_client_api.specs.Effect.{closed, fail_all};
 
 use crate::protocol::TurnClientProtocol;
@@ -30,10 +30,17 @@ impl TurnClientProtocol {
         ensures err { OnErr result (self.new ≡ closed self.old) }
         ensures free { OnErr result (FailsFamilies self.old) }
     {
-        if self.phase == Phase::Closed {
+        if self.is_closed() {
             return Ok(());
         }
         self.close_failing()
+    }
+
+    /// Whether the client has ended.
+    fn is_closed(&self) -> bool
+        ensures { result ≡ is_closed self.now.phase }
+    {
+        self.phase == Phase::Closed
     }
 
     /// Queues a failure event for each family that is still requested, and ends the client.
