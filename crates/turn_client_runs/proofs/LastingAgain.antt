@@ -1,5 +1,5 @@
 -- A request is retransmitted, or made again after a challenge, while no grant is lost.
-use Rattle.std.proofs.Common.{◌≡◌, ◌⊎◌, ℕ, zero, suc, ◌+◌, ◌-◌, ◌*◌, ◌^◌, ◌<◌, ◌≤◌, min, Bool, true, false, cond, not, ◌&&◌, ◌||◌, eqb, leb, List, [], ◌∷◌, ◌++◌, length, map, Option, Some, None, refl, inl, inr, ap}
+use Rattle.std.proofs.Common.{◌≡◌, ◌⊎◌, ℕ, ◌+◌, ◌-◌, ◌*◌, ◌^◌, ◌<◌, ◌≤◌, min, Bool, true, false, cond, not, ◌||◌, eqb, List, [], ◌∷◌, length, map, Some, refl, inl, inr, ap}
 use Rattle.std.proofs.Common.{sym, subst, ◌∙◌, arith}
 use Rattle.std.specs.Prelude.{filter}
 use Rattle.std.specs.List.{list_any}
@@ -30,10 +30,10 @@ use Rattle.turn_client_laws.proofs.TwoPurposes.{purpose-with}
 use Rattle.turn_client_runs.specs.History.{History, IsSeldom, extra_since, waited}
 use Rattle.turn_client_runs.specs.Lasting.{expiry_of}
 use Rattle.turn_client_runs.proofs.LastingCounts.{passes-all}
-use Rattle.turn_client_runs.proofs.LastingHistory.{GoesOn, lone-more, old-apart, pending-later_on, waited-next}
+use Rattle.turn_client_runs.proofs.LastingHistory.{GoesOn, known-later, lone-more, waited-next}
 use Rattle.turn_client_runs.proofs.LastingListings.{requests-more}
-use Rattle.turn_client_runs.proofs.LastingStands.{Follows, Goes, IsAsked, IsAwaited, IsIdle, IsKept, IsPending, IsRequest, IsWell, Stands, due_of, early-paced, extra-paced, goes-more, listed_as}
-use Rattle.turn_client_runs.proofs.LastingStands.{is_served, is_waiting, served, more-paced, pause-le, pending-more, used}
+use Rattle.turn_client_runs.proofs.LastingStands.{Goes, IsAsked, IsAwaited, IsIdle, IsKept, IsPending, IsRequest, Stands, due_of, early-paced, extra-paced, listed_as}
+use Rattle.turn_client_runs.proofs.LastingStands.{asked-before, is_served, is_waiting, served, more-paced, pause-le, used}
 
 -- one packet more is extra
 abbrev pub IsOneMore : ℕ → History → History → Type 0
@@ -179,13 +179,19 @@ module _ (count slots extras delay now : ℕ) (past later : History) (s : State)
     linked = k.linked;
     in_range = k.in_range;
     housed = k.housed;
-    each = λ g there. elim (k.each g there) [ inl (waits, pending) ↦ inl (waits, pending-again now g pending) | inr stands ↦ inr (stands-again g stands) ];
+    known = λ g there. let (waits, due) = k.known g there in (λ w. known-later past later on.let_go g (waits w), due);
+    each = λ g there. elim (k.each g there) [
+      | inl (waits, pending) ↦ inl (waits, pending-again now g pending)
+      | inr (inl stands) ↦ inr (inl (stands-again g stands))
+      | inr (inr (freed, kind)) ↦ inr (inr (on.let_go g freed, kind))
+    ];
   }
 
   pub goes-again : Goes past later s.transactions t.transactions s t
   goes-again = record {
-    remain = λ g there granted. (g, there, refl, granted);
-    follow = λ until g there waits pending. inl (there, pending-again until g pending);
+    let_go = on.let_go;
+    remain = λ g there granted none. (g, there, refl, granted);
+    follow = λ until g there waits pending none. inl (there, pending-again until g pending);
   }
 
 -- ---- a challenge is answered
@@ -405,11 +411,20 @@ module _ (count slots extras delay now : ℕ) (past later : History) (s : State)
     linked = requests-more s s.grants copies (λ g h. h) (λ l h. ap (λ (m : Listing). m.id) (copied l h).2) copies-linked k.linked;
     in_range = k.in_range;
     housed = k.housed;
-    each = λ g there. elim (k.each g there) [ inl (waits, pending) ↦ inl (waits, pending-retried now g pending) | inr stands ↦ inr (stands-retried g stands) ];
+    known = λ g there.
+        let (waits, due) = k.known g there in
+        (λ w. known-later past later on.let_go g (waits w), λ leased asked. due leased (asked-before (has_request g s) (has_request g after) (not-asked g) asked));
+    each = λ g there. elim (k.each g there) [
+      | inl (waits, pending) ↦ inl (waits, pending-retried now g pending)
+      | inr (inl stands) ↦ inr (inl (stands-retried g stands))
+      | inr (inr (freed, inl leased)) ↦ inr (inr (on.let_go g freed, inl leased))
+      | inr (inr (freed, inr (is, none))) ↦ inr (inr (on.let_go g freed, inr (is, not-asked g none)))
+    ];
   }
 
   pub goes-retried : Goes past later s.transactions after.transactions s after
   goes-retried = record {
-    remain = λ g there granted. (g, there, refl, granted);
-    follow = λ until g there waits pending. inl (there, pending-retried until g pending);
+    let_go = on.let_go;
+    remain = λ g there granted none. (g, there, refl, granted);
+    follow = λ until g there waits pending none. inl (there, pending-retried until g pending);
   }

@@ -36,7 +36,7 @@ use Rattle.turn_client_api.specs.Grants.{with_grant}
 use Rattle.turn_client_api.specs.Requests.{fresh_id, listings, queued, request_for, request_started, requested, to_server}
 use Rattle.turn_client_api.specs.Calls.{bind_channel, bind_channel_step, bound_by, channel_numbers, channel_step, channels_to, create_permission_step, free_number, in_allocation, is_allocated}
 use Rattle.turn_client_api.specs.Calls.{is_in_progress, is_number_taken, missing_permission, permission_step, reserved_from}
-use Rattle.turn_client_api.specs.Due.{pause_end}
+use Rattle.turn_client_api.specs.Due.{is_kept, pause_end}
 use Rattle.turn_client_api.proofs.HasLemmas.{map-has, Has, filter_map-has, has-append, has-found, has-left, has-right}
 use Rattle.turn_client_laws.proofs.InAllocationLemmas.{any-has, Room, has-any, allocation-room, room-more}
 use Rattle.turn_client_api.proofs.AllocationLemmas.{allocation-there}
@@ -44,7 +44,7 @@ use Rattle.turn_client_runs.specs.History.{History}
 use Rattle.turn_client_runs.proofs.LastingHistory.{lone-more}
 use Rattle.turn_client_runs.proofs.LastingCounts.{passes, passes-all, passes-append, passes-none}
 use Rattle.turn_client_runs.proofs.LastingStands.{Goes, IsPending, pending-more, AreSingle, IsAsked, IsRequest, IsAwaited, IsIdle, IsKept, IsUnique, Stands, allocation-stands, due_of, more-paced}
-use Rattle.turn_client_runs.proofs.LastingStands.{is_served, is_waiting, served, stands-early, unique-refreshing}
+use Rattle.turn_client_runs.proofs.LastingStands.{asked-before, leased-active, IsLoose, is_served, is_waiting, not-waiting, served, stands-early, unique-refreshing}
 use Rattle.turn_client_runs.proofs.LastingTransmits.{same_ip-self}
 use Rattle.turn_client_api.specs.Grants.{with_more_grants}
 use Rattle.turn_client_laws.proofs.GrantOriginLemmas.{has-mapped}
@@ -65,6 +65,7 @@ pub record AreNew (s : State) (ps : List Purpose) (news : List Grant) : Type 0 w
   pub unique : (p : Purpose) → Has p ps → IsUnique p
   pub some : 1 ≤ length news
   pub waits : (g : Grant) → Has g news → is_waiting g ≡ true
+  pub kept : (g : Grant) → Has g news → is_kept g ≡ true
   pub for : (p : Purpose) → Has p ps → (g : Grant) × Has g news × (is_for p g ≡ true)
   pub none : (p : Purpose) → Has p ps → (g : Grant) → Has g s.grants → is_for p g ≡ false
   pub house : (g : Grant) → Has g news → Room s.grants (family_of_grant g)
@@ -151,6 +152,11 @@ module _ (count slots extras delay now : ℕ) (past : History) (s : State) (k : 
             paused = more-paced s.config.request_cadence (pause_end s) _ _ (due_of s g) slots _ _ one-more (omega (arith, more)) paused;
           })
 
+  -- what is reserved is not asked for
+  loose-asked : (g : Grant) → Has g s.grants → IsLoose past s g → IsLoose past t g
+  loose-asked g there (freed, inl leased) = (freed, inl leased)
+  loose-asked g there (freed, inr (is, none)) = (freed, inr (is, not-asked g there none))
+
   room-left : (family : AddressFamily) → Room s.grants family → Room t.grants family
   room-left = room-more s.grants t.grants (λ a there. has-left (Allocation a) s.grants news there)
 
@@ -207,6 +213,15 @@ module _ (count slots extras delay now : ℕ) (past : History) (s : State) (k : 
       | inl old ↦ room-left (family_of_grant g) (k.housed g old)
       | inr new ↦ room-left (family_of_grant g) (are.house g new)
     ];
+    known = λ g h. elim (has-append g s.grants news h) [
+      | inl old ↦
+          let (waits, due) = k.known g old in
+          (waits, λ leased asked. due leased (asked-before (has_request g s) (has_request g t) (not-asked g old) asked))
+      | inr new ↦ (
+        λ waits. or_left (is_kept g) _ (are.kept g new),
+        λ leased asked. absurd (let no : false ≡ true = sym (not-waiting g (leased-active g leased)) ∙ are.waits g new in cc),
+      )
+    ];
     each = λ g h. elim (has-append g s.grants news h) [
       | inl old ↦ elim (k.each g old) [
         | inl (waits, pending) ↦ inl (
@@ -214,7 +229,8 @@ module _ (count slots extras delay now : ℕ) (past : History) (s : State) (k : 
           pending-more now past s.transactions t.transactions s.listed t.listed g (λ x h. has-left x s.transactions _ h)
               (λ l h for. has-left l s.listed _ h) pending,
         )
-        | inr stands ↦ inr (stands-asked g old stands)
+        | inr (inl stands) ↦ inr (inl (stands-asked g old stands))
+        | inr (inr loose) ↦ inr (inr (loose-asked g old loose))
       ]
       | inr new ↦ inl (are.waits g new, new-pending g new)
     ];
@@ -222,8 +238,9 @@ module _ (count slots extras delay now : ℕ) (past : History) (s : State) (k : 
 
   pub asked-goes : Goes past past s.transactions t.transactions s t
   asked-goes = record {
-    remain = λ g there granted. (g, has-left g s.grants news there, refl, granted);
-    follow = λ until g there waits pending. inl (
+    let_go = λ g e. e;
+    remain = λ g there granted none. (g, has-left g s.grants news there, refl, granted);
+    follow = λ until g there waits pending none. inl (
       has-left g s.grants news there,
       pending-more until past s.transactions t.transactions s.listed t.listed g (λ x h. has-left x s.transactions _ h) (λ l h for. has-left l s.listed _ h) pending,
     );
@@ -282,13 +299,14 @@ abbrev pub Asks : (State → Type 0) → ℕ → State → Type 0
 Asks P now s = (ps : List Purpose) (news : List Grant) (text : List ℕ) → AreNew s ps news → P (asks ps news now text s)
 
 -- one thing
-one-new : (s : State) (single : AreSingle s.grants) (p : Purpose) (unique : IsUnique p) (new : Grant) → is_for p new ≡ true → is_waiting new ≡ true
+one-new : (s : State) (single : AreSingle s.grants) (p : Purpose) (unique : IsUnique p) (new : Grant) → is_for p new ≡ true → is_waiting new ≡ true → is_kept new ≡ true
     → ((g : Grant) → Has g s.grants → is_for p g ≡ false)
     → Room s.grants (family_of_grant new) → AreNew s (p ∷ []) (new ∷ [])
-one-new s single p unique new for waits none house = record {
+one-new s single p unique new for waits kept none house = record {
   unique = λ q h. is-one q h;
   some = omega arith;
   waits = λ g h. elim h [ inl e ↦ rw e waits | inr no_more ↦ absurd no_more ];
+  kept = λ g h. elim h [ inl e ↦ rw e kept | inr no_more ↦ absurd no_more ];
   for = λ q h. elim h [ inl e ↦ (new, inl refl, rw e for) | inr no_more ↦ absurd no_more ];
   none = λ q h g there. elim h [ inl e ↦ rw e (none g there) | inr no_more ↦ absurd no_more ];
   house = λ g h. elim h [ inl e ↦ rw e house | inr no_more ↦ absurd no_more ];
@@ -309,6 +327,7 @@ both-new s single number peer no_channel no_permission house = record {
   unique = λ q h. unique q h;
   some = omega arith;
   waits = λ g h. elim h [ inl e ↦ rw e refl | inr (inl e) ↦ rw e refl | inr (inr no_more) ↦ absurd no_more ];
+  kept = λ g h. elim h [ inl e ↦ rw e refl | inr (inl e) ↦ rw e refl | inr (inr no_more) ↦ absurd no_more ];
   for = λ q h. elim h [
     | inl e ↦ (Channel number peer (Pending true), inl refl, rw e (eq-eqb number number refl))
     | inr (inl e) ↦ (Permission (socket_ip peer) (Pending true), inr (inl refl), rw e (same_ip-self (socket_ip peer)))
@@ -352,7 +371,7 @@ module _ (P : State → Type 0) (count slots extras delay now : ℕ) (past : His
           → Is (cond (is_some o) (Err Create.AlreadyExists, s) (cond (not (is_allocated s.phase)) (Err Create.NoAllocation, s) (Ok tt, made)))
       step None e room =
           allocated s.phase k.phase (asked (ForPermission ip ∷ []) (Permission ip (Pending true) ∷ []) (request_for (with_grant (Permission ip (Pending true)) s) (ForPermission ip) (fresh_id s))
-          (one-new s k.single (ForPermission ip) tt (Permission ip (Pending true)) (same_ip-self ip) refl (permission-none ip s e) room))
+          (one-new s k.single (ForPermission ip) tt (Permission ip (Pending true)) (same_ip-self ip) refl refl (permission-none ip s e) room))
       step (Some progress) e room = same
 
       by : (o : Option Relay) → find_allocation_to transport ip s ≡ o → Is (in_allocation o ip now Create.NoAllocation s (permission_step ip now s))
@@ -397,7 +416,7 @@ module _ (P : State → Type 0) (count slots extras delay now : ℕ) (past : His
           made (Some progress) e =
               let ips : missing_permission peer s ≡ [] = rw e refl in
               rw ips (asked (ForChannel number peer ∷ []) (Channel number peer (Pending true) ∷ []) (request_for s (ForChannel number peer) (fresh_id s))
-              (one-new s k.single (ForChannel number peer) tt (Channel number peer (Pending true)) (eq-eqb number number refl) refl none room))
+              (one-new s k.single (ForChannel number peer) tt (Channel number peer (Pending true)) (eq-eqb number number refl) refl refl none room))
 
       step_by : (xs : List ℕ) (f : Phase) (o : Option ℕ) → f ≡ Allocated → free_number s ≡ o → Room s.grants (family_of peer) → Is (bound_by peer now s xs (is_allocated f) o)
       step_by (until ∷ xs) f o e free room = same

@@ -1,5 +1,5 @@
 -- How many elements pass a test.
-use Rattle.std.proofs.Common.{◌≡◌, ℕ, ◌+◌, ◌≤◌, Bool, true, false, cond, not, ◌&&◌, List, [], ◌∷◌, ◌++◌, length, map, filter, inl, inr, refl, sym, arith, ◌∙◌}
+use Rattle.std.proofs.Common.{◌≡◌, ℕ, ◌+◌, ◌≤◌, Bool, true, false, cond, not, ◌&&◌, ◌||◌, List, [], ◌∷◌, ◌++◌, length, map, filter, inl, inr, refl, sym, arith, ◌∙◌}
 use Rattle.std.proofs.lemmas.Bool.{cases_Bool}
 use Rattle.turn_client_api.proofs.HasLemmas.{Has}
 
@@ -66,6 +66,26 @@ passes-split p q (x ∷ xs) = elim (cases_Bool (q x)) [
   | inr e ↦ rw e (omega (arith, passes-split p q xs))
 ]
 
+-- those that are left out pass both tests
+pub passes-cut : {X : Type 0} (p q : X → Bool) (xs : List X) → passes p xs ≤ passes p (filter (λ x. not (q x)) xs) + passes (λ x. p x && q x) xs
+passes-cut p q [] = omega arith
+passes-cut p q (x ∷ xs) = elim (cases_Bool (q x)) [
+  | inl e ↦ elim (cases_Bool (p x)) [ inl f ↦ rw (e, f) (omega (arith, passes-cut p q xs)) | inr f ↦ rw (e, f) (omega (arith, passes-cut p q xs)) ]
+  | inr e ↦ elim (cases_Bool (p x)) [ inl f ↦ rw (e, f) (omega (arith, passes-cut p q xs)) | inr f ↦ rw (e, f) (omega (arith, passes-cut p q xs)) ]
+]
+
+-- two tests that none passes both, and a third one that each of those passes
+pub passes-both : {X : Type 0} (p q r : X → Bool) (xs : List X) → ((x : X) → p x ≡ true → (q x ≡ false) × (r x ≡ true)) → ((x : X) → q x ≡ true → r x ≡ true) → passes p xs + passes q xs ≤ passes r xs
+passes-both p q r [] first second = omega arith
+passes-both p q r (x ∷ xs) first second = elim (cases_Bool (p x)) [
+  | inl e ↦ let (f, g) = first x e in rw (e, f, g) (omega (arith, passes-both p q r xs first second))
+  | inr e ↦ rw e (omega (arith, one-more (q x) (r x) (second x), passes-both p q r xs first second))
+]
+
+pub passes-length : {X : Type 0} (p : X → Bool) (xs : List X) → length (filter p xs) ≡ passes p xs
+passes-length p [] = refl
+passes-length p (x ∷ xs) = elim (cases_Bool (p x)) [ inl e ↦ rw e (omega (arith, passes-length p xs)) | inr e ↦ rw e (omega (arith, passes-length p xs)) ]
+
 pub passes-filter : {X : Type 0} (p q : X → Bool) (xs : List X) → passes p (filter q xs) ≤ passes p xs
 passes-filter p q [] = omega arith
 passes-filter p q (x ∷ xs) = elim (cases_Bool (q x)) [
@@ -101,17 +121,17 @@ passes-two p r x y xs hx hy px py rx ry =
       passes-one (λ z. p z && not (r z)) y xs hy (rw (py, ry) refl),
     )
 
+pub length-filtered : {X : Type 0} (p : X → Bool) (zs : List X) → length (filter p zs) ≤ length zs
+length-filtered p [] = omega arith
+length-filtered p (z ∷ zs) = elim (cases_Bool (p z)) [
+  | inl f ↦ rw f (omega (arith, length-filtered p zs))
+  | inr f ↦ rw f (omega (arith, length-filtered p zs))
+]
+
 -- one at least is left out
 pub length-without : {X : Type 0} (q : X → Bool) (x : X) (xs : List X) → Has x xs → q x ≡ true → length (filter (λ y. not (q y)) xs) + 1 ≤ length xs
 length-without q x [] h e = absurd h
 length-without q x (y ∷ xs) (inl is) e = let f : q y ≡ true = rw (sym is) e in rw f (omega (arith, length-filtered (λ y. not (q y)) xs))
-  where
-    length-filtered : {X : Type 0} (p : X → Bool) (zs : List X) → length (filter p zs) ≤ length zs
-    length-filtered p [] = omega arith
-    length-filtered p (z ∷ zs) = elim (cases_Bool (p z)) [
-      | inl f ↦ rw f (omega (arith, length-filtered p zs))
-      | inr f ↦ rw f (omega (arith, length-filtered p zs))
-    ]
 length-without q x (y ∷ xs) (inr h) e = elim (cases_Bool (q y)) [
   | inl f ↦ rw f (omega (arith, length-without q x xs h e))
   | inr f ↦ rw f (omega (arith, length-without q x xs h e))
@@ -130,3 +150,12 @@ passes-same p x y (z ∷ xs) few (inr hx) (inl ey) px py =
     let more = passes-one p x xs hx px in
     absurd (let few : 1 + passes p xs ≤ 1 = rw here at few in omega (arith, few, more))
 passes-same p x y (z ∷ xs) few (inr hx) (inr hy) px py = passes-same p x y xs (omega (arith, few)) hx hy px py
+
+-- one of two holds, and it is not the other
+pub or_first : (a b : Bool) → b ≡ false → (a || b) ≡ true → a ≡ true
+or_first true b none e = refl
+or_first false b none e = let no : false ≡ true = sym none ∙ e in cc
+
+pub or_else : (a b : Bool) → a ≡ false → (a || b) ≡ true → b ≡ true
+or_else true b none e = cc
+or_else false b none e = e

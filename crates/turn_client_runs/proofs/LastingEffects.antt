@@ -17,14 +17,20 @@ use Rattle.turn_client_api.specs.declared.grant.Progress.TheVariants.{Active, Pe
 use Rattle.turn_client_api.specs.declared.grant.Listing.{Listing}
 use Rattle.turn_client_api.specs.declared.grant.Purpose.{Purpose}
 use Rattle.turn_client_api.specs.declared.grant.Purpose.TheVariants.{ForRefresh, ForPermission, ForChannel}
-use Rattle.turn_client_api.specs.Grants.{as_allocation, channel_at, changed_allocation, family_of_grant, family_of_ip, first_in, is_channel_of, is_for, is_of, is_of_family, is_permission_of}
+use Rattle.turn_client_api.specs.Grants.{as_allocation, channel_at, changed_allocation, family_of_grant, first_in, is_channel_of, is_for, is_of, is_of_family, is_permission_of}
 use Rattle.turn_client_api.specs.Grants.{permission_progress, permission_state, purposes_of, same_ip}
 use Rattle.turn_client_api.specs.Judgement.{lifetime_in}
 use Rattle.turn_client_api.specs.Effect.{channel_answered, channel_lifetime, effect, lasting_if, min_lifetime, permission_answered, permission_lifetime, prolonged, refreshed}
 use Rattle.turn_client_api.proofs.HasLemmas.{Has, filter-has, filter_map-has, first-has, has-filter_map, has-left, map-has}
 use Rattle.turn_client_runs.proofs.LastingCounts.{passes, passes-two}
 use Rattle.turn_client_runs.specs.Lasting.{as_granted, Grants, ahead_of, expiry_of, with_expiry}
-use Rattle.turn_client_runs.proofs.LastingStands.{IsGranted, IsRefreshing, IsUnique, is_waiting}
+use Rattle.turn_client_runs.proofs.LastingStands.{IsActive, IsLeased, IsRefreshing, IsUnique, is_waiting}
+use Rattle.turn_client_runs.proofs.LastingTransmits.{same_ip-self}
+use Rattle.turn_client_laws.proofs.LapseLemmas.{IsReserved}
+use Rattle.turn_client_laws.proofs.InAllocationLemmas.{has-any}
+use Rattle.turn_client_laws.proofs.TwoPurposes.{purpose-with}
+use Rattle.turn_client_api.specs.Due.{is_kept}
+use Rattle.turn_client_api.specs.Grants.{has_request}
 use Rattle.turn_client_api.proofs.AddressLemmas.{same_ip-true}
 use Rattle.turn_client_api.specs.declared.grant.Lease.{Lease}
 use Rattle.turn_client_api.specs.Effect.{granted_until}
@@ -53,9 +59,12 @@ granted_by p new events challenges u = record u {
   challenges = challenges;
 }
 
--- each grant is granted, or waits
+-- it waits, or is granted, or is a channel that is reserved and not requested
+abbrev pub IsOfKind : State → Grant → Type 0
+IsOfKind u g = (is_waiting g ≡ true) ⊎ (IsActive g ⊎ (IsReserved g × (has_request g u ≡ false)))
+
 abbrev pub AllKnown : State → Type 0
-AllKnown u = (g : Grant) → Has g u.grants → (is_waiting g ≡ true) ⊎ IsGranted g
+AllKnown u = (g : Grant) → Has g u.grants → IsOfKind u g
 
 -- for so long a success grants it, or longer
 abbrev pub granted_for : Purpose → ℕ
@@ -71,7 +80,8 @@ pub record IsGrantedAnew (p : Purpose) (now : ℕ) (u t : State) : Type 0 where
   pub waiting : is_waiting waits ≡ true
   pub new : Grant
   pub for : is_for p new ≡ true
-  pub granted : IsGranted new
+  pub leased : IsLeased new
+  pub marks : is_kept new ≡ is_kept waits
   pub minute : min u.config.refresh_ahead 150_000_000_000 ≤ ahead_of u.config.refresh_ahead new
   pub family : family_of_grant waits ≡ family_of_grant new
   pub late : now + 150_000_000_000 + ahead_of u.config.refresh_ahead new ≤ expiry_of new
@@ -161,24 +171,22 @@ refresh-renews family lifetime message now u range asked lasts = rw not_zero (by
 abbrev IsKnownPermission : IpAddr → Grant → Progress → Type 0
 IsKnownPermission ip g z =
     ((w : Lease) × (z ≡ Active w) × (is_waiting g ≡ false) × (is_permission_of ip g ≡ true))
-    ⊎ ((z ≡ Pending true) × (is_waiting g ≡ true) × (is_permission_of ip g ≡ true))
+    ⊎ ((kept : Bool) × (z ≡ Pending kept) × (g ≡ Permission ip (Pending kept)))
 
-progress-known : (ip : IpAddr) (g : Grant) (z : Progress) → (is_waiting g ≡ true) ⊎ IsGranted g → permission_progress ip g ≡ Some z → IsKnownPermission ip g z
-progress-known ip (Permission other progress) z h e = by (same_ip other ip) refl e
+progress-known : (ip : IpAddr) (u : State) (g : Grant) (z : Progress) → IsOfKind u g → permission_progress ip g ≡ Some z → IsKnownPermission ip g z
+progress-known ip u (Permission other progress) z h e = by (same_ip other ip) refl e
   where
-    kind : (x : Progress) → (is_waiting (Permission other x) ≡ true) ⊎ IsGranted (Permission other x) → progress ≡ x → progress ≡ z → same_ip other ip ≡ true
-        → IsKnownPermission ip (Permission other progress) z
+    kind : (x : Progress) → IsOfKind u (Permission other x) → progress ≡ x → progress ≡ z → same_ip other ip ≡ true → IsKnownPermission ip (Permission other progress) z
     kind (Active w) h f same b = inl (w, sym same ∙ f, rw f refl, b)
-    kind (Pending true) h f same b = inr (sym same ∙ f, rw f refl, b)
-    kind (Pending false) (inl waits) f same b = absurd (let never : false ≡ true = waits in cc)
-    kind (Pending false) (inr granted) f same b = absurd granted
+    kind (Pending kept) h f same b = let is : other ≡ ip = same_ip-true other ip b in inr (kept, sym same ∙ f, rw (f, is) refl)
     kind (Reserved until) (inl waits) f same b = absurd (let never : false ≡ true = waits in cc)
-    kind (Reserved until) (inr granted) f same b = absurd granted
+    kind (Reserved until) (inr (inl active)) f same b = absurd active
+    kind (Reserved until) (inr (inr (is, none))) f same b = absurd is
 
     by : (b : Bool) → same_ip other ip ≡ b → cond b (Some progress) None ≡ Some z → IsKnownPermission ip (Permission other progress) z
     by true f e = kind progress h refl (same_Some progress z e) f
     by false f e = absurd (none-some z e)
-progress-known ip g z h e = absurd (none-some z e)
+progress-known ip u g z h e = absurd (none-some z e)
 
 pub permission-there : (ip : IpAddr) (g : Grant) → is_permission_of ip g ≡ true → (z : Progress) × (permission_progress ip g ≡ Some z)
 permission-there ip (Permission other progress) e = (progress, rw e refl)
@@ -188,36 +196,21 @@ permission-there ip g e = cc
 abbrev IsKnownState : IpAddr → State → Type 0
 IsKnownState ip u =
     ((w : Lease) × (permission_state ip u ≡ Some (Active w)) × ((x : Grant) × Has x u.grants × (is_permission_of ip x ≡ true) × (is_waiting x ≡ false)))
-    ⊎ ((permission_state ip u ≡ Some (Pending true)) × ((x : Grant) × Has x u.grants × (is_waiting x ≡ true) × (is_permission_of ip x ≡ true)))
+    ⊎ ((kept : Bool) × (permission_state ip u ≡ Some (Pending kept)) × Has (Permission ip (Pending kept)) u.grants)
 
 permission-known : (ip : IpAddr) (u : State) → AllKnown u → (g : Grant) → Has g u.grants → is_permission_of ip g ≡ true → IsKnownState ip u
 permission-known ip u all g there is =
     let (z, e) = permission-there ip g is in
     let (first, f) = some-first z (filter_map (permission_progress ip) u.grants) (filter_map-has (permission_progress ip) g z u.grants there e) in
     let (x, here, gives) = has-filter_map (permission_progress ip) first u.grants (first-has first (filter_map (permission_progress ip) u.grants) f) in
-    elim (progress-known ip x first (all x here) gives) [
+    elim (progress-known ip u x first (all x here) gives) [
       | inl (w, same, granted, of) ↦ inl (w, rw (sym same) f, (x, here, of, granted))
-      | inr (same, waits, of) ↦ inr (rw (sym same) f, (x, here, waits, of))
+      | inr (kept, same, it) ↦ inr (kept, rw (sym same) f, subst (λ (y : Grant). Has y u.grants) it here)
     ]
 
 permission-lasts : (ip : IpAddr) (expiry : ℕ) (g : Grant) → lasting_if (is_permission_of ip) expiry g ≡ renews (ForPermission ip) expiry g
 permission-lasts ip expiry (Permission other (Active w)) = refl
 permission-lasts ip expiry g = refl
-
--- an IP address is the same as itself
-permission-self : (ip : IpAddr) (g : Grant) → is_permission_of ip g ≡ true → same_ip ip ip ≡ true
-permission-self ip (Permission other progress) e = let is : other ≡ ip = same_ip-true other ip e in subst (λ (a : IpAddr). same_ip a ip ≡ true) is e
-permission-self ip g e = cc
-
-permission-family : (ip : IpAddr) (g : Grant) → is_permission_of ip g ≡ true → family_of_grant g ≡ family_of_ip ip
-permission-family ip (Permission other progress) e = ap family_of_ip (same_ip-true other ip e)
-permission-family ip g e = cc
-
-permission-becomes : (ip : IpAddr) (g : Grant) → is_permission_of ip g ≡ true → is_waiting g ≡ true → Permission ip (granted_until 0 true) ≡ as_granted g
-permission-becomes ip (Permission other (Pending is_kept)) e waits = let is : other ≡ ip = same_ip-true other ip e in let kept : is_kept ≡ true = waits in rw (is, kept) refl
-permission-becomes ip (Permission other (Active w)) e waits = cc
-permission-becomes ip (Permission other (Reserved until)) e waits = cc
-permission-becomes ip g e waits = cc
 
 -- what a success for a purpose does
 abbrev pub Does : Purpose → ℕ → State → State → Type 0
@@ -234,18 +227,19 @@ permission-does ip now u range all g there is = elim (permission-known ip u all 
         (permission-lasts ip (later_by permission_lifetime now)) (λ g. refl),
     λ g there waits for. (tt, (x, here, of, granted)),
   ))
-  | inr (e, (x, here, waits, of)) ↦ rw e (inr (record {
+  | inr (kept, e, here) ↦ rw e (inr (record {
     unique = tt;
-    waits = x;
+    waits = Permission ip (Pending kept);
     there = here;
-    same = of;
-    waiting = waits;
-    new = Permission ip (granted_until (later_by permission_lifetime now) true);
-    for = permission-self ip x of;
-    granted = refl;
+    same = same_ip-self ip;
+    waiting = refl;
+    new = Permission ip (granted_until (later_by permission_lifetime now) kept);
+    for = same_ip-self ip;
+    leased = tt;
+    marks = refl;
     minute = omega arith;
-    family = permission-family ip x of;
-    becomes = permission-becomes ip x of waits;
+    family = refl;
+    becomes = refl;
     late = omega (arith, range);
     events = _;
     challenges = _;
@@ -259,27 +253,34 @@ to_peer peer progress = Some (peer, progress)
 
 -- the progress of a channel, which is active or waits
 abbrev IsKnownChannel : ℕ → Grant → SocketAddr × Progress → Type 0
-IsKnownChannel number g z = ((w : Lease) × (z.1 ≡ Active w) × (is_channel_of number g ≡ true) × (is_waiting g ≡ false)) ⊎ ((z.1 ≡ Pending true) × (g ≡ Channel number z.0 (Pending true)))
+IsKnownChannel number g z =
+    ((w : Lease) × (z.1 ≡ Active w) × (is_channel_of number g ≡ true) × (is_waiting g ≡ false))
+    ⊎ ((kept : Bool) × (z.1 ≡ Pending kept) × (g ≡ Channel number z.0 (Pending kept)))
 
-channel-known : (number : ℕ) (g : Grant) (z : SocketAddr × Progress) → (is_waiting g ≡ true) ⊎ IsGranted g → channel_at number g ≡ Some z → IsKnownChannel number g z
-channel-known number (Channel other peer progress) z h e = by (eqb other number) refl e
+channel-known : (number : ℕ) (u : State) (g : Grant) (z : SocketAddr × Progress) → IsOfKind u g → (is_channel_of number g ≡ true → has_request g u ≡ true) → channel_at number g ≡ Some z
+    → IsKnownChannel number g z
+channel-known number u (Channel other peer progress) z h asked e = by (eqb other number) refl e
   where
-    kind : (x : Progress) → (is_waiting (Channel other peer x) ≡ true) ⊎ IsGranted (Channel other peer x) → progress ≡ x → (peer, progress) ≡ z → other ≡ number
+    kind : (x : Progress) → IsOfKind u (Channel other peer x) → has_request (Channel other peer x) u ≡ true → progress ≡ x → (peer, progress) ≡ z → other ≡ number
         → IsKnownChannel number (Channel other peer progress) z
-    kind (Active w) h f same b = inl (w, ap (λ (y : SocketAddr × Progress). y.1) (sym same) ∙ f, eq-eqb other number b, rw f refl)
-    kind (Pending true) h f same b =
-        let one : z.1 ≡ Pending true = ap (λ (y : SocketAddr × Progress). y.1) (sym same) ∙ f in
+    kind (Active w) h some f same b = inl (w, ap (λ (y : SocketAddr × Progress). y.1) (sym same) ∙ f, eq-eqb other number b, rw f refl)
+    kind (Pending kept) h some f same b =
+        let one : z.1 ≡ Pending kept = ap (λ (y : SocketAddr × Progress). y.1) (sym same) ∙ f in
         let to : peer ≡ z.0 = ap (λ (y : SocketAddr × Progress). y.0) same in
-        inr (one, rw (f, b, to) refl)
-    kind (Pending false) (inl waits) f same b = absurd (let never : false ≡ true = waits in cc)
-    kind (Pending false) (inr granted) f same b = absurd granted
-    kind (Reserved until) (inl waits) f same b = absurd (let never : false ≡ true = waits in cc)
-    kind (Reserved until) (inr granted) f same b = absurd granted
+        inr (kept, one, rw (f, b, to) refl)
+    kind (Reserved until) (inl waits) some f same b = absurd (let never : false ≡ true = waits in cc)
+    kind (Reserved until) (inr (inl active)) some f same b = absurd active
+    kind (Reserved until) (inr (inr (is, none))) some f same b = absurd (let never : false ≡ true = sym none ∙ some in cc)
 
     by : (b : Bool) → eqb other number ≡ b → cond b (to_peer peer progress) None ≡ Some z → IsKnownChannel number (Channel other peer progress) z
-    by true f e = kind progress h refl (same_Some (peer, progress) z e) (eqb-true other number f)
+    by true f e = kind progress h (asked f) refl (same_Some (peer, progress) z e) (eqb-true other number f)
     by false f e = absurd (none-some z e)
-channel-known number g z h e = absurd (none-some z e)
+channel-known number u g z h asked e = absurd (none-some z e)
+
+-- what the request is for is requested
+channel-asked : (number : ℕ) (peer : SocketAddr) (id : ℕ) (u : State) → Has (ForChannel number peer) (purposes_of id u) → (g : Grant) → is_channel_of number g ≡ true → has_request g u ≡ true
+channel-asked number peer id u among g is =
+    has-any (λ (l : Listing). is_for l.purpose g) (record { id = id; purpose = ForChannel number peer }) u.listed (purpose-with id (ForChannel number peer) u among) is
 
 channel-there : (number : ℕ) (g : Grant) → is_channel_of number g ≡ true → (z : SocketAddr × Progress) × (channel_at number g ≡ Some z)
 channel-there number (Channel other peer progress) e = ((peer, progress), rw e refl)
@@ -289,16 +290,17 @@ channel-there number g e = cc
 abbrev IsChannelState : ℕ → State → Type 0
 IsChannelState number u =
     ((peer : SocketAddr) × (w : Lease) × (first_in (channel_at number) u ≡ Some (peer, Active w)) × ((x : Grant) × Has x u.grants × (is_channel_of number x ≡ true) × (is_waiting x ≡ false)))
-    ⊎ ((peer : SocketAddr) × (first_in (channel_at number) u ≡ Some (peer, Pending true)) × Has (Channel number peer (Pending true)) u.grants)
+    ⊎ ((peer : SocketAddr) × (kept : Bool) × (first_in (channel_at number) u ≡ Some (peer, Pending kept)) × Has (Channel number peer (Pending kept)) u.grants)
 
-channel-state : (number : ℕ) (u : State) → AllKnown u → (g : Grant) → Has g u.grants → is_channel_of number g ≡ true → IsChannelState number u
-channel-state number u all g there is =
+channel-state : (number : ℕ) (u : State) → AllKnown u → ((g : Grant) → is_channel_of number g ≡ true → has_request g u ≡ true) → (g : Grant) → Has g u.grants → is_channel_of number g ≡ true
+    → IsChannelState number u
+channel-state number u all asked g there is =
     let (z, e) = channel-there number g is in
     let (first, f) = some-first z (filter_map (channel_at number) u.grants) (filter_map-has (channel_at number) g z u.grants there e) in
     let (x, here, gives) = has-filter_map (channel_at number) first u.grants (first-has first (filter_map (channel_at number) u.grants) f) in
-    elim (channel-known number x first (all x here) gives) [
+    elim (channel-known number u x first (all x here) (asked x) gives) [
       | inl (w, same, of, granted) ↦ inl (first.0, w, f ∙ ap (λ (q : Progress). to_peer first.0 q) same, (x, here, of, granted))
-      | inr (same, it) ↦ inr (first.0, f ∙ ap (λ (q : Progress). to_peer first.0 q) same, subst (λ (y : Grant). Has y u.grants) it here)
+      | inr (kept, same, it) ↦ inr (first.0, kept, f ∙ ap (λ (q : Progress). to_peer first.0 q) same, subst (λ (y : Grant). Has y u.grants) it here)
     ]
 
 channel-lasts : (number : ℕ) (peer : SocketAddr) (expiry : ℕ) (g : Grant) → lasting_if (is_channel_of number) expiry g ≡ renews (ForChannel number peer) expiry g
@@ -316,7 +318,8 @@ does-reset p now u v (inr a) = inr (record {
   waiting = a.waiting;
   new = a.new;
   for = a.for;
-  granted = a.granted;
+  leased = a.leased;
+  marks = a.marks;
   minute = a.minute;
   family = a.family;
   becomes = a.becomes;
@@ -327,17 +330,18 @@ does-reset p now u v (inr a) = inr (record {
 })
 
 -- a channel that waits is granted, once its permission was answered
-channel-anew : (number : ℕ) (peer to : SocketAddr) (now : ℕ) (v t : State) → now ≤ 2 ^ 62 → Has (Channel number to (Pending true)) v.grants → (events : List TurnEvent)
-    → t ≡ granted_by (ForChannel number peer) (Channel number to (granted_until (later_by channel_lifetime now) true)) events v.challenges v → Does (ForChannel number peer) now v t
-channel-anew number peer to now v t range here events is = inr (record {
+channel-anew : (number : ℕ) (peer to : SocketAddr) (kept : Bool) (now : ℕ) (v t : State) → now ≤ 2 ^ 62 → Has (Channel number to (Pending kept)) v.grants → (events : List TurnEvent)
+    → t ≡ granted_by (ForChannel number peer) (Channel number to (granted_until (later_by channel_lifetime now) kept)) events v.challenges v → Does (ForChannel number peer) now v t
+channel-anew number peer to kept now v t range here events is = inr (record {
   unique = tt;
-  waits = Channel number to (Pending true);
+  waits = Channel number to (Pending kept);
   there = here;
   same = eq-eqb number number refl;
   waiting = refl;
-  new = Channel number to (granted_until (later_by channel_lifetime now) true);
+  new = Channel number to (granted_until (later_by channel_lifetime now) kept);
   for = eq-eqb number number refl;
-  granted = refl;
+  leased = tt;
+  marks = refl;
   minute = omega arith;
   family = refl;
   becomes = refl;
@@ -351,7 +355,7 @@ channel-anew number peer to now v t range here events is = inr (record {
 channel-does : (number : ℕ) (peer : SocketAddr) (id now : ℕ) (u : State) → now ≤ 2 ^ 62 → AllKnown u → purposes_of id u ≡ ForChannel number peer ∷ [] → (g : Grant) → Has g u.grants
     → is_channel_of number g ≡ true
     → Does (ForChannel number peer) now u (channel_answered number id true now u)
-channel-does number peer id now u range all one g there is = elim (channel-state number u all g there is) [
+channel-does number peer id now u range all one g there is = elim (channel-state number u all (channel-asked number peer id u (rw one (inl refl))) g there is) [
   | inl (to, w, e, (x, here, of, granted)) ↦ rw e (inl (
     later_by channel_lifetime now,
     u.challenges,
@@ -360,7 +364,7 @@ channel-does number peer id now u range all one g there is = elim (channel-state
         (channel-lasts number peer (later_by channel_lifetime now)) (λ g. refl),
     λ g there waits for. (tt, (x, here, of, granted)),
   ))
-  | inr (to, e, here) ↦ rw (e, one) (channel-anew number peer to now u _ range here _ refl)
+  | inr (to, kept, e, here) ↦ rw (e, one) (channel-anew number peer to kept now u _ range here _ refl)
 ]
 
 -- a channel that waits stays when a permission is answered
@@ -380,15 +384,16 @@ pub record DoesBoth (p q : Purpose) (now : ℕ) (u t : State) : Type 0 where
 
 -- a channel that waits is answered with the permission that it brings
 channel-brings : (number : ℕ) (peer : SocketAddr) (ip : IpAddr) (id now : ℕ) (u : State) → now ≤ 2 ^ 62 → AllKnown u → purposes_of id u ≡ ForChannel number peer ∷ ForPermission ip ∷ []
-    → (g : Grant) → Has g u.grants → is_permission_of ip g ≡ true → (to : SocketAddr) → first_in (channel_at number) u ≡ Some (to, Pending true) → Has (Channel number to (Pending true)) u.grants
+    → (g : Grant) → Has g u.grants → is_permission_of ip g ≡ true → (to : SocketAddr) (kept : Bool) → first_in (channel_at number) u ≡ Some (to, Pending kept)
+    → Has (Channel number to (Pending kept)) u.grants
     → DoesBoth (ForChannel number peer) (ForPermission ip) now u (channel_answered number id true now u)
-channel-brings number peer ip id now u range all two g there is to e here =
+channel-brings number peer ip id now u range all two g there is to kept e here =
     let first = permission-does ip now u range all g there is in
     record {
       middle = permission_answered ip true now u;
       first = first;
-      last = rw (e, two) (channel-anew number peer to now (permission_answered ip true now u) _ range
-          (channel-stays ip now u (permission_answered ip true now u) first (Channel number to (Pending true)) here refl) _ refl);
+      last = rw (e, two) (channel-anew number peer to kept now (permission_answered ip true now u) _ range
+          (channel-stays ip now u (permission_answered ip true now u) first (Channel number to (Pending kept)) here refl) _ refl);
       stays = channel-stays ip now u (permission_answered ip true now u) first;
     }
 
@@ -409,11 +414,11 @@ pub effect-brings : (message : List ℕ) (number : ℕ) (peer : SocketAddr) (ip 
     → purposes_of id u ≡ ForChannel number peer ∷ ForPermission ip ∷ []
     → (g : Grant) → Has g u.grants → is_permission_of ip g ≡ true → (h : Grant) → Has h u.grants → is_channel_of number h ≡ true → is_waiting h ≡ true → passes (is_channel_of number) u.grants ≤ 1
     → DoesBoth (ForChannel number peer) (ForPermission ip) now u (effect id true message now u (ForChannel number peer))
-effect-brings message number peer ip id now u range all two g there is h here for waits single = elim (channel-state number u all h here for) [
+effect-brings message number peer ip id now u range all two g there is h here for waits single = elim (channel-state number u all (channel-asked number peer id u (rw two (inl refl))) h here for) [
   | inl (to, w, e, (x, found, same, active)) ↦
       let more = passes-two (is_channel_of number) is_waiting h x u.grants here found for same waits active in
       absurd (omega (arith, more, single))
-  | inr (to, e, there_is) ↦
-      let both = channel-brings number peer ip id now u range all two g there is to e there_is in
+  | inr (to, kept, e, there_is) ↦
+      let both = channel-brings number peer ip id now u range all two g there is to kept e there_is in
       record { middle = both.middle; first = both.first; last = does-reset (ForChannel number peer) now both.middle (channel_answered number id true now u) both.last; stays = both.stays }
 ]

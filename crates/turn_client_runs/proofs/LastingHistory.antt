@@ -1,7 +1,9 @@
 -- What came before in a run, while no grant is lost.
-use Rattle.std.proofs.Common.{◌≡◌, ◌⊎◌, ℕ, zero, suc, ◌+◌, ◌-◌, ◌^◌, ◌<◌, ◌≤◌, min, Bool, true, false, cond, ◌&&◌, leb, eqb, List, [], ◌∷◌, ◌++◌, length, None, refl, inl, inr, ap, sym, subst, ◌∙◌, arith}
-use Rattle.std.specs.Prelude.{filter, nat_le}
-use Rattle.std.proofs.lemmas.Bool.{and_right, cases_Bool, cases_lt, eq-eqb, eqb-true, leb-true, lt-leb, or_parts}
+use Rattle.std.proofs.Common.{◌≡◌, ℕ, zero, suc, ◌+◌, ◌-◌, ◌^◌, ◌<◌, ◌≤◌, min, Bool, true, false, cond, ◌&&◌, ◌||◌, leb, eqb, List, [], ◌∷◌, ◌++◌, length, None, refl, inl, inr, ap, sym, subst, ◌∙◌, arith}
+use Rattle.std.specs.Prelude.{filter, map, nat_le}
+use Rattle.std.proofs.lemmas.Bool.{and_right, cases_Bool, cases_lt, eq-eqb, eqb-true, le-leb, leb-true, lt-leb, or_cases, or_left, or_parts, or_right}
+use Rattle.std.proofs.lemmas.List.{length-append}
+use Rattle.std.proofs.lemmas.List.Elements.{filter-append}
 use Rattle.turn_stun.specs.declared.transport.TransportType.{TransportType}
 use Rattle.turn_agent.specs.Agent.{is_outstanding, timed_out_transaction, transaction_timeout}
 use Rattle.turn_agent.specs.Schedule.{Timers, resends_of, wait_at}
@@ -10,12 +12,14 @@ use Rattle.turn_client_api.specs.Config.{timers_of}
 use Rattle.turn_client_api.specs.Requests.{fresh_id}
 use Rattle.turn_client_api.specs.State.{State, agent_of}
 use Rattle.turn_client_api.specs.declared.call.Call.{Call}
+use Rattle.turn_client_api.specs.Due.{is_kept}
 use Rattle.turn_client_api.specs.declared.grant.Grant.{Grant}
+use Rattle.turn_client_api.specs.declared.grant.Grant.TheVariants.{Permission, Channel}
 use Rattle.turn_client_api.proofs.HasLemmas.{Has, find-none, has-append}
 use Rattle.turn_client_laws.proofs.InAllocationLemmas.{has-any}
 use Rattle.turn_client_laws.proofs.NewIdLemmas.{fresh-free}
-use Rattle.turn_client_runs.specs.History.{History, IsSeldom, all_waits, extra_since, first_made, is_extra, waited, with_call}
-use Rattle.turn_client_runs.proofs.LastingStands.{Goes, IsKept, IsPending, IsWell, Stands, due_of, still-paced}
+use Rattle.turn_client_runs.specs.History.{History, IsSeldom, all_waits, extra_since, first_made, is_extra, lets_channel_go, lets_permission_go, lost, waited, was_let_go, with_call}
+use Rattle.turn_client_runs.proofs.LastingStands.{AreLetGo, Goes, IsKept, IsKnown, IsPending, IsWell, Stands, due_of, still-paced}
 
 -- ---- waits
 
@@ -91,13 +95,32 @@ lone-more s xs new fresh old lone x y hx hy e = elim (has-append x xs (new ∷ [
 
 -- ---- a call is made
 
+-- the times of lost refreshes come first
+pub extra-more : (now : ℕ) (past : History) (gs : List Grant) (since : ℕ)
+    → length (filter (λ time. nat_le since time) (map (λ g. now) gs ++ past.extra)) ≡ length (filter (λ time. nat_le since time) (map (λ g. now) gs)) + extra_since since past
+extra-more now past gs since =
+    ap length (filter-append (λ time. nat_le since time) (map (λ g. now) gs) past.extra)
+    ∙ length-append (filter (λ time. nat_le since time) (map (λ g. now) gs)) (filter (λ time. nat_le since time) past.extra)
+
+-- each of them counts
+pub lost-more : (now : ℕ) (gs : List Grant) (since : ℕ) → since ≤ now → length (filter (λ time. nat_le since time) (map (λ g. now) gs)) ≡ length gs
+lost-more now [] since early = refl
+lost-more now (g ∷ gs) since early = rw (le-leb since now early) (ap suc (lost-more now gs since early))
+
+-- what was let go is so after a call
+pub call-lets_go : (call : Call) (now : ℕ) (past : History) (s : State) → AreLetGo past (with_call call now s past)
+call-lets_go call now past s (Permission ip progress) e = or_left (past.permission_let_go ip) (lets_permission_go call s ip) e
+call-lets_go call now past s (Channel number peer progress) e = or_left (past.channel_let_go number peer) (lets_channel_go call s peer) e
+call-lets_go call now past s g e = cc
+
 -- these requests were made when they were, and no fewer packets are extra
 pub record GoesOn (xs : List Transaction) (past later : History) : Type 0 where
   pub same : (x : Transaction) → Has x xs → later.made x.id ≡ past.made x.id
   pub more : (since : ℕ) → extra_since since past ≤ extra_since since later
+  pub let_go : AreLetGo past later
 
 pub call-goes_on : (call : Call) (now : ℕ) (past : History) (s : State) → GoesOn s.transactions past (with_call call now s past)
-call-goes_on call now past s = record { same = same; more = λ since. by (is_extra call s) since }
+call-goes_on call now past s = record { same = same; more = λ since. by (is_extra call s) since; let_go = call-lets_go call now past s }
   where
     same : (x : Transaction) → Has x s.transactions → cond (eqb x.id (fresh_id s)) (first_made call now s past) (past.made x.id) ≡ past.made x.id
     same x h = rw (old-apart s x h) refl
@@ -106,9 +129,10 @@ call-goes_on call now past s = record { same = same; more = λ since. by (is_ext
     one since true = omega arith
     one since false = omega arith
 
-    by : (b : Bool) (since : ℕ) → length (filter (λ time. nat_le since time) past.extra) ≤ length (filter (λ time. nat_le since time) (cond b (now ∷ past.extra) past.extra))
+    by : (b : Bool) (since : ℕ)
+        → length (filter (λ time. nat_le since time) past.extra) ≤ length (filter (λ time. nat_le since time) (cond b (now ∷ past.extra) (map (λ g. now) (lost call s) ++ past.extra)))
     by true since = one since (leb since now)
-    by false since = omega arith
+    by false since = rw (extra-more now past (lost call s) since) (omega arith)
 
 -- what an extra packet adds
 pub call-extra : (call : Call) (now : ℕ) (past : History) (s : State) → is_extra call s ≡ true → (since : ℕ) → since ≤ now → extra_since since past + 1 ≤ extra_since since (with_call call now s past)
@@ -125,7 +149,8 @@ call-made call now past s = rw (eq-eqb (fresh_id s) (fresh_id s) refl) refl
 
 -- ---- with more extra packets, all is as it was
 
-module _ (count slots extras delay now : ℕ) (past later : History) (transactions : List Transaction) (s : State) (on : GoesOn transactions past later) where
+module _ (count slots extras delay now : ℕ) (past later : History) (transactions : List Transaction) (s : State) (same : (x : Transaction) → Has x transactions → later.made x.id ≡ past.made x.id)
+    (more : (since : ℕ) → extra_since since past ≤ extra_since since later) where
   pub pending-later_on : (until : ℕ) (g : Grant) → IsPending until past transactions s.listed g → IsPending until later transactions s.listed g
   pending-later_on until g p = record {
     transaction = p.transaction;
@@ -134,10 +159,10 @@ module _ (count slots extras delay now : ℕ) (past later : History) (transactio
     within = p.within;
     for = p.for;
     same = p.same;
-    sent = let e = on.same p.transaction p.there in let sent = p.sent in omega (arith, e, sent);
+    sent = let e = same p.transaction p.there in let sent = p.sent in omega (arith, e, sent);
   }
 
-  stands-later : (g : Grant) → Stands count slots extras delay now past transactions s g → Stands count slots extras delay now later transactions s g
+  pub stands-later : (g : Grant) → Stands count slots extras delay now past transactions s g → Stands count slots extras delay now later transactions s g
   stands-later g was = record {
     granted = was.granted;
     room = was.room;
@@ -150,38 +175,46 @@ module _ (count slots extras delay now : ℕ) (past later : History) (transactio
         within = a.within;
         for = a.for;
         same = a.same;
-        in_time = let e = on.same a.transaction a.there in let t = a.in_time in omega (arith, e, t);
+        in_time = let e = same a.transaction a.there in let t = a.in_time in omega (arith, e, t);
       })
       | inr idle ↦
-          let more = on.more (due_of s g) in
+          let used_more = more (due_of s g) in
           let soon = idle.soon in
           let paused = idle.paused in
           inr (record {
             unasked = idle.unasked;
             near = idle.near;
-            soon = still-paced _ _ now _ _ (due_of s g) (due_of s g) slots _ _ refl refl refl (omega (arith, more)) soon;
-            paused = still-paced _ _ _ _ _ (due_of s g) (due_of s g) slots _ _ refl refl refl (omega (arith, more)) paused;
+            soon = still-paced _ _ now _ _ (due_of s g) (due_of s g) slots _ _ refl refl refl (omega (arith, used_more)) soon;
+            paused = still-paced _ _ _ _ _ (due_of s g) (due_of s g) slots _ _ refl refl refl (omega (arith, used_more)) paused;
           })
     ];
   }
 
-  well-later : (g : Grant) → IsWell count slots extras delay now past transactions s g → IsWell count slots extras delay now later transactions s g
-  well-later g (inl (waits, pending)) = inl (waits, pending-later_on now g pending)
-  well-later g (inr stands) = inr (stands-later g stands)
+  well-later : AreLetGo past later → (g : Grant) → IsWell count slots extras delay now past transactions s g → IsWell count slots extras delay now later transactions s g
+  well-later let_go g (inl (waits, pending)) = inl (waits, pending-later_on now g pending)
+  well-later let_go g (inr (inl stands)) = inr (inl (stands-later g stands))
+  well-later let_go g (inr (inr (freed, kind))) = inr (inr (let_go g freed, kind))
 
-pub kept-later : (count slots extras delay now : ℕ) (past later : History) (s : State) → GoesOn s.transactions past later → IsSeldom extras s.config.refresh_ahead now later
-    → IsKept count slots extras delay now past s.transactions s → IsKept count slots extras delay now later s.transactions s
-kept-later count slots extras delay now past later s on seldom k = record {
+-- what waits is kept, or was let go: so it is in a longer history
+pub known-later : (past later : History) → AreLetGo past later → (g : Grant) → (is_kept g || was_let_go past g) ≡ true → (is_kept g || was_let_go later g) ≡ true
+known-later past later on g e = elim (or_cases (is_kept g) (was_let_go past g) e) [ inl kept ↦ or_left (is_kept g) _ kept | inr freed ↦ or_right (is_kept g) _ (on g freed) ]
+
+-- the same requests were made when they were, and no more packets are extra than may be
+pub kept-with : (count slots extras delay now : ℕ) (past later : History) (s : State) → ((x : Transaction) → Has x s.transactions → later.made x.id ≡ past.made x.id)
+    → IsSeldom extras s.config.refresh_ahead now later → ((g : Grant) → Has g s.grants → IsKnown now later s g)
+    → ((g : Grant) → Has g s.grants → IsWell count slots extras delay now later s.transactions s g) → IsKept count slots extras delay now past s.transactions s
+    → IsKept count slots extras delay now later s.transactions s
+kept-with count slots extras delay now past later s same seldom known each k = record {
   phase = k.phase;
   requests = k.requests;
   few = k.few;
   prompt = k.prompt;
   pace = k.pace;
   sent = k.sent;
-  aged = λ x h. let e = on.same x h in let old = k.aged x h in omega (arith, e, old);
+  aged = λ x h. let e = same x h in let old = k.aged x h in omega (arith, e, old);
   lone = k.lone;
-  begun = λ x h. let e = on.same x h in let b = k.begun x h in omega (arith, e, b);
-  heard = λ x h. let e = on.same x h in let late = k.heard x h in omega (arith, e, late);
+  begun = λ x h. let e = same x h in let b = k.begun x h in omega (arith, e, b);
+  heard = λ x h. let e = same x h in let late = k.heard x h in omega (arith, e, late);
   seldom = seldom;
   asked = k.asked;
   size = k.size;
@@ -189,13 +222,22 @@ kept-later count slots extras delay now past later s on seldom k = record {
   linked = k.linked;
   in_range = k.in_range;
   housed = k.housed;
-  each = λ g there. well-later count slots extras delay now past later s.transactions s on g (k.each g there);
+  known = known;
+  each = each;
 }
+
+pub kept-later : (count slots extras delay now : ℕ) (past later : History) (s : State) → GoesOn s.transactions past later → IsSeldom extras s.config.refresh_ahead now later
+    → IsKept count slots extras delay now past s.transactions s → IsKept count slots extras delay now later s.transactions s
+kept-later count slots extras delay now past later s on seldom k =
+    kept-with count slots extras delay now past later s on.same seldom
+    (λ g there. let (waits, due) = k.known g there in (λ w. known-later past later on.let_go g (waits w), due))
+    (λ g there. well-later count slots extras delay now past later s.transactions s on.same on.more on.let_go g (k.each g there)) k
 
 pub goes-later : (past later : History) (ys : List Transaction) (s t : State) → GoesOn s.transactions past later → Goes later later s.transactions ys s t → Goes past later s.transactions ys s t
 goes-later past later ys s t on goes = record {
+  let_go = on.let_go;
   remain = goes.remain;
-  follow = λ until g there waits pending. goes.follow until g there waits (pending-later_on 0 0 0 0 0 past later s.transactions s on until g pending);
+  follow = λ until g there waits pending none. goes.follow until g there waits (pending-later_on 0 0 0 0 0 past later s.transactions s on.same on.more until g pending) none;
 }
 
 -- the first wait is one of all

@@ -1,5 +1,5 @@
 -- What is listed under one ID while no grant is lost.
-use Rattle.std.proofs.Common.{◌≡◌, Bool, true, false, eqb, List, [], ◌∷◌, ◌++◌, filter, refl, inl, inr, ap, sym, ◌∙◌, append-nil}
+use Rattle.std.proofs.Common.{◌≡◌, Bool, true, false, cond, not, eqb, List, [], ◌∷◌, ◌++◌, filter, refl, inl, inr, ap, sym, ◌∙◌, append-nil}
 use Rattle.std.specs.List.{list_any}
 use Rattle.std.proofs.lemmas.Bool.{cases_Bool, eq-eqb, eqb-true, or_parts}
 use Rattle.std.proofs.lemmas.List.Elements.{filter-append}
@@ -7,14 +7,14 @@ use Rattle.turn_agent.specs.Agent.{is_outstanding}
 use Rattle.turn_client_api.specs.State.{State}
 use Rattle.turn_client_api.specs.declared.grant.Grant.{Grant}
 use Rattle.turn_client_api.specs.declared.grant.Listing.{Listing}
-use Rattle.turn_client_api.specs.Grants.{is_of_request}
+use Rattle.turn_client_api.specs.Grants.{is_for, is_of_request}
 use Rattle.turn_client_api.specs.Requests.{fresh_id}
-use Rattle.turn_client_api.proofs.HasLemmas.{Has, filter-none}
+use Rattle.turn_client_api.proofs.HasLemmas.{Has, filter-none, has-filter}
 use Rattle.turn_client_laws.proofs.InAllocationLemmas.{has-any}
 use Rattle.turn_client_laws.proofs.NewIdLemmas.{fresh-free}
-use Rattle.turn_client_runs.proofs.LastingStands.{AreRequests, IsRequest, listed_as, request-more}
+use Rattle.turn_client_runs.proofs.LastingStands.{AreRequests, IsRequest, brings-more, listed_as, request-more}
 
-filter-all : {X : Type 0} (p : X → Bool) (xs : List X) → ((x : X) → Has x xs → p x ≡ true) → filter p xs ≡ xs
+pub filter-all : {X : Type 0} (p : X → Bool) (xs : List X) → ((x : X) → Has x xs → p x ≡ true) → filter p xs ≡ xs
 filter-all p [] each = refl
 filter-all p (x ∷ xs) each = rw (each x (inl refl)) (ap (λ ys. x ∷ ys) (filter-all p xs (λ y h. each y (inr h))))
 
@@ -61,3 +61,28 @@ requests-more s gs new more ids is h id = rw (filter-append (λ (l : Listing). e
                 let there : id ≡ fresh_id s = sym (eqb-true l.id id f) ∙ is in
                 let no : false ≡ true = sym e ∙ eq-eqb id (fresh_id s) there in
                 cc
+
+-- ---- what is listed no more
+
+-- a request that is listed still is for grants that are there
+module _ (gs hs : List Grant) (out : Listing → Bool) (all : List Listing) (more : (l : Listing) → Has l all → out l ≡ false → (g : Grant) → Has g gs → is_for l.purpose g ≡ true → Has g hs) where
+  request-left : (ls : List Listing) → ((l : Listing) → Has l ls → Has l all) → IsRequest gs ls → IsRequest hs (filter (λ l. not (out l)) ls)
+  request-left [] within h = tt
+  request-left (l ∷ []) within h = by (out l)
+    where
+      by : (b : Bool) → IsRequest hs (cond (not b) (l ∷ []) [])
+      by true = tt
+      by false = tt
+  request-left (l ∷ m ∷ []) within h = by (out l) (out m) refl
+    where
+      by : (b c : Bool) → out l ≡ b → IsRequest hs (cond (not b) (l ∷ cond (not c) (m ∷ []) []) (cond (not c) (m ∷ []) []))
+      by true true e = tt
+      by true false e = tt
+      by false true e = tt
+      by false false e = brings-more gs hs l.purpose m.purpose (more l (within l (inl refl)) e) h
+  request-left (l ∷ m ∷ n ∷ ls) within h = absurd h
+
+  pub requests-left : AreRequests gs all → AreRequests hs (filter (λ l. not (out l)) all)
+  requests-left linked id =
+      rw (filter-swap (λ (l : Listing). eqb l.id id) (λ (l : Listing). not (out l)) all)
+      (request-left (listed_as id all) (λ l h. (has-filter (λ (l : Listing). eqb l.id id) l all h).0) (linked id))

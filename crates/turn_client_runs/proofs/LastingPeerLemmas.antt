@@ -16,9 +16,10 @@ use Rattle.turn_client_laws.specs.LawsDoubles.{is_double}
 use Rattle.turn_client_laws.specs.LawsRows.{relayed_v4}
 use Rattle.turn_client_api.proofs.HasLemmas.{Has, all-has, has-all}
 use Rattle.turn_client_laws.proofs.StandLemmas.{contains-has}
+use Rattle.turn_client_runs.specs.History.{no_history, was_let_go}
 use Rattle.turn_client_runs.specs.Lasting.{HasRoom, IsInForce, IsSteady, ahead_of, expiry_of}
 use Rattle.turn_client_runs.specs.LastingPeers.{HasRoomAt5Ms, HaveOwnIps, PeersLast, grants_for, with_peers}
-use Rattle.turn_client_runs.proofs.LastingRuns.{grants-last}
+use Rattle.turn_client_runs.proofs.LastingParts.{grants-last}
 
 -- ---- the formula
 
@@ -125,11 +126,17 @@ module _ (peers : List SocketAddr) (s : State) (many : length peers ≡ 4096) (o
   in-force : (g : Grant) → Has g t.grants → IsInForce 0 g
   in-force g there = has-all (IsInForce 0) g t.grants begins.in_force there
 
+-- nothing was let go yet
+none-let_go : (g : Grant) → was_let_go no_history g ≡ false
+none-let_go (Permission ip progress) = refl
+none-let_go (Channel number peer progress) = refl
+none-let_go g = refl
+
 pub peers-last : PeersLast
 peers-last peers s many over_v4 own = record {
   count = count peers s many over_v4 own;
   begins = begins peers s many over_v4 own;
-  lasts = λ calls run g there.
+  lasts = λ calls run g there kept.
       grants-last 8193 100 1000 5_000_000_000 0 (with_peers peers s) [] calls (begins peers s many over_v4 own) run g there
-      (in-force peers s many over_v4 own g (contains-has g (with_peers peers s).grants there));
+      (in-force peers s many over_v4 own g (contains-has g (with_peers peers s).grants there)) (inl (none-let_go g)) kept;
 }

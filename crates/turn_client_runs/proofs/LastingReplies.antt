@@ -1,5 +1,5 @@
 -- What a success changes while no grant is lost.
-use Rattle.std.proofs.Common.{◌≡◌, ◌⊎◌, ℕ, ◌+◌, ◌*◌, ◌<◌, ◌≤◌, Bool, true, false, cond, not, ◌&&◌, eqb, List, [], ◌∷◌, length, map, fold, refl, inl, inr, ap, sym, subst, ◌∙◌, arith}
+use Rattle.std.proofs.Common.{◌≡◌, ◌⊎◌, ℕ, ◌+◌, ◌*◌, ◌<◌, ◌≤◌, Bool, true, false, cond, not, ◌&&◌, ◌||◌, List, [], ◌∷◌, length, map, fold, refl, inl, inr, ap, sym, subst, ◌∙◌, arith}
 use Rattle.std.specs.Prelude.{filter}
 use Rattle.std.proofs.lemmas.List.{length-append, length-map}
 use Rattle.std.specs.List.{list_any}
@@ -15,25 +15,26 @@ use Rattle.turn_client_api.specs.declared.grant.Listing.{Listing}
 use Rattle.turn_client_api.specs.declared.grant.Purpose.{Purpose}
 use Rattle.turn_client_api.specs.declared.grant.Purpose.TheVariants.{ForRefresh, ForPermission, ForChannel}
 use Rattle.turn_client_api.specs.Grants.{family_of, family_of_grant, has_request, is_for, purposes_of}
-use Rattle.turn_client_api.specs.Due.{pause_end}
+use Rattle.turn_client_laws.proofs.LapseLemmas.{IsReserved}
+use Rattle.turn_client_api.specs.Due.{is_kept, pause_end}
 use Rattle.turn_client_api.specs.declared.state.Queued.{Queued}
 use Rattle.turn_client_api.specs.Effect.{effect}
 use Rattle.turn_client_api.proofs.AddressLemmas.{same_ip-true}
 use Rattle.turn_client_laws.proofs.GrantOriginLemmas.{has-mapped}
 use Rattle.turn_client_api.proofs.HasLemmas.{Has, filter-has, has-append, has-filter, has-left, has-right, map-has}
 use Rattle.turn_client_laws.proofs.InAllocationLemmas.{Room, any-has, has-any, room-more, same_family-true}
-use Rattle.turn_client_runs.specs.History.{History}
+use Rattle.turn_client_runs.specs.History.{History, was_let_go}
 use Rattle.turn_client_runs.specs.Lasting.{as_granted, Answers, Grants, ahead_of, expiry_of, with_expiry}
-use Rattle.turn_client_runs.proofs.LastingCounts.{length-without, passes, passes-all, passes-append, passes-filter, passes-map, passes-mapped, passes-none, passes-split, passes-same, passes-two}
-use Rattle.turn_client_runs.proofs.LastingStands.{AllRemain, Follows, Goes, IsPending, goes-more, goes-trans, pending-more, AreRequests, Brings, IsRequest, brings-more, listed_as, IsAsked, IsAwaited}
-use Rattle.turn_client_runs.proofs.LastingStands.{IsGranted, IsIdle, IsKept, IsRefreshing, Stands, due_of, early-paced, still-paced, is_served, not-waiting, pause-le, IsUnique, IsWell, is_waiting}
+use Rattle.turn_client_runs.proofs.LastingCounts.{or_else, or_first, length-without, passes, passes-all, passes-append, passes-filter, passes-map, passes-mapped, passes-none, passes-split, passes-same, passes-two}
+use Rattle.turn_client_runs.proofs.LastingStands.{AllRemain, Follows, Goes, IsPending, goes-more, goes-trans, pending-more, AreRequests, Brings, IsRequest, listed_as, IsAsked, IsAwaited}
+use Rattle.turn_client_runs.proofs.LastingStands.{asked-before, granted-active, kept-granted, leased-active, let_go-became, let_go-with, reserved-unserved, IsActive, IsKnown, IsLeased, IsLoose, IsGranted, IsIdle, IsKept, IsRefreshing, Stands, due_of, early-paced, still-paced, is_served, not-waiting, pause-le, IsUnique, IsWell, is_waiting}
 use Rattle.turn_client_runs.proofs.LastingStands.{served, used, unique-refreshing, unique-spares}
 use Rattle.turn_client_api.specs.Requests.{channel_bind_method, method_for}
 use Rattle.turn_client_api.specs.Judgement.{method_in}
 use Rattle.turn_client_api.specs.Payloads.{is_answered}
 use Rattle.std.proofs.lemmas.Bool.{eq-eqb}
-use Rattle.turn_client_runs.proofs.LastingListings.{filter-swap}
-use Rattle.turn_client_runs.proofs.LastingEffects.{IsForGranted, Does, granted_for, IsGrantedAnew, effect-brings, effect-does, granted_by, is_shared, renewed_by, renews}
+use Rattle.turn_client_runs.proofs.LastingListings.{requests-left}
+use Rattle.turn_client_runs.proofs.LastingEffects.{IsForGranted, IsOfKind, Does, granted_for, IsGrantedAnew, effect-brings, effect-does, granted_by, is_shared, renewed_by, renews}
 
 -- ---- two requests for one grant are for the same grants
 
@@ -70,7 +71,7 @@ renews-for q p expiry g = by (is_for p g)
 with-granted : (expiry : ℕ) (g : Grant) → IsGranted g → IsGranted (with_expiry expiry g)
 with-granted expiry g h = grind arith
 
-with-expires : (expiry : ℕ) (g : Grant) → IsGranted g → expiry_of (with_expiry expiry g) ≡ expiry
+with-expires : (expiry : ℕ) (g : Grant) → IsActive g → expiry_of (with_expiry expiry g) ≡ expiry
 with-expires expiry g h = grind arith
 
 with-ahead : (ahead expiry : ℕ) (g : Grant) → ahead_of ahead (with_expiry expiry g) ≡ ahead_of ahead g
@@ -92,6 +93,24 @@ with-family expiry g = grind arith
 with-twice : (later expiry : ℕ) (g : Grant) → with_expiry later (with_expiry expiry g) ≡ with_expiry later g
 with-twice later expiry (Allocation a) = refl
 with-twice later expiry g = grind arith
+
+with-active : (expiry : ℕ) (g : Grant) → IsActive g → IsActive (with_expiry expiry g)
+with-active expiry g h = grind arith
+
+with-leased : (expiry : ℕ) (g : Grant) → IsLeased g → IsLeased (with_expiry expiry g)
+with-leased expiry g h = grind arith
+
+with-reserved : (expiry : ℕ) (g : Grant) → IsReserved g → with_expiry expiry g ≡ g
+with-reserved expiry g h = grind arith
+
+with-waits : (expiry : ℕ) (g : Grant) → is_waiting (with_expiry expiry g) ≡ is_waiting g
+with-waits expiry g = grind arith
+
+with-kept : (expiry : ℕ) (g : Grant) → is_kept (with_expiry expiry g) ≡ is_kept g
+with-kept expiry g = grind arith
+
+without-leased : (expiry : ℕ) (g : Grant) → IsLeased (with_expiry expiry g) → IsLeased g
+without-leased expiry g h = grind arith
 
 with-waiting : (expiry : ℕ) (g : Grant) → is_waiting g ≡ true → with_expiry expiry g ≡ g
 with-waiting expiry (Permission ip (Pending is_kept)) h = refl
@@ -168,29 +187,9 @@ module _ (count slots extras delay now : ℕ) (past : History) (transactions : L
           cc
 
   -- what is listed under one ID is so still
-  request-left : (hs : List Grant) → ((g : Grant) → Has g u.grants → is_for p g ≡ false → Has g hs) → (ls : List Listing) → ((l : Listing) → Has l ls → Has l u.listed) → IsRequest u.grants ls
-      → IsRequest hs (filter (λ l. not (is_shared p u.grants l)) ls)
-  request-left hs more [] within h = tt
-  request-left hs more (l ∷ []) within h = by (is_shared p u.grants l)
-    where
-      by : (b : Bool) → IsRequest hs (cond (not b) (l ∷ []) [])
-      by true = tt
-      by false = tt
-  request-left hs more (l ∷ m ∷ []) within h = by (is_shared p u.grants l) (is_shared p u.grants m) refl
-    where
-      by : (b c : Bool) → is_shared p u.grants l ≡ b → IsRequest hs (cond (not b) (l ∷ cond (not c) (m ∷ []) []) (cond (not c) (m ∷ []) []))
-      by true true e = tt
-      by true false e = tt
-      by false true e = tt
-      by false false e =
-          let kept : Has l (left p u) = filter-has (λ (l : Listing). not (is_shared p u.grants l)) l u.listed (within l (inl refl)) (not_from_false (is_shared p u.grants l) e) in
-          brings-more u.grants hs l.purpose m.purpose (λ g there for. more g there (others-asked l kept g there for)) h
-  request-left hs more (l ∷ m ∷ n ∷ ls) within h = absurd h
-
-  requests-left : (hs : List Grant) → ((g : Grant) → Has g u.grants → is_for p g ≡ false → Has g hs) → AreRequests hs (left p u)
-  requests-left hs more id =
-      rw (filter-swap (λ (l : Listing). eqb l.id id) (λ (l : Listing). not (is_shared p u.grants l)) u.listed)
-      (request-left hs more (listed_as id u.listed) (λ l h. (has-filter (λ (l : Listing). eqb l.id id) l u.listed h).0) (k.linked id))
+  linked-left : (hs : List Grant) → ((g : Grant) → Has g u.grants → is_for p g ≡ false → Has g hs) → AreRequests hs (left p u)
+  linked-left hs more = requests-left u.grants hs (is_shared p u.grants) u.listed
+      (λ l there e g here for. more g here (others-asked l (filter-has (λ (l : Listing). not (is_shared p u.grants l)) l u.listed there (not_from_false (is_shared p u.grants l) e)) g here for)) k.linked
 
   -- a request for what is not answered awaits its reply still
   pending-other : (until : ℕ) (g : Grant) → is_for p g ≡ false → IsPending until past transactions u.listed g → IsPending until past transactions (left p u) g
@@ -249,6 +248,20 @@ module _ (count slots extras delay now : ℕ) (past : History) (transactions : L
             })
       ]
 
+  -- what was let go is so still, and is requested no more
+  loose-other : (t : State) → t.listed ≡ left p u → (g : Grant) → IsLoose past u g → IsLoose past t g
+  loose-other t ls g (freed, inl leased) = (freed, inl leased)
+  loose-other t ls g (freed, inr (is, none)) = (freed, inr (is, ap (λ (ls : List Listing). list_any (λ (l : Listing). is_for l.purpose g) ls) ls ∙ not-asked g none))
+
+  -- what was asked for since its refresh time is so, if at all
+  known-other : (t : State) → t.config ≡ u.config → t.listed ≡ left p u → (g : Grant) → IsKnown now past u g → IsKnown now past t g
+  known-other t same ls g (waits, due) = (
+    waits,
+    λ leased asked.
+        let is = sym (ap (λ (ls : List Listing). list_any (λ (l : Listing). is_for l.purpose g) ls) ls) ∙ asked in
+        rw same (due leased (asked-before (has_request g u) (list_any (λ (l : Listing). is_for l.purpose g) (left p u)) (not-asked g) is)),
+  )
+
   -- what was granted now is refreshed much later
   stands-new : (t : State) → t.config ≡ u.config → t.queue ≡ u.queue → t.last_send ≡ u.last_send → (h : Grant) → IsGranted h
       → (count + slots + extras) * u.config.request_cadence + delay < ahead_of u.config.refresh_ahead h → now + 150_000_000_000 + ahead_of u.config.refresh_ahead h ≤ expiry_of h
@@ -300,7 +313,7 @@ module _ (count slots extras delay now : ℕ) (past : History) (transactions : L
       let one = k.single p unique in
       absurd (omega (arith, two, one))
 
-  expires-late : (g : Grant) → IsGranted g → is_for p g ≡ true → now + 150_000_000_000 + ahead_of u.config.refresh_ahead (with_expiry expiry g) ≤ expiry_of (with_expiry expiry g)
+  expires-late : (g : Grant) → IsActive g → is_for p g ≡ true → now + 150_000_000_000 + ahead_of u.config.refresh_ahead (with_expiry expiry g) ≤ expiry_of (with_expiry expiry g)
   expires-late g h for =
       let e = with-expires expiry g h in
       let a = with-ahead u.config.refresh_ahead expiry g in
@@ -310,13 +323,18 @@ module _ (count slots extras delay now : ℕ) (past : History) (transactions : L
   serves : (since : ℕ) → since ≤ now → served u since ≤ served t since
   serves since before = passes-map (is_served u since) (is_served t since) (renews p expiry) u.grants each
     where
+      serves-late : (g : Grant) → IsActive g → is_for p g ≡ true → is_served t since (with_expiry expiry g) ≡ true
+      serves-late g active f = serves-new count slots extras delay now past transactions u k p refreshing t refl since (with_expiry expiry g) before (expires-late g active f)
+
       each : (g : Grant) → Has g u.grants → is_served u since g ≡ true → is_served t since (renews p expiry g) ≡ true
       each g there e = by (is_for p g) refl
         where
           by : (b : Bool) → is_for p g ≡ b → is_served t since (cond b (with_expiry expiry g) g) ≡ true
           by true f = elim (k.each g there) [
             | inl (waits, pending) ↦ or_left (is_waiting (with_expiry expiry g)) _ (ap is_waiting (with-waiting expiry g waits) ∙ waits)
-            | inr stands ↦ serves-new count slots extras delay now past transactions u k p refreshing t refl since (with_expiry expiry g) before (expires-late g stands.granted f)
+            | inr (inl stands) ↦ serves-late g (granted-active g stands.granted) f
+            | inr (inr (freed, inl leased)) ↦ serves-late g (leased-active g leased) f
+            | inr (inr (freed, inr (is, none))) ↦ absurd (let no : false ≡ true = sym (reserved-unserved u since g is none) ∙ e in cc)
           ]
           by false f = serves-other count slots extras delay now past transactions u k p refreshing t refl refl since g f e
 
@@ -336,18 +354,37 @@ module _ (count slots extras delay now : ℕ) (past : History) (transactions : L
       by true = with-family expiry g
       by false = refl
 
+  -- what is renewed is requested no more
+  unasked-renewed : (g : Grant) → Has g u.grants → is_for p g ≡ true → has_request (with_expiry expiry g) t ≡ false
+  unasked-renewed g there e = answered count slots extras delay now past transactions u k p refreshing g (with_expiry expiry g) there e (λ l was for. sym (with-for l.purpose expiry g) ∙ for)
+
+  loose-renewed : (g : Grant) → IsLoose past u g → IsLoose past t (with_expiry expiry g)
+  loose-renewed g (freed, inl leased) = (let_go-with past expiry g ∙ freed, inl (with-leased expiry g leased))
+  loose-renewed g (freed, inr (is, none)) = subst (IsLoose past t) (sym (with-reserved expiry g is)) (loose-other count slots extras delay now past transactions u k p refreshing t refl g (freed, inr (is, none)))
+
+  renews-known : (g : Grant) → Has g u.grants → IsKnown now past t (renews p expiry g)
+  renews-known g there = by (is_for p g) refl
+    where
+      waits : IsKnown now past u g → is_waiting (with_expiry expiry g) ≡ true → (is_kept (with_expiry expiry g) || was_let_go past (with_expiry expiry g)) ≡ true
+      waits was w = rw (with-kept expiry g, let_go-with past expiry g) (was.0 (sym (with-waits expiry g) ∙ w))
+
+      by : (b : Bool) → is_for p g ≡ b → IsKnown now past t (cond b (with_expiry expiry g) g)
+      by true e = (waits (k.known g there), λ leased asked. absurd (let no : false ≡ true = sym (unasked-renewed g there e) ∙ asked in cc))
+      by false e = known-other count slots extras delay now past transactions u k p refreshing t refl refl g (k.known g there)
+
   renews-well : (g : Grant) → Has g u.grants → IsWell count slots extras delay now past transactions t (renews p expiry g)
   renews-well g there = by (is_for p g) refl (k.each g there)
     where
       by : (b : Bool) → is_for p g ≡ b → IsWell count slots extras delay now past transactions u g → IsWell count slots extras delay now past transactions t (cond b (with_expiry expiry g) g)
       by true e (inl (waits, pending)) = absurd (unanswered g there waits e)
-      by true e (inr was) =
+      by true e (inr (inr loose)) = inr (inr (loose-renewed g loose))
+      by true e (inr (inl was)) =
           let a = with-ahead u.config.refresh_ahead expiry g in
-          inr (stands-new count slots extras delay now past transactions u k p refreshing t refl refl refl (with_expiry expiry g) (with-granted expiry g was.granted)
-          (omega (arith, a, was.room)) (expires-late g was.granted e)
-          (answered count slots extras delay now past transactions u k p refreshing g (with_expiry expiry g) there e (λ l was for. sym (with-for l.purpose expiry g) ∙ for)))
+          inr (inl (stands-new count slots extras delay now past transactions u k p refreshing t refl refl refl (with_expiry expiry g) (with-granted expiry g was.granted)
+          (omega (arith, a, was.room)) (expires-late g (granted-active g was.granted) e) (unasked-renewed g there e)))
       by false e (inl (waits, pending)) = inl (waits, pending-other count slots extras delay now past transactions u k p refreshing now g e pending)
-      by false e (inr was) = inr (stands-other count slots extras delay now past transactions u k p refreshing t refl refl refl refl serves g e was)
+      by false e (inr (inl was)) = inr (inl (stands-other count slots extras delay now past transactions u k p refreshing t refl refl refl refl serves g e was))
+      by false e (inr (inr loose)) = inr (inr (loose-other count slots extras delay now past transactions u k p refreshing t refl g loose))
 
   pub renewed-kept : IsKept count slots extras delay now past transactions t
   renewed-kept = record {
@@ -367,12 +404,13 @@ module _ (count slots extras delay now : ℕ) (past : History) (transactions : L
     single = λ q unique.
         let few = k.single q unique in
         omega (arith, few, passes-mapped (is_for q) (is_for q) (renews p expiry) u.grants (λ g there e. sym (renews-for q p expiry g) ∙ e));
-    linked = requests-left count slots extras delay now past transactions u k p refreshing t.grants
+    linked = linked-left count slots extras delay now past transactions u k p refreshing t.grants
         (λ g there other. subst (λ (h : Grant). Has h t.grants) (rw other refl) (map-has (renews p expiry) g u.grants there));
     in_range = k.in_range;
     housed = λ g h.
         let (x, there, e) = has-mapped (renews p expiry) g u.grants h in
         subst (λ (y : Grant). Room t.grants (family_of_grant y)) (sym e) (rw (renews-family x) (has-room (family_of_grant x) (k.housed x there)));
+    known = λ g h. let (x, there, e) = has-mapped (renews p expiry) g u.grants h in subst (IsKnown now past t) (sym e) (renews-known x there);
     each = λ g h. let (x, there, e) = has-mapped (renews p expiry) g u.grants h in subst (IsWell count slots extras delay now past transactions t) (sym e) (renews-well x there);
   }
     where
@@ -391,7 +429,11 @@ module _ (count slots extras delay now : ℕ) (past : History) (transactions : L
       still false = granted
 
   pub renewed-goes : Goes past past transactions transactions u t
-  renewed-goes = record { remain = renewed-remain; follow = λ until g there waits pending. by until g there waits pending (is_for p g) refl }
+  renewed-goes = record {
+    let_go = λ g e. e;
+    remain = λ g there granted none. renewed-remain g there granted;
+    follow = λ until g there waits pending none. by until g there waits pending (is_for p g) refl;
+  }
     where
       by : (until : ℕ) (g : Grant) → Has g u.grants → is_waiting g ≡ true → IsPending until past transactions u.listed g → (b : Bool) → is_for p g ≡ b → Follows until past transactions g t
       by until g there waits pending true e = absurd (unanswered g there waits e)
@@ -448,17 +490,35 @@ module _ (count slots extras delay now : ℕ) (past : History) (transactions : L
   new-unasked = answered count slots extras delay now past transactions u k p refreshing anew.waits new anew.there anew.same
       (λ l was for. for-joins l.purpose p anew.waits new (k.asked l was).0 refreshing for anew.for anew.same)
 
+  -- what is granted, but not kept, was let go
+  new-let_go : is_kept new ≡ false → was_let_go past new ≡ true
+  new-let_go loose = let_go-became past anew.waits new anew.becomes ∙ or_else (is_kept anew.waits) (was_let_go past anew.waits) (sym anew.marks ∙ loose) ((k.known anew.waits anew.there).0 anew.waiting)
+
   well-anew : (g : Grant) → Has g after.grants → IsWell count slots extras delay now past transactions after g
   well-anew g h = elim (which g h) [
     | inl (there, other) ↦ elim (k.each g there) [
       | inl (waits, pending) ↦ inl (waits, pending-other count slots extras delay now past transactions u k p refreshing now g other pending)
-      | inr was ↦ inr (stands-other count slots extras delay now past transactions u k p refreshing after refl refl refl refl serves-anew g other was)
+      | inr (inl was) ↦ inr (inl (stands-other count slots extras delay now past transactions u k p refreshing after refl refl refl refl serves-anew g other was))
+      | inr (inr loose) ↦ inr (inr (loose-other count slots extras delay now past transactions u k p refreshing after refl g loose))
     ]
-    | inr e ↦
-        let pace = k.pace in
-        let minute = anew.minute in
-        subst (IsWell count slots extras delay now past transactions after) (sym e)
-        (inr (stands-new count slots extras delay now past transactions u k p refreshing after refl refl refl new anew.granted (omega (arith, pace, minute)) anew.late new-unasked))
+    | inr e ↦ subst (IsWell count slots extras delay now past transactions after) (sym e) (inr (new-well (is_kept new) refl))
+  ]
+    where
+      new-well : (b : Bool) → is_kept new ≡ b → Stands count slots extras delay now past transactions after new ⊎ IsLoose past after new
+      new-well true kept =
+          let pace = k.pace in
+          let minute = anew.minute in
+          inl (stands-new count slots extras delay now past transactions u k p refreshing after refl refl refl new (kept-granted new anew.leased kept)
+          (omega (arith, pace, minute)) anew.late new-unasked)
+      new-well false kept = inr (new-let_go kept, inl anew.leased)
+
+  known-anew : (g : Grant) → Has g after.grants → IsKnown now past after g
+  known-anew g h = elim (which g h) [
+    | inl (there, other) ↦ known-other count slots extras delay now past transactions u k p refreshing after refl refl g (k.known g there)
+    | inr e ↦ subst (IsKnown now past after) (sym e) (
+      λ waits. absurd (let no : false ≡ true = sym (not-waiting new (leased-active new anew.leased)) ∙ waits in cc),
+      λ leased asked. absurd (let no : false ≡ true = sym new-unasked ∙ asked in cc),
+    )
   ]
 
   single-anew : (q : Purpose) → IsUnique q → passes (is_for q) after.grants ≤ 1
@@ -510,13 +570,14 @@ module _ (count slots extras delay now : ℕ) (past : History) (transactions : L
         let size = k.size in
         omega (arith, one, len, size);
     single = single-anew;
-    linked = requests-left count slots extras delay now past transactions u k p refreshing after.grants stays-there;
+    linked = linked-left count slots extras delay now past transactions u k p refreshing after.grants stays-there;
     in_range = k.in_range;
     housed = λ g h. elim (which g h) [
       | inl (there, other) ↦ room-anew (family_of_grant g) (k.housed g there)
       | inr e ↦ subst (λ (y : Grant). Room after.grants (family_of_grant y)) (sym e)
           (subst (Room after.grants) anew.family (room-anew (family_of_grant anew.waits) (k.housed anew.waits anew.there)))
     ];
+    known = known-anew;
     each = well-anew;
   }
 
@@ -527,18 +588,24 @@ module _ (count slots extras delay now : ℕ) (past : History) (transactions : L
       other : (b : Bool) → is_for p g ≡ b → is_for p g ≡ false
       other false e = e
       other true e =
-          let two = passes-two (is_for p) is_waiting anew.waits g u.grants anew.there there anew.same e anew.waiting (not-waiting g granted) in
+          let two = passes-two (is_for p) is_waiting anew.waits g u.grants anew.there there anew.same e anew.waiting (not-waiting g (granted-active g granted)) in
           let one = k.single p anew.unique in
           absurd (omega (arith, two, one))
 
   pub anew-goes : Goes past past transactions transactions u after
-  anew-goes = record { remain = anew-remain; follow = λ until g there waits pending. by until g there waits pending (is_for p g) refl }
+  anew-goes = record {
+    let_go = λ g e. e;
+    remain = λ g there granted none. anew-remain g there granted;
+    follow = λ until g there waits pending none. by until g there waits pending none (is_for p g) refl;
+  }
     where
-      by : (until : ℕ) (g : Grant) → Has g u.grants → is_waiting g ≡ true → IsPending until past transactions u.listed g → (b : Bool) → is_for p g ≡ b → Follows until past transactions g after
-      by until g there waits pending true e =
+      by : (until : ℕ) (g : Grant) → Has g u.grants → is_waiting g ≡ true → IsPending until past transactions u.listed g → was_let_go past g ≡ false → (b : Bool) → is_for p g ≡ b
+          → Follows until past transactions g after
+      by until g there waits pending none true e =
           let is : anew.waits ≡ g = passes-same (is_for p) anew.waits g u.grants (k.single p anew.unique) anew.there there anew.same e in
-          inr (new, new-there, anew.becomes ∙ ap as_granted is, anew.granted)
-      by until g there waits pending false e = inl (stays-there g there e, pending-other count slots extras delay now past transactions u k p refreshing until g e pending)
+          let kept = or_first (is_kept g) (was_let_go past g) none ((k.known g there).0 waits) in
+          inr (new, new-there, anew.becomes ∙ ap as_granted is, kept-granted new anew.leased (anew.marks ∙ (ap is_kept is ∙ kept)))
+      by until g there waits pending none false e = inl (stays-there g there e, pending-other count slots extras delay now past transactions u k p refreshing until g e pending)
 
 -- ---- all purposes of a request
 
@@ -558,8 +625,13 @@ one-listed p u l h (g, there, for) e =
     cc
 
 pub all-known : (count slots extras delay now : ℕ) (past : History) (transactions : List Transaction) (u : State) → IsKept count slots extras delay now past transactions u → (g : Grant) → Has g u.grants
-    → (is_waiting g ≡ true) ⊎ IsGranted g
-all-known count slots extras delay now past transactions u k g there = elim (k.each g there) [ inl (waits, pending) ↦ inl waits | inr stands ↦ inr stands.granted ]
+    → IsOfKind u g
+all-known count slots extras delay now past transactions u k g there = elim (k.each g there) [
+  | inl (waits, pending) ↦ inl waits
+  | inr (inl stands) ↦ inr (inl (granted-active g stands.granted))
+  | inr (inr (freed, inl leased)) ↦ inr (inl (leased-active g leased))
+  | inr (inr (freed, inr reserved)) ↦ inr (inr reserved)
+]
 
 module _ (count slots extras delay now : ℕ) (past : History) (transactions : List Transaction) (u : State) (k : IsKept count slots extras delay now past transactions u) (p : Purpose) (refreshing : IsRefreshing p) (g : Grant)
     (there : Has g u.grants)
@@ -617,7 +689,7 @@ all-answered message id count slots extras delay now past transactions u k given
     Done : List Purpose → Type 0
     Done ps = IsAnswered count slots extras delay now past transactions ps u (fold (effect id true message now) u (filter (is_answered (method_in message)) ps))
 
-    known : (g : Grant) → Has g u.grants → (is_waiting g ≡ true) ⊎ IsGranted g
+    known : (g : Grant) → Has g u.grants → IsOfKind u g
     known = all-known count slots extras delay now past transactions u k
 
     one : (p : Purpose) → purposes_of id u ≡ p ∷ [] → IsGiven u.grants p → Grants message p → Done (p ∷ [])

@@ -36,7 +36,7 @@ use Rattle.turn_client_api.proofs.HasLemmas.{Has, all-has, has-all}
 use Rattle.turn_client_laws.proofs.TimelyLemmas.{poll-timely}
 use Rattle.turn_client_runs.specs.Lasting.{HasRoom, IsInForce, IsSteady, IsSuccess, IsWithin, RunsSteadily, ahead_of, expiry_of}
 use Rattle.turn_client_runs.specs.LastingRows.{RelayStaysUp, with_allocation, calls_of_700_s, granted_call, refreshed_grants, served}
-use Rattle.turn_client_runs.specs.History.{History, IsSeldom, is_extra, no_history, with_call}
+use Rattle.turn_client_runs.specs.History.{History, IsSeldom, is_extra, lost, no_history, with_call}
 use Rattle.turn_client_runs.specs.OnTime.{IsOnTime}
 use Rattle.turn_client_runs.specs.Server.{from_server, success_for}
 use Rattle.turn_client_runs.proofs.LastingHistory.{call-made}
@@ -92,8 +92,8 @@ Goes before s calls = ((past : History) → FitsPast past s → RunsSteadily 3 1
 seldom-none : (ahead now : ℕ) (past : History) → past.extra ≡ [] → IsSeldom 0 ahead now past
 seldom-none ahead now past none since within = rw none (omega arith)
 
-no-extra : (call : Call) (now : ℕ) (s : State) (past : History) → past.extra ≡ [] → is_extra call s ≡ false → (with_call call now s past).extra ≡ []
-no-extra call now s past none e = rw (e, none) refl
+no-extra : (call : Call) (now : ℕ) (s : State) (past : History) → past.extra ≡ [] → is_extra call s ≡ false → lost call s ≡ [] → (with_call call now s past).extra ≡ []
+no-extra call now s past none e kept = rw (e, kept, none) refl
 
 answered-in : (now : ℕ) (past : History) (s : State) → FitsPast past s → All (λ x. now ≤ x.last_send + delay) s.transactions → All (λ x. now ≤ past.made x.id + delay) s.transactions
 answered-in now past s fits waits = all-has (λ (x : Transaction). now ≤ past.made x.id + delay) s.transactions by
@@ -204,7 +204,7 @@ module _ (before now id last : ℕ) (later : List ℕ) (purpose : Purpose) (othe
       by : (past : History) → FitsPast past u → RunsSteadily 3 1 0 delay now past u (reply ∷ PollEvent ∷ PollEvent ∷ served last later (state_after PollEvent (state_after PollEvent (state_after reply u))))
       by past fits =
           let next = with_call reply (now + delay) u past in
-          let none = no-extra reply (now + delay) u past fits.0 calm in (
+          let none = no-extra reply (now + delay) u past fits.0 calm refl in (
             record { on_time = is.awaits; answered = answered-in (now + delay) past u fits waits-u },
             inl success,
             subst (IsWithin 3 1) (sym after-reply) is.within_r,
@@ -228,7 +228,7 @@ module _ (before now id last : ℕ) (later : List ℕ) (purpose : Purpose) (othe
       by : (past : History) → FitsPast past s → RunsSteadily 3 1 0 delay before past s (served last (now ∷ later) s)
       by past fits =
           let next = with_call (PollTransmit now) now s past in
-          let none = no-extra (PollTransmit now) now s past fits.0 (rw is.idle refl) in (
+          let none = no-extra (PollTransmit now) now s past fits.0 (rw is.idle refl) refl in (
             record { on_time = is.on_time; answered = answered-in now past s fits is.waits },
             tt,
             subst (IsWithin 3 1) (sym is.sends) is.within_u,

@@ -1,6 +1,6 @@
--- No grant is lost in a run.
-use Rattle.std.proofs.Common.{◌≡◌, ◌⊎◌, ℕ, ◌+◌, ◌<◌, ◌≤◌, Bool, true, false, cond, not, leb, eqb, List, [], ◌∷◌, ◌++◌, length, drop, Option, Some, None, refl, inl, inr, ap, sym, subst, ◌∙◌, arith}
-use Rattle.std.specs.Prelude.{filter, filter_map, find, is_some, IsSome, nat_lt, Ok, Err}
+-- No grant is lost by a call.
+use Rattle.std.proofs.Common.{◌≡◌, ◌⊎◌, ℕ, ◌+◌, ◌≤◌, Bool, true, false, cond, not, ◌&&◌, leb, eqb, List, [], ◌∷◌, ◌++◌, length, drop, Option, Some, None, refl, inl, inr, ap, sym, subst, ◌∙◌, arith}
+use Rattle.std.specs.Prelude.{filter, filter_map, find, is_some, IsSome, nat_lt, Result, Ok, Err}
 use Rattle.std.specs.Net.Socket.{socket_ip}
 use Rattle.turn_stun.specs.declared.transport.TransportType.{TransportType}
 use Rattle.turn_stun.specs.declared.transport.TransportType.TheVariants.{Tcp}
@@ -10,10 +10,9 @@ use Rattle.turn_client_api.specs.declared.error.SendError.TheVariants.{NoPermiss
 use Rattle.turn_client_api.specs.Grants.{as_connection}
 use Rattle.turn_client_api.specs.Requests.{to_server}
 use Rattle.turn_types.specs.Channel.{channel_frame}
-use Rattle.turn_client_api.specs.Calls.{active_channel, as_indication, bound_to, can_send_to, on_channel, on_connection, send_over, send_to_step}
-use Rattle.std.specs.List.{Contains, list_any}
-use Rattle.std.proofs.lemmas.Bool.{cases_Bool, eqb-true, eq-eqb, lt-ltb}
-use Rattle.std.proofs.lemmas.List.{length-append}
+use Rattle.turn_client_api.specs.Calls.{channel_kept_step, is_in_progress, is_open_to, keep_step, permission_kept_step, with_marks, active_channel, as_indication, bound_to, can_send_to, on_channel, on_connection, send_over, send_to_step}
+use Rattle.std.specs.List.{list_any}
+use Rattle.std.proofs.lemmas.Bool.{and_parts, eqb-true, eq-eqb, lt-leb, lt-ltb, or_right}
 use Rattle.std.specs.Option.{option_map_or}
 use Rattle.std.specs.declared.net.socket_addr.SocketAddr.{SocketAddr}
 use Rattle.turn_stun.specs.Message.{id_of}
@@ -27,48 +26,49 @@ use Rattle.turn_agent.specs.Agent.{due, is_outstanding, resent}
 use Rattle.turn_agent.specs.declared.transaction.Transaction.{Transaction}
 use Rattle.turn_client_api.specs.State.{State, agent_of, auth_of}
 use Rattle.turn_client_api.specs.declared.state.Phase.TheVariants.{Allocated}
+use Rattle.turn_client_api.specs.declared.error.KeepError.{KeepError}
+use Rattle.turn_client_api.specs.declared.error.KeepError.TheVariants.{NotGranted}
+use Rattle.turn_client_api.specs.declared.grant.Relay.{Relay}
+use Rattle.std.specs.declared.net.ip_addr.IpAddr.{IpAddr}
 use Rattle.turn_client_api.specs.declared.grant.Grant.{Grant}
 use Rattle.turn_client_api.specs.declared.grant.Grant.TheVariants.{Allocation, Permission, Channel}
-use Rattle.turn_client_api.specs.declared.grant.Progress.TheVariants.{Active, Pending}
 use Rattle.turn_client_api.specs.declared.grant.Listing.{Listing}
 use Rattle.turn_client_api.specs.declared.grant.Purpose.{Purpose}
-use Rattle.turn_client_api.specs.declared.grant.Purpose.TheVariants.{ForPermission, ForChannel}
-use Rattle.turn_client_api.specs.Grants.{family_of_grant, is_for, purposes_of, same_ip}
+use Rattle.turn_client_api.specs.Grants.{allocations, is_past, is_permission_of, same_transport, purposes_of}
 use Rattle.turn_client_api.specs.Judgement.{Challenged, SignedSuccess, challenge_in, class_in, judgement_of}
 use Rattle.turn_client_api.specs.Retry.{retried, state_after_retry}
 use Rattle.turn_auth.specs.LongTerm.{Challenge}
 use Rattle.turn_client_api.specs.Effect.{transaction_ended}
 use Rattle.turn_client_api.specs.Payloads.{Handled, Ignored, Outcome, challenge_step, datagram_step, message_step, response_step, signed_step}
 use Rattle.turn_client_api.specs.Calls.{bind_channel_step, create_permission_step}
-use Rattle.turn_client_api.specs.Poll.{poll_step}
+use Rattle.turn_client_api.specs.Poll.{lapsed, poll_step}
 use Rattle.turn_client_api.specs.Transmit.{transmit_step}
 use Rattle.turn_client_api.specs.Requests.{fresh_id}
 use Rattle.turn_client_api.specs.Steps.{packet_step, state_after, state_after_all}
 use Rattle.turn_client_api.specs.declared.call.Call.{Call}
-use Rattle.turn_client_api.specs.declared.call.Call.TheVariants.{BindChannel, CreatePermission, Recv, Poll, PollTransmit, PollEvent, SendTo}
-use Rattle.turn_client_api.proofs.HasLemmas.{Has, filter-has, has-all, has-filter, map-has}
-use Rattle.turn_client_laws.proofs.InAllocationLemmas.{any-has, has-any, room-of}
+use Rattle.turn_client_api.specs.declared.call.Call.TheVariants.{BindChannel, CreatePermission, Recv, Poll, PollTransmit, PollEvent, SendTo, SetChannelKept, SetPermissionKept}
+use Rattle.turn_client_api.proofs.AllocationLemmas.{allocation-there}
+use Rattle.turn_client_api.proofs.HasLemmas.{Has, filter-has, has-filter, map-has}
+use Rattle.turn_client_laws.proofs.InAllocationLemmas.{any-has, has-any}
 use Rattle.turn_client_laws.proofs.TwoPurposes.{purpose-with}
-use Rattle.turn_client_runs.specs.LastingRuns.{LastsThrough}
-use Rattle.turn_client_runs.specs.Lasting.{AreInTime, IsChallenge, with_expiry, IsRequested, RequestsSucceed, as_granted, Answers, DatagramsAreMessages, GrantsLast, HasRoom, HasStill, IsInForce, IsQuiet, IsSteady, IsSuccess}
-use Rattle.turn_client_runs.specs.Lasting.{IsWithin, RunsSteadily, SuccessesEndRequests, ahead_of, expiry_of}
+use Rattle.turn_client_runs.specs.Lasting.{AreInTime, IsChallenge, Answers, DatagramsAreMessages, IsQuiet, IsSuccess}
+use Rattle.turn_client_runs.specs.Lasting.{IsWithin, RunsSteadily, SuccessesEndRequests}
 use Rattle.turn_client_runs.proofs.MadeLemmas.{success-ends}
 use Rattle.turn_client_runs.specs.OnTime.{IsFromServer, time_of, time_of_all}
-use Rattle.turn_client_runs.specs.History.{History, IsSeldom, is_extra, no_history, with_call}
-use Rattle.turn_client_runs.proofs.LastingStands.{Follows, Goes, IsPending, IsWell, goes-more, goes-trans, is_waiting, AreSingle, IsAwaited, IsGranted, IsIdle, IsKept, IsUnique, Stands, not-waiting}
-use Rattle.turn_client_runs.proofs.LastingStands.{pause-le, stands-early}
-use Rattle.turn_client_runs.proofs.LastingCounts.{passes}
+use Rattle.turn_client_runs.specs.History.{History, IsSeldom, extra_since, is_extra, lost, was_let_go, with_call, with_calls}
+use Rattle.turn_client_runs.proofs.LastingStands.{allocation-stands, Goes, IsPending, goes-more, goes-trans, IsAwaited, IsIdle, IsKept, Stands}
+use Rattle.turn_client_runs.proofs.LastingStands.{stands-early}
+use Rattle.turn_client_runs.proofs.LastingCounts.{passes, passes-length}
 use Rattle.turn_client_runs.proofs.LastingCalls.{Asks, asked-goes, asked-kept, binds, creates}
-use Rattle.turn_client_laws.specs.LawsDoubles.{is_double}
-use Rattle.turn_client_api.proofs.AddressLemmas.{same_ip-true}
-use Rattle.turn_client_laws.proofs.StandLemmas.{contains-has, has-contains}
-use Rattle.std.specs.List.{AllByRecursion, IsDistinct}
 use Rattle.turn_client_runs.proofs.LastingAgain.{IsOneMore, goes-again, goes-retried, kept-again, kept-retried, retried-queue}
-use Rattle.turn_client_runs.proofs.LastingHistory.{GoesOn, call-extra, call-goes_on, call-made, goes-later, kept-later, none-over_yet}
+use Rattle.turn_client_runs.proofs.LastingHistory.{GoesOn, extra-more, lost-more, call-extra, call-goes_on, call-made, goes-later, kept-later, none-over_yet}
 use Rattle.turn_client_runs.proofs.LastingTime.{time-kept}
-use Rattle.turn_client_runs.proofs.LastingPolls.{AllEarly, kept-aside, polls}
+use Rattle.turn_client_runs.proofs.LastingPolls.{ArePlain, kept-aside, polls}
 use Rattle.turn_client_runs.proofs.LastingTransmits.{transmit-kept}
-use Rattle.turn_client_runs.proofs.LastingReplies.{IsAnswered, IsGiven, all-answered}
+use Rattle.turn_client_runs.proofs.LastingExpiry.{goes-left, kept-left}
+use Rattle.turn_client_runs.proofs.LastingLapses.{IsTidy, is_lost, lapsed-passes}
+use Rattle.turn_client_runs.proofs.LastingMarks.{goes-marked, kept-marked}
+use Rattle.turn_client_runs.proofs.LastingReplies.{IsAnswered, IsGiven, all-answered, all-known}
 
 -- ---- a success is processed
 
@@ -156,7 +156,8 @@ module _ (count slots extras delay now : ℕ) (past : History) (s : State) (k : 
     linked = k.linked;
     in_range = k.in_range;
     housed = k.housed;
-    each = λ g there. elim (k.each g there) [ inl waits ↦ inl waits | inr stands ↦ inr (stands-ended g stands) ];
+    known = k.known;
+    each = λ g there. elim (k.each g there) [ inl waits ↦ inl waits | inr (inl stands) ↦ inr (inl (stands-ended g stands)) | inr (inr loose) ↦ inr (inr loose) ];
   }
 
   purpose-listed : (l : Listing) → Has l s.listed → l.id ≡ id → Has l.purpose (purposes_of id s)
@@ -210,8 +211,9 @@ module _ (count slots extras delay now : ℕ) (past : History) (s : State) (k : 
 
   goes-answered : Goes past past s.transactions t.transactions s t
   goes-answered = record {
+    let_go = done.goes.let_go;
     remain = done.goes.remain;
-    follow = λ until g there waits pending. elim (done.goes.follow until g there waits pending) [
+    follow = λ until g there waits pending none. elim (done.goes.follow until g there waits pending none) [
       | inl (here, still) ↦ inl (here, pending-answered until g still)
       | inr is ↦ inr is
     ];
@@ -237,7 +239,12 @@ module _ (count slots extras delay now : ℕ) (past : History) (s : State) (k : 
       linked = done.kept.linked;
       in_range = done.kept.in_range;
       housed = done.kept.housed;
-      each = λ g there. elim (done.kept.each g there) [ inl (waits, pending) ↦ inl (waits, pending-answered now g pending) | inr stands ↦ inr (stands-answered g stands) ];
+      known = done.kept.known;
+      each = λ g there. elim (done.kept.each g there) [
+        | inl (waits, pending) ↦ inl (waits, pending-answered now g pending)
+        | inr (inl stands) ↦ inr (inl (stands-answered g stands))
+        | inr (inr loose) ↦ inr (inr loose)
+      ];
     },
     goes-answered,
   )
@@ -271,8 +278,20 @@ goes-same : (past : History) (s t : State) → t.grants ≡ s.grants → t.trans
 goes-same past s t e f l =
     goes-more past s.transactions t.transactions s t e (λ x h. subst (λ (xs : List Transaction). Has x xs) (sym f) h) (λ m h. subst (λ (ls : List Listing). Has m ls) (sym l) h)
 
-all-early : (count slots extras delay now : ℕ) (past : History) (s : State) → IsKept count slots extras delay now past s.transactions s → AllEarly now s
-all-early count slots extras delay now past s k g there = elim (k.each g there) [ inl (waits, pending) ↦ inl waits | inr stands ↦ inr (stands.granted, stands-early count slots extras delay now past s k g there stands) ]
+all-plain : (count slots extras delay now : ℕ) (past : History) (s : State) → IsKept count slots extras delay now past s.transactions s → ArePlain s
+all-plain count slots extras delay now past s k g there = elim (all-known count slots extras delay now past s.transactions s k g there) [
+  | inl waits ↦ inl waits
+  | inr (inl active) ↦ inr (inl active)
+  | inr (inr (is, none)) ↦ inr (inr is)
+]
+
+tidy-of : (count slots extras delay now : ℕ) (past : History) (s : State) → IsKept count slots extras delay now past s.transactions s → IsTidy s.grants s.listed
+tidy-of count slots extras delay now past s k = record {
+  refreshing = λ l h. (k.asked l h).0;
+  single = k.single;
+  linked = k.linked;
+  plain = all-plain count slots extras delay now past s k;
+}
 
 -- the challenge is answered
 challenge-judged : (message : List ℕ) (challenge : Challenge) (s : State) → s.phase ≡ Allocated → class_in message ≡ Error → challenge_in s message ≡ Some challenge → judgement_of s message ≡ Challenged challenge
@@ -415,11 +434,68 @@ module _ (count slots extras delay before : ℕ) (past : History) (s : State) wh
             for None f = same-kept (Recv packet now) k seldom (challenged packet now s challenge k.phase is e ∙ retries-none f)
             for (Some purpose) f = retried-kept challenge purpose (challenged packet now s challenge k.phase is e ∙ retries purpose f)
 
+  -- ---- what expires
+
+  -- so many refreshes were lost, and are extra from now on
+  lost-counts : (now : ℕ) (t : State) → (poll_step now s).1 ≡ t → (since : ℕ) → since ≤ now
+      → extra_since since past + passes (is_lost s.listed t.listed) s.grants ≤ extra_since since (onward (Poll now))
+  lost-counts now t is since before =
+      let all = extra-more now past (lost (Poll now) s) since in
+      let each = lost-more now (lost (Poll now) s) since before in
+      let same : length (lost (Poll now) s) ≡ passes (is_lost s.listed t.listed) s.grants =
+      subst (λ (x : State). length (lost (Poll now) s) ≡ passes (is_lost s.listed x.listed) s.grants) is (passes-length (is_lost s.listed (poll_step now s).1.listed) s.grants) in
+      omega (arith, all, each, same)
+
+  polled-kept : (now : ℕ) → Kept now past → Seldom (Poll now) → Keeps now past (onward (Poll now)) (poll_step now s).1
+  polled-kept now k seldom =
+      polls (λ t. (poll_step now s).1 ≡ t → Keeps now past (onward (Poll now)) t) now s k.phase (all-plain count slots extras delay now past s k)
+      (none-over_yet delay now past s k.prompt k.in_range k.aged k.heard)
+      (λ e. calm (Poll now) s k seldom (λ k. (k, goes-same (onward (Poll now)) s s refl refl refl)))
+      expires refl
+    where
+      early : (a : Relay) → Has a (allocations s) → is_past now a ≡ false
+      early a h =
+          let there = allocation-there a s.grants h in
+          lt-leb a.expiry now (stands-early count slots extras delay now past s k (Allocation a) there (allocation-stands count slots extras delay now past s.transactions s k a there))
+
+      expires : (closes : List SocketAddr) → (poll_step now s).1 ≡ record (lapsed None now s) { closes = closes } → Keeps now past (onward (Poll now)) (record (lapsed None now s) { closes = closes })
+      expires closes is =
+          let u = lapsed None now s in
+          let (alters, (lapses, tidy)) = lapsed-passes now s early (tidy-of count slots extras delay now past s k) in
+          let on = call-goes_on (Poll now) now past s in
+          let counts = lost-counts now (record u { closes = closes }) is in
+          let same : record s { grants = u.grants; listed = u.listed; events = u.events; closes = closes } ≡ record u { closes = closes } = ap (λ (x : State). record x { closes = closes }) (sym alters) in
+          subst (Keeps now past (onward (Poll now))) same (
+            kept-left count slots extras delay now past (onward (Poll now)) s k on seldom u.grants u.listed u.events closes lapses tidy counts,
+            goes-left count slots extras delay now past (onward (Poll now)) s k on seldom u.grants u.listed u.events closes lapses tidy counts,
+          )
+
+  -- ---- what is let go, or kept again
+
+  marks-kept : (later : History) → Kept before later → (transport : TransportType) (which : Grant → Bool) (kept : Bool)
+      → ((same_transport transport s.config.allocation_transport && list_any which s.grants) ≡ true → (g : Grant) → which g ≡ true → kept ≡ false → was_let_go later g ≡ true)
+      → Keeps before later later (keep_step transport which kept s).1
+  marks-kept later k transport which kept let_go = by (same_transport transport s.config.allocation_transport && list_any which s.grants) refl
+    where
+      by : (b : Bool) → (same_transport transport s.config.allocation_transport && list_any which s.grants) ≡ b
+          → Keeps before later later (cond {A = Result Unit KeepError × State} b (Ok tt, with_marks which kept s) (Err NotGranted, s)).1
+      by true e = (kept-marked count slots extras delay before later s k which kept (let_go e), goes-marked count slots extras delay before later s k which kept (let_go e))
+      by false e = (k, goes-same later s s refl refl refl)
+
+  permission-let_go : (transport : TransportType) (ip : IpAddr) (kept : Bool) → (same_transport transport s.config.allocation_transport && list_any (is_permission_of ip) s.grants) ≡ true
+      → (g : Grant) → is_permission_of ip g ≡ true → kept ≡ false → was_let_go (onward (SetPermissionKept transport ip kept)) g ≡ true
+  permission-let_go transport ip true ok g is e = cc
+  permission-let_go transport ip false ok (Permission other progress) is e = or_right (past.permission_let_go other) _ (rw ok is)
+  permission-let_go transport ip false ok g is e = cc
+
+  channel-let_go : (transport : TransportType) (peer : SocketAddr) (kept : Bool) → (same_transport transport s.config.allocation_transport && list_any (is_open_to peer) s.grants) ≡ true
+      → (g : Grant) → is_open_to peer g ≡ true → kept ≡ false → was_let_go (onward (SetChannelKept transport peer kept)) g ≡ true
+  channel-let_go transport peer true ok g is e = cc
+  channel-let_go transport peer false ok (Channel number other progress) is e = or_right (past.channel_let_go number other) _ (rw ok (and_parts (is_in_progress progress) _ is).1)
+  channel-let_go transport peer false ok g is e = cc
+
   call-by : (c : Call) → Kept (time_of before c) past → Seldom c → IsQuiet c s → IsWithin count slots (state_after c s) → Keeps (time_of before c) past (onward c) (state_after c s)
-  call-by (Poll now) k seldom quiet within = calm (Poll now) (poll_step now s).1 k seldom (λ k.
-      polls (Keeps now (onward (Poll now)) (onward (Poll now))) now s k.phase (all-early count slots extras delay now (onward (Poll now)) s k)
-      (none-over_yet delay now (onward (Poll now)) s k.prompt k.in_range k.aged k.heard)
-      (λ closes. (kept-aside count slots extras delay now (onward (Poll now)) s.transactions s s.ids s.events closes k, goes-same (onward (Poll now)) s (record s { closes = closes }) refl refl refl)))
+  call-by (Poll now) k seldom quiet within = polled-kept now k seldom
   call-by (PollTransmit now) k seldom quiet within = transmits-kept now k seldom
   call-by PollEvent k seldom quiet within = calm PollEvent (record s { events = drop 1 s.events }) k seldom (λ k.
       (kept-aside count slots extras delay before (onward PollEvent) s.transactions s s.ids (drop 1 s.events) s.closes k, goes-same (onward PollEvent) s (record s { events = drop 1 s.events }) refl refl refl))
@@ -437,6 +513,10 @@ module _ (count slots extras delay before : ℕ) (past : History) (s : State) wh
       let later = onward (BindChannel transport peer now) in
       binds (λ t. IsWithin count slots t → Keeps now later later t) count slots extras delay now later s k (λ w. (k, goes-same later s s refl refl refl))
       (asks-kept now later (call-made (BindChannel transport peer now) now past s) k) transport peer within)
+  call-by (SetPermissionKept transport ip kept) k seldom quiet within = calm (SetPermissionKept transport ip kept) (permission_kept_step transport ip kept s).1 k seldom (λ k.
+      marks-kept (onward (SetPermissionKept transport ip kept)) k transport (is_permission_of ip) kept (λ ok g is. permission-let_go transport ip kept ok g is))
+  call-by (SetChannelKept transport peer kept) k seldom quiet within = calm (SetChannelKept transport peer kept) (channel_kept_step transport peer kept s).1 k seldom (λ k.
+      marks-kept (onward (SetChannelKept transport peer kept)) k transport (is_open_to peer) kept (λ ok g is. channel-let_go transport peer kept ok g is))
   call-by (Recv packet now) k seldom (inl is) within = calm (Recv packet now) (state_after (Recv packet now) s) k seldom (λ k.
       let later = onward (Recv packet now) in
       subst (λ (x : State). Keeps now later later x) (sym (received packet now s k.phase is)) (kept-answered count slots extras delay now later s k packet.payload is.answers))
@@ -448,26 +528,21 @@ module _ (count slots extras delay before : ℕ) (past : History) (s : State) wh
       → Keeps (time_of before call) past (onward call) (state_after call s)
   call-kept call k in_time quiet within seldom = call-by call (time-kept count slots extras delay before (time_of before call) past s k in_time) seldom quiet within
 
--- what came before, after all of these calls
-abbrev pub with_all : List Call → ℕ → State → History → History
-with_all [] before s past = past
-with_all (call ∷ calls) before s past = with_all calls (time_of before call) (state_after call s) (with_call call (time_of before call) s past)
-
-all-kept : (count slots extras delay before : ℕ) (past : History) (s : State) (calls : List Call) → IsKept count slots extras delay before past s.transactions s
+pub all-kept : (count slots extras delay before : ℕ) (past : History) (s : State) (calls : List Call) → IsKept count slots extras delay before past s.transactions s
     → RunsSteadily count slots extras delay before past s calls
-    → KeepsAll count slots extras delay (time_of_all before calls) past (with_all calls before s past) s (state_after_all s calls)
+    → KeepsAll count slots extras delay (time_of_all before calls) past (with_calls calls before s past) s (state_after_all s calls)
 all-kept count slots extras delay before past s [] k run = (k, goes-same past s s refl refl refl)
 all-kept count slots extras delay before past s (call ∷ calls) k (in_time, quiet, within, seldom, run) =
     let later = with_call call (time_of before call) s past in
     let (kept, goes) = call-kept count slots extras delay before past s call k in_time quiet within seldom in
     let (last, as_well) = all-kept count slots extras delay (time_of before call) later (state_after call s) calls kept run in (
       last,
-      goes-trans past later (with_all calls (time_of before call) (state_after call s) later) s.transactions (state_after call s).transactions
+      goes-trans past later (with_calls calls (time_of before call) (state_after call s) later) s.transactions (state_after call s).transactions
           (state_after_all (state_after call s) calls).transactions s (state_after call s) (state_after_all (state_after call s) calls) goes as_well,
     )
 
 -- a run is that of its first calls, and then that of the others
-first-part : (count slots extras delay before : ℕ) (past : History) (s : State) (earlier later : List Call) → RunsSteadily count slots extras delay before past s (earlier ++ later)
+pub first-part : (count slots extras delay before : ℕ) (past : History) (s : State) (earlier later : List Call) → RunsSteadily count slots extras delay before past s (earlier ++ later)
     → RunsSteadily count slots extras delay before past s earlier
 first-part count slots extras delay before past s [] later run = tt
 first-part count slots extras delay before past s (call ∷ earlier) later (in_time, quiet, within, seldom, run) = (
@@ -478,184 +553,12 @@ first-part count slots extras delay before past s (call ∷ earlier) later (in_t
   first-part count slots extras delay (time_of before call) (with_call call (time_of before call) s past) (state_after call s) earlier later run,
 )
 
-last-part : (count slots extras delay before : ℕ) (past : History) (s : State) (earlier later : List Call) → RunsSteadily count slots extras delay before past s (earlier ++ later)
-    → RunsSteadily count slots extras delay (time_of_all before earlier) (with_all earlier before s past) (state_after_all s earlier) later
+pub last-part : (count slots extras delay before : ℕ) (past : History) (s : State) (earlier later : List Call) → RunsSteadily count slots extras delay before past s (earlier ++ later)
+    → RunsSteadily count slots extras delay (time_of_all before earlier) (with_calls earlier before s past) (state_after_all s earlier) later
 last-part count slots extras delay before past s [] later run = run
 last-part count slots extras delay before past s (call ∷ earlier) later (in_time, quiet, within, seldom, run) =
     last-part count slots extras delay (time_of before call) (with_call call (time_of before call) s past) (state_after call s) earlier later run
 
-joined : (s : State) (earlier later : List Call) → state_after_all s (earlier ++ later) ≡ state_after_all (state_after_all s earlier) later
+pub joined : (s : State) (earlier later : List Call) → state_after_all s (earlier ++ later) ≡ state_after_all (state_after_all s earlier) later
 joined s [] later = refl
 joined s (call ∷ earlier) later = joined (state_after call s) earlier later
-
--- ---- the first state
-
-force-granted : (now : ℕ) (g : Grant) → IsInForce now g → IsGranted g
-force-granted now (Allocation a) h = h.0
-force-granted now (Permission ip (Active lease)) h = h.0
-force-granted now (Channel number peer (Active lease)) h = h.0
-force-granted now g h = absurd h
-
-granted-force : (now : ℕ) (g : Grant) → IsGranted g → now < expiry_of g → IsInForce now g
-granted-force now (Allocation a) h early = (h, early)
-granted-force now (Permission ip (Active lease)) h early = (h, early)
-granted-force now (Channel number peer (Active lease)) h early = (h, early)
-granted-force now g h early = absurd h
-
--- grants that differ are not for the same purpose
-none-double : (p : Purpose) → IsUnique p → (g : Grant) (gs : List Grant) → is_for p g ≡ true → AllByRecursion (λ h. is_double g h ≡ false) gs → passes (is_for p) gs ≡ 0
-none-double p unique g [] is all = refl
-none-double p unique g (h ∷ gs) is (differ, others) = let e = apart p unique g h is differ in rw e (omega (arith, none-double p unique g gs is others))
-  where
-    apart : (p : Purpose) → IsUnique p → (g h : Grant) → is_for p g ≡ true → is_double g h ≡ false → is_for p h ≡ false
-    apart (ForPermission ip) u (Permission a m) (Permission c n) is differ = by (same_ip c ip) refl
-      where
-        by : (b : Bool) → same_ip c ip ≡ b → same_ip c ip ≡ false
-        by false e = e
-        by true e =
-            let here : c ≡ ip = same_ip-true c ip e in
-            let no : true ≡ false = sym is ∙ (ap (same_ip a) (sym here) ∙ differ) in
-            cc
-    apart (ForChannel number peer) u (Channel a at m) (Channel c ct n) is differ = by (eqb c number) refl
-      where
-        by : (b : Bool) → eqb c number ≡ b → eqb c number ≡ false
-        by false e = e
-        by true e =
-            let here : c ≡ number = eqb-true c number e in
-            let no : true ≡ false = sym is ∙ (ap (eqb a) (sym here) ∙ differ) in
-            cc
-    apart p u g h is differ = grind arith
-
-single-first : (gs : List Grant) → IsDistinct is_double gs → AreSingle gs
-unfolding IsDistinct
-single-first [] distinct p unique = omega arith
-single-first (g ∷ gs) (apart, others) p unique = elim (cases_Bool (is_for p g)) [
-  | inl e ↦ rw e (omega (arith, none-double p unique g gs e apart))
-  | inr e ↦ rw e (omega (arith, single-first gs others p unique))
-]
-
-steady-kept : (count slots extras delay now : ℕ) (s : State) → IsSteady count slots extras delay now s → IsKept count slots extras delay now no_history s.transactions s
-steady-kept count slots extras delay now s is = record {
-  phase = is.allocated;
-  requests = rw is.none_queued refl;
-  few = is.within.1;
-  prompt = is.prompt;
-  pace = is.room_for_more;
-  sent = is.sent_before;
-  aged = λ x h. absurd (none-there x h);
-  lone = λ x y h. absurd (none-there x h);
-  begun = λ x h. absurd (none-there x h);
-  heard = λ x h. absurd (none-there x h);
-  seldom = λ since within. omega arith;
-  asked = λ l h. absurd (subst (λ (ls : List Listing). Has l ls) is.none_listed h);
-  size = is.within.0;
-  single = single-first s.grants is.distinct;
-  linked = λ id. rw is.none_listed tt;
-  in_range = is.in_range;
-  housed = λ g there. room-of (family_of_grant g) s (has-all (λ g. is_some (Rattle.turn_client_api.specs.Grants.find_allocation (family_of_grant g) s) ≡ true) g s.grants is.housed there);
-  each = λ g there. inr (stands g there);
-}
-  where
-    none-there : (x : Transaction) → Has x s.transactions → ⊥
-    none-there x h = subst (λ (xs : List Transaction). Has x xs) is.none_outstanding h
-
-    unasked : (g : Grant) (ls : List Listing) → ls ≡ [] → list_any (λ (l : Listing). is_for l.purpose g) ls ≡ false
-    unasked g ls e = rw e refl
-
-    none : length s.queue ≡ 0
-    none = rw is.none_queued refl
-
-    stands : (g : Grant) → Has g s.grants → Stands count slots extras delay now no_history s.transactions s g
-    stands g there =
-        let early : now + ahead_of s.config.refresh_ahead g ≤ expiry_of g = has-all (λ g. now + ahead_of s.config.refresh_ahead g ≤ expiry_of g) g s.grants is.none_late there in
-        record {
-          granted = force-granted now g (has-all (IsInForce now) g s.grants is.in_force there);
-          room = has-all (λ g. HasRoom count slots extras s.config.request_cadence delay (ahead_of s.config.refresh_ahead g)) g s.grants is.room there;
-          long = omega (arith, early);
-          either = inr (record { unasked = unasked g s.listed is.none_listed; near = omega (arith, early); soon = rw none (omega (arith, early)); paused = rw none (omega (arith, early, pause-le now s is.sent_before)) });
-        }
-
-early-of : (count slots extras delay now : ℕ) (past : History) (t : State) → IsKept count slots extras delay now past t.transactions t → (h : Grant) → Has h t.grants → IsGranted h → now < expiry_of h
-early-of count slots extras delay now past t k h here granted = elim (all-early count slots extras delay now past t k h here) [
-  | inl waits ↦ absurd (let no : false ≡ true = sym (not-waiting h granted) ∙ waits in cc)
-  | inr (is, early) ↦ early
-]
-
-force-key : (now : ℕ) (g : Grant) → IsInForce now g → with_expiry 0 g ≡ as_granted g
-force-key now (Allocation a) h = refl
-force-key now (Permission ip (Active lease)) h = refl
-force-key now (Channel number peer (Active lease)) h = refl
-force-key now g h = absurd h
-
-requested-waits : (g : Grant) → IsRequested g → is_waiting g ≡ true
-requested-waits (Permission ip (Pending is_kept)) h = h
-requested-waits (Channel number peer (Pending is_kept)) h = h
-requested-waits g h = absurd h
-
--- both parts of a run
-module _ (count slots extras delay now : ℕ) (s : State) (earlier later : List Call) (steady : IsSteady count slots extras delay now s) (run : RunsSteadily count slots extras delay now no_history s (earlier ++ later)) where
-  abbrev between : ℕ
-  between = time_of_all now earlier
-
-  abbrev last : ℕ
-  last = time_of_all between later
-
-  abbrev mid : State
-  mid = state_after_all s earlier
-
-  abbrev end : State
-  end = state_after_all mid later
-
-  -- what came before, then and at the end
-  abbrev mid_past : History
-  mid_past = with_all earlier now s no_history
-
-  abbrev end_past : History
-  end_past = with_all later between mid mid_past
-
-  kept-mid : IsKept count slots extras delay between mid_past mid.transactions mid
-  kept-mid = (all-kept count slots extras delay now no_history s earlier (steady-kept count slots extras delay now s steady) (first-part count slots extras delay now no_history s earlier later run)).0
-
-  kept-end : KeepsAll count slots extras delay last mid_past end_past mid end
-  kept-end = all-kept count slots extras delay between mid_past mid later kept-mid (last-part count slots extras delay now no_history s earlier later run)
-
-  has-still : (g h : Grant) → Has h end.grants → with_expiry 0 h ≡ as_granted g → IsGranted h → HasStill g last (state_after_all s (earlier ++ later))
-  has-still g h here same granted =
-      subst (HasStill g last) (sym (joined s earlier later))
-      (h, has-contains h end.grants here, same, granted-force last h granted (early-of count slots extras delay last end_past end kept-end.0 h here granted))
-
-  lasts : (g : Grant) → Contains mid.grants g → IsInForce between g → HasStill g last (state_after_all s (earlier ++ later))
-  lasts g there in_force =
-      let (h, here, same, granted) = kept-end.1.remain g (contains-has g mid.grants there) (force-granted between g in_force) in
-      has-still g h here (same ∙ force-key between g in_force) granted
-
-  succeeds : (g : Grant) → Contains mid.grants g → IsRequested g → between + delay < last → HasStill g last (state_after_all s (earlier ++ later))
-  succeeds g there requested late = by (kept-mid.each g here)
-    where
-      here : Has g mid.grants
-      here = contains-has g mid.grants there
-
-      waits : is_waiting g ≡ true
-      waits = requested-waits g requested
-
-      follows : Follows between end_past end.transactions g end → HasStill g last (state_after_all s (earlier ++ later))
-      follows (inl (remains, p)) = let heard = kept-end.0.heard p.transaction p.there in let sent = p.sent in absurd (omega (arith, heard, sent, late))
-      follows (inr (h, now_there, same, granted)) = has-still g h now_there same granted
-
-      by : IsWell count slots extras delay between mid_past mid.transactions mid g → HasStill g last (state_after_all s (earlier ++ later))
-      by (inl (waits, pending)) = follows (kept-end.1.follow between g here waits pending)
-      by (inr stands) = absurd (let no : false ≡ true = sym (not-waiting g stands.granted) ∙ waits in cc)
-
-pub grants-last : GrantsLast
-grants-last count slots extras delay now s earlier later steady run = lasts count slots extras delay now s earlier later steady run
-
-pub requests-succeed : RequestsSucceed
-requests-succeed count slots extras delay now s earlier later steady run = succeeds count slots extras delay now s earlier later steady run
-
--- the same, of the calls of the second part alone
-module _ (count slots extras delay now : ℕ) (s : State) (before after : List Call) (steady : IsSteady count slots extras delay now s) (run : RunsSteadily count slots extras delay now no_history s (before ++ after)) where
-  pub lasts-through : LastsThrough delay (time_of_all now before) (state_after_all s before) after
-  lasts-through g there = (
-    λ in_force. subst (HasStill g (time_of_all (time_of_all now before) after)) (joined s before after) (lasts count slots extras delay now s before after steady run g there in_force),
-    λ requested late. subst (HasStill g (time_of_all (time_of_all now before) after)) (joined s before after) (succeeds count slots extras delay now s before after steady run g there requested late),
-  )

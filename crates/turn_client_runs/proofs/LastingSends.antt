@@ -26,7 +26,7 @@ use Rattle.turn_client_api.proofs.HasLemmas.{Has, filter-has, filter_map-has, fi
 use Rattle.turn_client_laws.proofs.InAllocationLemmas.{Room, of-room}
 use Rattle.turn_client_api.proofs.AllocationLemmas.{allocation-there}
 use Rattle.turn_client_runs.specs.Lasting.{expiry_of}
-use Rattle.turn_client_runs.proofs.LastingStands.{IsGranted, due_of, kind-due}
+use Rattle.turn_client_runs.proofs.LastingStands.{IsActive, IsGranted, due_of, kind-due}
 
 -- ---- no retransmission
 
@@ -109,16 +109,16 @@ may-refresh s g all granted room = by g granted room
     by (Channel number peer (Active expiry)) granted room = rw granted (within (family_of_grant (Channel number peer (Active expiry))) room)
     by g granted room = absurd granted
 
-pub is-due : (time : ℕ) (s : State) (g : Grant) → IsGranted g → is_refreshable g s ≡ true → has_request g s ≡ false → due_of s g ≤ time → is_refresh_due time s g ≡ true
+pub is-due : (time : ℕ) (s : State) (g : Grant) → IsActive g → is_refreshable g s ≡ true → has_request g s ≡ false → due_of s g ≤ time → is_refresh_due time s g ≡ true
 unfolding is_refresh_due refresh_time
 is-due time s g granted may unasked now = rw (kind-due s.config.refresh_ahead g granted, may, unasked) (le-leb (due_of s g) time now)
 
 -- the allocation of a grant that is due has not expired, so something is sent
-pub due-sends : (time : ℕ) (s : State) (g : Grant) → Has g s.grants → IsGranted g → is_refresh_due time s g ≡ true → time < expiry_of g
+pub due-sends : (time : ℕ) (s : State) (g : Grant) → Has g s.grants → IsActive g → is_refresh_due time s g ≡ true → time < expiry_of g
     → (a : Relay) → Has a (allocations s) → is_of (family_of a.relayed) g ≡ true → time ≤ a.expiry → IsSome (next_refresh time s)
 due-sends time s g h granted due early a inside of goes_on = by g h granted due early of
   where
-    by : (g : Grant) → Has g s.grants → IsGranted g → is_refresh_due time s g ≡ true → time < expiry_of g → is_of (family_of a.relayed) g ≡ true → IsSome (next_refresh time s)
+    by : (g : Grant) → Has g s.grants → IsActive g → is_refresh_due time s g ≡ true → time < expiry_of g → is_of (family_of a.relayed) g ≡ true → IsSome (next_refresh time s)
     by (Allocation b) h granted due early of =
         refreshed-once time s (Allocation b) a 0 (ForRefresh (family_of b.relayed) asked_lifetime) h inside goes_on of (inl refl) refl due (rw (le-leb time b.expiry (omega (arith, early))) refl)
     by (Permission ip (Active expiry)) h granted due early of =

@@ -1,7 +1,8 @@
 -- How a client stands while no grant is lost: each grant is refreshed in time, or its refresh is on its way.
-use Rattle.std.proofs.Common.{◌≡◌, ◌⊎◌, ℕ, ◌+◌, ◌-◌, ◌*◌, ◌^◌, ◌<◌, ◌≤◌, min, Bool, true, false, ◌||◌, leb, eqb, List, [], ◌∷◌, length, filter, Option, Some, None, refl, sym, subst, ◌∙◌, inl}
+use Rattle.std.proofs.Common.{◌≡◌, ◌⊎◌, ℕ, ◌+◌, ◌-◌, ◌*◌, ◌^◌, ◌<◌, ◌≤◌, min, Bool, true, false, ◌||◌, leb, eqb, List, [], ◌∷◌, length, filter, Option, Some, None, refl, ap, sym, subst, ◌∙◌, inl}
 use Rattle.std.proofs.Common.{inr, arith}
 use Rattle.std.specs.Prelude.{IfSome, ⊤, nat_le}
+use Rattle.std.proofs.lemmas.Bool.{lt-leb}
 use Rattle.std.proofs.lemmas.Nat.{mul-le}
 use Rattle.turn_agent.specs.declared.transaction.Transaction.{Transaction}
 use Rattle.turn_client_api.specs.Config.{timers_of}
@@ -9,20 +10,34 @@ use Rattle.turn_client_api.specs.State.{State, later_by}
 use Rattle.turn_client_api.specs.declared.state.Phase.TheVariants.{Allocated}
 use Rattle.turn_client_api.specs.declared.grant.Grant.{Grant}
 use Rattle.turn_client_api.specs.declared.grant.Grant.TheVariants.{Allocation, Permission, Channel}
-use Rattle.turn_client_api.specs.declared.grant.Progress.TheVariants.{Active, Pending}
+use Rattle.turn_client_api.specs.declared.grant.Progress.TheVariants.{Active, Pending, Reserved}
 use Rattle.turn_client_api.specs.declared.grant.Purpose.{Purpose}
 use Rattle.turn_client_api.specs.declared.grant.Purpose.TheVariants.{ForRefresh, ForPermission, ForChannel}
 use Rattle.turn_client_api.specs.declared.grant.Listing.{Listing}
 use Rattle.turn_client_api.specs.Grants.{family_of_grant, has_request, is_for}
 use Rattle.turn_client_api.specs.declared.grant.Relay.{Relay}
-use Rattle.turn_client_api.specs.Due.{has_reply, pause_end, refresh_time_by_kind}
+use Rattle.turn_client_api.specs.Due.{has_reply, is_kept, pause_end, refresh_time_by_kind}
 use Rattle.turn_client_api.proofs.HasLemmas.{Has}
 use Rattle.turn_client_laws.proofs.InAllocationLemmas.{Room}
-use Rattle.turn_client_runs.specs.History.{History, IsSeldom, all_waits, extra_since, waited}
+use Rattle.turn_client_laws.proofs.LapseLemmas.{IsReserved}
+use Rattle.turn_client_runs.specs.History.{History, IsSeldom, all_waits, extra_since, waited, was_let_go}
 use Rattle.turn_client_runs.specs.Lasting.{as_granted, with_expiry, ahead_of, expiry_of}
 use Rattle.turn_client_runs.proofs.LastingCounts.{passes, passes-less}
 
--- the server granted it, whenever it expires
+-- the server granted it, whenever it expires, and whether it is kept or not
+abbrev pub IsActive : Grant → Type 0
+IsActive (Allocation a) = a.is_expired ≡ false
+IsActive (Permission ip (Active lease)) = ⊤
+IsActive (Channel number peer (Active lease)) = ⊤
+IsActive _ = ⊥
+
+-- a permission or a channel that the server granted
+abbrev pub IsLeased : Grant → Type 0
+IsLeased (Permission ip (Active lease)) = ⊤
+IsLeased (Channel number peer (Active lease)) = ⊤
+IsLeased _ = ⊥
+
+-- the server granted it, and it is kept
 abbrev pub IsGranted : Grant → Type 0
 IsGranted (Allocation a) = a.is_expired ≡ false
 IsGranted (Permission ip (Active lease)) = lease.is_kept ≡ true
@@ -35,8 +50,8 @@ due_of s g = expiry_of g - ahead_of s.config.refresh_ahead g
 
 -- it is requested and not yet granted
 abbrev pub is_waiting : Grant → Bool
-is_waiting (Permission ip (Pending is_kept)) = is_kept
-is_waiting (Channel number peer (Pending is_kept)) = is_kept
+is_waiting (Permission ip (Pending is_kept)) = true
+is_waiting (Channel number peer (Pending is_kept)) = true
 is_waiting _ = false
 
 -- it is being requested, or was refreshed since that time
@@ -121,6 +136,10 @@ Remains g t = (h : Grant) × Has h t.grants × (with_expiry 0 h ≡ with_expiry 
 abbrev pub Becomes : Grant → State → Type 0
 Becomes g t = (h : Grant) × Has h t.grants × (with_expiry 0 h ≡ as_granted g) × IsGranted h
 
+-- what was let go once is so still
+abbrev pub AreLetGo : History → History → Type 0
+AreLetGo past later = (g : Grant) → was_let_go past g ≡ true → was_let_go later g ≡ true
+
 abbrev pub AllRemain : State → State → Type 0
 AllRemain u t = (g : Grant) → Has g u.grants → IsGranted g → Remains g t
 
@@ -128,19 +147,43 @@ AllRemain u t = (g : Grant) → Has g u.grants → IsGranted g → Remains g t
 abbrev pub Follows : ℕ → History → List Transaction → Grant → State → Type 0
 Follows until past xs g t = (Has g t.grants × IsPending until past xs t.listed g) ⊎ Becomes g t
 
+-- what no call lets go
 pub record Goes (past later : History) (xs ys : List Transaction) (u t : State) : Type 0 where
-  pub remain : AllRemain u t
-  pub follow : (until : ℕ) (g : Grant) → Has g u.grants → is_waiting g ≡ true → IsPending until past xs u.listed g → Follows until later ys g t
+  pub let_go : AreLetGo past later
+  pub remain : (g : Grant) → Has g u.grants → IsGranted g → was_let_go later g ≡ false → Remains g t
+  pub follow : (until : ℕ) (g : Grant) → Has g u.grants → is_waiting g ≡ true → IsPending until past xs u.listed g → was_let_go later g ≡ false → Follows until later ys g t
+
+-- with another expiry, or granted, it is the same
+pub let_go-with : (past : History) (expiry : ℕ) (g : Grant) → was_let_go past (with_expiry expiry g) ≡ was_let_go past g
+let_go-with past expiry g = grind arith
+
+pub let_go-granted : (past : History) (g : Grant) → was_let_go past (as_granted g) ≡ was_let_go past g
+let_go-granted past g = grind arith
+
+pub let_go-same : (past : History) (g h : Grant) → with_expiry 0 h ≡ with_expiry 0 g → was_let_go past h ≡ was_let_go past g
+let_go-same past g h e = sym (let_go-with past 0 h) ∙ (ap (was_let_go past) e ∙ let_go-with past 0 g)
+
+pub let_go-became : (past : History) (g h : Grant) → with_expiry 0 h ≡ as_granted g → was_let_go past h ≡ was_let_go past g
+let_go-became past g h e = sym (let_go-with past 0 h) ∙ (ap (was_let_go past) e ∙ let_go-granted past g)
+
+-- what is not let go later was not let go before
+pub none-before : (past later : History) → AreLetGo past later → (g : Grant) → was_let_go later g ≡ false → was_let_go past g ≡ false
+none-before past later on g none = by (was_let_go past g) refl
+  where
+    by : (b : Bool) → was_let_go past g ≡ b → was_let_go past g ≡ false
+    by false e = e
+    by true e = let no : false ≡ true = sym none ∙ on g e in cc
 
 pub goes-trans : (past between later : History) (xs ys zs : List Transaction) (u v t : State) → Goes past between xs ys u v → Goes between later ys zs v t → Goes past later xs zs u t
 goes-trans past between later xs ys zs u v t first second = record {
-  remain = λ g there granted.
-      let (h, here, same, is) = first.remain g there granted in
-      let (i, now, again, as_well) = second.remain h here is in
+  let_go = λ g e. second.let_go g (first.let_go g e);
+  remain = λ g there granted none.
+      let (h, here, same, is) = first.remain g there granted (none-before between later second.let_go g none) in
+      let (i, now, again, as_well) = second.remain h here is (let_go-same later g h same ∙ none) in
       (i, now, again ∙ same, as_well);
-  follow = λ until g there waits pending. elim (first.follow until g there waits pending) [
-    | inl (here, still) ↦ second.follow until g here waits still
-    | inr (h, here, same, is) ↦ let (i, now, again, as_well) = second.remain h here is in inr (i, now, again ∙ same, as_well)
+  follow = λ until g there waits pending none. elim (first.follow until g there waits pending (none-before between later second.let_go g none)) [
+    | inl (here, still) ↦ second.follow until g here waits still none
+    | inr (h, here, same, is) ↦ let (i, now, again, as_well) = second.remain h here is (let_go-became later g h same ∙ none) in inr (i, now, again ∙ same, as_well)
   ];
 }
 
@@ -148,13 +191,27 @@ goes-trans past between later xs ys zs u v t first second = record {
 pub goes-more : (past : History) (xs ys : List Transaction) (u t : State) → t.grants ≡ u.grants → ((x : Transaction) → Has x xs → Has x ys) → ((l : Listing) → Has l u.listed → Has l t.listed)
     → Goes past past xs ys u t
 goes-more past xs ys u t e transactions listed = record {
-  remain = λ g there granted. (g, subst (λ (gs : List Grant). Has g gs) (sym e) there, refl, granted);
-  follow = λ until g there waits pending. inl (subst (λ (gs : List Grant). Has g gs) (sym e) there, pending-more until past xs ys u.listed t.listed g transactions (λ l h for. listed l h) pending);
+  let_go = λ g e. e;
+  remain = λ g there granted none. (g, subst (λ (gs : List Grant). Has g gs) (sym e) there, refl, granted);
+  follow = λ until g there waits pending none. inl (
+    subst (λ (gs : List Grant). Has g gs) (sym e) there,
+    pending-more until past xs ys u.listed t.listed g transactions (λ l h for. listed l h) pending,
+  );
 }
 
--- it is not granted yet, or will be refreshed in time
+-- It was let go, and may have been kept again, but too late. Or it is a channel that expired then, and is not requested.
+abbrev pub IsLoose : History → State → Grant → Type 0
+IsLoose past s g = (was_let_go past g ≡ true) × (IsLeased g ⊎ (IsReserved g × (has_request g s ≡ false)))
+
+-- it is not granted yet, or will be refreshed in time, or was let go
 abbrev pub IsWell : ℕ → ℕ → ℕ → ℕ → ℕ → History → List Transaction → State → Grant → Type 0
-IsWell count slots extras delay now past transactions s g = ((is_waiting g ≡ true) × IsPending now past transactions s.listed g) ⊎ Stands count slots extras delay now past transactions s g
+IsWell count slots extras delay now past transactions s g =
+    ((is_waiting g ≡ true) × IsPending now past transactions s.listed g) ⊎ (Stands count slots extras delay now past transactions s g ⊎ IsLoose past s g)
+
+-- while it waits, it is kept or was let go; and it is not refreshed before its time
+abbrev pub IsKnown : ℕ → History → State → Grant → Type 0
+IsKnown now past s g =
+    (is_waiting g ≡ true → (is_kept g || was_let_go past g) ≡ true) × (IsLeased g → has_request g s ≡ true → due_of s g ≤ now)
 
 -- a purpose of a refresh
 abbrev pub IsRefreshing : Purpose → Type 0
@@ -224,18 +281,45 @@ pub record IsKept (count slots extras delay now : ℕ) (past : History) (transac
   pub linked : AreRequests s.grants s.listed
   pub in_range : now ≤ 2 ^ 62
   pub housed : (g : Grant) → Has g s.grants → Room s.grants (family_of_grant g)
+  pub known : (g : Grant) → Has g s.grants → IsKnown now past s g
   pub each : (g : Grant) → Has g s.grants → IsWell count slots extras delay now past transactions s g
 
 -- ---- numbers
 
-pub kind-due : (ahead : ℕ) (g : Grant) → IsGranted g → refresh_time_by_kind ahead g ≡ Some (expiry_of g - ahead_of ahead g)
+pub granted-active : (g : Grant) → IsGranted g → IsActive g
+granted-active (Allocation a) h = h
+granted-active (Permission ip (Active lease)) h = tt
+granted-active (Channel number peer (Active lease)) h = tt
+granted-active g h = absurd h
+
+pub leased-active : (g : Grant) → IsLeased g → IsActive g
+leased-active (Permission ip (Active lease)) h = tt
+leased-active (Channel number peer (Active lease)) h = tt
+leased-active g h = absurd h
+
+pub kept-granted : (g : Grant) → IsLeased g → is_kept g ≡ true → IsGranted g
+kept-granted (Permission ip (Active lease)) h kept = kept
+kept-granted (Channel number peer (Active lease)) h kept = kept
+kept-granted g h kept = absurd h
+
+-- what is asked for was asked for, if nothing else is
+pub asked-before : (was is : Bool) → (was ≡ false → is ≡ false) → is ≡ true → was ≡ true
+asked-before true is none e = refl
+asked-before false is none e = let no : false ≡ true = sym (none refl) ∙ e in cc
+
+-- a channel that is reserved is not among those that were served
+pub reserved-unserved : (s : State) (since : ℕ) (g : Grant) → IsReserved g → has_request g s ≡ false → is_served s since g ≡ false
+reserved-unserved s since (Channel number peer (Reserved until)) is none = rw none (lt-leb (since + 150_000_000_000) (due_of s (Channel number peer (Reserved until))) (omega arith))
+reserved-unserved s since g is none = absurd is
+
+pub kind-due : (ahead : ℕ) (g : Grant) → IsActive g → refresh_time_by_kind ahead g ≡ Some (expiry_of g - ahead_of ahead g)
 kind-due ahead (Allocation a) h = refl
 kind-due ahead (Permission ip (Active expiry)) h = refl
 kind-due ahead (Channel number peer (Active expiry)) h = refl
 kind-due ahead g h = absurd h
 
 -- what is granted is not waiting
-pub not-waiting : (g : Grant) → IsGranted g → is_waiting g ≡ false
+pub not-waiting : (g : Grant) → IsActive g → is_waiting g ≡ false
 not-waiting (Allocation a) h = refl
 not-waiting (Permission ip (Active expiry)) h = refl
 not-waiting (Channel number peer (Active expiry)) h = refl
@@ -276,7 +360,7 @@ pub bound-le : (count slots extras delay now : ℕ) (past : History) (transactio
     → IsGranted g → IsIdle slots now past s g
     → bound slots past s g ≤ due_of s g + (count + slots + extras) * s.config.request_cadence
 bound-le count slots extras delay now past transactions s g k there granted idle =
-    let less = passes-less (is_served s (due_of s g)) g s.grants there (rw (not-waiting g granted, idle.unasked) (late (due_of s g))) in
+    let less = passes-less (is_served s (due_of s g)) g s.grants there (rw (not-waiting g (granted-active g granted), idle.unasked) (late (due_of s g))) in
     let few : served s (due_of s g) + 1 ≤ count = omega (arith, less, k.size) in
     paced-all s.config.request_cadence slots count extras (extra_since (due_of s g) past) (served s (due_of s g)) (due_of s g) few (k.seldom (due_of s g) idle.near)
   where
@@ -303,7 +387,8 @@ pub allocation-stands : (count slots extras delay now : ℕ) (past : History) (t
     → Stands count slots extras delay now past transactions s (Allocation a)
 allocation-stands count slots extras delay now past transactions s k a there = elim (k.each (Allocation a) there) [
   | inl waits ↦ absurd (let no : false ≡ true = waits.0 in cc)
-  | inr stands ↦ stands
+  | inr (inl stands) ↦ stands
+  | inr (inr loose) ↦ absurd (let no : false ≡ true = loose.0 in cc)
 ]
 
 pub unique-refreshing : (p : Purpose) → IsUnique p → IsRefreshing p

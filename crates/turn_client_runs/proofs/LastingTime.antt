@@ -20,7 +20,7 @@ use Rattle.turn_client_api.proofs.HasLemmas.{Has, filter_map-has, has-all}
 use Rattle.turn_client_laws.proofs.InAllocationLemmas.{same_family-self}
 use Rattle.turn_client_runs.specs.Lasting.{AreInTime, ahead_of, expiry_of}
 use Rattle.turn_client_runs.specs.History.{History}
-use Rattle.turn_client_runs.proofs.LastingStands.{pending-later, IsIdle, IsKept, Stands, allocation-stands, bound, bound-le, due_of}
+use Rattle.turn_client_runs.proofs.LastingStands.{granted-active, pending-later, IsIdle, IsKept, Stands, allocation-stands, bound, bound-le, due_of}
 use Rattle.turn_client_runs.proofs.LastingSends.{due-sends, is-due, may-refresh, next-sends, transmit-refreshes, transmits}
 
 -- what is refreshed by then is refreshed in time
@@ -95,8 +95,8 @@ module _ (count slots extras delay before now : ℕ) (past : History) (s : State
 
       sends : at_once < now → IsSome (next_refresh at_once s)
       sends early =
-          due-sends at_once s g there stands.granted
-          (is-due at_once s g stands.granted (may-refresh s g all stands.granted (k.housed g there)) idle.unasked (omega arith))
+          due-sends at_once s g there (granted-active g stands.granted)
+          (is-due at_once s g (granted-active g stands.granted) (may-refresh s g all stands.granted (k.housed g there)) idle.unasked (omega arith))
           lasts a inside of (goes_on at_once early lasts)
 
       by : (queue : List Queued) → s.queue ≡ queue → now + s.config.request_cadence * length s.queue ≤ bound slots past s g
@@ -151,7 +151,12 @@ module _ (count slots extras delay before now : ℕ) (past : History) (s : State
     linked = k.linked;
     in_range = in_time.on_time.in_range;
     housed = k.housed;
-    each = λ g there. elim (k.each g there) [ inl (waits, p) ↦ inl (waits, pending-later before now past s.transactions s.listed g in_time.on_time.later p) | inr stands ↦ inr (later g there stands) ];
+    known = λ g there. let (waits, due) = k.known g there in (waits, λ leased asked. let l = in_time.on_time.later in let d = due leased asked in omega (arith, l, d));
+    each = λ g there. elim (k.each g there) [
+      | inl (waits, p) ↦ inl (waits, pending-later before now past s.transactions s.listed g in_time.on_time.later p)
+      | inr (inl stands) ↦ inr (inl (later g there stands))
+      | inr (inr loose) ↦ inr (inr loose)
+    ];
   }
     where
       idle-later : (g : Grant) → Has g s.grants → Stands count slots extras delay before past s.transactions s g → IsIdle slots before past s g → IsIdle slots now past s g

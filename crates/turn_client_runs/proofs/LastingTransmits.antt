@@ -4,7 +4,7 @@ use Rattle.std.proofs.Common.{arith}
 use Rattle.std.specs.Prelude.{filter, flat_map, slice_get, nat_le, option_and_then, if◌then◌else◌}
 use Rattle.std.specs.List.{list_any}
 use Rattle.std.specs.Option.{option_map_or}
-use Rattle.std.proofs.lemmas.Bool.{and_parts, cases_Bool, cases_lt, eq-eqb, leb-true, lt-leb, or_left, or_parts, or_right}
+use Rattle.std.proofs.lemmas.Bool.{and_parts, cases_Bool, cases_lt, eq-eqb, leb-true, lt-leb, or_cases, or_left, or_parts, or_right}
 use Rattle.std.proofs.lemmas.List.Folds.{list_any-append}
 use Rattle.std.proofs.lemmas.Option.{none-some, same_Some}
 use Rattle.std.proofs.lemmas.Slice.Eq.{bytes_eq-Decides}
@@ -18,7 +18,7 @@ use Rattle.turn_client_api.specs.declared.state.Queued.{Queued}
 use Rattle.turn_client_api.specs.declared.grant.Grant.{Grant}
 use Rattle.turn_client_api.specs.declared.grant.Grant.TheVariants.{Allocation, Permission, Channel}
 use Rattle.turn_client_api.specs.declared.grant.Relay.{Relay}
-use Rattle.turn_client_api.specs.declared.grant.Progress.TheVariants.{Active, Pending}
+use Rattle.turn_client_api.specs.declared.grant.Progress.TheVariants.{Active, Pending, Reserved}
 use Rattle.turn_client_api.specs.declared.grant.Listing.{Listing}
 use Rattle.turn_client_api.specs.declared.grant.Purpose.{Purpose}
 use Rattle.turn_client_api.specs.declared.grant.Purpose.TheVariants.{ForRefresh, ForPermission, ForChannel}
@@ -29,10 +29,11 @@ use Rattle.turn_client_api.specs.Transmit.{is_due_in, is_refresh_due, keepalive_
 use Rattle.turn_client_api.specs.Transmit.{sent_at_once, transmit_step, without_first_reply}
 use Rattle.turn_client_api.proofs.HasLemmas.{Has, filter_map-has, first-has, has-append, has-filter, has-filter_map, has-flat_map, has-left, has-right}
 use Rattle.turn_client_laws.proofs.InAllocationLemmas.{same_family-self}
+use Rattle.turn_client_laws.proofs.LapseLemmas.{IsReserved}
 use Rattle.turn_client_runs.specs.History.{History}
-use Rattle.turn_client_runs.proofs.LastingCounts.{passes, passes-more}
+use Rattle.turn_client_runs.proofs.LastingCounts.{passes, passes-more, passes-same}
 use Rattle.turn_client_runs.proofs.LastingHistory.{lone-more}
-use Rattle.turn_client_runs.proofs.LastingStands.{Goes, goes-more, pending-more, IsAwaited, IsGranted, IsIdle, IsKept, IsRefreshing, Stands, allocation-stands, stands-early, bound, bound-le, due_of}
+use Rattle.turn_client_runs.proofs.LastingStands.{Goes, goes-more, granted-active, leased-active, pending-more, IsActive, IsAwaited, IsIdle, IsLeased, IsLoose, IsUnique, IsKept, IsRefreshing, Stands, allocation-stands, stands-early, bound, bound-le, due_of}
 use Rattle.turn_client_runs.proofs.LastingStands.{left-paced, one-paced, is_served, is_waiting, kind-due, not-waiting, served, used}
 use Rattle.turn_client_runs.proofs.LastingSends.{due-sends, is-due, may-refresh, queue-idle, transmits}
 use Rattle.turn_client_runs.proofs.LastingListings.{requests-more}
@@ -73,7 +74,7 @@ by-kind true false time now e = (refl, leb-true time now e)
 by-kind true true time now e = cc
 by-kind false asked time now e = cc
 
-pub due-unasked : (now : ℕ) (s : State) (g : Grant) → IsGranted g → is_refresh_due now s g ≡ true → (has_request g s ≡ false) × (due_of s g ≤ now)
+pub due-unasked : (now : ℕ) (s : State) (g : Grant) → IsActive g → is_refresh_due now s g ≡ true → (has_request g s ≡ false) × (due_of s g ≤ now)
 unfolding is_refresh_due refresh_time
 due-unasked now s g granted due = by-kind (is_refreshable g s) (has_request g s) (due_of s g) now (rw (kind-due s.config.refresh_ahead g granted) at due)
 
@@ -90,10 +91,10 @@ if-some : (b : Bool) (q p : Purpose) → cond b (Some q) None ≡ Some p → q �
 if-some true q p e = same_Some q p e
 if-some false q p e = absurd (none-some p e)
 
-pub refresh-for : (now : ℕ) (g : Grant) (p : Purpose) → IsGranted g → refresh_purpose now g ≡ Some p → IsRefreshOf p g
+pub refresh-for : (now : ℕ) (g : Grant) (p : Purpose) → IsActive g → refresh_purpose now g ≡ Some p → IsRefreshOf p g
 refresh-for now g p granted e = by g granted e
   where
-    by : (g : Grant) → IsGranted g → refresh_purpose now g ≡ Some p → IsRefreshOf p g
+    by : (g : Grant) → IsActive g → refresh_purpose now g ≡ Some p → IsRefreshOf p g
     by (Allocation a) granted e =
         subst (λ (q : Purpose). IsRefreshOf q (Allocation a)) (if-some (leb now a.expiry) (ForRefresh (family_of a.relayed) asked_lifetime) p e)
         (omega arith, same_family-self (family_of a.relayed) (family_of a.relayed) refl)
@@ -103,6 +104,20 @@ refresh-for now g p granted e = by g granted e
         subst (λ (q : Purpose). IsRefreshOf q (Channel number peer (Active expiry))) (if-some _ (ForChannel number peer) p e) (tt, eq-eqb number number refl)
     by g granted e = absurd granted
 
+-- a purpose that is for a permission or a channel is for no other one
+pub leased-unique : (p : Purpose) (g : Grant) → IsLeased g → is_for p g ≡ true → IsUnique p
+leased-unique (ForPermission ip) (Permission other (Active lease)) h e = tt
+leased-unique (ForChannel number peer) (Channel other to (Active lease)) h e = tt
+leased-unique p g h e = grind arith
+
+pub reserved-unique : (p : Purpose) (g : Grant) → IsReserved g → is_for p g ≡ true → IsUnique p
+reserved-unique (ForChannel number peer) (Channel other to (Reserved until)) h e = tt
+reserved-unique p g h e = grind arith
+
+pub reserved-inactive : (g : Grant) → IsReserved g → IsActive g → ⊥
+reserved-inactive (Channel number peer (Reserved until)) is h = h
+reserved-inactive g is h = is
+
 -- ---- the refresh is sent
 
 or-false : (b : Bool) → (b || false) ≡ b
@@ -110,7 +125,7 @@ or-false true = refl
 or-false false = refl
 
 module _ (count slots extras delay now : ℕ) (past : History) (s : State) (k : IsKept count slots extras delay now past s.transactions s) (empty : s.queue ≡ []) (p : Purpose) (next : IsNext now s p)
-    (stands-next : Stands count slots extras delay now past s.transactions s next.grant) (fresh : past.made (fresh_id s) ≡ now) where
+    (active : IsActive next.grant) (fresh : past.made (fresh_id s) ≡ now) where
   abbrev id : ℕ
   id = fresh_id s
 
@@ -124,10 +139,10 @@ module _ (count slots extras delay now : ℕ) (past : History) (s : State) (k : 
   listing = record { id = id; purpose = p }
 
   refresh : IsRefreshOf p next.grant
-  refresh = refresh-for now next.grant p stands-next.granted next.gives
+  refresh = refresh-for now next.grant p active next.gives
 
   unasked : (has_request next.grant s ≡ false) × (due_of s next.grant ≤ now)
-  unasked = due-unasked now s next.grant stands-next.granted next.is_due
+  unasked = due-unasked now s next.grant active next.is_due
 
   asked-more : (g : Grant) → has_request g t ≡ (has_request g s || is_for p g)
   asked-more g = list_any-append (λ (l : Listing). is_for l.purpose g) s.listed (listing ∷ []) ∙ ap (λ b. has_request g s || b) (or-false (is_for p g))
@@ -144,7 +159,7 @@ module _ (count slots extras delay now : ℕ) (past : History) (s : State) (k : 
   -- one grant more was served since then
   serves-more : (g : Grant) → Has g s.grants → Stands count slots extras delay now past s.transactions s g → IsIdle slots now past s g → served s (due_of s g) + 1 ≤ served t (due_of s g)
   serves-more g there stands idle =
-      passes-more (is_served s r) (is_served t r) next.grant s.grants still next.there (rw (not-waiting next.grant stands-next.granted, unasked.0, old) refl)
+      passes-more (is_served s r) (is_served t r) next.grant s.grants still next.there (rw (not-waiting next.grant active, unasked.0, old) refl)
       (or_right (is_waiting next.grant) _ (or_left (has_request next.grant t) _ (now-asked next.grant refresh.1)))
     where
       r : ℕ
@@ -204,6 +219,26 @@ module _ (count slots extras delay now : ℕ) (past : History) (s : State) (k : 
             inr (record { unasked = not-asked g idle.unasked other; near = idle.near; soon = rw none-left (omega (arith, more)); paused = rw none-left (omega (arith, more)) })
       ]
 
+  -- a permission or a channel that is asked for now is the one that is due
+  due-asked : (g : Grant) → Has g s.grants → IsLeased g → has_request g t ≡ true → due_of s g ≤ now
+  due-asked g there leased e = elim (or_cases (has_request g s) (is_for p g) (sym (asked-more g) ∙ e)) [
+    | inl old ↦ (k.known g there).1 leased old
+    | inr new ↦
+        let is = passes-same (is_for p) next.grant g s.grants (k.single p (leased-unique p g leased new)) next.there there refresh.1 new in
+        subst (λ (x : Grant). due_of s x ≤ now) is unasked.1
+  ]
+
+  -- what is reserved is not asked for
+  loose-sent : (g : Grant) → Has g s.grants → IsLoose past s g → IsLoose past t g
+  loose-sent g there (freed, inl leased) = (freed, inl leased)
+  loose-sent g there (freed, inr (is, none)) = (freed, inr (is, not-asked g none (by (is_for p g) refl)))
+    where
+      by : (b : Bool) → is_for p g ≡ b → is_for p g ≡ false
+      by false e = e
+      by true e =
+          let same = passes-same (is_for p) next.grant g s.grants (k.single p (reserved-unique p g is e)) next.there there refresh.1 e in
+          absurd (reserved-inactive g is (subst IsActive same active))
+
   one-id : (l : Listing) → Has l (listing ∷ []) → l.id ≡ id
   one-id l (inl e) = ap (λ (m : Listing). m.id) e
   one-id l (inr none) = absurd none
@@ -243,13 +278,15 @@ module _ (count slots extras delay now : ℕ) (past : History) (s : State) (k : 
     linked = requests-more s s.grants (listing ∷ []) (λ g h. h) (λ l h. one-id l h) tt k.linked;
     in_range = k.in_range;
     housed = k.housed;
+    known = λ g there. ((k.known g there).0, due-asked g there);
     each = λ g there. elim (k.each g there) [
       | inl (waits, p) ↦ inl (
         waits,
         pending-more now past s.transactions t.transactions s.listed t.listed g (λ x h. has-left x s.transactions _ h)
             (λ l h for. has-left l s.listed _ h) p,
       )
-      | inr stands ↦ inr (stands-sent g there stands)
+      | inr (inl stands) ↦ inr (inl (stands-sent g there stands))
+      | inr (inr loose) ↦ inr (inr (loose-sent g there loose))
     ];
   }
 
@@ -305,7 +342,8 @@ module _ (count slots extras delay now : ℕ) (past : History) (s : State) (k : 
     linked = k.linked;
     in_range = k.in_range;
     housed = k.housed;
-    each = λ g there. elim (k.each g there) [ inl waits ↦ inl waits | inr stands ↦ inr (stands-queued g stands) ];
+    known = k.known;
+    each = λ g there. elim (k.each g there) [ inl waits ↦ inl waits | inr (inl stands) ↦ inr (inl (stands-queued g stands)) | inr (inr loose) ↦ inr (inr loose) ];
   }
 
 -- ---- the path is kept alive
@@ -321,11 +359,11 @@ module _ (count slots extras delay now : ℕ) (past : History) (s : State) (k : 
     | inr late ↦
         let (a, here, same) = k.housed g there in
         let inside : Has a (allocations s) = filter_map-has as_allocation (Allocation a) a s.grants here refl in
-        let is = is-due now s g stands.granted (may-refresh s g kept-in_use stands.granted (k.housed g there)) idle.unasked late in
+        let is = is-due now s g (granted-active g stands.granted) (may-refresh s g kept-in_use stands.granted (k.housed g there)) idle.unasked late in
         let housed = allocation-stands count slots extras delay now past s.transactions s k a here in
         let goes_on : now ≤ a.expiry = let early = stands-early count slots extras delay now past s k (Allocation a) here housed in omega (arith, early) in
         let alive = stands-early count slots extras delay now past s k g there stands in
-        let some = due-sends now s g there stands.granted is alive a inside (same_family-self (family_of_grant g) (family_of a.relayed) (sym same)) goes_on in
+        let some = due-sends now s g there (granted-active g stands.granted) is alive a inside (same_family-self (family_of_grant g) (family_of a.relayed) (sym same)) goes_on in
         absurd (let no : false ≡ true = rw nothing at some in cc)
   ]
 
@@ -363,7 +401,8 @@ module _ (count slots extras delay now : ℕ) (past : History) (s : State) (k : 
     linked = k.linked;
     in_range = k.in_range;
     housed = k.housed;
-    each = λ g there. elim (k.each g there) [ inl waits ↦ inl waits | inr stands ↦ inr (stands-alive g there stands) ];
+    known = k.known;
+    each = λ g there. elim (k.each g there) [ inl waits ↦ inl waits | inr (inl stands) ↦ inr (inl (stands-alive g there stands)) | inr (inr loose) ↦ inr (inr loose) ];
   }
 
 -- ---- poll_transmit
@@ -382,6 +421,11 @@ due-granted now s (Permission ip (Pending is_kept)) w e = cc
 due-granted now s (Channel number peer (Pending is_kept)) w e = cc
 due-granted now s g w e = cc
 
+due-unreserved : (now : ℕ) (s : State) (g : Grant) → IsReserved g → is_refresh_due now s g ≡ true → ⊥
+unfolding is_refresh_due refresh_time
+due-unreserved now s (Channel number peer (Reserved until)) is e = cc
+due-unreserved now s g is e = absurd is
+
 pub transmit-kept : (count slots extras delay now : ℕ) (past : History) (s : State) → IsKept count slots extras delay now past s.transactions s → past.made (fresh_id s) ≡ now
     → due (agent_of s) now ≡ None → KeepsOn count slots extras delay now past s (transmit_step now s).1
 transmit-kept count slots extras delay now past s k fresh none = rw (transmits now s none) (by (is_paused now s))
@@ -397,6 +441,12 @@ transmit-kept count slots extras delay now past s k fresh none = rw (transmits n
     keeps true empty e = (kept-alive count slots extras delay now past s k empty e, goes-more past s.transactions s.transactions s (record s { ids = (id_used s).ids; last_send = Some now }) refl (λ x h. h) (λ l h. h))
     keeps false empty e = (k, goes-more past s.transactions s.transactions s s refl (λ x h. h) (λ l h. h))
 
+    sends : s.queue ≡ [] → (p : Purpose) (next : IsNext now s p) → IsActive next.grant → Keeps (sent_at_once (request_for s p (fresh_id s)) p now s).1
+    sends empty p next active = (
+      kept-sent count slots extras delay now past s k empty p next active fresh,
+      goes-sent count slots extras delay now past s k empty p next active fresh,
+    )
+
     refreshes : s.queue ≡ [] → (o : Option Purpose) → next_refresh now s ≡ o
         → Keeps (option_map_or (λ purpose. sent_at_once (request_for s purpose (fresh_id s)) purpose now s) o (keepalive_step now s)).1
     refreshes empty None e = keeps (list_any (λ time. nat_le time now) (keepalive_times s)) empty e
@@ -404,7 +454,9 @@ transmit-kept count slots extras delay now past s k fresh none = rw (transmits n
         let next = next-of now s p e in
         elim (k.each next.grant next.there) [
           | inl waits ↦ absurd (due-granted now s next.grant waits.0 next.is_due)
-          | inr stands ↦ (kept-sent count slots extras delay now past s k empty p next stands fresh, goes-sent count slots extras delay now past s k empty p next stands fresh)
+          | inr (inl stands) ↦ sends empty p next (granted-active next.grant stands.granted)
+          | inr (inr (freed, inl leased)) ↦ sends empty p next (leased-active next.grant leased)
+          | inr (inr (freed, inr (is, none))) ↦ absurd (due-unreserved now s next.grant is next.is_due)
         ]
 
     queued : (queue : List Queued) → s.queue ≡ queue → Keeps (queue_step now s).1

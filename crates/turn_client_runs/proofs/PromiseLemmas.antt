@@ -29,7 +29,7 @@ use Rattle.turn_client_runs.proofs.ShortLemmas.{streams-short}
 use Rattle.turn_client_runs.specs.Sent.{PacketsGoOut}
 use Rattle.turn_client_runs.specs.Short.{StreamsAreShort}
 use Rattle.turn_client_runs.proofs.HoldLemmas.{holds-found, reaches-behind}
-use Rattle.turn_client_runs.proofs.LastingRuns.{lasts-through}
+use Rattle.turn_client_runs.proofs.LastingParts.{lasts-through}
 use Rattle.turn_client_runs.specs.History.{no_history}
 use Rattle.turn_client_runs.specs.Lasting.{RunsSteadily}
 use Rattle.turn_client_runs.specs.LastingRuns.{GrantsLastInRuns}

@@ -1,31 +1,64 @@
--- When requests were first made, and which packets came on top of those.
-use Rattle.std.specs.Prelude.{ℕ, zero, suc, ◌+◌, ◌==◌, ◌≤◌, nat_le, nat_lt, Bool, false, if◌then◌else◌, List, [], ◌∷◌, filter, is_some, length}
+-- When requests were first made, which packets came on top of those, and what was let go.
+use Rattle.std.specs.Prelude.{◌≡◌, ℕ, zero, suc, ◌+◌, ◌==◌, ◌≤◌, nat_le, nat_lt, Bool, false, not, ◌&&◌, ◌||◌, if◌then◌else◌}
+use Rattle.std.specs.Prelude.{List, [], ◌∷◌, ◌++◌, filter, is_ok, is_some, length, map}
+use Rattle.std.specs.declared.net.ip_addr.IpAddr.{IpAddr}
+use Rattle.std.specs.declared.net.socket_addr.SocketAddr.{SocketAddr}
 use Rattle.turn_stun.specs.Message.{id_of}
 use Rattle.turn_stun.specs.declared.transport.TransportType.{TransportType}
-use Rattle.turn_agent.specs.Agent.{due, is_outstanding}
+use Rattle.turn_agent.specs.Agent.{due, is_outstanding, same_address}
 use Rattle.turn_agent.specs.Schedule.{Timers, resends_of, wait_at}
+use Rattle.turn_client_api.specs.Calls.{channel_kept_step, permission_kept_step}
+use Rattle.turn_client_api.specs.Grants.{has_request, same_ip}
 use Rattle.turn_client_api.specs.Requests.{fresh_id}
 use Rattle.turn_client_api.specs.State.{State, agent_of}
 use Rattle.turn_client_api.specs.Steps.{state_after}
 use Rattle.turn_client_api.specs.declared.call.Call.{Call}
-use Rattle.turn_client_api.specs.declared.call.Call.TheVariants.{PollTransmit, Recv}
+use Rattle.turn_client_api.specs.declared.call.Call.TheVariants.{Poll, PollTransmit, Recv, SetChannelKept, SetPermissionKept}
+use Rattle.turn_client_api.specs.declared.grant.Grant.{Grant}
+use Rattle.turn_client_api.specs.declared.grant.Grant.TheVariants.{Channel, Permission}
+use Rattle.turn_client_runs.specs.OnTime.{time_of}
 
 -- what came before in a run
 pub record History : Type 0 where
   -- when the request with this ID was first made; made again after a challenge, it has the time of the first one
   pub made : ℕ → ℕ
-  -- the times of extra packets, the last one first: of retransmissions, and of requests made again after a challenge
+  -- The times of extra packets, the last one first: of retransmissions, of requests made again after a challenge, and of
+  -- refreshes whose grant expired before their reply.
   pub extra : List ℕ
+  -- the permission for this IP address was let go
+  pub permission_let_go : IpAddr → Bool
+  -- the channel of this number to this peer was let go
+  pub channel_let_go : ℕ → SocketAddr → Bool
 
--- where nothing is outstanding, and no packet was extra
+-- where nothing is outstanding, no packet was extra, and all is kept
 abbrev pub no_history : History
-no_history = record { made = λ id. 0; extra = [] }
+no_history = record {
+  made = λ id. 0;
+  extra = [];
+  permission_let_go = λ ip. false;
+  channel_let_go = λ number peer. false;
+}
 
 -- the call retransmits a request, or answers a challenge, which makes a request again
 abbrev pub is_extra : Call → State → Bool
 is_extra (PollTransmit now) s = is_some (due (agent_of s) now)
 is_extra (Recv packet now) s = nat_lt s.challenges (state_after (Recv packet now) s).challenges
 is_extra call s = false
+
+-- the grants that a request was made for, and that expired in the call, before the reply
+abbrev pub lost : Call → State → List Grant
+lost (Poll now) s = filter (λ g. has_request g s && not (has_request g (state_after (Poll now) s))) s.grants
+lost call s = []
+
+-- the call lets the permission for this IP address go
+abbrev pub lets_permission_go : Call → State → IpAddr → Bool
+lets_permission_go (SetPermissionKept transport ip false) s other = is_ok (permission_kept_step transport ip false s).0 && same_ip other ip
+lets_permission_go call s other = false
+
+-- the call lets the channel to this peer go
+abbrev pub lets_channel_go : Call → State → SocketAddr → Bool
+lets_channel_go (SetChannelKept transport peer false) s other = is_ok (channel_kept_step transport peer false s).0 && same_address other peer
+lets_channel_go call s other = false
 
 -- When the request that this call makes was first made: now, unless it is one that is outstanding and was challenged.
 abbrev pub first_made : Call → ℕ → State → History → ℕ
@@ -37,8 +70,27 @@ first_made call now s past = now
 abbrev pub with_call : Call → ℕ → State → History → History
 with_call call now s past = record {
   made = λ id. if id == fresh_id s then first_made call now s past else past.made id;
-  extra = if is_extra call s then now ∷ past.extra else past.extra;
+  extra = if is_extra call s then now ∷ past.extra else map (λ g. now) (lost call s) ++ past.extra;
+  permission_let_go = λ ip. past.permission_let_go ip || lets_permission_go call s ip;
+  channel_let_go = λ number peer. past.channel_let_go number peer || lets_channel_go call s peer;
 }
+
+-- what came before, once all of these calls are made
+abbrev pub with_calls : List Call → ℕ → State → History → History
+with_calls [] before s past = past
+with_calls (call ∷ calls) before s past =
+    let now = time_of before call in
+    with_calls calls now (state_after call s) (with_call call now s past)
+
+-- a call let the grant go
+abbrev pub was_let_go : History → Grant → Bool
+was_let_go past (Permission ip progress) = past.permission_let_go ip
+was_let_go past (Channel number peer progress) = past.channel_let_go number peer
+was_let_go past grant = false
+
+-- none of these calls lets the grant go
+abbrev pub IsKeptBy : List Call → ℕ → State → Grant → Type 0
+IsKeptBy calls before s grant = was_let_go (with_calls calls before s no_history) grant ≡ false
 
 -- how many packets were extra from this time on
 abbrev pub extra_since : ℕ → History → ℕ

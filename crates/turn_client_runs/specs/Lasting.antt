@@ -24,8 +24,9 @@ use Rattle.turn_client_api.specs.Steps.{state_after, state_after_all}
 use Rattle.turn_client_api.specs.Payloads.{message_step}
 use Rattle.turn_client_api.specs.declared.call.Call.{Call}
 use Rattle.turn_client_api.specs.declared.call.Call.TheVariants.{CreatePermission, BindChannel, SendTo, Recv, Poll, PollTransmit, PollEvent}
+use Rattle.turn_client_api.specs.declared.call.Call.TheVariants.{SetChannelKept, SetPermissionKept}
 use Rattle.turn_client_laws.specs.LawsDoubles.{HasNoDoubles}
-use Rattle.turn_client_runs.specs.History.{History, IsSeldom, all_waits, no_history, with_call}
+use Rattle.turn_client_runs.specs.History.{History, IsKeptBy, IsSeldom, all_waits, no_history, with_call}
 use Rattle.turn_client_runs.specs.OnTime.{IsFromServer, IsOnTime, time_of, time_of_all}
 
 -- ---- grants in force
@@ -144,8 +145,8 @@ pub record IsChallenge (packet : Transmit (List ℕ)) (now : ℕ) (s : State) : 
 
 -- ---- the run
 
--- The call takes what is due or sends data, or time passes, or the caller requests a permission or a channel, or a
--- success or a challenge comes. Any other call changes nothing, as what strangers and peers send.
+-- The call takes what is due or sends data, or time passes, or the caller requests a permission or a channel, lets one go
+-- or keeps it again, or a success or a challenge comes. Any other call changes nothing, as what strangers and peers send.
 abbrev pub IsQuiet : Call → State → Type 0
 IsQuiet (Poll now) s = ⊤
 IsQuiet (PollTransmit now) s = ⊤
@@ -153,6 +154,8 @@ IsQuiet PollEvent s = ⊤
 IsQuiet (SendTo transport peer bytes now) s = ⊤
 IsQuiet (CreatePermission transport ip now) s = ⊤
 IsQuiet (BindChannel transport peer now) s = ⊤
+IsQuiet (SetPermissionKept transport ip is_kept) s = ⊤
+IsQuiet (SetChannelKept transport peer is_kept) s = ⊤
 IsQuiet (Recv packet now) s = IsSuccess packet now s ⊎ (IsChallenge packet now s ⊎ (state_after (Recv packet now) s ≡ s))
 IsQuiet call s = state_after call s ≡ s
 
@@ -175,22 +178,32 @@ RunsSteadily count slots extras delay before past s (call ∷ calls) =
 
 -- ---- what holds
 
--- what is in force after some calls is in force after all later ones, whatever the run
+-- its refresh time is yet to come
+abbrev pub IsFresh : ℕ → State → Grant → Type 0
+IsFresh now s g = now + ahead_of s.config.refresh_ahead g < expiry_of g
+
+-- What is in force after some calls is in force after all later ones, whatever the run, if none of those lets it go. It
+-- counts if it was never let go before. One that was, and is kept again, counts as soon as its refresh time is yet to come:
+-- from that call on, or else from its next success on.
 abbrev pub GrantsLast : Type 0
 GrantsLast =
     (count slots extras delay now : ℕ) (s : State) (earlier later : List Call) → IsSteady count slots extras delay now s
     → RunsSteadily count slots extras delay now no_history s (earlier ++ later)
     → let between = time_of_all now earlier in
-    (g : Grant) → Contains (state_after_all s earlier).grants g → IsInForce between g
+    let middle = state_after_all s earlier in
+    (g : Grant) → Contains middle.grants g → IsInForce between g → IsKeptBy earlier now s g ⊎ IsFresh between middle g
+    → IsKeptBy later between middle g
     → HasStill g (time_of_all between later) (state_after_all s (earlier ++ later))
 
--- what was requested is in force once the delay is over
+-- what was requested is in force once the delay is over, if it is not let go meanwhile
 abbrev pub RequestsSucceed : Type 0
 RequestsSucceed =
     (count slots extras delay now : ℕ) (s : State) (earlier later : List Call) → IsSteady count slots extras delay now s
     → RunsSteadily count slots extras delay now no_history s (earlier ++ later)
     → let between = time_of_all now earlier in
-    (g : Grant) → Contains (state_after_all s earlier).grants g → IsRequested g → between + delay < time_of_all between later
+    let middle = state_after_all s earlier in
+    (g : Grant) → Contains middle.grants g → IsRequested g → between + delay < time_of_all between later
+    → IsKeptBy later between middle g
     → HasStill g (time_of_all between later) (state_after_all s (earlier ++ later))
 
 -- a success ends its request, which awaits no other reply then

@@ -5,27 +5,31 @@ ghost use Rattle.turn_client_runs.specs.LastingRows.{RelayStaysUp};
 ghost use Rattle.turn_client_runs.specs.RelayRows.{RelayStaysUpFromFirst};
 ghost use Rattle.turn_client_runs.specs.Lasting.{DatagramsAreMessages, GrantsLast, RequestsSucceed, SuccessesEndRequests};
 
-/// While the server answers and the caller is on time, no allocation, permission or channel is lost: what is
-/// in force after some calls of a run is in force after all later ones (RFC 8656, sections 8, 9 and 12). A
-/// permission or channel that is requested is in force once `delay` has passed.
+/// While the server answers and the caller is on time, no allocation, permission or channel is lost that is kept: what is
+/// in force after some calls of a run is in force after all later ones, if none of those lets it go (RFC 8656, sections 8,
+/// 9 and 12). A permission or channel that is requested, and not let go meanwhile, is in force once `delay` has passed.
 ///
-/// Assumed of the caller: it takes each packet as soon as the client has one, as one does that takes all
-/// packets and calls again at the time that `poll` returned (`runs_miss_no_deadline`). It requests
-/// permissions and channels, sends data, and never has more than `count` grants and `slots` queued packets.
-/// Of the server and the network: a request, whether it was sent or waits in the queue, is answered within
-/// `delay` of when it was first made by a signed success, however often it is lost and retransmitted, and
-/// however often the server requires another nonce for it, which is no more in a row than the client answers
-/// (`max_stale_nonces`; RFC 8489, section 9.2.5). The delay is less than all waits of a request (section 6.2.1);
-/// replies come in any order, and a REFRESH is granted for 600 s or more. Of all: at most `extras` packets
-/// are retransmissions, or requests that are made again after a challenge, within the time by which a refresh
-/// is ahead; and `(count + slots + extras) * cadence + delay` is less than that time, where the cadence and that
-/// time are the configured ones (`request_cadence`, and `refresh_ahead` or half of a lifetime).
-/// What strangers and peers send may come in between, as long as it changes nothing. Times are at most 2^62
-/// ns.
+/// Whatever the caller lets go (`set_permission_kept`, `set_channel_kept`) takes nothing else with it: it expires, and its
+/// channel is reserved then. One that was let go before counts again once it is kept and its refresh time is yet to come:
+/// where it is kept again before that time, from that call on, and else from its next success on, if that comes before it
+/// expires.
 ///
-/// It does not speak of errors, of grants that are let go, of `delete`, of data connections, or of memory
-/// allocations that fail. The other clauses are what makes it speak of the server alone: a success ends its
-/// request, and a datagram of the server is processed as one message.
+/// Assumed of the caller: it takes each packet as soon as the client has one, as one does that takes all packets and calls
+/// again at the time that `poll` returned (`runs_miss_no_deadline`). It requests permissions and channels, lets them go and
+/// keeps them again, sends data, and never has more than `count` grants and `slots` queued packets. Of the server and the
+/// network: a request, whether it was sent or waits in the queue, is answered within `delay` of when it was first made by
+/// a signed success, however often it is lost and retransmitted, and however often the server requires another nonce for
+/// it, which is no more in a row than the client answers (`max_stale_nonces`; RFC 8489, section 9.2.5). The delay is less
+/// than all waits of a request (section 6.2.1); replies come in any order, and a REFRESH is granted for 600 s or more. Of
+/// all: at most `extras` packets are retransmissions, requests that are made again after a challenge, or refreshes whose
+/// grant expired before their success, as one may that was kept again late, within the time by which a refresh is ahead;
+/// and `(count + slots + extras) * cadence + delay` is less than that time, where the cadence and that time are the
+/// configured ones (`request_cadence`, and `refresh_ahead` or half of a lifetime). What strangers and peers send may come
+/// in between, as long as it changes nothing. Times are at most 2^62 ns.
+///
+/// It does not speak of errors, of `delete`, of data connections, or of memory allocations that fail. The other clauses are
+/// what makes it speak of the server alone: a success ends its request, and a datagram of the server is processed as one
+/// message.
 pub fn grants_last_while_the_server_answers()
     ensures last { GrantsLast }
     ensures asked { RequestsSucceed }
@@ -43,10 +47,11 @@ pub fn a_relay_stays_up()
 {}
 
 /// A cadence of 5 ms keeps 4,096 peers: with the default time ahead (`refresh_ahead`) a client over UDP that has a channel and a
-/// permission for each of them, and its allocation, meets the premises of `grants_last_while_the_server_answers` with 8,193 grants,
-/// 100 queued requests, 1,000 extra packets and a delay of 5 s, also where all refreshes are due at one time. So each of the grants is in
-/// force after every run that keeps these premises. The room is there for any client with that cadence and so many grants, if it
-/// refreshes a minute ahead or more and its allocations were granted for two minutes or more.
+/// permission for each of them, and its allocation, meets the premises of `grants_last_while_the_server_answers` with 8,193
+/// grants, 100 queued requests, 1,000 extra packets and a delay of 5 s, also where all refreshes are due at one time. So each
+/// of the grants is in force after every run that keeps these premises and does not let it go. The room is there for any
+/// client with that cadence and so many grants, if it refreshes a minute ahead or more and its allocations were granted for
+/// two minutes or more.
 pub fn thousands_of_peers_stay_up()
     ensures room { HasRoomAt5Ms }
     ensures last { PeersLast }

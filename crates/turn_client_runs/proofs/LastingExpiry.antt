@@ -1,0 +1,187 @@
+-- No grant is lost when others expire that were let go.
+use Rattle.std.proofs.Common.{◌≡◌, ◌⊎◌, ℕ, ◌+◌, ◌<◌, ◌≤◌, true, false, List, refl, inl, inr, sym, subst, ◌∙◌, arith}
+use Rattle.std.specs.Prelude.{nat_le}
+use Rattle.std.specs.declared.net.socket_addr.SocketAddr.{SocketAddr}
+use Rattle.std.proofs.lemmas.Bool.{cases_lt, lt-leb}
+use Rattle.turn_client_api.specs.Due.{pause_end}
+use Rattle.turn_client_api.specs.Grants.{family_of_grant, has_request}
+use Rattle.turn_client_api.specs.State.{State}
+use Rattle.turn_client_api.specs.declared.event.TurnEvent.{TurnEvent}
+use Rattle.turn_client_api.specs.declared.grant.Grant.{Grant}
+use Rattle.turn_client_api.specs.declared.grant.Grant.TheVariants.{Allocation, Channel, Permission}
+use Rattle.turn_client_api.specs.declared.grant.Listing.{Listing}
+use Rattle.turn_client_api.specs.declared.grant.Progress.TheVariants.{Active, Pending, Reserved}
+use Rattle.turn_client_api.specs.declared.grant.Relay.{Relay}
+use Rattle.turn_client_api.proofs.HasLemmas.{Has}
+use Rattle.turn_client_laws.proofs.InAllocationLemmas.{Room, room-more}
+use Rattle.turn_client_laws.proofs.LapseLemmas.{IsReserved}
+use Rattle.turn_client_runs.specs.History.{History, IsSeldom, extra_since, was_let_go}
+use Rattle.turn_client_runs.specs.Lasting.{expiry_of}
+use Rattle.turn_client_runs.proofs.LastingCounts.{passes}
+use Rattle.turn_client_runs.proofs.LastingHistory.{GoesOn, known-later, pending-later_on}
+use Rattle.turn_client_runs.proofs.LastingLapses.{IsGone, IsTidy, Lapses, asked_in, is_lost, unasked-less}
+use Rattle.turn_client_runs.proofs.LastingStands.{Follows, Goes, IsAwaited, IsGranted, IsIdle, IsKept, IsKnown, IsLeased, IsPending, IsWell, Remains, Stands, asked-before}
+use Rattle.turn_client_runs.proofs.LastingStands.{bound-le, due_of, early-paced, is_waiting, pause-le, pending-more, stands-early, still-paced}
+use Rattle.turn_client_runs.proofs.LastingStands.{used}
+
+-- what waits is not gone
+waits-stays : (now : ℕ) (g : Grant) → is_waiting g ≡ true → IsGone now g → ⊥
+waits-stays now (Permission ip (Pending kept)) waits gone = gone
+waits-stays now (Channel number peer (Pending kept)) waits gone = gone
+waits-stays now g waits gone = cc
+
+pub reserved-waits : (g : Grant) → IsReserved g → is_waiting g ≡ true → ⊥
+reserved-waits (Channel number peer (Reserved until)) is waits = cc
+reserved-waits g is waits = is
+
+reserved-leased : (g : Grant) → IsReserved g → IsLeased g → ⊥
+reserved-leased (Channel number peer (Reserved until)) is leased = leased
+reserved-leased g is leased = is
+
+-- what is gone has expired, if it was granted
+gone-late : (now : ℕ) (g : Grant) → IsGranted g → IsGone now g → expiry_of g ≤ now
+gone-late now (Permission ip (Active lease)) granted gone = gone
+gone-late now (Channel number peer (Active lease)) granted gone = gone
+gone-late now g granted gone = grind arith
+
+-- what is gone does not wait, and was to be refreshed before
+gone-unserved : (now since : ℕ) (s : State) → now < since + 150_000_000_000 → (g : Grant) → IsGone now g → (is_waiting g ≡ false) × (nat_le (since + 150_000_000_000) (due_of s g) ≡ false)
+gone-unserved now since s near (Permission ip (Active lease)) gone = (refl, lt-leb (since + 150_000_000_000) (due_of s (Permission ip (Active lease))) (omega (arith, near, gone)))
+gone-unserved now since s near (Channel number peer (Active lease)) gone = (refl, lt-leb (since + 150_000_000_000) (due_of s (Channel number peer (Active lease))) (omega (arith, near, gone)))
+gone-unserved now since s near (Channel number peer (Reserved until)) gone = (refl, lt-leb (since + 150_000_000_000) (due_of s (Channel number peer (Reserved until))) (omega arith))
+gone-unserved now since s near g gone = absurd gone
+
+module _ (count slots extras delay now : ℕ) (past later : History) (s : State) (k : IsKept count slots extras delay now past s.transactions s) (on : GoesOn s.transactions past later)
+    (seldom : IsSeldom extras s.config.refresh_ahead now later) (grants : List Grant) (listed : List Listing) (events : List TurnEvent) (closes : List SocketAddr)
+    (lapses : Lapses now s.grants s.listed grants listed) (tidy : IsTidy grants listed)
+    (counts : (since : ℕ) → since ≤ now → extra_since since past + passes (is_lost s.listed listed) s.grants ≤ extra_since since later) where
+  abbrev t : State
+  t = record s { grants = grants; listed = listed; events = events; closes = closes }
+
+  -- what stands is not gone
+  stands-stays : (g : Grant) → Has g s.grants → Stands count slots extras delay now past s.transactions s g → IsGone now g → ⊥
+  stands-stays g there stands gone =
+      let early = stands-early count slots extras delay now past s k g there stands in
+      absurd (omega (arith, early, gone-late now g stands.granted gone))
+
+  -- what is gone was let go
+  gone-let_go : (g : Grant) → Has g s.grants → IsGone now g → was_let_go past g ≡ true
+  gone-let_go g there gone = elim (k.each g there) [
+    | inl (waits, pending) ↦ absurd (waits-stays now g waits gone)
+    | inr (inl stands) ↦ absurd (stands-stays g there stands gone)
+    | inr (inr loose) ↦ loose.0
+  ]
+
+  allocation-stays : (a : Relay) → Has (Allocation a) s.grants → Has (Allocation a) grants
+  allocation-stays a there = lapses.stays (Allocation a) there (λ none. none)
+
+  pending-stays : (until : ℕ) (g : Grant) → Has g s.grants → (IsGone now g → ⊥) → IsPending until past s.transactions s.listed g → IsPending until later s.transactions listed g
+  pending-stays until g there not pending =
+      let on_time = pending-later_on count slots extras delay now past later s.transactions s on.same on.more until g pending in
+      pending-more until later s.transactions s.transactions s.listed listed g (λ x h. h) (λ l h for. lapses.remains l h g there for not) on_time
+
+  -- as many were served, or are extra
+  still-used : (since : ℕ) → since ≤ now → now < since + 150_000_000_000 → used past s since ≤ used later t since
+  still-used since before near =
+      let served = lapses.serves is_waiting (λ g. nat_le (since + 150_000_000_000) (due_of s g)) (gone-unserved now since s near) in
+      let extra = counts since before in
+      omega (arith, served, extra)
+
+  stands-left : (g : Grant) → Has g s.grants → Stands count slots extras delay now past s.transactions s g → Stands count slots extras delay now later s.transactions t g
+  stands-left g there was = record { granted = was.granted; room = was.room; long = was.long; either = by was.either }
+    where
+      by : IsAwaited delay past s.transactions s.listed g ⊎ IsIdle slots now past s g → IsAwaited delay later s.transactions listed g ⊎ IsIdle slots now later t g
+      by (inl a) = inl (record {
+        transaction = a.transaction;
+        there = a.there;
+        listing = a.listing;
+        within = lapses.remains a.listing a.within g there a.for (stands-stays g there was);
+        for = a.for;
+        same = a.same;
+        in_time = let e = on.same a.transaction a.there in let early = a.in_time in omega (arith, e, early);
+      })
+      by (inr idle) = elim (cases_lt (due_of s g) now) [
+        | inl late ↦
+            let few = bound-le count slots extras delay now past s.transactions s g k there was.granted idle in
+            let pace = k.pace in
+            let more = still-used (due_of s g) (omega (arith, late)) (omega (arith, idle.soon, few, pace)) in
+            inr (record {
+              unasked = unasked-less s.listed listed lapses.listed g idle.unasked;
+              near = idle.near;
+              soon = still-paced _ _ now _ _ (due_of s g) (due_of s g) slots _ _ refl refl refl more idle.soon;
+              paused = still-paced _ _ (pause_end s) _ _ (due_of s g) (due_of s g) slots _ _ refl refl refl more idle.paused;
+            })
+        | inr early ↦
+            let few = k.few in
+            inr (record {
+              unasked = unasked-less s.listed listed lapses.listed g idle.unasked;
+              near = idle.near;
+              soon = early-paced s.config.request_cadence _ now _ _ now (due_of s g) slots _ refl refl few (omega arith) early;
+              paused = early-paced s.config.request_cadence _ (pause_end s) _ _ now (due_of s g) slots _ refl refl few (pause-le now s k.sent) early;
+            })
+      ]
+
+  well-old : (g : Grant) → Has g s.grants → IsWell count slots extras delay now later s.transactions t g
+  well-old g there = elim (k.each g there) [
+    | inl (waits, pending) ↦ inl (waits, pending-stays now g there (waits-stays now g waits) pending)
+    | inr (inl stands) ↦ inr (inl (stands-left g there stands))
+    | inr (inr (freed, inl leased)) ↦ inr (inr (on.let_go g freed, inl leased))
+    | inr (inr (freed, inr (is, none))) ↦ inr (inr (on.let_go g freed, inr (is, unasked-less s.listed listed lapses.listed g none)))
+  ]
+
+  well-left : (g : Grant) → Has g grants → IsWell count slots extras delay now later s.transactions t g
+  well-left g h = elim (lapses.came g h) [
+    | inl old ↦ well-old g old
+    | inr takes ↦ inr (inr (on.let_go g (takes.let_go past ∙ gone-let_go takes.was takes.there takes.gone), inr (takes.is, takes.unasked)))
+  ]
+
+  known-left : (g : Grant) → Has g grants → IsKnown now later t g
+  known-left g h = elim (lapses.came g h) [
+    | inl old ↦
+        let (waits, due) = k.known g old in (
+          λ w. known-later past later on.let_go g (waits w),
+          λ leased asked. due leased (asked-before (has_request g s) (asked_in listed g) (unasked-less s.listed listed lapses.listed g) asked),
+        )
+    | inr takes ↦ (λ w. absurd (reserved-waits g takes.is w), λ leased asked. absurd (reserved-leased g takes.is leased))
+  ]
+
+  pub kept-left : IsKept count slots extras delay now later s.transactions (record s { grants = grants; listed = listed; events = events; closes = closes })
+  kept-left = record {
+    phase = k.phase;
+    requests = k.requests;
+    few = k.few;
+    prompt = k.prompt;
+    pace = k.pace;
+    sent = k.sent;
+    aged = λ x h. let e = on.same x h in let old = k.aged x h in omega (arith, e, old);
+    lone = k.lone;
+    begun = λ x h. let e = on.same x h in let b = k.begun x h in omega (arith, e, b);
+    heard = λ x h. let e = on.same x h in let late = k.heard x h in omega (arith, e, late);
+    seldom = seldom;
+    asked = λ l h. let (refreshes, (g, there, for)) = k.asked l (lapses.listed l h) in (refreshes, (g, lapses.held l h g there for, for));
+    size = let a = k.size in let b = lapses.size in omega (arith, a, b);
+    single = tidy.single;
+    linked = tidy.linked;
+    in_range = k.in_range;
+    housed = λ g h. elim (lapses.came g h) [
+      | inl old ↦ room (family_of_grant g) (k.housed g old)
+      | inr takes ↦ subst (Room grants) (sym takes.family) (room (family_of_grant takes.was) (k.housed takes.was takes.there))
+    ];
+    known = known-left;
+    each = well-left;
+  }
+    where
+      room : (family : _) → Room s.grants family → Room grants family
+      room = room-more s.grants grants allocation-stays
+
+  pub goes-left : Goes past later s.transactions s.transactions s (record s { grants = grants; listed = listed; events = events; closes = closes })
+  goes-left = record { let_go = on.let_go; remain = remains; follow = follows }
+    where
+      remains : (g : Grant) → Has g s.grants → IsGranted g → was_let_go later g ≡ false → Remains g t
+      remains g there granted none = (g, lapses.stays g there not, refl, granted)
+        where
+          not : IsGone now g → ⊥
+          not gone = let no : false ≡ true = sym none ∙ on.let_go g (gone-let_go g there gone) in cc
+
+      follows : (until : ℕ) (g : Grant) → Has g s.grants → is_waiting g ≡ true → IsPending until past s.transactions s.listed g → was_let_go later g ≡ false → Follows until later s.transactions g t
+      follows until g there waits pending none = inl (lapses.stays g there (waits-stays now g waits), pending-stays until g there (waits-stays now g waits) pending)

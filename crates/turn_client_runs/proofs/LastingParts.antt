@@ -1,0 +1,283 @@
+-- No grant is lost in a part of a run.
+use Rattle.std.proofs.Common.{◌≡◌, ◌⊎◌, ℕ, ◌+◌, ◌<◌, ◌≤◌, min, Bool, true, false, ◌||◌, eqb, List, [], ◌∷◌, ◌++◌, length, refl, inl, inr, ap, sym, subst, ◌∙◌, arith}
+use Rattle.std.specs.Prelude.{is_some}
+use Rattle.turn_client_api.specs.Grants.{as_connection}
+use Rattle.std.specs.List.{Contains, list_any}
+use Rattle.std.proofs.lemmas.Bool.{cases_Bool, eqb-true}
+use Rattle.turn_agent.specs.declared.transaction.Transaction.{Transaction}
+use Rattle.turn_client_api.specs.State.{State}
+use Rattle.turn_client_api.specs.Due.{is_kept, pause_end}
+use Rattle.turn_client_api.specs.declared.grant.Grant.{Grant}
+use Rattle.turn_client_api.specs.declared.grant.Grant.TheVariants.{Allocation, Permission, Channel}
+use Rattle.turn_client_api.specs.declared.grant.Progress.TheVariants.{Active, Pending}
+use Rattle.turn_client_api.specs.declared.grant.Listing.{Listing}
+use Rattle.turn_client_api.specs.declared.grant.Purpose.{Purpose}
+use Rattle.turn_client_api.specs.declared.grant.Purpose.TheVariants.{ForPermission, ForChannel}
+use Rattle.turn_client_api.specs.Grants.{allocations, has_request, is_past, is_permission_of, same_transport, family_of_grant, is_for, purposes_of, same_ip}
+use Rattle.turn_client_api.specs.Steps.{state_after_all}
+use Rattle.turn_client_api.specs.declared.call.Call.{Call}
+use Rattle.turn_client_api.proofs.HasLemmas.{Has, has-all}
+use Rattle.turn_client_laws.proofs.InAllocationLemmas.{room-of}
+use Rattle.turn_client_runs.specs.LastingRuns.{LastsThrough}
+use Rattle.turn_client_runs.specs.Lasting.{with_expiry, IsRequested, RequestsSucceed, as_granted, GrantsLast, HasRoom, HasStill, IsInForce, IsSteady}
+use Rattle.turn_client_runs.specs.Lasting.{IsFresh, RunsSteadily, ahead_of, expiry_of}
+use Rattle.turn_client_runs.specs.OnTime.{time_of_all}
+use Rattle.turn_client_runs.specs.History.{History, IsKeptBy, no_history, was_let_go, with_calls}
+use Rattle.turn_client_runs.proofs.LastingStands.{due_of, early-paced, granted-active, leased-active, let_go-became, IsActive, IsLeased, Follows, IsWell, is_waiting, AreSingle, IsGranted, IsKept, IsUnique, Stands, not-waiting}
+use Rattle.turn_client_runs.proofs.LastingStands.{pause-le, stands-early}
+use Rattle.turn_client_runs.proofs.LastingCounts.{passes}
+use Rattle.turn_client_laws.specs.LawsDoubles.{is_double}
+use Rattle.turn_client_api.proofs.AddressLemmas.{same_ip-true}
+use Rattle.turn_client_laws.proofs.StandLemmas.{contains-has, has-contains}
+use Rattle.std.specs.List.{AllByRecursion, IsDistinct}
+use Rattle.turn_client_runs.proofs.LastingTransmits.{reserved-inactive}
+use Rattle.turn_client_runs.proofs.LastingExpiry.{reserved-waits}
+use Rattle.turn_client_runs.proofs.LastingSpared.{kept-spared, none-by, pending-spared, runs-alike, spared-none, sparing}
+use Rattle.turn_client_runs.proofs.LastingRuns.{KeepsAll, all-kept, first-part, joined, last-part}
+
+-- ---- the first state
+
+force-granted : (now : ℕ) (g : Grant) → IsInForce now g → IsGranted g
+force-granted now (Allocation a) h = h.0
+force-granted now (Permission ip (Active lease)) h = h.0
+force-granted now (Channel number peer (Active lease)) h = h.0
+force-granted now g h = absurd h
+
+granted-force : (now : ℕ) (g : Grant) → IsGranted g → now < expiry_of g → IsInForce now g
+granted-force now (Allocation a) h early = (h, early)
+granted-force now (Permission ip (Active lease)) h early = (h, early)
+granted-force now (Channel number peer (Active lease)) h early = (h, early)
+granted-force now g h early = absurd h
+
+-- grants that differ are not for the same purpose
+none-double : (p : Purpose) → IsUnique p → (g : Grant) (gs : List Grant) → is_for p g ≡ true → AllByRecursion (λ h. is_double g h ≡ false) gs → passes (is_for p) gs ≡ 0
+none-double p unique g [] is all = refl
+none-double p unique g (h ∷ gs) is (differ, others) = let e = apart p unique g h is differ in rw e (omega (arith, none-double p unique g gs is others))
+  where
+    apart : (p : Purpose) → IsUnique p → (g h : Grant) → is_for p g ≡ true → is_double g h ≡ false → is_for p h ≡ false
+    apart (ForPermission ip) u (Permission a m) (Permission c n) is differ = by (same_ip c ip) refl
+      where
+        by : (b : Bool) → same_ip c ip ≡ b → same_ip c ip ≡ false
+        by false e = e
+        by true e =
+            let here : c ≡ ip = same_ip-true c ip e in
+            let no : true ≡ false = sym is ∙ (ap (same_ip a) (sym here) ∙ differ) in
+            cc
+    apart (ForChannel number peer) u (Channel a at m) (Channel c ct n) is differ = by (eqb c number) refl
+      where
+        by : (b : Bool) → eqb c number ≡ b → eqb c number ≡ false
+        by false e = e
+        by true e =
+            let here : c ≡ number = eqb-true c number e in
+            let no : true ≡ false = sym is ∙ (ap (eqb a) (sym here) ∙ differ) in
+            cc
+    apart p u g h is differ = grind arith
+
+single-first : (gs : List Grant) → IsDistinct is_double gs → AreSingle gs
+unfolding IsDistinct
+single-first [] distinct p unique = omega arith
+single-first (g ∷ gs) (apart, others) p unique = elim (cases_Bool (is_for p g)) [
+  | inl e ↦ rw e (omega (arith, none-double p unique g gs e apart))
+  | inr e ↦ rw e (omega (arith, single-first gs others p unique))
+]
+
+steady-kept : (count slots extras delay now : ℕ) (s : State) → IsSteady count slots extras delay now s → IsKept count slots extras delay now no_history s.transactions s
+steady-kept count slots extras delay now s is = record {
+  phase = is.allocated;
+  requests = rw is.none_queued refl;
+  few = is.within.1;
+  prompt = is.prompt;
+  pace = is.room_for_more;
+  sent = is.sent_before;
+  aged = λ x h. absurd (none-there x h);
+  lone = λ x y h. absurd (none-there x h);
+  begun = λ x h. absurd (none-there x h);
+  heard = λ x h. absurd (none-there x h);
+  seldom = λ since within. omega arith;
+  asked = λ l h. absurd (subst (λ (ls : List Listing). Has l ls) is.none_listed h);
+  size = is.within.0;
+  single = single-first s.grants is.distinct;
+  linked = λ id. rw is.none_listed tt;
+  in_range = is.in_range;
+  housed = λ g there. room-of (family_of_grant g) s (has-all (λ g. is_some (Rattle.turn_client_api.specs.Grants.find_allocation (family_of_grant g) s) ≡ true) g s.grants is.housed there);
+  known = λ g there. (waits g there, λ leased asked. absurd (let no : false ≡ true = sym (unasked g s.listed is.none_listed) ∙ asked in cc));
+  each = λ g there. inr (inl (stands g there));
+}
+  where
+    waits : (g : Grant) → Has g s.grants → is_waiting g ≡ true → (is_kept g || was_let_go no_history g) ≡ true
+    waits g there w =
+        let granted = force-granted now g (has-all (IsInForce now) g s.grants is.in_force there) in
+        absurd (let no : false ≡ true = sym (not-waiting g (granted-active g granted)) ∙ w in cc)
+
+    none-there : (x : Transaction) → Has x s.transactions → ⊥
+    none-there x h = subst (λ (xs : List Transaction). Has x xs) is.none_outstanding h
+
+    unasked : (g : Grant) (ls : List Listing) → ls ≡ [] → list_any (λ (l : Listing). is_for l.purpose g) ls ≡ false
+    unasked g ls e = rw e refl
+
+    none : length s.queue ≡ 0
+    none = rw is.none_queued refl
+
+    stands : (g : Grant) → Has g s.grants → Stands count slots extras delay now no_history s.transactions s g
+    stands g there =
+        let early : now + ahead_of s.config.refresh_ahead g ≤ expiry_of g = has-all (λ g. now + ahead_of s.config.refresh_ahead g ≤ expiry_of g) g s.grants is.none_late there in
+        record {
+          granted = force-granted now g (has-all (IsInForce now) g s.grants is.in_force there);
+          room = has-all (λ g. HasRoom count slots extras s.config.request_cadence delay (ahead_of s.config.refresh_ahead g)) g s.grants is.room there;
+          long = omega (arith, early);
+          either = inr (record { unasked = unasked g s.listed is.none_listed; near = omega (arith, early); soon = rw none (omega (arith, early)); paused = rw none (omega (arith, early, pause-le now s is.sent_before)) });
+        }
+
+early-of : (count slots extras delay now : ℕ) (past : History) (t : State) → IsKept count slots extras delay now past t.transactions t → (h : Grant) → Has h t.grants → IsGranted h → was_let_go past h ≡ false
+    → now < expiry_of h
+early-of count slots extras delay now past t k h here granted none = elim (k.each h here) [
+  | inl (waits, pending) ↦ absurd (let no : false ≡ true = sym (not-waiting h (granted-active h granted)) ∙ waits in cc)
+  | inr (inl stands) ↦ stands-early count slots extras delay now past t k h here stands
+  | inr (inr loose) ↦ absurd (let no : false ≡ true = sym none ∙ loose.0 in cc)
+]
+
+force-key : (now : ℕ) (g : Grant) → IsInForce now g → with_expiry 0 g ≡ as_granted g
+force-key now (Allocation a) h = refl
+force-key now (Permission ip (Active lease)) h = refl
+force-key now (Channel number peer (Active lease)) h = refl
+force-key now g h = absurd h
+
+requested-waits : (g : Grant) → IsRequested g → (is_waiting g ≡ true) × (is_kept g ≡ true)
+requested-waits (Permission ip (Pending is_kept)) h = (refl, h)
+requested-waits (Channel number peer (Pending is_kept)) h = (refl, h)
+requested-waits g h = absurd h
+
+-- a permission or a channel whose refresh time is yet to come stands, whatever was let go before
+fresh-stands : (count slots extras delay now : ℕ) (past : History) (s : State) → IsKept count slots extras delay now past s.transactions s → (g : Grant) → Has g s.grants → IsGranted g → IsLeased g
+    → IsFresh now s g → Stands count slots extras delay now past s.transactions s g
+fresh-stands count slots extras delay now past s k g there granted leased fresh =
+    let few = k.few in
+    let early : now ≤ due_of s g = omega (arith, fresh) in
+    record {
+      granted = granted;
+      room = let pace = k.pace in let more = leased-ahead s.config.refresh_ahead g leased in omega (arith, pace, more);
+      long = omega (arith, fresh);
+      either = inr (record {
+        unasked = unasked (has_request g s) refl;
+        near = omega (arith, early);
+        soon = early-paced s.config.request_cadence _ now _ _ now (due_of s g) slots _ refl refl few (omega arith) early;
+        paused = early-paced s.config.request_cadence _ (pause_end s) _ _ now (due_of s g) slots _ refl refl few (pause-le now s k.sent) early;
+      });
+    }
+  where
+    leased-ahead : (ahead : ℕ) (g : Grant) → IsLeased g → min ahead 150_000_000_000 ≤ ahead_of ahead g
+    leased-ahead ahead (Permission ip (Active lease)) h = omega arith
+    leased-ahead ahead (Channel number peer (Active lease)) h = omega arith
+    leased-ahead ahead g h = absurd h
+
+    unasked : (b : Bool) → has_request g s ≡ b → has_request g s ≡ false
+    unasked false e = e
+    unasked true e = let due = (k.known g there).1 leased e in absurd (omega (arith, due, fresh))
+
+-- both parts of a run, of which the second one lets the grant go nowhere
+module _ (count slots extras delay now : ℕ) (s : State) (earlier later : List Call) (steady : IsSteady count slots extras delay now s) (run : RunsSteadily count slots extras delay now no_history s (earlier ++ later))
+    (g : Grant) (there : Contains (state_after_all s earlier).grants g) (kept : IsKeptBy later (time_of_all now earlier) (state_after_all s earlier) g) where
+  abbrev between : ℕ
+  between = time_of_all now earlier
+
+  abbrev last : ℕ
+  last = time_of_all between later
+
+  abbrev mid : State
+  mid = state_after_all s earlier
+
+  abbrev end : State
+  end = state_after_all mid later
+
+  -- what came before, then; without the grant; and at the end
+  abbrev mid_past : History
+  mid_past = with_calls earlier now s no_history
+
+  abbrev spared : History
+  spared = sparing g mid_past
+
+  abbrev end_past : History
+  end_past = with_calls later between mid spared
+
+  here : Has g mid.grants
+  here = contains-has g mid.grants there
+
+  kept-mid : IsKept count slots extras delay between mid_past mid.transactions mid
+  kept-mid = (all-kept count slots extras delay now no_history s earlier (steady-kept count slots extras delay now s steady) (first-part count slots extras delay now no_history s earlier later run)).0
+
+  end-spares : was_let_go end_past g ≡ false
+  end-spares = none-by later between mid spared g (spared-none g mid_past) kept
+
+  -- it stands, or waits and is kept, whatever was let go before
+  abbrev IsSure : Type 0
+  IsSure = Stands count slots extras delay between mid_past mid.transactions mid g ⊎ ((is_waiting g ≡ true) × (is_kept g ≡ true))
+
+  kept-end : IsSure → KeepsAll count slots extras delay last spared end_past mid end
+  kept-end sure =
+      all-kept count slots extras delay between spared mid later (kept-spared count slots extras delay between mid_past mid kept-mid g here sure)
+      (runs-alike count slots extras delay between mid_past spared mid later (λ id. refl) refl (last-part count slots extras delay now no_history s earlier later run))
+
+  has-still : IsSure → (h : Grant) → Has h end.grants → with_expiry 0 h ≡ as_granted g → IsGranted h → HasStill g last (state_after_all s (earlier ++ later))
+  has-still sure h at_end same granted =
+      subst (HasStill g last) (sym (joined s earlier later)) (
+        h,
+        has-contains h end.grants at_end,
+        same,
+        granted-force last h granted (early-of count slots extras delay last end_past end (kept-end sure).0 h at_end granted (let_go-became end_past g h same ∙ end-spares)),
+      )
+
+  lasts : IsInForce between g → IsKeptBy earlier now s g ⊎ IsFresh between mid g → HasStill g last (state_after_all s (earlier ++ later))
+  lasts in_force counted = ends (stands (kept-mid.each g here))
+    where
+      granted : IsGranted g
+      granted = force-granted between g in_force
+
+      stands : IsWell count slots extras delay between mid_past mid.transactions mid g → Stands count slots extras delay between mid_past mid.transactions mid g
+      stands (inl (waits, pending)) = absurd (let no : false ≡ true = sym (not-waiting g (granted-active g granted)) ∙ waits in cc)
+      stands (inr (inl is)) = is
+      stands (inr (inr (freed, inr (is, none)))) = absurd (reserved-inactive g is (granted-active g granted))
+      stands (inr (inr (freed, inl leased))) = elim counted [
+        | inl never ↦ absurd (let no : false ≡ true = sym never ∙ freed in cc)
+        | inr fresh ↦ fresh-stands count slots extras delay between mid_past mid kept-mid g here granted leased fresh
+      ]
+
+      ends : Stands count slots extras delay between mid_past mid.transactions mid g → HasStill g last (state_after_all s (earlier ++ later))
+      ends is =
+          let (h, at_end, same, still) = (kept-end (inl is)).1.remain g here granted end-spares in
+          has-still (inl is) h at_end (same ∙ force-key between g in_force) still
+
+  succeeds : IsRequested g → between + delay < last → HasStill g last (state_after_all s (earlier ++ later))
+  succeeds requested late = by (kept-mid.each g here)
+    where
+      waits : (is_waiting g ≡ true) × (is_kept g ≡ true)
+      waits = requested-waits g requested
+
+      follows : Follows between end_past end.transactions g end → HasStill g last (state_after_all s (earlier ++ later))
+      follows (inl (remains, p)) = let heard = (kept-end (inr waits)).0.heard p.transaction p.there in let sent = p.sent in absurd (omega (arith, heard, sent, late))
+      follows (inr (h, at_end, same, granted)) = has-still (inr waits) h at_end same granted
+
+      active : IsActive g → HasStill g last (state_after_all s (earlier ++ later))
+      active is = absurd (let no : false ≡ true = sym (not-waiting g is) ∙ waits.0 in cc)
+
+      by : IsWell count slots extras delay between mid_past mid.transactions mid g → HasStill g last (state_after_all s (earlier ++ later))
+      by (inl (waiting, pending)) = follows ((kept-end (inr waits)).1.follow between g here waiting (pending-spared between mid_past mid.transactions mid.listed g g pending) end-spares)
+      by (inr (inl stands)) = active (granted-active g stands.granted)
+      by (inr (inr (freed, inl leased))) = active (leased-active g leased)
+      by (inr (inr (freed, inr (is, none)))) = absurd (reserved-waits g is waits.0)
+
+pub grants-last : GrantsLast
+grants-last count slots extras delay now s earlier later steady run g there in_force counted kept = lasts count slots extras delay now s earlier later steady run g there kept in_force counted
+
+pub requests-succeed : RequestsSucceed
+requests-succeed count slots extras delay now s earlier later steady run g there requested late kept = succeeds count slots extras delay now s earlier later steady run g there kept requested late
+
+-- the same, of the calls of the second part alone
+module _ (count slots extras delay now : ℕ) (s : State) (before after : List Call) (steady : IsSteady count slots extras delay now s) (run : RunsSteadily count slots extras delay now no_history s (before ++ after)) where
+  pub lasts-through : LastsThrough delay now s before after
+  lasts-through g there kept = (
+    λ in_force counted. ends (lasts count slots extras delay now s before after steady run g there kept in_force counted),
+    λ requested late. ends (succeeds count slots extras delay now s before after steady run g there kept requested late),
+  )
+    where
+      ends : HasStill g (time_of_all (time_of_all now before) after) (state_after_all s (before ++ after)) → HasStill g (time_of_all (time_of_all now before) after) (state_after_all (state_after_all s before) after)
+      ends = subst (HasStill g (time_of_all (time_of_all now before) after)) (joined s before after)

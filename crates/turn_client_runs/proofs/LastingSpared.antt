@@ -1,0 +1,168 @@
+-- A part of a run counts for a grant as if it had not been let go before.
+use Rattle.std.proofs.Common.{◌≡◌, ◌⊎◌, ℕ, ◌+◌, ◌≤◌, Bool, true, false, not, ◌&&◌, List, [], ◌∷◌, length, refl, inl, inr, ap, sym, subst, ◌∙◌, arith}
+use Rattle.std.specs.Prelude.{filter, nat_le}
+use Rattle.std.proofs.lemmas.Bool.{eq-eqb, or_cases, or_left, or_right}
+use Rattle.turn_stun.specs.Message.{id_of}
+use Rattle.turn_agent.specs.declared.transaction.Transaction.{Transaction}
+use Rattle.turn_client_api.specs.Due.{is_kept}
+use Rattle.turn_client_api.specs.Grants.{is_channel_of, is_for, is_permission_of}
+use Rattle.turn_client_api.specs.State.{State}
+use Rattle.turn_client_api.specs.Steps.{state_after}
+use Rattle.turn_client_api.specs.declared.call.Call.{Call}
+use Rattle.turn_client_api.specs.declared.call.Call.TheVariants.{Recv}
+use Rattle.turn_client_api.specs.declared.grant.Grant.{Grant}
+use Rattle.turn_client_api.specs.declared.grant.Grant.TheVariants.{Channel, Permission}
+use Rattle.turn_client_api.specs.declared.grant.Listing.{Listing}
+use Rattle.turn_client_api.specs.declared.grant.Purpose.{Purpose}
+use Rattle.turn_client_api.specs.declared.grant.Purpose.TheVariants.{ForChannel, ForPermission}
+use Rattle.turn_client_api.proofs.HasLemmas.{Has, all-has, has-all}
+use Rattle.turn_client_runs.specs.History.{History, first_made, no_history, was_let_go, with_call, with_calls}
+use Rattle.turn_client_runs.specs.Lasting.{RunsSteadily}
+use Rattle.turn_client_runs.specs.OnTime.{time_of}
+use Rattle.turn_client_runs.proofs.LastingCounts.{passes-same}
+use Rattle.turn_client_runs.proofs.LastingExpiry.{reserved-waits}
+use Rattle.turn_client_runs.proofs.LastingHistory.{kept-with, stands-later}
+use Rattle.turn_client_runs.proofs.LastingStands.{IsUnique, granted-active, leased-active, not-waiting, IsKept, IsKnown, IsPending, IsWell, Stands, is_waiting}
+use Rattle.turn_client_runs.proofs.LastingTransmits.{same_ip-self}
+
+-- the grant was not let go before
+abbrev pub sparing : Grant → History → History
+sparing g past = record past {
+  permission_let_go = λ ip. past.permission_let_go ip && not (is_permission_of ip g);
+  channel_let_go = λ number peer. past.channel_let_go number peer && not (is_channel_of number g);
+}
+
+and-not : (a b : Bool) → b ≡ true → (a && not b) ≡ false
+and-not true b e = rw e refl
+and-not false b e = refl
+
+pub spared-none : (g : Grant) (past : History) → was_let_go (sparing g past) g ≡ false
+spared-none (Permission ip progress) past = and-not (past.permission_let_go ip) (is_permission_of ip (Permission ip progress)) (same_ip-self ip)
+spared-none (Channel number peer progress) past = and-not (past.channel_let_go number peer) (is_channel_of number (Channel number peer progress)) (eq-eqb number number refl)
+spared-none g past = refl
+
+-- the purpose is for both
+abbrev IsUniqueFor : Purpose → Grant → Grant → Type 0
+IsUniqueFor p h g = IsUnique p × (is_for p h ≡ true) × (is_for p g ≡ true)
+
+pub pending-spared : (until : ℕ) (past : History) (xs : List Transaction) (ls : List Listing) (g h : Grant) → IsPending until past xs ls h → IsPending until (sparing g past) xs ls h
+pending-spared until past xs ls g h p = record { transaction = p.transaction; there = p.there; listing = p.listing; within = p.within; for = p.for; same = p.same; sent = p.sent }
+
+-- what was let go is so still, or it is this one
+module _ (g : Grant) (past : History) where
+  others-spared : (h : Grant) → was_let_go past h ≡ true → (was_let_go (sparing g past) h ≡ true) ⊎ ((p : Purpose) × IsUniqueFor p h g)
+  others-spared (Permission ip progress) e = by (is_permission_of ip g) refl
+    where
+      by : (b : Bool) → is_permission_of ip g ≡ b → (was_let_go (sparing g past) (Permission ip progress) ≡ true) ⊎ ((p : Purpose) × IsUniqueFor p (Permission ip progress) g)
+      by false f = inl (rw (e, f) refl)
+      by true f = inr (ForPermission ip, (tt, same_ip-self ip, f))
+  others-spared (Channel number peer progress) e = by (is_channel_of number g) refl
+    where
+      by : (b : Bool) → is_channel_of number g ≡ b → (was_let_go (sparing g past) (Channel number peer progress) ≡ true) ⊎ ((p : Purpose) × IsUniqueFor p (Channel number peer progress) g)
+      by false f = inl (rw (e, f) refl)
+      by true f = inr (ForChannel number peer, (tt, eq-eqb number number refl, f))
+  others-spared h e = cc
+
+module _ (count slots extras delay now : ℕ) (past : History) (s : State) (k : IsKept count slots extras delay now past s.transactions s) (g : Grant) (here : Has g s.grants)
+    (sure : Stands count slots extras delay now past s.transactions s g ⊎ ((is_waiting g ≡ true) × (is_kept g ≡ true))) where
+  abbrev later : History
+  later = sparing g past
+
+  stands-spared : (h : Grant) → Stands count slots extras delay now past s.transactions s h → Stands count slots extras delay now later s.transactions s h
+  stands-spared = stands-later count slots extras delay now past later s.transactions s (λ x h. refl) (λ since. omega arith)
+
+  -- what is for the same is the same
+  only : (h : Grant) → Has h s.grants → (p : Purpose) × IsUniqueFor p h g → h ≡ g
+  only h there (p, (unique, one, two)) = passes-same (is_for p) h g s.grants (k.single p unique) there here one two
+
+  well-spared : (h : Grant) → Has h s.grants → IsWell count slots extras delay now later s.transactions s h
+  well-spared h there = elim (k.each h there) [
+    | inl (waits, pending) ↦ inl (waits, pending-spared now past s.transactions s.listed g h pending)
+    | inr (inl stands) ↦ inr (inl (stands-spared h stands))
+    | inr (inr (freed, kind)) ↦ elim (others-spared g past h freed) [
+      | inl still ↦ inr (inr (still, kind))
+      | inr same ↦ subst (IsWell count slots extras delay now later s.transactions s) (sym (only h there same)) (by sure (k.each g here))
+    ]
+  ]
+    where
+      by : Stands count slots extras delay now past s.transactions s g ⊎ ((is_waiting g ≡ true) × (is_kept g ≡ true)) → IsWell count slots extras delay now past s.transactions s g
+          → IsWell count slots extras delay now later s.transactions s g
+      by (inl stands) well = inr (inl (stands-spared g stands))
+      by (inr waits) (inl (is, pending)) = inl (is, pending-spared now past s.transactions s.listed g g pending)
+      by (inr waits) (inr (inl stands)) = inr (inl (stands-spared g stands))
+      by (inr waits) (inr (inr (freed, inl leased))) = absurd (let no : false ≡ true = sym (not-waiting g (leased-active g leased)) ∙ waits.0 in cc)
+      by (inr waits) (inr (inr (freed, inr (is, none)))) = absurd (reserved-waits g is waits.0)
+
+  known-spared : (h : Grant) → Has h s.grants → IsKnown now later s h
+  known-spared h there = let (waits, due) = k.known h there in (
+    λ w. elim (or_cases (is_kept h) (was_let_go past h) (waits w)) [
+      | inl kept ↦ or_left (is_kept h) _ kept
+      | inr freed ↦ elim (others-spared g past h freed) [
+        | inl still ↦ or_right (is_kept h) _ still
+        | inr same ↦ let is = only h there same in or_left (is_kept h) _ (ap is_kept is ∙ by sure (ap is_waiting (sym is) ∙ w))
+      ]
+    ],
+    due,
+  )
+    where
+      by : Stands count slots extras delay now past s.transactions s g ⊎ ((is_waiting g ≡ true) × (is_kept g ≡ true)) → is_waiting g ≡ true → is_kept g ≡ true
+      by (inl stands) w = absurd (let no : false ≡ true = sym (not-waiting g (granted-active g stands.granted)) ∙ w in cc)
+      by (inr waits) w = waits.1
+
+  pub kept-spared : IsKept count slots extras delay now (sparing g past) s.transactions s
+  kept-spared = kept-with count slots extras delay now past (sparing g past) s (λ x h. refl) k.seldom known-spared well-spared k
+
+-- ---- the rest of the run
+
+first-alike : (call : Call) (now : ℕ) (s : State) (past other : History) → ((id : ℕ) → past.made id ≡ other.made id) → first_made call now s past ≡ first_made call now s other
+first-alike (Recv packet received) now s past other made = rw (made (id_of packet.payload)) refl
+first-alike call now s past other made = refl
+
+call-alike : (call : Call) (now : ℕ) (s : State) (past other : History) → ((id : ℕ) → past.made id ≡ other.made id) → (id : ℕ) → (with_call call now s past).made id ≡ (with_call call now s other).made id
+call-alike call now s past other made id = rw (first-alike call now s past other made, made id) refl
+
+-- when requests were made, and which packets were extra, is all that counts
+pub runs-alike : (count slots extras delay before : ℕ) (past other : History) (s : State) (calls : List Call) → ((id : ℕ) → past.made id ≡ other.made id) → past.extra ≡ other.extra
+    → RunsSteadily count slots extras delay before past s calls → RunsSteadily count slots extras delay before other s calls
+runs-alike count slots extras delay before past other s [] made extra run = tt
+runs-alike count slots extras delay before past other s (call ∷ calls) made extra (in_time, quiet, within, seldom, run) =
+    let now = time_of before call in
+    let more : (with_call call now s past).extra ≡ (with_call call now s other).extra = rw extra refl in (
+      record { on_time = in_time.on_time; answered = all-has (λ (x : Transaction). now ≤ other.made x.id + delay) s.transactions answered },
+      quiet,
+      within,
+      λ since near. subst (λ (times : List ℕ). length (filter (λ time. nat_le since time) times) ≤ extras) more (seldom since near),
+      runs-alike count slots extras delay now (with_call call now s past) (with_call call now s other) (state_after call s) calls (call-alike call now s past other made) more run,
+    )
+  where
+    answered : (x : Transaction) → Has x s.transactions → time_of before call ≤ other.made x.id + delay
+    answered x h =
+        let late = has-all (λ (x : Transaction). time_of before call ≤ past.made x.id + delay) x s.transactions in_time.answered h in
+        let same = made x.id in
+        omega (arith, late, same)
+
+-- a call lets go what it does, whatever was before
+call-frees : (call : Call) (now : ℕ) (s : State) (past other : History) (g : Grant) → (was_let_go past g ≡ true → was_let_go other g ≡ true) → was_let_go (with_call call now s past) g ≡ true
+    → was_let_go (with_call call now s other) g ≡ true
+call-frees call now s past other (Permission ip progress) more e = elim (or_cases (past.permission_let_go ip) _ e) [ inl was ↦ or_left (other.permission_let_go ip) _ (more was) | inr is ↦ or_right (other.permission_let_go ip) _ is ]
+call-frees call now s past other (Channel number peer progress) more e =
+    elim (or_cases (past.channel_let_go number peer) _ e) [ inl was ↦ or_left (other.channel_let_go number peer) _ (more was) | inr is ↦ or_right (other.channel_let_go number peer) _ is ]
+call-frees call now s past other g more e = cc
+
+calls-free : (calls : List Call) (before : ℕ) (s : State) (past other : History) (g : Grant) → (was_let_go past g ≡ true → was_let_go other g ≡ true) → was_let_go (with_calls calls before s past) g ≡ true
+    → was_let_go (with_calls calls before s other) g ≡ true
+calls-free [] before s past other g more e = more e
+calls-free (call ∷ calls) before s past other g more e =
+    calls-free calls (time_of before call) (state_after call s) (with_call call (time_of before call) s past) (with_call call (time_of before call) s other) g
+    (call-frees call (time_of before call) s past other g more) e
+
+-- what was not let go before, nor by these calls, is not
+pub none-by : (calls : List Call) (before : ℕ) (s : State) (past : History) (g : Grant) → was_let_go past g ≡ false → was_let_go (with_calls calls before s no_history) g ≡ false
+    → was_let_go (with_calls calls before s past) g ≡ false
+none-by calls before s past g was none = by (was_let_go (with_calls calls before s past) g) refl
+  where
+    by : (b : Bool) → was_let_go (with_calls calls before s past) g ≡ b → was_let_go (with_calls calls before s past) g ≡ false
+    by false e = e
+    by true e =
+        let no : false ≡ true = sym none ∙ calls-free calls before s past no_history g (λ is. let no : false ≡ true = sym was ∙ is in cc) e in
+        cc
