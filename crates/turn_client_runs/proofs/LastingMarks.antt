@@ -21,7 +21,7 @@ use Rattle.turn_client_laws.proofs.LapseLemmas.{IsReserved}
 use Rattle.turn_client_runs.specs.History.{History, was_let_go}
 use Rattle.turn_client_runs.specs.Lasting.{ahead_of, expiry_of}
 use Rattle.turn_client_runs.proofs.LastingCounts.{or_first, passes-map, passes-mapped}
-use Rattle.turn_client_runs.proofs.LastingStands.{Brings, Goes, IsAwaited, IsGranted, IsIdle, IsKept, IsKnown, IsLeased, IsLoose, IsPending, IsRequest, IsWell}
+use Rattle.turn_client_runs.proofs.LastingStands.{kept-changed, Brings, Goes, IsAwaited, IsGranted, IsIdle, IsKept, IsKnown, IsLeased, IsLoose, IsPending, IsRequest, IsWell}
 use Rattle.turn_client_runs.proofs.LastingStands.{Stands, due_of, is_served, is_waiting, listed_as, served, still-paced, used}
 
 -- ---- what a mark does not change
@@ -210,29 +210,17 @@ module _ (count slots extras delay now : ℕ) (past : History) (s : State) (k : 
       by waits false f e = or_right (is_kept (marked false g)) _ (marked-let_go past false g ∙ let_go g e f)
 
   pub kept-marked : IsKept count slots extras delay now past s.transactions (with_marks which kept s)
-  kept-marked = record {
-    phase = k.phase;
-    requests = k.requests;
-    few = k.few;
-    prompt = k.prompt;
-    pace = k.pace;
-    sent = k.sent;
-    aged = k.aged;
-    lone = k.lone;
-    begun = k.begun;
-    heard = k.heard;
-    seldom = k.seldom;
+  kept-marked = kept-changed count slots extras delay now past s.transactions s k t.grants s.listed s.events s.challenges s.ids s.closes (record {
     asked = λ l h. let (refreshes, (g, there, for)) = k.asked l h in (refreshes, (mark g, mark-there g there, mark-for l.purpose g ∙ for));
     size = let same = length-map s.grants mark in let size = k.size in omega (arith, same, size);
     single = λ q unique.
         let few = k.single q unique in
         omega (arith, few, passes-mapped (is_for q) (is_for q) mark s.grants (λ g there e. sym (mark-for q g) ∙ e));
     linked = λ id. linked-marked (listed_as id s.listed) (k.linked id);
-    in_range = k.in_range;
     housed = λ g h. let (x, there, e) = came g h in subst (λ (y : Grant). Room t.grants (family_of_grant y)) (sym e) (rw (mark-family x) (room (family_of_grant x) (k.housed x there)));
     known = λ g h. let (x, there, e) = came g h in subst (IsKnown now past t) (sym e) (known-marked x there);
     each = λ g h. let (x, there, e) = came g h in subst (IsWell count slots extras delay now past s.transactions t) (sym e) (well-marked x there);
-  }
+  })
     where
       room : (family : AddressFamily) → Room s.grants family → Room t.grants family
       room = room-more s.grants t.grants (λ a there. subst (λ (x : Grant). Has x t.grants) (for-mark (λ x. x ≡ Allocation a) (Allocation a) refl (λ e. refl)) (mark-there (Allocation a) there))

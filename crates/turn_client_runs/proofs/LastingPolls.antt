@@ -21,7 +21,7 @@ use Rattle.turn_client_laws.proofs.CaseLemmas.{answer-by}
 use Rattle.turn_client_api.proofs.HasLemmas.{Has}
 use Rattle.turn_client_runs.specs.History.{History}
 use Rattle.turn_client_runs.proofs.LastingLapses.{IsPlain}
-use Rattle.turn_client_runs.proofs.LastingStands.{IsKept, Stands}
+use Rattle.turn_client_runs.proofs.LastingStands.{kept-changed, IsKept, Stands}
 
 -- ---- no data connections
 
@@ -81,24 +81,12 @@ module _ (count slots extras delay now : ℕ) (past : History) (transactions : L
   }
 
   pub kept-aside : IsKept count slots extras delay now past transactions s → IsKept count slots extras delay now past transactions (record s { ids = ids; events = events; closes = closes })
-  kept-aside k = record {
-    phase = k.phase;
-    requests = k.requests;
-    few = k.few;
-    prompt = k.prompt;
-    pace = k.pace;
-    sent = k.sent;
-    aged = k.aged;
-    lone = k.lone;
-    begun = k.begun;
-    heard = k.heard;
-    seldom = k.seldom;
+  kept-aside k = kept-changed count slots extras delay now past transactions s k s.grants s.listed events s.challenges ids closes (record {
     asked = k.asked;
     size = k.size;
     single = k.single;
     linked = k.linked;
-    in_range = k.in_range;
     housed = k.housed;
     known = k.known;
     each = λ g there. elim (k.each g there) [ inl waits ↦ inl waits | inr (inl stands) ↦ inr (inl (stands-aside g stands)) | inr (inr loose) ↦ inr (inr loose) ];
-  }
+  })

@@ -27,7 +27,7 @@ use Rattle.turn_client_runs.specs.History.{History, was_let_go}
 use Rattle.turn_client_runs.specs.Lasting.{as_granted, Answers, Grants, ahead_of, expiry_of, with_expiry}
 use Rattle.turn_client_runs.proofs.LastingCounts.{or_else, or_first, length-without, passes, passes-all, passes-append, passes-filter, passes-map, passes-mapped, passes-none, passes-split, passes-same, passes-two}
 use Rattle.turn_client_runs.proofs.LastingStands.{AllRemain, Follows, Goes, IsPending, goes-more, goes-trans, pending-more, AreRequests, Brings, IsRequest, listed_as, IsAsked, IsAwaited}
-use Rattle.turn_client_runs.proofs.LastingStands.{asked-before, granted-active, kept-granted, leased-active, let_go-became, let_go-with, reserved-unserved, IsActive, IsKnown, IsLeased, IsLoose, IsGranted, IsIdle, IsKept, IsRefreshing, Stands, due_of, early-paced, still-paced, is_served, not-waiting, pause-le, IsUnique, IsWell, is_waiting}
+use Rattle.turn_client_runs.proofs.LastingStands.{asked-before, kept-changed, granted-active, kept-granted, leased-active, let_go-became, let_go-with, reserved-unserved, IsActive, IsKnown, IsLeased, IsLoose, IsGranted, IsIdle, IsKept, IsRefreshing, Stands, due_of, early-paced, still-paced, is_served, not-waiting, pause-le, IsUnique, IsWell, is_waiting}
 use Rattle.turn_client_runs.proofs.LastingStands.{served, used, unique-refreshing, unique-spares}
 use Rattle.turn_client_api.specs.Requests.{channel_bind_method, method_for}
 use Rattle.turn_client_api.specs.Judgement.{method_in}
@@ -387,18 +387,7 @@ module _ (count slots extras delay now : ℕ) (past : History) (transactions : L
       by false e (inr (inr loose)) = inr (inr (loose-other count slots extras delay now past transactions u k p refreshing t refl g loose))
 
   pub renewed-kept : IsKept count slots extras delay now past transactions t
-  renewed-kept = record {
-    phase = k.phase;
-    requests = k.requests;
-    few = k.few;
-    prompt = k.prompt;
-    pace = k.pace;
-    sent = k.sent;
-    aged = k.aged;
-    lone = k.lone;
-    begun = k.begun;
-    heard = k.heard;
-    seldom = k.seldom;
+  renewed-kept = kept-changed count slots extras delay now past transactions u k t.grants t.listed u.events challenges u.ids u.closes (record {
     asked = λ l h. asked l (k.asked l (kept-listing count slots extras delay now past transactions u k p refreshing l h).0);
     size = let same = length-map u.grants (renews p expiry) in let size = k.size in omega (arith, same, size);
     single = λ q unique.
@@ -406,13 +395,12 @@ module _ (count slots extras delay now : ℕ) (past : History) (transactions : L
         omega (arith, few, passes-mapped (is_for q) (is_for q) (renews p expiry) u.grants (λ g there e. sym (renews-for q p expiry g) ∙ e));
     linked = linked-left count slots extras delay now past transactions u k p refreshing t.grants
         (λ g there other. subst (λ (h : Grant). Has h t.grants) (rw other refl) (map-has (renews p expiry) g u.grants there));
-    in_range = k.in_range;
     housed = λ g h.
         let (x, there, e) = has-mapped (renews p expiry) g u.grants h in
         subst (λ (y : Grant). Room t.grants (family_of_grant y)) (sym e) (rw (renews-family x) (has-room (family_of_grant x) (k.housed x there)));
     known = λ g h. let (x, there, e) = has-mapped (renews p expiry) g u.grants h in subst (IsKnown now past t) (sym e) (renews-known x there);
     each = λ g h. let (x, there, e) = has-mapped (renews p expiry) g u.grants h in subst (IsWell count slots extras delay now past transactions t) (sym e) (renews-well x there);
-  }
+  })
     where
       asked : (l : Listing) → IsAsked u.grants l → IsAsked t.grants l
       asked l (refreshes, (g, there, for)) = (refreshes, (renews p expiry g, map-has (renews p expiry) g u.grants there, renews-for l.purpose p expiry g ∙ for))
@@ -548,18 +536,7 @@ module _ (count slots extras delay now : ℕ) (past : History) (transactions : L
   room-anew = room-more u.grants after.grants (λ a there. stays-there (Allocation a) there (unique-spares p anew.unique a))
 
   pub anew-kept : IsKept count slots extras delay now past transactions after
-  anew-kept = record {
-    phase = k.phase;
-    requests = k.requests;
-    few = k.few;
-    prompt = k.prompt;
-    pace = k.pace;
-    sent = k.sent;
-    aged = k.aged;
-    lone = k.lone;
-    begun = k.begun;
-    heard = k.heard;
-    seldom = k.seldom;
+  anew-kept = kept-changed count slots extras delay now past transactions u k after.grants after.listed anew.events anew.challenges u.ids u.closes (record {
     asked = λ l h.
         let (was, unshared) = kept-listing count slots extras delay now past transactions u k p refreshing l h in
         let (refreshes, (g, there, for)) = k.asked l was in
@@ -571,7 +548,6 @@ module _ (count slots extras delay now : ℕ) (past : History) (transactions : L
         omega (arith, one, len, size);
     single = single-anew;
     linked = linked-left count slots extras delay now past transactions u k p refreshing after.grants stays-there;
-    in_range = k.in_range;
     housed = λ g h. elim (which g h) [
       | inl (there, other) ↦ room-anew (family_of_grant g) (k.housed g there)
       | inr e ↦ subst (λ (y : Grant). Room after.grants (family_of_grant y)) (sym e)
@@ -579,7 +555,7 @@ module _ (count slots extras delay now : ℕ) (past : History) (transactions : L
     ];
     known = known-anew;
     each = well-anew;
-  }
+  })
 
   -- the one that waited is the only one for its IP address
   anew-remain : AllRemain u after

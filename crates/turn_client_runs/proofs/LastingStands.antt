@@ -4,10 +4,13 @@ use Rattle.std.proofs.Common.{inr, arith}
 use Rattle.std.specs.Prelude.{IfSome, ⊤, nat_le}
 use Rattle.std.proofs.lemmas.Bool.{lt-leb}
 use Rattle.std.proofs.lemmas.Nat.{mul-le}
+use Rattle.std.specs.declared.net.socket_addr.SocketAddr.{SocketAddr}
+use Rattle.turn_agent.specs.TransactionIds.{Source}
 use Rattle.turn_agent.specs.declared.transaction.Transaction.{Transaction}
 use Rattle.turn_client_api.specs.Config.{timers_of}
 use Rattle.turn_client_api.specs.State.{State, later_by}
 use Rattle.turn_client_api.specs.declared.state.Phase.TheVariants.{Allocated}
+use Rattle.turn_client_api.specs.declared.event.TurnEvent.{TurnEvent}
 use Rattle.turn_client_api.specs.declared.grant.Grant.{Grant}
 use Rattle.turn_client_api.specs.declared.grant.Grant.TheVariants.{Allocation, Permission, Channel}
 use Rattle.turn_client_api.specs.declared.grant.Progress.TheVariants.{Active, Pending, Reserved}
@@ -283,6 +286,43 @@ pub record IsKept (count slots extras delay now : ℕ) (past : History) (transac
   pub housed : (g : Grant) → Has g s.grants → Room s.grants (family_of_grant g)
   pub known : (g : Grant) → Has g s.grants → IsKnown now past s g
   pub each : (g : Grant) → Has g s.grants → IsWell count slots extras delay now past transactions s g
+
+-- the grants and what is listed for them
+pub record AreKept (count slots extras delay now : ℕ) (past : History) (transactions : List Transaction) (s : State) : Type 0 where
+  pub asked : (l : Listing) → Has l s.listed → IsAsked s.grants l
+  pub size : length s.grants ≤ count
+  pub single : AreSingle s.grants
+  pub linked : AreRequests s.grants s.listed
+  pub housed : (g : Grant) → Has g s.grants → Room s.grants (family_of_grant g)
+  pub known : (g : Grant) → Has g s.grants → IsKnown now past s g
+  pub each : (g : Grant) → Has g s.grants → IsWell count slots extras delay now past transactions s g
+
+-- with other ones the rest stays as it is
+pub kept-changed : (count slots extras delay now : ℕ) (past : History) (transactions : List Transaction) (s : State) → IsKept count slots extras delay now past transactions s → (grants : List Grant) (listed : List Listing)
+    (events : List TurnEvent) (challenges : ℕ) (ids : Source) (closes : List SocketAddr)
+    → let t = record s { grants = grants; listed = listed; events = events; challenges = challenges; ids = ids; closes = closes } in
+    AreKept count slots extras delay now past transactions t → IsKept count slots extras delay now past transactions t
+kept-changed count slots extras delay now past transactions s k grants listed events challenges ids closes are = record {
+  phase = k.phase;
+  requests = k.requests;
+  few = k.few;
+  prompt = k.prompt;
+  pace = k.pace;
+  sent = k.sent;
+  aged = k.aged;
+  lone = k.lone;
+  begun = k.begun;
+  heard = k.heard;
+  seldom = k.seldom;
+  asked = are.asked;
+  size = are.size;
+  single = are.single;
+  linked = are.linked;
+  in_range = k.in_range;
+  housed = are.housed;
+  known = are.known;
+  each = are.each;
+}
 
 -- ---- numbers
 
