@@ -1,5 +1,5 @@
 -- `poll` waits for the expiry of each allocation.
-use Rattle.std.proofs.Common.{◌≡◌, ◌||◌, ℕ, ◌<◌, ◌≤◌, max, Bool, true, false, cond, ltb, List, [], ◌∷◌, ◌++◌, map, flat_map, Option, Some, None, arith, inl, inr, refl}
+use Rattle.std.proofs.Common.{◌||◌, ℕ, ◌<◌, ◌≤◌, max, Bool, cond, List, [], ◌∷◌, ◌++◌, map, flat_map, Option, Some, None, arith, inl, inr, refl}
 use Rattle.std.specs.Prelude.{is_some}
 use Rattle.std.proofs.lemmas.Bool.{lt-ltb}
 use Rattle.std.specs.declared.net.socket_addr.SocketAddr.{SocketAddr}

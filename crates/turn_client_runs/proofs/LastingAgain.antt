@@ -42,7 +42,7 @@ IsOneMore now past later = (since : ℕ) → since ≤ now → extra_since since
 -- ---- a request is retransmitted
 
 module _ (count slots extras delay now : ℕ) (past later : History) (s : State) (k : IsKept count slots extras delay now past s.transactions s) (on : GoesOn s.transactions past later)
-    (more : IsOneMore now past later) (seldom : IsSeldom extras s.config.refresh_ahead now later) (x : Transaction) (found : due (agent_of s) now ≡ Some x) where
+    (more : IsOneMore now past later) (seldom : IsSeldom extras s.config.refresh_ahead now later) (row : s.challenges ≤ later.challenged) (x : Transaction) (found : due (agent_of s) now ≡ Some x) where
   abbrev again : Transaction → Transaction
   again y = cond (eqb y.id x.id) (sent_again now y) y
 
@@ -173,6 +173,7 @@ module _ (count slots extras delay now : ℕ) (past later : History) (s : State)
         let late = k.heard z there in
         subst (λ (y : Transaction). now ≤ later.made y.id + delay) (sym e) (rw (same-id z) (omega (arith, same, late)));
     seldom = seldom;
+    row = row;
     asked = k.asked;
     size = k.size;
     single = k.single;
@@ -205,7 +206,7 @@ pub retried-queue : (s : State) (id : ℕ) (purpose : Purpose) (challenge : Chal
 retried-queue s id purpose challenge now = length-append s.queue (record { packet = to_server s s.local (retry_text s id purpose challenge); is_request = true } ∷ [])
 
 module _ (count slots extras delay now : ℕ) (past later : History) (s : State) (k : IsKept count slots extras delay now past s.transactions s) (on : GoesOn s.transactions past later)
-    (more : IsOneMore now past later) (seldom : IsSeldom extras s.config.refresh_ahead now later) (id : ℕ) (purpose : Purpose) (challenge : Challenge)
+    (more : IsOneMore now past later) (seldom : IsSeldom extras s.config.refresh_ahead now later) (row : s.challenges + 1 ≤ later.challenged) (id : ℕ) (purpose : Purpose) (challenge : Challenge)
     (fits : length s.queue + 1 ≤ slots) (early_made : later.made (fresh_id s) ≤ now) (answered_by : now ≤ later.made (fresh_id s) + delay)
     (as_old : (x : Transaction) → Has x s.transactions → x.id ≡ id → later.made (fresh_id s) ≡ past.made x.id) where
   abbrev after : State
@@ -400,6 +401,7 @@ module _ (count slots extras delay now : ℕ) (past later : History) (s : State)
       | inr (inr none) ↦ absurd none
     ];
     seldom = seldom;
+    row = row;
     asked = λ l h. elim (has-append l s.listed copies h) [
       | inl old ↦ k.asked l old
       | inr new ↦

@@ -198,6 +198,7 @@ module _ (count slots extras delay now : ℕ) (past : History) (s : State) (k : 
       | inr (inr none) ↦ absurd none
     ];
     seldom = k.seldom;
+    row = k.row;
     asked = λ l h. elim (has-append l s.listed (listings id ps) h) [
       | inl old ↦ let (refreshes, (g, there, for)) = k.asked l old in (refreshes, (g, has-left g s.grants news there, for))
       | inr new ↦

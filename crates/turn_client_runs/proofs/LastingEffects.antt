@@ -88,6 +88,7 @@ pub record IsGrantedAnew (p : Purpose) (now : ℕ) (u t : State) : Type 0 where
   pub becomes : with_expiry 0 new ≡ as_granted waits
   pub events : List TurnEvent
   pub challenges : ℕ
+  pub fewer : challenges ≤ u.challenges
   pub is : t ≡ granted_by p new events challenges u
 
 -- what waits for it would not be the only one
@@ -97,7 +98,7 @@ IsForGranted p u =
 
 -- it does so, for 300 s or more
 abbrev pub Renews : Purpose → ℕ → State → State → Type 0
-Renews p now u t = (expiry : ℕ) × (challenges : ℕ) × (now + granted_for p ≤ expiry) × (t ≡ renewed_by p expiry challenges u) × IsForGranted p u
+Renews p now u t = (expiry : ℕ) × (challenges : ℕ) × (challenges ≤ u.challenges) × (now + granted_for p ≤ expiry) × (t ≡ renewed_by p expiry challenges u) × IsForGranted p u
 
 -- ---- lists
 
@@ -159,6 +160,7 @@ refresh-renews family lifetime message now u range asked lasts = rw not_zero (by
     by (Some n) h = rw (le-leb min_lifetime n h) (
       later_by (seconds n) now,
       0,
+      omega arith,
       long-enough n now range h,
       renewed-is (λ g. Rattle.std.specs.Prelude.is_some (as_allocation g) && is_of family g) _ (ForRefresh family lifetime) (later_by (seconds n) now) 0 u
           (allocation-changes family lifetime (later_by (seconds n) now))
@@ -222,6 +224,7 @@ permission-does ip now u range all g there is = elim (permission-known ip u all 
   | inl (w, e, (x, here, of, granted)) ↦ rw e (inl (
     later_by permission_lifetime now,
     u.challenges,
+    omega arith,
     omega (arith, range),
     renewed-is (is_permission_of ip) (lasting_if (is_permission_of ip) (later_by permission_lifetime now)) (ForPermission ip) (later_by permission_lifetime now) u.challenges u
         (permission-lasts ip (later_by permission_lifetime now)) (λ g. refl),
@@ -242,7 +245,8 @@ permission-does ip now u range all g there is = elim (permission-known ip u all 
     becomes = refl;
     late = omega (arith, range);
     events = _;
-    challenges = _;
+    challenges = u.challenges;
+    fewer = omega arith;
     is = refl;
   }))
 ]
@@ -309,7 +313,7 @@ channel-lasts number peer expiry g = refl
 
 -- a success counts challenges anew
 does-reset : (p : Purpose) (now : ℕ) (u v : State) → Does p now u v → Does p now u (record v { challenges = 0 })
-does-reset p now u v (inl (expiry, challenges, late, is, alone)) = inl (expiry, 0, late, ap (λ (t : State). record t { challenges = 0 }) is, alone)
+does-reset p now u v (inl (expiry, challenges, fewer, late, is, alone)) = inl (expiry, 0, omega arith, late, ap (λ (t : State). record t { challenges = 0 }) is, alone)
 does-reset p now u v (inr a) = inr (record {
   unique = a.unique;
   waits = a.waits;
@@ -326,6 +330,7 @@ does-reset p now u v (inr a) = inr (record {
   late = a.late;
   events = a.events;
   challenges = 0;
+  fewer = omega arith;
   is = ap (λ (t : State). record t { challenges = 0 }) a.is;
 })
 
@@ -348,6 +353,7 @@ channel-anew number peer to kept now v t range here events is = inr (record {
   late = omega (arith, range);
   events = events;
   challenges = v.challenges;
+  fewer = omega arith;
   is = is;
 })
 
@@ -359,6 +365,7 @@ channel-does number peer id now u range all one g there is = elim (channel-state
   | inl (to, w, e, (x, here, of, granted)) ↦ rw e (inl (
     later_by channel_lifetime now,
     u.challenges,
+    omega arith,
     omega (arith, range),
     renewed-is (is_channel_of number) (lasting_if (is_channel_of number) (later_by channel_lifetime now)) (ForChannel number peer) (later_by channel_lifetime now) u.challenges u
         (channel-lasts number peer (later_by channel_lifetime now)) (λ g. refl),
@@ -369,7 +376,7 @@ channel-does number peer id now u range all one g there is = elim (channel-state
 
 -- a channel that waits stays when a permission is answered
 channel-stays : (ip : IpAddr) (now : ℕ) (u v : State) → Does (ForPermission ip) now u v → (g : Grant) → Has g u.grants → is_permission_of ip g ≡ false → Has g v.grants
-channel-stays ip now u v (inl (expiry, challenges, late, is, alone)) g there other =
+channel-stays ip now u v (inl (expiry, challenges, fewer, late, is, alone)) g there other =
     subst (λ (x : State). Has g x.grants) (sym is) (subst (λ (h : Grant). Has h (map (renews (ForPermission ip) expiry) u.grants)) (rw other refl)
     (map-has (renews (ForPermission ip) expiry) g u.grants there))
 channel-stays ip now u v (inr a) g there other = subst (λ (x : State). Has g x.grants) (sym a.is)
@@ -408,6 +415,20 @@ effect-does message id now u (ForPermission ip) range all asked grants one g the
 effect-does message id now u (ForChannel number peer) range all asked grants one g there is =
     does-reset (ForChannel number peer) now u (channel_answered number id true now u) (channel-does number peer id now u range all one g there is)
 effect-does message id now u p range all asked grants one g there is = absurd asked
+
+-- challenges are counted anew
+pub effect-resets : (message : List ℕ) (id now : ℕ) (u : State) (p : Purpose) → IsRefreshing p → Grants message p → (effect id true message now u p).challenges ≡ 0
+effect-resets message id now u (ForPermission ip) asked grants = refl
+effect-resets message id now u (ForChannel number peer) asked grants = refl
+effect-resets message id now u (ForRefresh family lifetime) asked grants = rw not_zero (by (lifetime_in message) grants.1)
+  where
+    not_zero : eqb lifetime 0 ≡ false
+    not_zero = false_from_ne_true (eqb lifetime 0) (λ e. let z = eqb-true lifetime 0 e in omega (arith, z, asked))
+
+    by : (o : Option ℕ) → IsSomeAnd o (λ n. min_lifetime ≤ n) → (option_map_or (λ granted. prolonged family granted now u) o u).challenges ≡ 0
+    by None h = absurd h
+    by (Some n) h = rw (le-leb min_lifetime n h) refl
+effect-resets message id now u p asked grants = absurd asked
 
 -- of a channel that waits, and brings a permission
 pub effect-brings : (message : List ℕ) (number : ℕ) (peer : SocketAddr) (ip : IpAddr) (id now : ℕ) (u : State) → now ≤ 2 ^ 62 → AllKnown u

@@ -52,7 +52,7 @@ gone-unserved now since s near (Channel number peer (Reserved until)) gone = (re
 gone-unserved now since s near g gone = absurd gone
 
 module _ (count slots extras delay now : ℕ) (past later : History) (s : State) (k : IsKept count slots extras delay now past s.transactions s) (on : GoesOn s.transactions past later)
-    (seldom : IsSeldom extras s.config.refresh_ahead now later) (grants : List Grant) (listed : List Listing) (events : List TurnEvent) (closes : List SocketAddr)
+    (seldom : IsSeldom extras s.config.refresh_ahead now later) (row : s.challenges ≤ later.challenged) (grants : List Grant) (listed : List Listing) (events : List TurnEvent) (closes : List SocketAddr)
     (lapses : Lapses now s.grants s.listed grants listed) (tidy : IsTidy grants listed)
     (counts : (since : ℕ) → since ≤ now → extra_since since past + passes (is_lost s.listed listed) s.grants ≤ extra_since since later) where
   abbrev t : State
@@ -158,6 +158,7 @@ module _ (count slots extras delay now : ℕ) (past later : History) (s : State)
     begun = λ x h. let e = on.same x h in let b = k.begun x h in omega (arith, e, b);
     heard = λ x h. let e = on.same x h in let late = k.heard x h in omega (arith, e, late);
     seldom = seldom;
+    row = row;
     asked = λ l h. let (refreshes, (g, there, for)) = k.asked l (lapses.listed l h) in (refreshes, (g, lapses.held l h g there for, for));
     size = let a = k.size in let b = lapses.size in omega (arith, a, b);
     single = tidy.single;

@@ -1,24 +1,29 @@
 -- What came before in a run, while no grant is lost.
-use Rattle.std.proofs.Common.{◌≡◌, ℕ, zero, suc, ◌+◌, ◌-◌, ◌^◌, ◌<◌, ◌≤◌, min, Bool, true, false, cond, ◌&&◌, ◌||◌, leb, eqb, List, [], ◌∷◌, ◌++◌, length, None, refl, inl, inr, ap, sym, subst, ◌∙◌, arith}
+use Rattle.std.proofs.Common.{◌≡◌, ℕ, zero, suc, ◌+◌, ◌-◌, ◌^◌, ◌<◌, ◌≤◌, min, Bool, true, false, cond, not, ◌&&◌, ◌||◌, leb, eqb, List, [], ◌∷◌, ◌++◌, length, None, refl, inl, inr, ap, sym, subst, ◌∙◌, arith}
 use Rattle.std.specs.Prelude.{filter, map, nat_le}
-use Rattle.std.proofs.lemmas.Bool.{and_right, cases_Bool, cases_lt, eq-eqb, eqb-true, le-leb, leb-true, lt-leb, or_cases, or_left, or_parts, or_right}
+use Rattle.std.specs.List.{list_any}
+use Rattle.std.proofs.lemmas.Bool.{and_parts, and_right, cases_Bool, cases_lt, eq-eqb, eqb-true, le-leb, leb-true, lt-leb, not-true, or_cases, or_left, or_parts, or_right}
 use Rattle.std.proofs.lemmas.List.{length-append}
 use Rattle.std.proofs.lemmas.List.Elements.{filter-append}
 use Rattle.turn_stun.specs.declared.transport.TransportType.{TransportType}
+use Rattle.turn_stun.specs.Message.{id_of}
 use Rattle.turn_agent.specs.Agent.{is_outstanding, timed_out_transaction, transaction_timeout}
 use Rattle.turn_agent.specs.Schedule.{Timers, resends_of, wait_at}
 use Rattle.turn_agent.specs.declared.transaction.Transaction.{Transaction}
 use Rattle.turn_client_api.specs.Config.{timers_of}
 use Rattle.turn_client_api.specs.Requests.{fresh_id}
 use Rattle.turn_client_api.specs.State.{State, agent_of}
+use Rattle.turn_client_api.specs.Steps.{state_after}
 use Rattle.turn_client_api.specs.declared.call.Call.{Call}
+use Rattle.turn_client_api.specs.declared.call.Call.TheVariants.{Recv}
 use Rattle.turn_client_api.specs.Due.{is_kept}
 use Rattle.turn_client_api.specs.declared.grant.Grant.{Grant}
+use Rattle.turn_client_api.specs.declared.grant.Listing.{Listing}
 use Rattle.turn_client_api.specs.declared.grant.Grant.TheVariants.{Permission, Channel}
 use Rattle.turn_client_api.proofs.HasLemmas.{Has, find-none, has-append}
 use Rattle.turn_client_laws.proofs.InAllocationLemmas.{has-any}
 use Rattle.turn_client_laws.proofs.NewIdLemmas.{fresh-free}
-use Rattle.turn_client_runs.specs.History.{History, IsSeldom, all_waits, extra_since, first_made, is_extra, lets_channel_go, lets_permission_go, lost, waited, was_let_go, with_call}
+use Rattle.turn_client_runs.specs.History.{History, is_replied, IsSeldom, all_waits, extra_since, first_made, is_extra, lets_channel_go, lets_permission_go, lost, waited, was_let_go, with_call}
 use Rattle.turn_client_runs.proofs.LastingStands.{AreLetGo, Goes, IsKept, IsKnown, IsPending, IsWell, Stands, due_of, still-paced}
 
 -- ---- waits
@@ -134,6 +139,23 @@ call-goes_on call now past s = record { same = same; more = λ since. by (is_ext
     by true since = one since (leb since now)
     by false since = rw (extra-more now past (lost call s) since) (omega arith)
 
+-- a call that changes nothing answers no challenge and ends no row
+pub same-row : (call : Call) (now : ℕ) (past : History) (s : State) → state_after call s ≡ s → s.challenges ≤ past.challenged → s.challenges ≤ (with_call call now s past).challenged
+same-row (Recv packet received) now past s same row = by (is_extra (Recv packet received) s) (is_replied (id_of packet.payload) (Recv packet received) s) refl
+  where
+    by : (a b : Bool) → is_replied (id_of packet.payload) (Recv packet received) s ≡ b → s.challenges ≤ cond a (past.challenged + 1) (cond b 0 past.challenged)
+    by true b e = omega (arith, row)
+    by false false e = row
+    by false true e =
+        let listed = list_any (λ (l : Listing). eqb l.id (id_of packet.payload)) s.listed in
+        let (both, not) = and_parts (listed && is_outstanding (id_of packet.payload) s.transactions) _ e in
+        let was = (and_parts listed (is_outstanding (id_of packet.payload) s.transactions) both).1 in
+        let still : is_outstanding (id_of packet.payload) (state_after (Recv packet received) s).transactions ≡ true =
+        subst (λ (x : State). is_outstanding (id_of packet.payload) x.transactions ≡ true) (sym same) was in
+        let no : false ≡ true = sym (not-true _ not) ∙ still in
+        cc
+same-row call now past s same row = row
+
 -- what an extra packet adds
 pub call-extra : (call : Call) (now : ℕ) (past : History) (s : State) → is_extra call s ≡ true → (since : ℕ) → since ≤ now → extra_since since past + 1 ≤ extra_since since (with_call call now s past)
 call-extra call now past s e since early = rw e (by (leb since now) (Rattle.std.proofs.lemmas.Bool.le-leb since now early))
@@ -201,10 +223,10 @@ known-later past later on g e = elim (or_cases (is_kept g) (was_let_go past g) e
 
 -- the same requests were made when they were, and no more packets are extra than may be
 pub kept-with : (count slots extras delay now : ℕ) (past later : History) (s : State) → ((x : Transaction) → Has x s.transactions → later.made x.id ≡ past.made x.id)
-    → IsSeldom extras s.config.refresh_ahead now later → ((g : Grant) → Has g s.grants → IsKnown now later s g)
+    → IsSeldom extras s.config.refresh_ahead now later → s.challenges ≤ later.challenged → ((g : Grant) → Has g s.grants → IsKnown now later s g)
     → ((g : Grant) → Has g s.grants → IsWell count slots extras delay now later s.transactions s g) → IsKept count slots extras delay now past s.transactions s
     → IsKept count slots extras delay now later s.transactions s
-kept-with count slots extras delay now past later s same seldom known each k = record {
+kept-with count slots extras delay now past later s same seldom row known each k = record {
   phase = k.phase;
   requests = k.requests;
   few = k.few;
@@ -216,6 +238,7 @@ kept-with count slots extras delay now past later s same seldom known each k = r
   begun = λ x h. let e = same x h in let b = k.begun x h in omega (arith, e, b);
   heard = λ x h. let e = same x h in let late = k.heard x h in omega (arith, e, late);
   seldom = seldom;
+  row = row;
   asked = k.asked;
   size = k.size;
   single = k.single;
@@ -227,9 +250,9 @@ kept-with count slots extras delay now past later s same seldom known each k = r
 }
 
 pub kept-later : (count slots extras delay now : ℕ) (past later : History) (s : State) → GoesOn s.transactions past later → IsSeldom extras s.config.refresh_ahead now later
-    → IsKept count slots extras delay now past s.transactions s → IsKept count slots extras delay now later s.transactions s
-kept-later count slots extras delay now past later s on seldom k =
-    kept-with count slots extras delay now past later s on.same seldom
+    → s.challenges ≤ later.challenged → IsKept count slots extras delay now past s.transactions s → IsKept count slots extras delay now later s.transactions s
+kept-later count slots extras delay now past later s on seldom row k =
+    kept-with count slots extras delay now past later s on.same seldom row
     (λ g there. let (waits, due) = k.known g there in (λ w. known-later past later on.let_go g (waits w), due))
     (λ g there. well-later count slots extras delay now past later s.transactions s on.same on.more on.let_go g (k.each g there)) k
 
@@ -239,6 +262,17 @@ goes-later past later ys s t on goes = record {
   remain = goes.remain;
   follow = λ until g there waits pending none. goes.follow until g there waits (pending-later_on 0 0 0 0 0 past later s.transactions s on.same on.more until g pending) none;
 }
+
+-- how many challenges came is nothing to the grants
+pub goes-row : (past later : History) (row : ℕ) (xs ys : List Transaction) (s t : State) → Goes past (record later { challenged = row }) xs ys s t → Goes past later xs ys s t
+goes-row past later row xs ys s t goes = record {
+  let_go = goes.let_go;
+  remain = goes.remain;
+  follow = λ until g there waits pending none. elim (goes.follow until g there waits pending none) [ inl (here, still) ↦ inl (here, as-later until g still) | inr is ↦ inr is ];
+}
+  where
+    as-later : (until : ℕ) (g : Grant) → IsPending until (record later { challenged = row }) ys t.listed g → IsPending until later ys t.listed g
+    as-later until g p = record { transaction = p.transaction; there = p.there; listing = p.listing; within = p.within; for = p.for; same = p.same; sent = p.sent }
 
 -- the first wait is one of all
 pub first-wait : (timers : Timers) (transport : TransportType) → wait_at timers transport 0 ≤ all_waits timers transport

@@ -211,6 +211,7 @@ module _ (count slots extras delay now : ℕ) (past : History) (s : State) (k : 
 
   pub kept-marked : IsKept count slots extras delay now past s.transactions (with_marks which kept s)
   kept-marked = kept-changed count slots extras delay now past s.transactions s k t.grants s.listed s.events s.challenges s.ids s.closes (record {
+    row = k.row;
     asked = λ l h. let (refreshes, (g, there, for)) = k.asked l h in (refreshes, (mark g, mark-there g there, mark-for l.purpose g ∙ for));
     size = let same = length-map s.grants mark in let size = k.size in omega (arith, same, size);
     single = λ q unique.

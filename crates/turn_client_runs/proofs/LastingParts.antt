@@ -81,7 +81,7 @@ single-first (g ∷ gs) (apart, others) p unique = elim (cases_Bool (is_for p g)
   | inr e ↦ rw e (omega (arith, single-first gs others p unique))
 ]
 
-steady-kept : (count slots extras delay now : ℕ) (s : State) → IsSteady count slots extras delay now s → IsKept count slots extras delay now no_history s.transactions s
+steady-kept : (count slots extras delay now : ℕ) (s : State) → IsSteady count slots extras delay now s → IsKept count slots extras delay now (no_history s) s.transactions s
 steady-kept count slots extras delay now s is = record {
   phase = is.allocated;
   requests = rw is.none_queued refl;
@@ -94,6 +94,7 @@ steady-kept count slots extras delay now s is = record {
   begun = λ x h. absurd (none-there x h);
   heard = λ x h. absurd (none-there x h);
   seldom = λ since within. omega arith;
+  row = omega arith;
   asked = λ l h. absurd (subst (λ (ls : List Listing). Has l ls) is.none_listed h);
   size = is.within.0;
   single = single-first s.grants is.distinct;
@@ -104,7 +105,7 @@ steady-kept count slots extras delay now s is = record {
   each = λ g there. inr (inl (stands g there));
 }
   where
-    waits : (g : Grant) → Has g s.grants → is_waiting g ≡ true → (is_kept g || was_let_go no_history g) ≡ true
+    waits : (g : Grant) → Has g s.grants → is_waiting g ≡ true → (is_kept g || was_let_go (no_history s) g) ≡ true
     waits g there w =
         let granted = force-granted now g (has-all (IsInForce now) g s.grants is.in_force there) in
         absurd (let no : false ≡ true = sym (not-waiting g (granted-active g granted)) ∙ w in cc)
@@ -118,7 +119,7 @@ steady-kept count slots extras delay now s is = record {
     none : length s.queue ≡ 0
     none = rw is.none_queued refl
 
-    stands : (g : Grant) → Has g s.grants → Stands count slots extras delay now no_history s.transactions s g
+    stands : (g : Grant) → Has g s.grants → Stands count slots extras delay now (no_history s) s.transactions s g
     stands g there =
         let early : now + ahead_of s.config.refresh_ahead g ≤ expiry_of g = has-all (λ g. now + ahead_of s.config.refresh_ahead g ≤ expiry_of g) g s.grants is.none_late there in
         record {
@@ -175,7 +176,7 @@ fresh-stands count slots extras delay now past s k g there granted leased fresh 
     unasked true e = let due = (k.known g there).1 leased e in absurd (omega (arith, due, fresh))
 
 -- both parts of a run, of which the second one lets the grant go nowhere
-module _ (count slots extras delay now : ℕ) (s : State) (earlier later : List Call) (steady : IsSteady count slots extras delay now s) (run : RunsSteadily count slots extras delay now no_history s (earlier ++ later))
+module _ (count slots extras delay now : ℕ) (s : State) (earlier later : List Call) (steady : IsSteady count slots extras delay now s) (run : RunsSteadily count slots extras delay now (no_history s) s (earlier ++ later))
     (g : Grant) (there : Contains (state_after_all s earlier).grants g) (kept : IsKeptBy later (time_of_all now earlier) (state_after_all s earlier) g) where
   abbrev between : ℕ
   between = time_of_all now earlier
@@ -191,7 +192,7 @@ module _ (count slots extras delay now : ℕ) (s : State) (earlier later : List 
 
   -- what came before, then; without the grant; and at the end
   abbrev mid_past : History
-  mid_past = with_calls earlier now s no_history
+  mid_past = with_calls earlier now s (no_history s)
 
   abbrev spared : History
   spared = sparing g mid_past
@@ -203,7 +204,7 @@ module _ (count slots extras delay now : ℕ) (s : State) (earlier later : List 
   here = contains-has g mid.grants there
 
   kept-mid : IsKept count slots extras delay between mid_past mid.transactions mid
-  kept-mid = (all-kept count slots extras delay now no_history s earlier (steady-kept count slots extras delay now s steady) (first-part count slots extras delay now no_history s earlier later run)).0
+  kept-mid = (all-kept count slots extras delay now (no_history s) s earlier (steady-kept count slots extras delay now s steady) (first-part count slots extras delay now (no_history s) s earlier later run)).0
 
   end-spares : was_let_go end_past g ≡ false
   end-spares = none-by later between mid spared g (spared-none g mid_past) kept
@@ -215,7 +216,7 @@ module _ (count slots extras delay now : ℕ) (s : State) (earlier later : List 
   kept-end : IsSure → KeepsAll count slots extras delay last spared end_past mid end
   kept-end sure =
       all-kept count slots extras delay between spared mid later (kept-spared count slots extras delay between mid_past mid kept-mid g here sure)
-      (runs-alike count slots extras delay between mid_past spared mid later (λ id. refl) refl (last-part count slots extras delay now no_history s earlier later run))
+      (runs-alike count slots extras delay between mid_past spared mid later (λ id. refl) refl refl (last-part count slots extras delay now (no_history s) s earlier later run))
 
   has-still : IsSure → (h : Grant) → Has h end.grants → with_expiry 0 h ≡ as_granted g → IsGranted h → HasStill g last (state_after_all s (earlier ++ later))
   has-still sure h at_end same granted =
@@ -272,7 +273,7 @@ pub requests-succeed : RequestsSucceed
 requests-succeed count slots extras delay now s earlier later steady run g there requested late kept = succeeds count slots extras delay now s earlier later steady run g there kept requested late
 
 -- the same, of the calls of the second part alone
-module _ (count slots extras delay now : ℕ) (s : State) (before after : List Call) (steady : IsSteady count slots extras delay now s) (run : RunsSteadily count slots extras delay now no_history s (before ++ after)) where
+module _ (count slots extras delay now : ℕ) (s : State) (before after : List Call) (steady : IsSteady count slots extras delay now s) (run : RunsSteadily count slots extras delay now (no_history s) s (before ++ after)) where
   pub lasts-through : LastsThrough delay now s before after
   lasts-through g there kept = (
     λ in_force counted. ends (lasts count slots extras delay now s before after steady run g there kept in_force counted),

@@ -127,10 +127,10 @@ module _ (peers : List SocketAddr) (s : State) (many : length peers ≡ 4096) (o
   in-force g there = has-all (IsInForce 0) g t.grants begins.in_force there
 
 -- nothing was let go yet
-none-let_go : (g : Grant) → was_let_go no_history g ≡ false
-none-let_go (Permission ip progress) = refl
-none-let_go (Channel number peer progress) = refl
-none-let_go g = refl
+none-let_go : (s : State) (g : Grant) → was_let_go (no_history s) g ≡ false
+none-let_go s (Permission ip progress) = refl
+none-let_go s (Channel number peer progress) = refl
+none-let_go s g = refl
 
 pub peers-last : PeersLast
 peers-last peers s many over_v4 own = record {
@@ -138,5 +138,5 @@ peers-last peers s many over_v4 own = record {
   begins = begins peers s many over_v4 own;
   lasts = λ calls run g there kept.
       grants-last 8193 100 1000 5_000_000_000 0 (with_peers peers s) [] calls (begins peers s many over_v4 own) run g there
-      (in-force peers s many over_v4 own g (contains-has g (with_peers peers s).grants there)) (inl (none-let_go g)) kept;
+      (in-force peers s many over_v4 own g (contains-has g (with_peers peers s).grants there)) (inl (none-let_go (with_peers peers s) g)) kept;
 }

@@ -82,6 +82,7 @@ module _ (count slots extras delay now : ℕ) (past : History) (transactions : L
 
   pub kept-aside : IsKept count slots extras delay now past transactions s → IsKept count slots extras delay now past transactions (record s { ids = ids; events = events; closes = closes })
   kept-aside k = kept-changed count slots extras delay now past transactions s k s.grants s.listed events s.challenges ids closes (record {
+    row = k.row;
     asked = k.asked;
     size = k.size;
     single = k.single;

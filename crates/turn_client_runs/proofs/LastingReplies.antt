@@ -34,7 +34,7 @@ use Rattle.turn_client_api.specs.Judgement.{method_in}
 use Rattle.turn_client_api.specs.Payloads.{is_answered}
 use Rattle.std.proofs.lemmas.Bool.{eq-eqb}
 use Rattle.turn_client_runs.proofs.LastingListings.{requests-left}
-use Rattle.turn_client_runs.proofs.LastingEffects.{IsForGranted, IsOfKind, Does, granted_for, IsGrantedAnew, effect-brings, effect-does, granted_by, is_shared, renewed_by, renews}
+use Rattle.turn_client_runs.proofs.LastingEffects.{effect-resets, IsForGranted, IsOfKind, Does, granted_for, IsGrantedAnew, effect-brings, effect-does, granted_by, is_shared, renewed_by, renews}
 
 -- ---- two requests for one grant are for the same grants
 
@@ -301,7 +301,7 @@ module _ (count slots extras delay now : ℕ) (past : History) (transactions : L
 -- ---- a refresh
 
 module _ (count slots extras delay now : ℕ) (past : History) (transactions : List Transaction) (u : State) (k : IsKept count slots extras delay now past transactions u) (p : Purpose) (refreshing : IsRefreshing p) (expiry challenges : ℕ)
-    (late : now + granted_for p ≤ expiry) (alone : IsForGranted p u) where
+    (fewer : challenges ≤ u.challenges) (late : now + granted_for p ≤ expiry) (alone : IsForGranted p u) where
   abbrev t : State
   t = renewed_by p expiry challenges u
 
@@ -388,6 +388,7 @@ module _ (count slots extras delay now : ℕ) (past : History) (transactions : L
 
   pub renewed-kept : IsKept count slots extras delay now past transactions t
   renewed-kept = kept-changed count slots extras delay now past transactions u k t.grants t.listed u.events challenges u.ids u.closes (record {
+    row = let row = k.row in omega (arith, row, fewer);
     asked = λ l h. asked l (k.asked l (kept-listing count slots extras delay now past transactions u k p refreshing l h).0);
     size = let same = length-map u.grants (renews p expiry) in let size = k.size in omega (arith, same, size);
     single = λ q unique.
@@ -537,6 +538,7 @@ module _ (count slots extras delay now : ℕ) (past : History) (transactions : L
 
   pub anew-kept : IsKept count slots extras delay now past transactions after
   anew-kept = kept-changed count slots extras delay now past transactions u k after.grants after.listed anew.events anew.challenges u.ids u.closes (record {
+    row = let row = k.row in let fewer = anew.fewer in omega (arith, row, fewer);
     asked = λ l h.
         let (was, unshared) = kept-listing count slots extras delay now past transactions u k p refreshing l h in
         let (refreshes, (g, there, for)) = k.asked l was in
@@ -620,9 +622,9 @@ module _ (count slots extras delay now : ℕ) (past : History) (transactions : L
 
   -- one purpose is answered
   pub one-answered : (t : State) → Does p now u t → IsAnswered count slots extras delay now past transactions (p ∷ []) u t
-  one-answered t (inl (expiry, challenges, late, is, alone)) = subst (IsAnswered count slots extras delay now past transactions (p ∷ []) u) (sym is) (record {
-    kept = renewed-kept count slots extras delay now past transactions u k p refreshing expiry challenges late alone;
-    goes = renewed-goes count slots extras delay now past transactions u k p refreshing expiry challenges late alone;
+  one-answered t (inl (expiry, challenges, fewer, late, is, alone)) = subst (IsAnswered count slots extras delay now past transactions (p ∷ []) u) (sym is) (record {
+    kept = renewed-kept count slots extras delay now past transactions u k p refreshing expiry challenges fewer late alone;
+    goes = renewed-goes count slots extras delay now past transactions u k p refreshing expiry challenges fewer late alone;
     outstanding = refl;
     listed = left-listed;
   })
@@ -659,20 +661,26 @@ of_method method p r e = absurd r
 -- all that the request was made for is answered
 pub all-answered : (message : List ℕ) (id count slots extras delay now : ℕ) (past : History) (transactions : List Transaction) (u : State) → IsKept count slots extras delay now past transactions u
     → ((p : Purpose) → Has p (purposes_of id u) → IsGiven u.grants p) → Answers message (purposes_of id u)
-    → IsAnswered count slots extras delay now past transactions (purposes_of id u) u (fold (effect id true message now) u (filter (is_answered (method_in message)) (purposes_of id u)))
+    → let t = fold (effect id true message now) u (filter (is_answered (method_in message)) (purposes_of id u)) in
+    IsAnswered count slots extras delay now past transactions (purposes_of id u) u t × ((p : Purpose) → Has p (purposes_of id u) → t.challenges ≡ 0)
 all-answered message id count slots extras delay now past transactions u k given answers = by (listed_as id u.listed) refl (k.linked id)
   where
+    answered_to : List Purpose → State
+    answered_to ps = fold (effect id true message now) u (filter (is_answered (method_in message)) ps)
+
     Done : List Purpose → Type 0
-    Done ps = IsAnswered count slots extras delay now past transactions ps u (fold (effect id true message now) u (filter (is_answered (method_in message)) ps))
+    Done ps = IsAnswered count slots extras delay now past transactions ps u (answered_to ps) × ((p : Purpose) → Has p ps → (answered_to ps).challenges ≡ 0)
 
     known : (g : Grant) → Has g u.grants → IsOfKind u g
     known = all-known count slots extras delay now past transactions u k
 
     one : (p : Purpose) → purposes_of id u ≡ p ∷ [] → IsGiven u.grants p → Grants message p → Done (p ∷ [])
     one p e (refreshing, (g, there, for)) grants =
-        rw (of_method (method_in message) p refreshing grants.0)
-        (one-answered count slots extras delay now past transactions u k p refreshing g there for (effect id true message now u p)
-        (effect-does message id now u p k.in_range known refreshing grants e g there for))
+        rw (of_method (method_in message) p refreshing grants.0) (
+          one-answered count slots extras delay now past transactions u k p refreshing g there for (effect id true message now u p)
+              (effect-does message id now u p k.in_range known refreshing grants e g there for),
+          λ q h. effect-resets message id now u p refreshing grants,
+        )
 
     two : (p q : Purpose) → purposes_of id u ≡ p ∷ q ∷ [] → Brings u.grants p q → IsGiven u.grants p → IsGiven u.grants q → Grants message p → Done (p ∷ q ∷ [])
     two (ForChannel number peer) (ForPermission ip) e (h, here, waits, is) gp (refreshing, (g, there, for)) grants =
@@ -683,7 +691,10 @@ all-answered message id count slots extras delay now past transactions u k given
         let both = effect-brings message number peer ip id now u k.in_range known e g there for h here is waits (k.single (ForChannel number peer) tt) in
         let first = one-answered count slots extras delay now past transactions u k (ForPermission ip) tt g there for both.middle both.first in
         let last = one-answered count slots extras delay now past transactions both.middle first.kept (ForChannel number peer) tt h (both.stays h here (apart h is)) is t both.last in
-        rw (yes, not) (both-answered count slots extras delay now past transactions (ForChannel number peer) (ForPermission ip) u both.middle t first last)
+        rw (yes, not) (
+          both-answered count slots extras delay now past transactions (ForChannel number peer) (ForPermission ip) u both.middle t first last,
+          λ q h. effect-resets message id now u (ForChannel number peer) tt grants,
+        )
       where
         apart : (h : Grant) → is_for (ForChannel number peer) h ≡ true → is_for (ForPermission ip) h ≡ false
         apart h e = grind arith
@@ -692,7 +703,7 @@ all-answered message id count slots extras delay now past transactions u k given
     by : (ls : List Listing) → listed_as id u.listed ≡ ls → IsRequest u.grants ls → Done (purposes_of id u)
     by [] e h =
         let none : purposes_of id u ≡ [] = ap (map (λ (l : Listing). l.purpose)) e in
-        rw none (record { kept = k; goes = goes-more past transactions transactions u u refl (λ x h. h) (λ l h. h); outstanding = refl; listed = λ l h. (h, λ no. no) })
+        rw none (record { kept = k; goes = goes-more past transactions transactions u u refl (λ x h. h) (λ l h. h); outstanding = refl; listed = λ l h. (h, λ no. no) }, λ p no. absurd no)
     by (l ∷ []) e h =
         let is : purposes_of id u ≡ l.purpose ∷ [] = ap (map (λ (l : Listing). l.purpose)) e in
         subst Done (sym is) (one l.purpose is (given l.purpose (rw is (inl refl))) (subst (Answers message) is answers))

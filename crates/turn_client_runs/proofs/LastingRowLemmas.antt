@@ -639,4 +639,4 @@ pub relay-runs : (s : State) → IsSome s.held → (past : History) → past.ext
 relay-runs s some past none = (goes s some).0 past (none, all-none (λ (x : Transaction). past.made x.id ≡ x.last_send))
 
 pub relay-stays-up : RelayStaysUp
-relay-stays-up s some = record { begins = begins s some; runs = relay-runs s some no_history refl; refreshes = (goes s some).1 }
+relay-stays-up s some = record { begins = begins s some; runs = relay-runs s some (no_history (with_allocation s)) refl; refreshes = (goes s some).1 }

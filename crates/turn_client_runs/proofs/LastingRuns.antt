@@ -1,5 +1,5 @@
 -- No grant is lost by a call.
-use Rattle.std.proofs.Common.{◌≡◌, ◌⊎◌, ℕ, ◌+◌, ◌≤◌, Bool, true, false, cond, not, ◌&&◌, leb, eqb, List, [], ◌∷◌, ◌++◌, length, drop, Option, Some, None, refl, inl, inr, ap, sym, subst, ◌∙◌, arith}
+use Rattle.std.proofs.Common.{◌≡◌, ◌⊎◌, ℕ, ◌+◌, ◌<◌, ◌≤◌, Bool, true, false, cond, not, ◌&&◌, leb, eqb, List, [], ◌∷◌, ◌++◌, length, drop, Option, Some, None, refl, inl, inr, ap, sym, subst, ◌∙◌, arith}
 use Rattle.std.specs.Prelude.{filter, filter_map, find, is_some, IsSome, nat_lt, Result, Ok, Err}
 use Rattle.std.specs.Net.Socket.{socket_ip}
 use Rattle.turn_stun.specs.declared.transport.TransportType.{TransportType}
@@ -55,13 +55,13 @@ use Rattle.turn_client_runs.specs.Lasting.{AreInTime, IsChallenge, Answers, Data
 use Rattle.turn_client_runs.specs.Lasting.{IsWithin, RunsSteadily, SuccessesEndRequests}
 use Rattle.turn_client_runs.proofs.MadeLemmas.{success-ends}
 use Rattle.turn_client_runs.specs.OnTime.{IsFromServer, time_of, time_of_all}
-use Rattle.turn_client_runs.specs.History.{History, IsSeldom, extra_since, is_extra, lost, was_let_go, with_call, with_calls}
+use Rattle.turn_client_runs.specs.History.{History, is_replied, IsSeldom, extra_since, is_extra, lost, was_let_go, with_call, with_calls}
 use Rattle.turn_client_runs.proofs.LastingStands.{allocation-stands, Goes, IsPending, goes-more, goes-trans, IsAwaited, IsIdle, IsKept, Stands}
 use Rattle.turn_client_runs.proofs.LastingStands.{stands-early}
 use Rattle.turn_client_runs.proofs.LastingCounts.{passes, passes-length}
 use Rattle.turn_client_runs.proofs.LastingCalls.{Asks, asked-goes, asked-kept, binds, creates}
 use Rattle.turn_client_runs.proofs.LastingAgain.{IsOneMore, goes-again, goes-retried, kept-again, kept-retried, retried-queue}
-use Rattle.turn_client_runs.proofs.LastingHistory.{GoesOn, extra-more, lost-more, call-extra, call-goes_on, call-made, goes-later, kept-later, none-over_yet}
+use Rattle.turn_client_runs.proofs.LastingHistory.{goes-row, same-row, GoesOn, extra-more, lost-more, call-extra, call-goes_on, call-made, goes-later, kept-later, none-over_yet}
 use Rattle.turn_client_runs.proofs.LastingTime.{time-kept}
 use Rattle.turn_client_runs.proofs.LastingPolls.{ArePlain, kept-aside, polls}
 use Rattle.turn_client_runs.proofs.LastingTransmits.{transmit-kept}
@@ -150,6 +150,7 @@ module _ (count slots extras delay now : ℕ) (past : History) (s : State) (k : 
     begun = λ x h. k.begun x (still x h);
     heard = λ x h. k.heard x (still x h);
     seldom = k.seldom;
+    row = k.row;
     asked = k.asked;
     size = k.size;
     single = k.single;
@@ -167,7 +168,13 @@ module _ (count slots extras delay now : ℕ) (past : History) (s : State) (k : 
   given p h = k.asked (record { id = id; purpose = p }) (purpose-with id p s h)
 
   done : IsAnswered count slots extras delay now past s.transactions (purposes_of id ended) ended t
-  done = all-answered message id count slots extras delay now past s.transactions ended kept-ended given answers
+  done = (all-answered message id count slots extras delay now past s.transactions ended kept-ended given answers).0
+
+  -- a success of a request that is listed begins a row of challenges anew
+  pub reset-answered : list_any (λ (l : Listing). eqb l.id id) s.listed ≡ true → t.challenges ≡ 0
+  reset-answered some =
+      let (l, there, e) = any-has (λ (l : Listing). eqb l.id id) s.listed some in
+      (all-answered message id count slots extras delay now past s.transactions ended kept-ended given answers).1 l.purpose (purpose-listed l there (eqb-true l.id id e))
 
   -- what is listed under the ID is listed no more
   unlisted : (l : Listing) → Has l t.listed → l.id ≡ id → ⊥
@@ -233,6 +240,7 @@ module _ (count slots extras delay now : ℕ) (past : History) (s : State) (k : 
       begun = done.kept.begun;
       heard = done.kept.heard;
       seldom = done.kept.seldom;
+      row = done.kept.row;
       asked = done.kept.asked;
       size = done.kept.size;
       single = done.kept.single;
@@ -302,15 +310,15 @@ abbrev retry_step : List ℕ → Challenge → ℕ → State → Outcome × Stat
 retry_step message challenge now s =
     option_map_or (λ purpose. (Handled, state_after_retry s (id_of message) purpose challenge now)) (retried (purposes_of (id_of message) s)) (Ignored, s)
 
-challenged : (packet : Transmit (List ℕ)) (now : ℕ) (s : State) (challenge : Challenge) → s.phase ≡ Allocated → IsChallenge packet now s → challenge_in s packet.payload ≡ Some challenge
+challenged : (packet : Transmit (List ℕ)) (now : ℕ) (past : History) (s : State) (challenge : Challenge) → s.phase ≡ Allocated → s.challenges < s.config.max_stale_nonces → IsChallenge packet now past s → challenge_in s packet.payload ≡ Some challenge
     → state_after (Recv packet now) s ≡ (retry_step packet.payload challenge now s).1
-challenged packet now s challenge p is o = is.message ∙ ap (λ (z : Outcome × State). z.1) (judged ∙ counted)
+challenged packet now past s challenge p few is o = is.message ∙ ap (λ (z : Outcome × State). z.1) (judged ∙ counted)
   where
     judged : message_step packet.payload now s ≡ challenge_step packet.payload challenge now s
     judged = rw (challenge-judged packet.payload challenge s p is.error o) refl
 
     counted : challenge_step packet.payload challenge now s ≡ retry_step packet.payload challenge now s
-    counted = rw (lt-ltb s.challenges s.config.max_stale_nonces is.few) refl
+    counted = rw (lt-ltb s.challenges s.config.max_stale_nonces few) refl
 
 module _ (count slots extras delay before : ℕ) (past : History) (s : State) where
   abbrev Kept : ℕ → History → Type 0
@@ -326,14 +334,14 @@ module _ (count slots extras delay before : ℕ) (past : History) (s : State) wh
   Seldom c = IsSeldom extras s.config.refresh_ahead (time_of before c) (onward c)
 
   -- with another history all is kept, and so it is after the call
-  calm : (c : Call) (t : State) → Kept (time_of before c) past → Seldom c → (Kept (time_of before c) (onward c) → Keeps (time_of before c) (onward c) (onward c) t) → Keeps (time_of before c) past (onward c) t
-  calm c t k seldom step =
+  calm : (c : Call) (t : State) → Kept (time_of before c) past → Seldom c → s.challenges ≤ (onward c).challenged → (Kept (time_of before c) (onward c) → Keeps (time_of before c) (onward c) (onward c) t) → Keeps (time_of before c) past (onward c) t
+  calm c t k seldom row step =
       let on = call-goes_on c (time_of before c) past s in
-      let (kept, goes) = step (kept-later count slots extras delay (time_of before c) past (onward c) s on seldom k) in
+      let (kept, goes) = step (kept-later count slots extras delay (time_of before c) past (onward c) s on seldom row k) in
       (kept, goes-later past (onward c) t.transactions s t on goes)
 
   same-kept : (c : Call) → Kept (time_of before c) past → Seldom c → state_after c s ≡ s → Keeps (time_of before c) past (onward c) (state_after c s)
-  same-kept c k seldom same = subst (Keeps (time_of before c) past (onward c)) (sym same) (calm c s k seldom (λ k. (k, goes-same (onward c) s s refl refl refl)))
+  same-kept c k seldom same = subst (Keeps (time_of before c) past (onward c)) (sym same) (calm c s k seldom (same-row c (time_of before c) past s same k.row) (λ k. (k, goes-same (onward c) s s refl refl refl)))
 
   asks-kept : (now : ℕ) (later : History) → later.made (fresh_id s) ≡ now → Kept now later → Asks (λ t. IsWithin count slots t → Keeps now later later t) now s
   asks-kept now later fresh k ps news text are w = (asked-kept count slots extras delay now later s k ps news are text fresh w.0 w.1, asked-goes count slots extras delay now later s k ps news are text fresh)
@@ -343,19 +351,19 @@ module _ (count slots extras delay before : ℕ) (past : History) (s : State) wh
     where
       by : (o : Option Transaction) → due (agent_of s) now ≡ o → Keeps now past (onward (PollTransmit now)) (transmit_step now s).1
       by None e =
-          calm (PollTransmit now) (transmit_step now s).1 k seldom
+          calm (PollTransmit now) (transmit_step now s).1 k seldom k.row
           (λ k. transmit-kept count slots extras delay now (onward (PollTransmit now)) s k (call-made (PollTransmit now) now past s) e)
       by (Some x) e =
           let on = call-goes_on (PollTransmit now) now past s in
           let more = call-extra (PollTransmit now) now past s (subst (λ (o : Option Transaction). is_some o ≡ true) (sym e) refl) in
           let is : record s { transactions = resent x.id now s.transactions; last_send = Some now } ≡ (transmit_step now s).1 = rw (e, transmit_step) refl in
           subst (Keeps now past (onward (PollTransmit now))) is (
-            kept-again count slots extras delay now past (onward (PollTransmit now)) s k on more seldom x e,
-            goes-again count slots extras delay now past (onward (PollTransmit now)) s k on more seldom x e,
+            kept-again count slots extras delay now past (onward (PollTransmit now)) s k on more seldom k.row x e,
+            goes-again count slots extras delay now past (onward (PollTransmit now)) s k on more seldom k.row x e,
           )
 
   -- the server requires another nonce
-  module _ (packet : Transmit (List ℕ)) (now : ℕ) (k : Kept now past) (seldom : Seldom (Recv packet now)) (is : IsChallenge packet now s)
+  module _ (packet : Transmit (List ℕ)) (now : ℕ) (k : Kept now past) (seldom : Seldom (Recv packet now)) (is : IsChallenge packet now past s)
       (within : IsWithin count slots (state_after (Recv packet now) s)) where
     abbrev of_reply : ℕ
     of_reply = id_of packet.payload
@@ -372,8 +380,8 @@ module _ (count slots extras delay before : ℕ) (past : History) (s : State) wh
 
     retried-kept : (challenge : Challenge) (purpose : Purpose) → state_after (Recv packet now) s ≡ state_after_retry s of_reply purpose challenge now → Keeps now past behind (state_after (Recv packet now) s)
     retried-kept challenge purpose e = subst (Keeps now past behind) (sym e) (
-      kept-retried count slots extras delay now past behind s k on more seldom of_reply purpose challenge fits early answered as-old,
-      goes-retried count slots extras delay now past behind s k on more seldom of_reply purpose challenge fits early answered as-old,
+      kept-retried count slots extras delay now past behind s k on more seldom row of_reply purpose challenge fits early answered as-old,
+      goes-retried count slots extras delay now past behind s k on more seldom row of_reply purpose challenge fits early answered as-old,
     )
       where
         on : GoesOn s.transactions past behind
@@ -384,6 +392,12 @@ module _ (count slots extras delay before : ℕ) (past : History) (s : State) wh
 
         more : IsOneMore now past behind
         more = call-extra (Recv packet now) now past s counts
+
+        row : s.challenges + 1 ≤ behind.challenged
+        row =
+            let counted : cond (is_extra (Recv packet now) s) (past.challenged + 1) (cond (is_replied of_reply (Recv packet now) s) 0 past.challenged) ≡ past.challenged + 1 = rw counts refl in
+            let old = k.row in
+            omega (arith, counted, old)
 
         fits : length s.queue + 1 ≤ slots
         fits =
@@ -430,9 +444,52 @@ module _ (count slots extras delay before : ℕ) (past : History) (s : State) wh
             retries : (purpose : Purpose) → retried (purposes_of of_reply s) ≡ Some purpose → (retry_step packet.payload challenge now s).1 ≡ state_after_retry s of_reply purpose challenge now
             retries purpose f = rw (f, retry_step) refl
 
+            few : s.challenges < s.config.max_stale_nonces
+            few = let old = k.row in let less = is.few in omega (arith, old, less)
+
             for : (p : Option Purpose) → retried (purposes_of of_reply s) ≡ p → Keeps now past behind (state_after (Recv packet now) s)
-            for None f = same-kept (Recv packet now) k seldom (challenged packet now s challenge k.phase is e ∙ retries-none f)
-            for (Some purpose) f = retried-kept challenge purpose (challenged packet now s challenge k.phase is e ∙ retries purpose f)
+            for None f = same-kept (Recv packet now) k seldom (challenged packet now past s challenge k.phase few is e ∙ retries-none f)
+            for (Some purpose) f = retried-kept challenge purpose (challenged packet now past s challenge k.phase few is e ∙ retries purpose f)
+
+  -- a request has its success
+  answered-kept : (packet : Transmit (List ℕ)) (now : ℕ) → Kept now past → Seldom (Recv packet now) → IsSuccess packet now s
+      → Keeps now past (onward (Recv packet now)) (state_after (Recv packet now) s)
+  answered-kept packet now k seldom is = subst (Keeps now past later) (sym (received packet now s k.phase is)) (
+    kept-later count slots extras delay now middle later t (record { same = λ x h. refl; more = λ since. omega arith; let_go = λ g e. e }) kept.0.seldom
+        (row (is_extra (Recv packet now) s) (is_replied id (Recv packet now) s) refl) kept.0,
+    goes-row past later past.challenged s.transactions t.transactions s t (goes-later past middle t.transactions s t on kept.1),
+  )
+    where
+      id : ℕ
+      id = id_of packet.payload
+
+      later : History
+      later = onward (Recv packet now)
+
+      -- the row of challenges is as it was until the effect
+      middle : History
+      middle = record later { challenged = past.challenged }
+
+      t : State
+      t = (response_step true packet.payload now s).1
+
+      on : GoesOn s.transactions past middle
+      on = let on = call-goes_on (Recv packet now) now past s in record { same = on.same; more = on.more; let_go = on.let_go }
+
+      begun : IsKept count slots extras delay now middle s.transactions s
+      begun = kept-later count slots extras delay now past middle s on seldom k.row k
+
+      kept : KeepsAll count slots extras delay now middle middle s t
+      kept = kept-answered count slots extras delay now middle s begun packet.payload is.answers
+
+      row : (a b : Bool) → is_replied id (Recv packet now) s ≡ b → t.challenges ≤ cond a (past.challenged + 1) (cond b 0 past.challenged)
+      row true b e = let old = kept.0.row in omega (arith, old)
+      row false false e = kept.0.row
+      row false true e =
+          let listed = list_any (λ (l : Listing). eqb l.id id) s.listed in
+          let some = (and_parts listed _ (and_parts (listed && is_outstanding id s.transactions) _ e).0).0 in
+          let none = reset-answered count slots extras delay now middle s begun packet.payload is.answers some in
+          omega (arith, none)
 
   -- ---- what expires
 
@@ -450,7 +507,7 @@ module _ (count slots extras delay before : ℕ) (past : History) (s : State) wh
   polled-kept now k seldom =
       polls (λ t. (poll_step now s).1 ≡ t → Keeps now past (onward (Poll now)) t) now s k.phase (all-plain count slots extras delay now past s k)
       (none-over_yet delay now past s k.prompt k.in_range k.aged k.heard)
-      (λ e. calm (Poll now) s k seldom (λ k. (k, goes-same (onward (Poll now)) s s refl refl refl)))
+      (λ e. calm (Poll now) s k seldom k.row (λ k. (k, goes-same (onward (Poll now)) s s refl refl refl)))
       expires refl
     where
       early : (a : Relay) → Has a (allocations s) → is_past now a ≡ false
@@ -466,8 +523,8 @@ module _ (count slots extras delay before : ℕ) (past : History) (s : State) wh
           let counts = lost-counts now (record u { closes = closes }) is in
           let same : record s { grants = u.grants; listed = u.listed; events = u.events; closes = closes } ≡ record u { closes = closes } = ap (λ (x : State). record x { closes = closes }) (sym alters) in
           subst (Keeps now past (onward (Poll now))) same (
-            kept-left count slots extras delay now past (onward (Poll now)) s k on seldom u.grants u.listed u.events closes lapses tidy counts,
-            goes-left count slots extras delay now past (onward (Poll now)) s k on seldom u.grants u.listed u.events closes lapses tidy counts,
+            kept-left count slots extras delay now past (onward (Poll now)) s k on seldom k.row u.grants u.listed u.events closes lapses tidy counts,
+            goes-left count slots extras delay now past (onward (Poll now)) s k on seldom k.row u.grants u.listed u.events closes lapses tidy counts,
           )
 
   -- ---- what is let go, or kept again
@@ -494,37 +551,35 @@ module _ (count slots extras delay before : ℕ) (past : History) (s : State) wh
   channel-let_go transport peer false ok (Channel number other progress) is e = or_right (past.channel_let_go number other) _ (rw ok (and_parts (is_in_progress progress) _ is).1)
   channel-let_go transport peer false ok g is e = cc
 
-  call-by : (c : Call) → Kept (time_of before c) past → Seldom c → IsQuiet c s → IsWithin count slots (state_after c s) → Keeps (time_of before c) past (onward c) (state_after c s)
+  call-by : (c : Call) → Kept (time_of before c) past → Seldom c → IsQuiet c past s → IsWithin count slots (state_after c s) → Keeps (time_of before c) past (onward c) (state_after c s)
   call-by (Poll now) k seldom quiet within = polled-kept now k seldom
   call-by (PollTransmit now) k seldom quiet within = transmits-kept now k seldom
-  call-by PollEvent k seldom quiet within = calm PollEvent (record s { events = drop 1 s.events }) k seldom (λ k.
+  call-by PollEvent k seldom quiet within = calm PollEvent (record s { events = drop 1 s.events }) k seldom k.row (λ k.
       (kept-aside count slots extras delay before (onward PollEvent) s.transactions s s.ids (drop 1 s.events) s.closes k, goes-same (onward PollEvent) s (record s { events = drop 1 s.events }) refl refl refl))
-  call-by (SendTo transport peer bytes now) k seldom quiet within = calm (SendTo transport peer bytes now) (send_to_step transport peer bytes now s).1 k seldom (λ k.
+  call-by (SendTo transport peer bytes now) k seldom quiet within = calm (SendTo transport peer bytes now) (send_to_step transport peer bytes now s).1 k seldom k.row (λ k.
       sends (Keeps now (onward (SendTo transport peer bytes now)) (onward (SendTo transport peer bytes now))) transport peer bytes now s
       (λ ids. (
         kept-aside count slots extras delay now (onward (SendTo transport peer bytes now)) s.transactions s ids s.events s.closes k,
         goes-same (onward (SendTo transport peer bytes now)) s (record s { ids = ids }) refl refl refl,
       )))
-  call-by (CreatePermission transport ip now) k seldom quiet within = calm (CreatePermission transport ip now) (create_permission_step transport ip now s).1 k seldom (λ k.
+  call-by (CreatePermission transport ip now) k seldom quiet within = calm (CreatePermission transport ip now) (create_permission_step transport ip now s).1 k seldom k.row (λ k.
       let later = onward (CreatePermission transport ip now) in
       creates (λ t. IsWithin count slots t → Keeps now later later t) count slots extras delay now later s k (λ w. (k, goes-same later s s refl refl refl))
       (asks-kept now later (call-made (CreatePermission transport ip now) now past s) k) transport ip within)
-  call-by (BindChannel transport peer now) k seldom quiet within = calm (BindChannel transport peer now) (bind_channel_step transport peer now s).1 k seldom (λ k.
+  call-by (BindChannel transport peer now) k seldom quiet within = calm (BindChannel transport peer now) (bind_channel_step transport peer now s).1 k seldom k.row (λ k.
       let later = onward (BindChannel transport peer now) in
       binds (λ t. IsWithin count slots t → Keeps now later later t) count slots extras delay now later s k (λ w. (k, goes-same later s s refl refl refl))
       (asks-kept now later (call-made (BindChannel transport peer now) now past s) k) transport peer within)
-  call-by (SetPermissionKept transport ip kept) k seldom quiet within = calm (SetPermissionKept transport ip kept) (permission_kept_step transport ip kept s).1 k seldom (λ k.
+  call-by (SetPermissionKept transport ip kept) k seldom quiet within = calm (SetPermissionKept transport ip kept) (permission_kept_step transport ip kept s).1 k seldom k.row (λ k.
       marks-kept (onward (SetPermissionKept transport ip kept)) k transport (is_permission_of ip) kept (λ ok g is. permission-let_go transport ip kept ok g is))
-  call-by (SetChannelKept transport peer kept) k seldom quiet within = calm (SetChannelKept transport peer kept) (channel_kept_step transport peer kept s).1 k seldom (λ k.
+  call-by (SetChannelKept transport peer kept) k seldom quiet within = calm (SetChannelKept transport peer kept) (channel_kept_step transport peer kept s).1 k seldom k.row (λ k.
       marks-kept (onward (SetChannelKept transport peer kept)) k transport (is_open_to peer) kept (λ ok g is. channel-let_go transport peer kept ok g is))
-  call-by (Recv packet now) k seldom (inl is) within = calm (Recv packet now) (state_after (Recv packet now) s) k seldom (λ k.
-      let later = onward (Recv packet now) in
-      subst (λ (x : State). Keeps now later later x) (sym (received packet now s k.phase is)) (kept-answered count slots extras delay now later s k packet.payload is.answers))
+  call-by (Recv packet now) k seldom (inl is) within = answered-kept packet now k seldom is
   call-by (Recv packet now) k seldom (inr (inl is)) within = challenge-kept packet now k seldom is within
   call-by (Recv packet now) k seldom (inr (inr same)) within = same-kept (Recv packet now) k seldom same
   call-by c k seldom same within = same-kept c k seldom same
 
-  pub call-kept : (call : Call) → Kept before past → AreInTime delay before (time_of before call) past s → IsQuiet call s → IsWithin count slots (state_after call s) → Seldom call
+  pub call-kept : (call : Call) → Kept before past → AreInTime delay before (time_of before call) past s → IsQuiet call past s → IsWithin count slots (state_after call s) → Seldom call
       → Keeps (time_of before call) past (onward call) (state_after call s)
   call-kept call k in_time quiet within seldom = call-by call (time-kept count slots extras delay before (time_of before call) past s k in_time) seldom quiet within
 

@@ -1,5 +1,5 @@
 -- A part of a run counts for a grant as if it had not been let go before.
-use Rattle.std.proofs.Common.{◌≡◌, ◌⊎◌, ℕ, ◌+◌, ◌≤◌, Bool, true, false, not, ◌&&◌, List, [], ◌∷◌, length, refl, inl, inr, ap, sym, subst, ◌∙◌, arith}
+use Rattle.std.proofs.Common.{◌≡◌, ◌⊎◌, ℕ, ◌+◌, ◌<◌, ◌≤◌, Bool, true, false, not, ◌&&◌, List, [], ◌∷◌, length, refl, inl, inr, ap, sym, subst, ◌∙◌, arith}
 use Rattle.std.specs.Prelude.{filter, nat_le}
 use Rattle.std.proofs.lemmas.Bool.{eq-eqb, or_cases, or_left, or_right}
 use Rattle.turn_stun.specs.Message.{id_of}
@@ -16,8 +16,8 @@ use Rattle.turn_client_api.specs.declared.grant.Listing.{Listing}
 use Rattle.turn_client_api.specs.declared.grant.Purpose.{Purpose}
 use Rattle.turn_client_api.specs.declared.grant.Purpose.TheVariants.{ForChannel, ForPermission}
 use Rattle.turn_client_api.proofs.HasLemmas.{Has, all-has, has-all}
-use Rattle.turn_client_runs.specs.History.{History, first_made, no_history, was_let_go, with_call, with_calls}
-use Rattle.turn_client_runs.specs.Lasting.{RunsSteadily}
+use Rattle.turn_client_runs.specs.History.{History, challenged_by, first_made, no_history, was_let_go, with_call, with_calls}
+use Rattle.turn_client_runs.specs.Lasting.{IsQuiet, RunsSteadily}
 use Rattle.turn_client_runs.specs.OnTime.{time_of}
 use Rattle.turn_client_runs.proofs.LastingCounts.{passes-same}
 use Rattle.turn_client_runs.proofs.LastingExpiry.{reserved-waits}
@@ -110,7 +110,7 @@ module _ (count slots extras delay now : ℕ) (past : History) (s : State) (k : 
       by (inr waits) w = waits.1
 
   pub kept-spared : IsKept count slots extras delay now (sparing g past) s.transactions s
-  kept-spared = kept-with count slots extras delay now past (sparing g past) s (λ x h. refl) k.seldom known-spared well-spared k
+  kept-spared = kept-with count slots extras delay now past (sparing g past) s (λ x h. refl) k.seldom k.row known-spared well-spared k
 
 -- ---- the rest of the run
 
@@ -121,18 +121,32 @@ first-alike call now s past other made = refl
 call-alike : (call : Call) (now : ℕ) (s : State) (past other : History) → ((id : ℕ) → past.made id ≡ other.made id) → (id : ℕ) → (with_call call now s past).made id ≡ (with_call call now s other).made id
 call-alike call now s past other made id = rw (first-alike call now s past other made, made id) refl
 
--- when requests were made, and which packets were extra, is all that counts
+row-alike : (call : Call) (now : ℕ) (s : State) (past other : History) → past.challenged ≡ other.challenged → (with_call call now s past).challenged ≡ (with_call call now s other).challenged
+row-alike call now s past other row = ap (challenged_by call s) row
+
+quiet-alike : (call : Call) (past other : History) (s : State) → past.challenged ≡ other.challenged → IsQuiet call past s → IsQuiet call other s
+quiet-alike (Recv packet now) past other s row (inl success) = inl success
+quiet-alike (Recv packet now) past other s row (inr (inl is)) = inr (inl (record {
+  message = is.message;
+  error = is.error;
+  challenge = is.challenge;
+  few = subst (λ (n : ℕ). n < s.config.max_stale_nonces) row is.few;
+}))
+quiet-alike (Recv packet now) past other s row (inr (inr same)) = inr (inr same)
+quiet-alike call past other s row quiet = quiet
+
+-- when requests were made, which packets were extra, and how many challenges came, is all that counts
 pub runs-alike : (count slots extras delay before : ℕ) (past other : History) (s : State) (calls : List Call) → ((id : ℕ) → past.made id ≡ other.made id) → past.extra ≡ other.extra
-    → RunsSteadily count slots extras delay before past s calls → RunsSteadily count slots extras delay before other s calls
-runs-alike count slots extras delay before past other s [] made extra run = tt
-runs-alike count slots extras delay before past other s (call ∷ calls) made extra (in_time, quiet, within, seldom, run) =
+    → past.challenged ≡ other.challenged → RunsSteadily count slots extras delay before past s calls → RunsSteadily count slots extras delay before other s calls
+runs-alike count slots extras delay before past other s [] made extra row run = tt
+runs-alike count slots extras delay before past other s (call ∷ calls) made extra row (in_time, quiet, within, seldom, run) =
     let now = time_of before call in
     let more : (with_call call now s past).extra ≡ (with_call call now s other).extra = rw extra refl in (
       record { on_time = in_time.on_time; answered = all-has (λ (x : Transaction). now ≤ other.made x.id + delay) s.transactions answered },
-      quiet,
+      quiet-alike call past other s row quiet,
       within,
       λ since near. subst (λ (times : List ℕ). length (filter (λ time. nat_le since time) times) ≤ extras) more (seldom since near),
-      runs-alike count slots extras delay now (with_call call now s past) (with_call call now s other) (state_after call s) calls (call-alike call now s past other made) more run,
+      runs-alike count slots extras delay now (with_call call now s past) (with_call call now s other) (state_after call s) calls (call-alike call now s past other made) more (row-alike call now s past other row) run,
     )
   where
     answered : (x : Transaction) → Has x s.transactions → time_of before call ≤ other.made x.id + delay
@@ -157,12 +171,12 @@ calls-free (call ∷ calls) before s past other g more e =
     (call-frees call (time_of before call) s past other g more) e
 
 -- what was not let go before, nor by these calls, is not
-pub none-by : (calls : List Call) (before : ℕ) (s : State) (past : History) (g : Grant) → was_let_go past g ≡ false → was_let_go (with_calls calls before s no_history) g ≡ false
+pub none-by : (calls : List Call) (before : ℕ) (s : State) (past : History) (g : Grant) → was_let_go past g ≡ false → was_let_go (with_calls calls before s (no_history s)) g ≡ false
     → was_let_go (with_calls calls before s past) g ≡ false
 none-by calls before s past g was none = by (was_let_go (with_calls calls before s past) g) refl
   where
     by : (b : Bool) → was_let_go (with_calls calls before s past) g ≡ b → was_let_go (with_calls calls before s past) g ≡ false
     by false e = e
     by true e =
-        let no : false ≡ true = sym none ∙ calls-free calls before s past no_history g (λ is. let no : false ≡ true = sym was ∙ is in cc) e in
+        let no : false ≡ true = sym none ∙ calls-free calls before s past (no_history s) g (λ is. let no : false ≡ true = sym was ∙ is in cc) e in
         cc

@@ -278,6 +278,7 @@ pub record IsKept (count slots extras delay now : ℕ) (past : History) (transac
   pub begun : (x : Transaction) → Has x s.transactions → past.made x.id ≤ now
   pub heard : (x : Transaction) → Has x s.transactions → now ≤ past.made x.id + delay
   pub seldom : IsSeldom extras s.config.refresh_ahead now past
+  pub row : s.challenges ≤ past.challenged
   pub asked : (l : Listing) → Has l s.listed → IsAsked s.grants l
   pub size : length s.grants ≤ count
   pub single : AreSingle s.grants
@@ -289,6 +290,7 @@ pub record IsKept (count slots extras delay now : ℕ) (past : History) (transac
 
 -- the grants and what is listed for them
 pub record AreKept (count slots extras delay now : ℕ) (past : History) (transactions : List Transaction) (s : State) : Type 0 where
+  pub row : s.challenges ≤ past.challenged
   pub asked : (l : Listing) → Has l s.listed → IsAsked s.grants l
   pub size : length s.grants ≤ count
   pub single : AreSingle s.grants
@@ -314,6 +316,7 @@ kept-changed count slots extras delay now past transactions s k grants listed ev
   begun = k.begun;
   heard = k.heard;
   seldom = k.seldom;
+  row = are.row;
   asked = are.asked;
   size = are.size;
   single = are.single;

@@ -145,6 +145,7 @@ module _ (count slots extras delay before now : ℕ) (past : History) (s : State
     begun = λ x h. let b = k.begun x h in let l = in_time.on_time.later in omega (arith, b, l);
     heard = all-answered;
     seldom = λ since within. let l = in_time.on_time.later in k.seldom since (omega (arith, l, within));
+    row = k.row;
     asked = k.asked;
     size = k.size;
     single = k.single;

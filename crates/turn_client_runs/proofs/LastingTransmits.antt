@@ -268,6 +268,7 @@ module _ (count slots extras delay now : ℕ) (past : History) (s : State) (k : 
       | inr (inr none) ↦ absurd none
     ];
     seldom = k.seldom;
+    row = k.row;
     asked = λ l h. elim (has-append l s.listed (listing ∷ []) h) [
       | inl old ↦ k.asked l old
       | inr (inl e) ↦ rw e (refresh.0, (next.grant, next.there, refresh.1))
@@ -336,6 +337,7 @@ module _ (count slots extras delay now : ℕ) (past : History) (s : State) (k : 
     begun = k.begun;
     heard = k.heard;
     seldom = k.seldom;
+    row = k.row;
     asked = k.asked;
     size = k.size;
     single = k.single;
@@ -395,6 +397,7 @@ module _ (count slots extras delay now : ℕ) (past : History) (s : State) (k : 
     begun = k.begun;
     heard = k.heard;
     seldom = k.seldom;
+    row = k.row;
     asked = k.asked;
     size = k.size;
     single = k.single;

@@ -120,7 +120,7 @@ module _ (transport : TransportType) (local remote : SocketAddr) (config : Confi
   pub run-lasts : GrantsLastInRuns first calls
   run-lasts earlier middle later e = λ count slots extras delay now before after cut steady run.
       let s = state_after_all first earlier in
-      lasts-through count slots extras delay now s before after steady (subst (RunsSteadily count slots extras delay now no_history s) cut run)
+      lasts-through count slots extras delay now s before after steady (subst (RunsSteadily count slots extras delay now (no_history s) s) cut run)
 
   pub run-cuts : CutsAgree first calls
   run-cuts earlier middle later e = λ at pieces now tcp drained are. run-cut at pieces now (state_after_all first earlier) (quiet now tcp drained) middle are

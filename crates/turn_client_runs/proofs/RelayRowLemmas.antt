@@ -29,16 +29,16 @@ module _ (local remote : SocketAddr) (config : Config) (seed : List ℕ) where
   later = relay-stays-up told refl
 
   abbrev Goes : State → Type 0
-  Goes t = RunsSteadily 3 1 0 100_000_000 200_000_000 no_history t (calls_after t) × ((state_after_all t (calls_after t)).grants ≡ refreshed_grants)
+  Goes t = RunsSteadily 3 1 0 100_000_000 200_000_000 (no_history t) t (calls_after t) × ((state_after_all t (calls_after t)).grants ≡ refreshed_grants)
 
   goes : Goes allocated
   goes = (
     (
-      record { on_time = at-once 200_000_000 allocated (omega arith); answered = all-none (λ (x : Transaction). 200_000_000 ≤ no_history.made x.id + 100_000_000) },
+      record { on_time = at-once 200_000_000 allocated (omega arith); answered = all-none (λ (x : Transaction). 200_000_000 ≤ (no_history allocated).made x.id + 100_000_000) },
       tt,
       (omega arith, omega arith),
       λ since within. omega arith,
-      relay-runs told refl (with_call PollEvent 200_000_000 allocated no_history) refl,
+      relay-runs told refl (with_call PollEvent 200_000_000 allocated (no_history allocated)) refl,
     ),
     later.refreshes,
   )

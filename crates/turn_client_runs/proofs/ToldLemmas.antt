@@ -17,7 +17,6 @@ use Rattle.turn_client_api.specs.declared.grant.Lease.{Lease}
 use Rattle.turn_client_api.specs.declared.grant.Progress.{Progress}
 use Rattle.turn_client_api.specs.declared.grant.Progress.TheVariants.{Pending, Active, Reserved}
 use Rattle.turn_client_api.specs.Grants.{failure_of, failures_among, wait, without_grants}
-use Rattle.turn_client_api.specs.Effect.{reserved}
 use Rattle.turn_client_api.specs.Poll.{failed}
 use Rattle.turn_client_api.proofs.HasLemmas.{Has, has-filter}
 use Rattle.turn_client_runs.specs.Told.{is_awaited_by, is_like, is_to_come}

@@ -1,6 +1,7 @@
 -- When requests were first made, which packets came on top of those, and what was let go.
 use Rattle.std.specs.Prelude.{◌≡◌, ℕ, zero, suc, ◌+◌, ◌==◌, ◌≤◌, nat_le, nat_lt, Bool, false, not, ◌&&◌, ◌||◌, if◌then◌else◌}
 use Rattle.std.specs.Prelude.{List, [], ◌∷◌, ◌++◌, filter, is_ok, is_some, length, map}
+use Rattle.std.specs.List.{list_any}
 use Rattle.std.specs.declared.net.ip_addr.IpAddr.{IpAddr}
 use Rattle.std.specs.declared.net.socket_addr.SocketAddr.{SocketAddr}
 use Rattle.turn_stun.specs.Message.{id_of}
@@ -25,16 +26,19 @@ pub record History : Type 0 where
   -- The times of extra packets, the last one first: of retransmissions, of requests made again after a challenge, and of
   -- refreshes whose grant expired before their reply.
   pub extra : List ℕ
+  -- how many challenges in a row were answered, since the last success of a request that was listed
+  pub challenged : ℕ
   -- the permission for this IP address was let go
   pub permission_let_go : IpAddr → Bool
   -- the channel of this number to this peer was let go
   pub channel_let_go : ℕ → SocketAddr → Bool
 
--- where nothing is outstanding, no packet was extra, and all is kept
-abbrev pub no_history : History
-no_history = record {
+-- where nothing is outstanding, no packet was extra, and all is kept; challenges that were answered before count
+abbrev pub no_history : State → History
+no_history s = record {
   made = λ id. 0;
   extra = [];
+  challenged = s.challenges;
   permission_let_go = λ ip. false;
   channel_let_go = λ number peer. false;
 }
@@ -44,6 +48,11 @@ abbrev pub is_extra : Call → State → Bool
 is_extra (PollTransmit now) s = is_some (due (agent_of s) now)
 is_extra (Recv packet now) s = nat_lt s.challenges (state_after (Recv packet now) s).challenges
 is_extra call s = false
+
+-- a request that is listed had its reply, under this ID
+abbrev pub is_replied : ℕ → Call → State → Bool
+is_replied id call s =
+    list_any (λ l. l.id == id) s.listed && is_outstanding id s.transactions && not (is_outstanding id (state_after call s).transactions)
 
 -- the grants that a request was made for, and that expired in the call, before the reply
 abbrev pub lost : Call → State → List Grant
@@ -66,11 +75,18 @@ first_made (Recv packet received) now s past =
     if is_outstanding (id_of packet.payload) s.transactions then past.made (id_of packet.payload) else now
 first_made call now s past = now
 
+-- A challenge that is answered is one more. Any other reply to a request that is listed begins a row anew.
+abbrev pub challenged_by : Call → State → ℕ → ℕ
+challenged_by (Recv packet now) s row =
+    if is_extra (Recv packet now) s then row + 1 else (if is_replied (id_of packet.payload) (Recv packet now) s then 0 else row)
+challenged_by call s row = row
+
 -- a call makes one request at most, under the next ID
 abbrev pub with_call : Call → ℕ → State → History → History
 with_call call now s past = record {
   made = λ id. if id == fresh_id s then first_made call now s past else past.made id;
   extra = if is_extra call s then now ∷ past.extra else map (λ g. now) (lost call s) ++ past.extra;
+  challenged = challenged_by call s past.challenged;
   permission_let_go = λ ip. past.permission_let_go ip || lets_permission_go call s ip;
   channel_let_go = λ number peer. past.channel_let_go number peer || lets_channel_go call s peer;
 }
@@ -90,7 +106,7 @@ was_let_go past grant = false
 
 -- none of these calls lets the grant go
 abbrev pub IsKeptBy : List Call → ℕ → State → Grant → Type 0
-IsKeptBy calls before s grant = was_let_go (with_calls calls before s no_history) grant ≡ false
+IsKeptBy calls before s grant = was_let_go (with_calls calls before s (no_history s)) grant ≡ false
 
 -- how many packets were extra from this time on
 abbrev pub extra_since : ℕ → History → ℕ

@@ -136,28 +136,28 @@ pub record IsSuccess (packet : Transmit (List ℕ)) (now : ℕ) (s : State) : Ty
   pub outstanding : is_outstanding (id_of packet.payload) s.transactions ≡ true
   pub answers : Answers packet.payload (purposes_of (id_of packet.payload) s)
 
--- The packet is a challenge, and the client has answered fewer in a row than it may (RFC 8489, section 9.2.5).
-pub record IsChallenge (packet : Transmit (List ℕ)) (now : ℕ) (s : State) : Type 0 where
+-- The packet is a challenge, and the server sent fewer in a row than the client answers (RFC 8489, section 9.2.5).
+pub record IsChallenge (packet : Transmit (List ℕ)) (now : ℕ) (past : History) (s : State) : Type 0 where
   pub message : IsOneMessage packet now s
   pub error : class_in packet.payload ≡ Error
   pub challenge : IsSome (challenge_in s packet.payload)
-  pub few : s.challenges < s.config.max_stale_nonces
+  pub few : past.challenged < s.config.max_stale_nonces
 
 -- ---- the run
 
 -- The call takes what is due or sends data, or time passes, or the caller requests a permission or a channel, lets one go
 -- or keeps it again, or a success or a challenge comes. Any other call changes nothing, as what strangers and peers send.
-abbrev pub IsQuiet : Call → State → Type 0
-IsQuiet (Poll now) s = ⊤
-IsQuiet (PollTransmit now) s = ⊤
-IsQuiet PollEvent s = ⊤
-IsQuiet (SendTo transport peer bytes now) s = ⊤
-IsQuiet (CreatePermission transport ip now) s = ⊤
-IsQuiet (BindChannel transport peer now) s = ⊤
-IsQuiet (SetPermissionKept transport ip is_kept) s = ⊤
-IsQuiet (SetChannelKept transport peer is_kept) s = ⊤
-IsQuiet (Recv packet now) s = IsSuccess packet now s ⊎ (IsChallenge packet now s ⊎ (state_after (Recv packet now) s ≡ s))
-IsQuiet call s = state_after call s ≡ s
+abbrev pub IsQuiet : Call → History → State → Type 0
+IsQuiet (Poll now) past s = ⊤
+IsQuiet (PollTransmit now) past s = ⊤
+IsQuiet PollEvent past s = ⊤
+IsQuiet (SendTo transport peer bytes now) past s = ⊤
+IsQuiet (CreatePermission transport ip now) past s = ⊤
+IsQuiet (BindChannel transport peer now) past s = ⊤
+IsQuiet (SetPermissionKept transport ip is_kept) past s = ⊤
+IsQuiet (SetChannelKept transport peer is_kept) past s = ⊤
+IsQuiet (Recv packet now) past s = IsSuccess packet now s ⊎ (IsChallenge packet now past s ⊎ (state_after (Recv packet now) s ≡ s))
+IsQuiet call past s = state_after call s ≡ s
 
 -- The caller is on time, and no request awaits its success for longer than the delay, however often it was retransmitted
 -- or made again.
@@ -173,7 +173,7 @@ RunsSteadily count slots extras delay before past s (call ∷ calls) =
     let now = time_of before call in
     let next = state_after call s in
     let later = with_call call now s past in
-    AreInTime delay before now past s × IsQuiet call s × IsWithin count slots next × IsSeldom extras s.config.refresh_ahead now later
+    AreInTime delay before now past s × IsQuiet call past s × IsWithin count slots next × IsSeldom extras s.config.refresh_ahead now later
     × RunsSteadily count slots extras delay now later next calls
 
 -- ---- what holds
@@ -188,7 +188,7 @@ IsFresh now s g = now + ahead_of s.config.refresh_ahead g < expiry_of g
 abbrev pub GrantsLast : Type 0
 GrantsLast =
     (count slots extras delay now : ℕ) (s : State) (earlier later : List Call) → IsSteady count slots extras delay now s
-    → RunsSteadily count slots extras delay now no_history s (earlier ++ later)
+    → RunsSteadily count slots extras delay now (no_history s) s (earlier ++ later)
     → let between = time_of_all now earlier in
     let middle = state_after_all s earlier in
     (g : Grant) → Contains middle.grants g → IsInForce between g → IsKeptBy earlier now s g ⊎ IsFresh between middle g
@@ -199,7 +199,7 @@ GrantsLast =
 abbrev pub RequestsSucceed : Type 0
 RequestsSucceed =
     (count slots extras delay now : ℕ) (s : State) (earlier later : List Call) → IsSteady count slots extras delay now s
-    → RunsSteadily count slots extras delay now no_history s (earlier ++ later)
+    → RunsSteadily count slots extras delay now (no_history s) s (earlier ++ later)
     → let between = time_of_all now earlier in
     let middle = state_after_all s earlier in
     (g : Grant) → Contains middle.grants g → IsRequested g → between + delay < time_of_all between later

@@ -50,7 +50,7 @@ HasRoomAt5Ms =
 pub record LastsWithPeers (s : State) : Type 0 where
   pub count : length s.grants ≡ 8193
   pub begins : IsSteady 8193 100 1000 5_000_000_000 0 s
-  pub lasts : (calls : List Call) → RunsSteadily 8193 100 1000 5_000_000_000 0 no_history s calls
+  pub lasts : (calls : List Call) → RunsSteadily 8193 100 1000 5_000_000_000 0 (no_history s) s calls
       → (g : Grant) → Contains s.grants g → IsKeptBy calls 0 s g → HasStill g (time_of_all 0 calls) (state_after_all s calls)
 
 -- whatever its 4,096 peers over IPv4 are, and its addresses, credentials and IDs

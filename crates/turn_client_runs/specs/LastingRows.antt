@@ -63,7 +63,7 @@ refreshed_grants =
 -- three is refreshed.
 pub record LastsFor700Seconds (s : State) : Type 0 where
   pub begins : IsSteady 3 1 0 100_000_000 200_000_000 s
-  pub runs : RunsSteadily 3 1 0 100_000_000 200_000_000 no_history s (calls_of_700_s s)
+  pub runs : RunsSteadily 3 1 0 100_000_000 200_000_000 (no_history s) s (calls_of_700_s s)
   pub refreshes : (state_after_all s (calls_of_700_s s)).grants ≡ refreshed_grants
 
 -- whatever the client's addresses, credentials and IDs are

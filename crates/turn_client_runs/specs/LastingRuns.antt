@@ -26,5 +26,5 @@ LastsThrough delay now s before after =
 abbrev pub GrantsLastInRuns : State → List Call → Type 0
 GrantsLastInRuns = InEachPart (λ s middle.
     (count slots extras delay now : ℕ) (before after : List Call) → middle ≡ before ++ after
-    → IsSteady count slots extras delay now s → RunsSteadily count slots extras delay now no_history s middle
+    → IsSteady count slots extras delay now s → RunsSteadily count slots extras delay now (no_history s) s middle
     → LastsThrough delay now s before after)

@@ -34,7 +34,7 @@ pub record LastsFromFirst (first : State) : Type 0 where
   pub handshake : RunsHandshake 100_000_000 0 first (handshake_calls first)
   pub allocates : let last = state_after_all first (handshake_calls first) in IsAllocating (allocation_packet last) last
   pub begins : IsSteady 3 1 0 100_000_000 200_000_000 (just_allocated first)
-  pub runs : RunsSteadily 3 1 0 100_000_000 200_000_000 no_history (just_allocated first) (calls_after (just_allocated first))
+  pub runs : RunsSteadily 3 1 0 100_000_000 200_000_000 (no_history (just_allocated first)) (just_allocated first) (calls_after (just_allocated first))
   pub refreshes : (state_after_all first (calls_from_first first)).grants ≡ refreshed_grants
 
 -- whatever the client's addresses, credentials and IDs are
