@@ -1,14 +1,26 @@
-"""Compares what the clients send and receive, before any of it is timed."""
+"""Compares what the clients send and receive with what they have to, before any of it is timed."""
 import struct
 from typing import Dict, List, Tuple
 
-from programs import OURS, PEERS
+from programs import PEERS
 
 COOKIE, FINGERPRINT = 0x2112A442, 0x8028
+SEND, XOR_PEER_ADDRESS, DATA = 0x0016, 0x0012, 0x0013
+# As client.h and main.c have them.
+FIRST_IP, PORT, OTHER_PORT, FIRST_CHANNEL = 0x0A010000, 10000, 10001, 0x4000
+PAYLOAD_OUT, PAYLOAD_IN = bytes((5 * i + 1) % 256 for i in range(1200)), bytes((7 * i + 3) % 256 for i in range(1200))
+
+# What each client does; those with the payload in place are in some alone.
+ROWS = {"frame_out", "frame_in", "send_out", "data_in"}
+
+# The type of a STUN message, and its attributes by their types.
+Message = Tuple[int, List[Tuple[int, bytes]]]
 
 
-def attributes(packet: bytes) -> Tuple[int, List[Tuple[int, bytes]]]:
-    """The type of a STUN message, and its attributes in the order of their types, without FINGERPRINT, which any may have."""
+def message(packet: bytes) -> Message:
+    """What a STUN message says. It may have FINGERPRINT, and its attributes any order."""
+    if len(packet) < 20:
+        raise ValueError("no header")
     kind, length, cookie = struct.unpack_from("!HHI", packet)
     if cookie != COOKIE or length != len(packet) - 20 or length % 4:
         raise ValueError("no STUN message")
@@ -20,29 +32,32 @@ def attributes(packet: bytes) -> Tuple[int, List[Tuple[int, bytes]]]:
     return kind, sorted(it for it in found if it[0] != FINGERPRINT)
 
 
-def is_same_packet(ours: bytes, theirs: bytes) -> bool:
-    """Whether both packets say the same. ChannelData has no freedom. A Send indication has a transaction number of its own, and its
-    attributes may stand in another order."""
-    if ours[0] >= 0x40:
-        return ours == theirs
-    return attributes(ours) == attributes(theirs)
+def send_indication(ip: int) -> Message:
+    """What a Send indication to the peer's other port has to say (RFC 8656, section 11.1)."""
+    address = struct.pack("!xBHI", 1, OTHER_PORT ^ COOKIE >> 16, ip ^ COOKIE)
+    return SEND, [(XOR_PEER_ADDRESS, address), (DATA, PAYLOAD_OUT)]
 
 
-def is_same_data(ours: str, theirs: str, names_peer: bool) -> bool:
-    """Whether both have received the same data of the same peer, where the client tells which that is."""
-    return ours == theirs if names_peer else ours.rpartition(":")[2] == theirs.rpartition(":")[2]
+def is_right(row: str, text: str, channels: int, names_peer: bool) -> bool:
+    """Whether a client with so many channels, of which the middle one is used, has sent or received this. What it received stands
+    behind the peer's address, where it tells which that is."""
+    middle = channels // 2
+    if row.endswith("_in"):
+        peer, _, data = text.rpartition(":")
+        return data == PAYLOAD_IN.hex() and (peer == f"{FIRST_IP + middle:08x}:{PORT}" or not names_peer)
+    packet = bytes.fromhex(text)
+    if row.startswith("frame"):
+        return packet == struct.pack("!HH", FIRST_CHANNEL + middle, len(PAYLOAD_OUT)) + PAYLOAD_OUT
+    try:
+        return message(packet) == send_indication(FIRST_IP + middle)
+    except ValueError:
+        return False
 
 
-def compare(lines: Dict[str, Dict[str, str]]) -> None:
-    """Compares what each client has sent and received with what ours has."""
-    ours = lines[OURS]
-    for name, said in lines.items():
-        for row, text in said.items():
-            wanted = ours[row.replace("_head", "_out")]
-            if row.endswith("_in"):
-                names_peer = PEERS[name].keeps_channels or row == "data_in"
-                is_same = is_same_data(wanted, text, names_peer)
-            else:
-                is_same = is_same_packet(bytes.fromhex(wanted), bytes.fromhex(text))
-            if not is_same:
-                raise SystemExit(f"bench-peers: {row} of {name} is another packet than that of {OURS}:\n{text}\n{wanted}")
+def compare(name: str, said: Dict[str, str], channels: int) -> None:
+    """Ends the program where a client has sent or received something else, or nothing."""
+    if not ROWS <= set(said):
+        raise SystemExit(f"bench-peers: {name} with {channels} channels lacks one of {', '.join(sorted(ROWS))}")
+    for row, text in said.items():
+        if not is_right(row, text, channels, PEERS[name].keeps_channels or row == "data_in"):
+            raise SystemExit(f"bench-peers: {row} of {name} with {channels} channels is not what it should be:\n{text}")
