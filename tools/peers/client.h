@@ -7,7 +7,7 @@
 #include <stdint.h>
 
 /* What a turn does: the rows of the table. README.md says how each is made. */
-enum task { FRAME_OUT, FRAME_HEAD, FRAME_IN, SEND_OUT, SEND_HEAD, DATA_IN, POLL, TRANSMIT, ROWS };
+enum task { FRAME_OUT, FRAME_HEAD, FRAME_IN, AROUND_OUT, AROUND_IN, SEND_OUT, SEND_HEAD, DATA_IN, POLL, TRANSMIT, ROWS };
 
 /* What peers send, and what is sent to them. */
 enum { PAYLOAD = 1200 };
@@ -15,6 +15,12 @@ extern uint8_t payload[PAYLOAD];
 
 /* Each peer is this port of an IP address of its own. To the other port no channel is bound. */
 enum { PORT = 10000, OTHER_PORT = 10001 };
+
+/* The first channel, and the most that there are. */
+enum { FIRST_CHANNEL = 0x4000, CHANNELS = 4096 };
+
+/* The channel that a turn of AROUND_OUT and AROUND_IN uses, counted from 0: each turn another. */
+extern int place;
 
 /* The client and the server. */
 enum { LOCAL_IP = 0xc0a80001, LOCAL_PORT = 1000, SERVER_IP = 0x0a000002, SERVER_PORT = 2000 };

@@ -19,7 +19,8 @@ enum { CLIENT_LAYER = 0, WIRE_LAYER = -10 };
 static struct udp_sock *sock;
 static struct udp_helper *wire;
 static struct turnc *client;
-static struct sa server, peer, other, source;
+static struct sa server, peer, other, source, peers[CHANNELS];
+static int bound;
 /* A packet that is sent, one that is received, and an answer of the server. */
 static struct mbuf *out, *in, *reply;
 static size_t input_len;
@@ -118,6 +119,7 @@ static void granted(void *arg)
 
 void client_open(void)
 {
+    bound = 0;
     if (turnc_alloc(&client, NULL, IPPROTO_UDP, sock, CLIENT_LAYER, &server, "user", "pass", TURN_DEFAULT_LIFETIME, allocated,
                     NULL)) {
         wrong("a new client");
@@ -137,6 +139,7 @@ void client_bind(uint32_t ip)
         wrong("a channel");
     }
     exchange();
+    peers[bound++] = to;
 }
 
 void client_aim(uint32_t ip, uint16_t number)
@@ -169,11 +172,17 @@ uint64_t client_turn(enum task row)
         return send_in_place(&peer);
     case FRAME_HEAD:
         return send_in_place(&peer);
+    case AROUND_OUT:
+        memcpy(out->buf + ROOM, payload, PAYLOAD);
+        return send_in_place(&peers[place]);
     case SEND_OUT:
         memcpy(out->buf + ROOM, payload, PAYLOAD);
         return send_in_place(&other);
     case SEND_HEAD:
         return send_in_place(&other);
+    case AROUND_IN:
+        write_16(in->buf, (uint16_t)(FIRST_CHANNEL + place));
+        return receive(in, input_len);
     default:
         return receive(in, input_len);
     }
@@ -182,7 +191,7 @@ uint64_t client_turn(enum task row)
 struct made client_made(enum task row)
 {
     struct made made = {.head = packet, .head_len = packet_len};
-    if (row == FRAME_IN || row == DATA_IN) {
+    if (row == FRAME_IN || row == AROUND_IN || row == DATA_IN) {
         made.head = mbuf_buf(in);
         made.head_len = mbuf_get_left(in);
         made.ip = sa_in(&source);

@@ -20,16 +20,22 @@ void bench_start(uint32_t row);
 void bench_stop(uint32_t row, uint64_t turns);
 
 static const char *const names[] = {
-    "frame_out", "frame_head", "frame_in", "send_out", "send_head", "data_in", "poll", "transmit", "handshake",
+    "frame_out", "frame_head", "frame_in", "around_out", "around_in", "send_out",
+    "send_head", "data_in",    "poll",     "transmit",   "handshake",
 };
 enum { HANDSHAKE = ROWS, HANDSHAKES = 300 };
 
 uint8_t payload[PAYLOAD];
+int place;
+static int channels;
 static uint8_t frame[4 + PAYLOAD], indication[36 + PAYLOAD];
+
 /* What a turn of each row answers, so that no refused call is timed. */
 static const uint64_t wanted[ROWS] = {
-    [FRAME_OUT] = 4 + PAYLOAD, [FRAME_HEAD] = 4 + PAYLOAD, [FRAME_IN] = PAYLOAD, [SEND_OUT] = 36 + PAYLOAD,
-    [SEND_HEAD] = 36 + PAYLOAD, [DATA_IN] = PAYLOAD,        [POLL] = 1,           [TRANSMIT] = 1,
+    [FRAME_OUT] = 4 + PAYLOAD,  [FRAME_HEAD] = 4 + PAYLOAD, [FRAME_IN] = PAYLOAD,
+    [AROUND_OUT] = 4 + PAYLOAD, [AROUND_IN] = PAYLOAD,      [SEND_OUT] = 36 + PAYLOAD,
+    [SEND_HEAD] = 36 + PAYLOAD, [DATA_IN] = PAYLOAD,        [POLL] = 1,
+    [TRANSMIT] = 1,
 };
 
 static uint32_t peer_ip(int index)
@@ -41,7 +47,9 @@ static uint32_t peer_ip(int index)
 static void open_with(int count)
 {
     int middle = count / 2;
-    uint16_t number = (uint16_t)(0x4000 + middle);
+    uint16_t number = (uint16_t)(FIRST_CHANNEL + middle);
+    channels = count;
+    place = middle;
     client_open();
     for (int i = 0; i < count; i++) {
         client_bind(peer_ip(i));
@@ -51,9 +59,17 @@ static void open_with(int count)
     write_data_indication(indication, peer_ip(middle), PORT);
 }
 
+/* Goes on to another channel. The step has no divisor in common with the numbers of channels that are measured, so each has its
+   turn, and not in the order in which they were bound. */
+static void go_around(void)
+{
+    static const int step = 1031;
+    place = (place + step) % channels;
+}
+
 static void take_input(enum task row)
 {
-    if (row == FRAME_IN) {
+    if (row == FRAME_IN || row == AROUND_IN) {
         client_input(frame, sizeof frame);
     } else if (row == DATA_IN) {
         client_input(indication, sizeof indication);
@@ -77,7 +93,7 @@ static void print_bytes(void)
         client_turn(row);
         struct made made = client_made(row);
         printf("%s ", names[row]);
-        if (row == FRAME_IN || row == DATA_IN) {
+        if (row == FRAME_IN || row == AROUND_IN || row == DATA_IN) {
             printf("%08x:%u:", made.ip, made.port);
         }
         print_hex(made.head, made.head_len);
@@ -104,11 +120,15 @@ static void time_handshakes(void)
 static void time_row(enum task row)
 {
     uint64_t turns, sum = 0;
+    int is_around = row == AROUND_OUT || row == AROUND_IN;
     take_input(row);
     while ((turns = bench_next(row, sum)) > 0) {
         sum = 0;
         for (uint64_t i = 0; i < turns; i++) {
             sum += client_turn(row);
+            if (is_around) {
+                go_around();
+            }
         }
     }
 }
@@ -154,7 +174,7 @@ static void print_heap(int count)
 int main(int argc, char **argv)
 {
     int count = argc == 3 ? atoi(argv[2]) : 0;
-    if (count < 1 || count > 4096 || (count > 1 && !client_keeps_channels())) {
+    if (count < 1 || count > CHANNELS || (count > 1 && !client_keeps_channels())) {
         wrong("the number of channels");
     }
     for (size_t i = 0; i < PAYLOAD; i++) {

@@ -46,7 +46,7 @@ def is_right(row: str, text: str, channels: int, names_peer: bool) -> bool:
         peer, _, data = text.rpartition(":")
         return data == PAYLOAD_IN.hex() and (peer == f"{FIRST_IP + middle:08x}:{PORT}" or not names_peer)
     packet = bytes.fromhex(text)
-    if row.startswith("frame"):
+    if row.startswith(("frame", "around")):
         return packet == struct.pack("!HH", FIRST_CHANNEL + middle, len(PAYLOAD_OUT)) + PAYLOAD_OUT
     try:
         return message(packet) == send_indication(FIRST_IP + middle)

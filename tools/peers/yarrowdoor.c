@@ -12,10 +12,10 @@ enum { MANY = 1024 };
 static const uint64_t REST = 10000000000, MILLISECOND = 1000000;
 
 static yarrowdoor *client;
-static yarrowdoor_address local, server, peer, other;
+static yarrowdoor_address local, server, peer, other, peers[CHANNELS];
+static int bound;
 static uint64_t now;
-static uint8_t packet[YARROWDOOR_MAX_PACKET];
-static const uint8_t *input;
+static uint8_t packet[YARROWDOOR_MAX_PACKET], input[2048];
 static size_t input_len;
 static yarrowdoor_answer last;
 
@@ -83,6 +83,7 @@ void client_open(void)
         wrong("a new client");
     }
     now = 0;
+    bound = 0;
     await(YARROWDOOR_ALLOCATION_CREATED);
 }
 
@@ -109,6 +110,7 @@ void client_bind(uint32_t ip)
     }
     await(YARROWDOOR_CHANNEL_CREATED);
     settle();
+    peers[bound++] = to;
 }
 
 void client_aim(uint32_t ip, uint16_t number)
@@ -120,7 +122,7 @@ void client_aim(uint32_t ip, uint16_t number)
 
 void client_input(const uint8_t *bytes, size_t len)
 {
-    input = bytes;
+    memcpy(input, bytes, len);
     input_len = len;
 }
 
@@ -154,10 +156,15 @@ uint64_t client_turn(enum task row)
         return send_out(&peer, &last);
     case FRAME_HEAD:
         return send_head(&peer, &last);
+    case AROUND_OUT:
+        return send_out(&peers[place], &last);
     case SEND_OUT:
         return send_out(&other, &last);
     case SEND_HEAD:
         return send_head(&other, &last);
+    case AROUND_IN:
+        write_16(input, (uint16_t)(FIRST_CHANNEL + place));
+        return receive(&last);
     case FRAME_IN:
     case DATA_IN:
         return receive(&last);
@@ -174,7 +181,7 @@ struct made client_made(enum task row)
     if (row == FRAME_HEAD || row == SEND_HEAD) {
         made.body = payload; /* of a length that needs no padding */
         made.body_len = PAYLOAD;
-    } else if (row == FRAME_IN || row == DATA_IN) {
+    } else if (row == FRAME_IN || row == AROUND_IN || row == DATA_IN) {
         const uint8_t *ip = last.peer.ip;
         made.head = input + last.start;
         made.ip = (uint32_t)ip[0] << 24 | (uint32_t)ip[1] << 16 | (uint32_t)ip[2] << 8 | ip[3];

@@ -29,6 +29,15 @@ type client struct {
 	wire  *wire
 	room  [2048]byte
 	from  net.Addr
+	// The channel that the next turn around them all uses, of so many.
+	place, channels int
+}
+
+// Goes on to another channel, as go_around of ../main.c does, and answers which was next.
+func (c *client) next() int {
+	place := c.place
+	c.place = (place + 1031) % c.channels
+	return place
 }
 
 // The first client fills in the network of the configuration, which lists the interfaces of the machine. Later ones take it.

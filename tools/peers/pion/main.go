@@ -5,12 +5,14 @@
 package main
 
 import (
+	"encoding/binary"
 	"encoding/hex"
 	"fmt"
 	"net"
 	"os"
 	"runtime"
 	"strconv"
+	"strings"
 	"time"
 )
 
@@ -39,11 +41,20 @@ func rowsOf(c *client, channels int) []row {
 	middle := channels / 2
 	peer := peerAddr(middle, port)
 	other := peerAddr(middle, otherPort)
-	frame := channelData(firstChannel + middle)
+	frame, around := channelData(firstChannel+middle), channelData(firstChannel)
+	peers := make([]net.Addr, channels)
+	for i := range peers {
+		peers[i] = peerAddr(i, port)
+	}
 	indication := dataIndication(peer)
 	return []row{
 		{"frame_out", func() int { return c.send(peer) }, 4 + payloadLen},
 		{"frame_in", func() int { return c.receive(frame) }, payloadLen},
+		{"around_out", func() int { return c.send(peers[c.next()]) }, 4 + payloadLen},
+		{"around_in", func() int {
+			binary.BigEndian.PutUint16(around, uint16(firstChannel+c.next()))
+			return c.receive(around)
+		}, payloadLen},
 		{"send_out", func() int { return c.send(other) }, 36 + payloadLen + fingerprintLen},
 		{"data_in", func() int { return c.receive(indication) }, payloadLen},
 	}
@@ -51,6 +62,7 @@ func rowsOf(c *client, channels int) []row {
 
 func openWith(channels int) *client {
 	c := open()
+	c.channels = channels
 	for i := 0; i < channels; i++ {
 		c.bind(peerAddr(i, port))
 	}
@@ -61,8 +73,9 @@ func openWith(channels int) *client {
 func printBytes(channels int) {
 	c := openWith(channels)
 	for _, r := range rowsOf(c, channels) {
+		c.place = channels / 2
 		length := r.turn()
-		if r.name == "frame_in" || r.name == "data_in" {
+		if strings.HasSuffix(r.name, "_in") {
 			from := c.from.(*net.UDPAddr)
 			fmt.Printf("%s %s:%d:%s\n", r.name, hex.EncodeToString(from.IP.To4()), from.Port, hex.EncodeToString(c.room[:length]))
 		} else {
