@@ -20,7 +20,7 @@ enum { PORT = 10000, OTHER_PORT = 10001 };
 enum { FIRST_CHANNEL = 0x4000, CHANNELS = 4096 };
 
 /* The channel that a turn of AROUND_OUT and AROUND_IN uses, counted from 0: each turn another. */
-extern int place;
+extern int chosen;
 
 /* The client and the server. */
 enum { LOCAL_IP = 0xc0a80001, LOCAL_PORT = 1000, SERVER_IP = 0x0a000002, SERVER_PORT = 2000 };

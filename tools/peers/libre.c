@@ -174,14 +174,14 @@ uint64_t client_turn(enum task row)
         return send_in_place(&peer);
     case AROUND_OUT:
         memcpy(out->buf + ROOM, payload, PAYLOAD);
-        return send_in_place(&peers[place]);
+        return send_in_place(&peers[chosen]);
     case SEND_OUT:
         memcpy(out->buf + ROOM, payload, PAYLOAD);
         return send_in_place(&other);
     case SEND_HEAD:
         return send_in_place(&other);
     case AROUND_IN:
-        write_16(in->buf, (uint16_t)(FIRST_CHANNEL + place));
+        write_16(in->buf, (uint16_t)(FIRST_CHANNEL + chosen));
         return receive(in, input_len);
     default:
         return receive(in, input_len);

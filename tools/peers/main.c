@@ -26,7 +26,7 @@ static const char *const names[] = {
 enum { HANDSHAKE = ROWS, HANDSHAKES = 300 };
 
 uint8_t payload[PAYLOAD];
-int place;
+int chosen;
 static int channels;
 static uint8_t frame[4 + PAYLOAD], indication[36 + PAYLOAD];
 
@@ -49,7 +49,7 @@ static void open_with(int count)
     int middle = count / 2;
     uint16_t number = (uint16_t)(FIRST_CHANNEL + middle);
     channels = count;
-    place = middle;
+    chosen = middle;
     client_open();
     for (int i = 0; i < count; i++) {
         client_bind(peer_ip(i));
@@ -64,7 +64,7 @@ static void open_with(int count)
 static void go_around(void)
 {
     static const int step = 1031;
-    place = (place + step) % channels;
+    chosen = (chosen + step) % channels;
 }
 
 static void take_input(enum task row)

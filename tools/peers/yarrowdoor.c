@@ -157,13 +157,13 @@ uint64_t client_turn(enum task row)
     case FRAME_HEAD:
         return send_head(&peer, &last);
     case AROUND_OUT:
-        return send_out(&peers[place], &last);
+        return send_out(&peers[chosen], &last);
     case SEND_OUT:
         return send_out(&other, &last);
     case SEND_HEAD:
         return send_head(&other, &last);
     case AROUND_IN:
-        write_16(input, (uint16_t)(FIRST_CHANNEL + place));
+        write_16(input, (uint16_t)(FIRST_CHANNEL + chosen));
         return receive(&last);
     case FRAME_IN:
     case DATA_IN:
