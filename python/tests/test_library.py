@@ -141,7 +141,7 @@ class Ownership(unittest.TestCase):
 
     def test_a_second_thread_gets_an_error(self) -> None:
         client = new_client()
-        client._handle._take()
+        token = client._handle._take()
         found: List[object] = []
 
         def use() -> None:
@@ -154,7 +154,7 @@ class Ownership(unittest.TestCase):
         thread = threading.Thread(target=use)
         thread.start()
         thread.join()
-        client._handle._give(None)
+        client._handle._give(token)
         self.assertEqual([type(it) for it in found], [Busy] * 3)
         self.assertEqual(client.poll(0), sans_io.WaitUntil(0))
 

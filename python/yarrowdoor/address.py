@@ -1,12 +1,12 @@
 """Addresses: as users have them, as sockets do, and packed as the library does."""
 from __future__ import annotations
 
-import functools
 import socket
 import struct
-from typing import NamedTuple, Tuple, Union
+from typing import Callable, NamedTuple, Tuple, Union
 
 from . import layout as c
+from .kept import Kept
 
 __all__ = ["Address", "AddressLike", "ScopedAddress", "SocketAddress", "checked_ip", "checked_peer", "of_socket", "packed",
            "packed_ip", "peer_of", "socket_address"]
@@ -41,9 +41,7 @@ SocketAddress = Union[Address, ScopedAddress]
 AddressLike = Union[Tuple[str, int], Tuple[str, int, int, int]]
 
 
-@functools.lru_cache(maxsize=8192)
-def packed(address: AddressLike) -> bytes:
-    """An address as the library has it. `ValueError` where it is none."""
+def _packed(address: AddressLike) -> bytes:
     ip, port, *more = address
     try:
         flow, scope = more if more else (0, 0)
@@ -54,6 +52,10 @@ def packed(address: AddressLike) -> bytes:
         raise ValueError(f"{tuple(address)!r} is not an IP address with a port") from None
 
 
+packed: Callable[[AddressLike], bytes] = Kept(_packed).__getitem__
+"""An address as the library has it. `ValueError` where it is none."""
+
+
 def packed_ip(ip: str) -> bytes:
     """An IP address as the library has it, with port 0. `ValueError` where it is none."""
     try:
@@ -62,11 +64,13 @@ def packed_ip(ip: str) -> bytes:
         raise ValueError(f"{ip!r} is not an IP address") from None
 
 
-@functools.lru_cache(maxsize=8192)
-def peer_of(address: bytes) -> Address:
-    """The address of a peer, or a relayed one, from the library: these have neither flow nor scope (RFC 8489, section 14.2)."""
+def _peer_of(address: bytes) -> Address:
     ip, _, _, port, family, _ = c.ADDRESS.unpack(address)
     return Address(socket.inet_ntop(socket.AF_INET, ip[:4]) if family == 4 else socket.inet_ntop(socket.AF_INET6, ip), port)
+
+
+peer_of: Callable[[bytes], Address] = Kept(_peer_of).__getitem__
+"""The address of a peer, or a relayed one, from the library: these have neither flow nor scope (RFC 8489, section 14.2)."""
 
 
 def socket_address(address: bytes) -> SocketAddress:

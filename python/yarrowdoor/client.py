@@ -22,7 +22,7 @@ allocation failed, after which the client is valid and may have ended: poll it; 
 from __future__ import annotations
 
 import os
-from typing import Any, Callable, List, Optional, Sequence, TypeVar, Union
+from typing import Any, Callable, List, Optional, Sequence, Tuple, TypeVar, Union
 
 from . import layout as c
 from .address import Address, AddressLike, ScopedAddress, SocketAddress, of_socket, packed, packed_ip, peer_of, socket_address
@@ -32,7 +32,8 @@ from .answers import (
     TcpConnected, TcpConnectFailed, WaitUntil, event_of, packet_of, poll_of,
 )
 from .errors import Refused
-from .library import Buffer, Handle, Library, Route, load
+from .handle import Buffer, Calls, Handle
+from .library import load
 from .settings import TRANSPORTS, Times, credential, number, packed_settings
 
 __all__ = [
@@ -43,8 +44,10 @@ __all__ = [
 ]
 
 _Item = TypeVar("_Item")
+# Data of a peer, the peer, and where in the datagram it began.
+Piece = Tuple[bytes, Address, int]
 _HANDLED, _IGNORED = Handled(), Ignored()
-_RANGE, _HANDLED_KIND, _PACKET = c.PEER_DATA_RANGE, c.HANDLED, c.PACKET
+_RANGE, _PACKET = c.PEER_DATA_RANGE, c.PACKET
 _REASONS = {1: "already-exists", 2: "no-allocation", 3: "no-permission", 4: "no-socket", 5: "expired", 6: "not-granted"}
 
 
@@ -72,7 +75,7 @@ class Client:
                  transport: str = "udp", allocation: str = "udp", families: Sequence[int] = (4,),
                  algorithms: Sequence[str] = ("sha256", "sha1"), anonymous: str = "auto", times: Optional[Times] = None,
                  max_stale_nonces: int = 9, pause: int = 50_000_000, keepalive: int = 0, refresh_ahead: int = 60_000_000_000,
-                 seed: Optional[bytes] = None, library: Optional[Library] = None) -> None:
+                 seed: Optional[bytes] = None, library: Optional[Calls] = None) -> None:
         self._way, self._relay_way = number(TRANSPORTS, transport), number(TRANSPORTS, allocation)
         self._local, self._remote = packed(of_socket(local)), packed(of_socket(remote))
         settings = packed_settings(self._local, self._remote, self._way, self._relay_way, families, algorithms, anonymous, times,
@@ -81,8 +84,8 @@ class Client:
         self._handle = Handle(library or load(), settings, *names, os.urandom(32) if seed is None else seed)
         self._way_name, self._relay_name = transport, allocation
         self._local_name, self._remote_name = socket_address(self._local), socket_address(self._remote)
-        self._recv, self._send_to = self._handle.recv, self._handle.send_to
-        self._received, self._sent = Route.received(self._way, self._remote, self._local), Route.sent(self._relay_way)
+        self._receive = self._handle.receiving(self._way, self._remote, self._local)
+        self._send = self._handle.sending(self._relay_way)
 
     def close(self) -> None:
         """Frees the client. It sends nothing: `delete` gives the allocation back to the server before."""
@@ -112,16 +115,28 @@ class Client:
         `remote` and `local` are the addresses of the socket that had it, unless it is the one to the server. Over TCP call
         `poll_recv` afterwards, until it returns None.
         """
-        route = self._received
+        receive = self._receive
         if transport is not None or remote is not None or local is not None:
             way = self._way if transport is None else number(TRANSPORTS, transport)
-            route = Route.received(way, self._remote if remote is None else packed(remote),
-                                   self._local if local is None else packed(local))
-        kind, start, end, peer = self._recv(now, route, data)
+            receive = self._handle.receiving(way, self._remote if remote is None else packed(remote),
+                                             self._local if local is None else packed(local))
+        kind, size, start, peer = receive(now, data)
         if kind == _RANGE:
-            piece = data[start:end]
+            piece = data[start:start + size]
             return PeerData(piece if piece.__class__ is bytes else bytes(piece), peer_of(peer), self._relay_name, start)
-        if kind == _HANDLED_KIND:
+        return self._received(kind)
+
+    def data_from(self, data: bytes, now: int) -> Union[Piece, Received]:
+        """What `recv` answers, for a client with one socket, the one to the server. Data of a peer that is a slice of what was
+        passed in is given as a tuple of the data, the peer, and the slice's start, which takes less time."""
+        kind, size, start, peer = self._receive(now, data)
+        if kind == _RANGE:
+            return data[start:start + size], peer_of(peer), start
+        return self._received(kind)
+
+    def _received(self, kind: int) -> Received:
+        """What `recv` answers where there is no data in the bytes themselves."""
+        if kind == c.HANDLED:
             return _HANDLED
         if kind == c.IGNORED:
             return _IGNORED
@@ -143,15 +158,15 @@ class Client:
 
         `Refused` (`no-permission`, `no-socket`). `ValueError` for over 65,504 bytes where the allocation is over UDP.
         """
-        route = self._sent if transport is None else Route.sent(number(TRANSPORTS, transport))
-        kind, sent = self._send_to(now, route, packed(peer), data)
+        send = self._send if transport is None else self._handle.sending(number(TRANSPORTS, transport))
+        kind, sent = send(now, packed(peer), data)
         if kind == _PACKET and not self._relay_way:
             return Packet(sent, self._way_name, self._local_name, self._remote_name)
         return packet_of(self._refused(kind), sent)
 
     def data_to(self, peer: AddressLike, data: Buffer, now: int) -> bytes:
         """The bytes of `send_to` alone, for a client with one socket, the one to the server."""
-        kind, sent = self._send_to(now, self._sent, packed(peer), data)
+        kind, sent = self._send(now, packed(peer), data)
         if kind != _PACKET:
             self._refused(kind)
         return sent

@@ -2,8 +2,8 @@
 from __future__ import annotations
 
 import asyncio
-import functools
 import time
+from time import clock_gettime_ns
 from typing import Callable, Optional
 
 __all__ = ["Alarm", "Clock"]
@@ -16,14 +16,12 @@ class Clock:
     """Nanoseconds since it was made, also while the computer sleeps. With another `rate` it is faster, as tests need it."""
 
     def __init__(self, rate: float = 1.0) -> None:
-        boot: int = getattr(time, "CLOCK_BOOTTIME", -1)
-        of_boot: Callable[[], int] = functools.partial(time.clock_gettime_ns, boot)
-        self._read = time.monotonic_ns if boot < 0 else of_boot
-        self._start, self._rate = self._read(), rate
+        self._which: int = getattr(time, "CLOCK_BOOTTIME", time.CLOCK_MONOTONIC)
+        self._start, self._rate = clock_gettime_ns(self._which), rate
 
     def now(self) -> int:
         """The time of the client."""
-        passed = self._read() - self._start
+        passed = clock_gettime_ns(self._which) - self._start
         return passed if self._rate == 1.0 else int(passed * self._rate)
 
     def seconds(self, until: int) -> float:

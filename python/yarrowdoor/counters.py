@@ -4,9 +4,6 @@ from __future__ import annotations
 from dataclasses import dataclass
 from typing import Optional
 
-from .address import Address
-from .inbox import Receiver
-
 __all__ = ["Counters"]
 
 # How much of the next round trip goes into the mean (RFC 6298, section 2).
@@ -33,14 +30,6 @@ class Counters:
     """how often requests were sent again"""
     round_trip: Optional[float] = None
     """how long the server takes for an answer, in seconds: a mean in which the last ones count most. None where there was none"""
-
-    def counting(self, put: Receiver) -> Receiver:
-        """A receiver of data that counts it."""
-        def counted(data: bytes, peer: Address) -> None:
-            self.packets_in += 1
-            self.bytes_in += len(data)
-            put(data, peer)
-        return counted
 
     def measure(self, seconds: float) -> None:
         """Takes one more round trip into the mean."""

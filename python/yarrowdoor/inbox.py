@@ -7,6 +7,7 @@ import contextvars
 from typing import Any, Callable, Deque, Optional, Tuple
 
 from .address import Address
+from .counters import Counters
 from .waiting import Waiting
 
 __all__ = ["Inbox", "Receiver"]
@@ -53,9 +54,9 @@ class Inbox(Waiting):
         self.has_receiver = receiver is not None
         self._takers: Deque[Taker] = collections.deque()
         self._has_ended = False
-        self.put: Receiver = self._guarded(receiver) if receiver is not None else self._keep
-        """Takes data of a peer."""
-        self.put_last: Receiver = self._guarded(receiver) if receiver is not None else self._keep_last
+        self.put: Receiver = receiver if receiver is not None else self._keep
+        """Takes data of a peer. It raises what the receiver does."""
+        self.put_last: Receiver = receiver if receiver is not None else self._keep_last
         """The same, for a caller that has nothing to do after it: a task that waits for data goes on meanwhile. A round of the
         event loop would take as long as all else that is done for a datagram."""
 
@@ -67,16 +68,21 @@ class Inbox(Waiting):
         if self.keep(data, peer):
             self._wake_taker(at_once=True)
 
-    @staticmethod
-    def _guarded(receiver: Receiver) -> Receiver:
-        """The receiver, whose exceptions go to the event loop's handler: they are not the client's."""
-        def put(data: bytes, peer: Address) -> None:
+    def counting(self, counters: Counters, is_last: bool) -> Receiver:
+        """What takes data of a peer, and counts it: `put_last` or `put`. What a receiver raises goes to the event loop's handler:
+        it is not the client's."""
+        put = self.put_last if is_last else self.put
+
+        def counted(data: bytes, peer: Address) -> None:
+            counters.packets_in += 1
+            counters.bytes_in += len(data)
             try:
-                receiver(data, peer)
+                put(data, peer)
             except Exception as error:
                 context = {"message": f"the receiver of a TurnClient raised for data of {peer}", "exception": error}
                 asyncio.get_running_loop().call_exception_handler(context)
-        return put
+
+        return counted
 
     async def take(self) -> Optional[Tuple[bytes, Address]]:
         """The next data, and its peer; None when all is taken and the client has ended."""

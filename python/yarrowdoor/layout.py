@@ -31,8 +31,8 @@ ANSWER = struct.Struct("=IIQQQQIIIIBBH28s28s28s16x")
 # struct yarrowdoor_message: length, kind, method, class, ID, channel, code, place and length of the reason, and of the realm, the
 # mapped address, the alternate one, 0.
 MESSAGE = struct.Struct("=QIHH12sHHIIII28s28s8x")
-# What an answer has of data in the bytes that were passed in: len, start, peer.
-RANGE = struct.Struct("=16xQQ84x28s")
+# What an answer has of data in the bytes that were passed in: kind, len, start, peer.
+FOUND = struct.Struct("=I12xQQ84x28s")
 # The length of what is in the buffer, and how much more there is to read.
 LENGTHS = struct.Struct("=16xQ8xQ")
 

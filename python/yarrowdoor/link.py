@@ -63,6 +63,10 @@ class Link:
     def user(self, user: LinkUser) -> None:
         self._user, self._received = user, user.received
 
+    def ignore(self) -> None:
+        """What comes from now on is dropped."""
+        self._received = LinkUser().received
+
     def pause_writing(self) -> None:
         """The socket is full."""
         self.writable.clear()
@@ -106,12 +110,13 @@ class DatagramLink(Link):
         self._loop.add_reader(self._number, self._read)
 
     def _read(self) -> None:
-        for at in range(self._batch):
+        count = 0
+        while count < self._batch:
             try:
                 data = self._recv(MAX_DATAGRAM)
             except (BlockingIOError, InterruptedError):
-                self._batch = max(1, at)
-                if at == 0:
+                self._batch = max(1, count)
+                if count == 0:
                     self._read_on()
                 return
             except OSError as error:
@@ -121,6 +126,7 @@ class DatagramLink(Link):
             self._received(data, self)
             if self.is_over:
                 return
+            count += 1
         self._alone += 1
         if self._batch > 1 or self._alone >= ALONE:
             self._batch, self._alone = min(2 * self._batch, BATCH), 0
@@ -133,19 +139,14 @@ class DatagramLink(Link):
                 self._loop.add_reader(self._number, self._read)
 
     def send(self, data: bytes) -> None:
-        if self.is_over:
-            return
         if not self._late:
-            self._send_now(data)
+            self.send_data(data)
         elif len(self._late) < MAX_LATE:
             self._late.append(data)
 
     def send_data(self, data: bytes) -> bool:
         if self.is_over or self._late:
             return False
-        return self._send_now(data)
-
-    def _send_now(self, data: bytes) -> bool:
         try:
             self._send(data)
         except (BlockingIOError, InterruptedError):

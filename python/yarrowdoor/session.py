@@ -63,8 +63,7 @@ class Session(LinkUser):
         self.diagnosis = Diagnosis(str(server.uri), max_stale_nonces, clock, self.requests)
         self.grants = Grants(self.usable_client, self.drive, clock, self.requests, notices, self.journal)
         self.idle = Idle(self.grants, clock, idle) if idle is not None else None
-        # After a datagram's data nothing is to be done.
-        put = self.counters.counting(inbox.put if link.is_stream else inbox.put_last)
+        put = inbox.counting(self.counters, is_last=not link.is_stream)  # After a datagram's data nothing is to be done.
         self._put = put if self.idle is None else self.idle.listening(put)
         self.streams = Streams(self)
         self.path = Path(self)
@@ -74,17 +73,17 @@ class Session(LinkUser):
     # The link
 
     def received(self, data: bytes, link: Link) -> None:
-        if isinstance(self.state, Over):
-            return
         self.count += 1
-        now = self.clock.now()
-        answer = self.client.recv(data, now)
-        if isinstance(answer, PeerData):
-            self._put(answer.data, answer.peer)
+        found = self.client.data_from(data, self.clock.now())
+        if isinstance(found, tuple):
+            piece, peer, start = found
+            self._put(piece, peer)
             # A datagram, or a piece that is one ChannelData message, has nothing else in it. Data makes nothing due.
-            if not link.is_stream or link.frames is not None and answer.start == 4 and link.frames.is_one(data, len(answer.data)):
+            if not link.is_stream or link.frames is not None and start == 4 and link.frames.is_one(data, len(piece)):
                 return
-        self.hear(data, link, isinstance(answer, Ignored))
+        elif isinstance(found, PeerData):
+            self._put(found.data, found.peer)
+        self.hear(data, link, isinstance(found, Ignored))
         if link.is_stream:
             self.take_rest()
         self.drive()
@@ -294,6 +293,7 @@ class Session(LinkUser):
         self.requests.end(self.ending)
         self.streams.end()
         self._alarm.cancel()
+        self.link.ignore()
         self.link.close()
         if self.link.is_stream:
             self._loop.call_later(GRACE, self.link.abort)  # The server may have stopped reading.
