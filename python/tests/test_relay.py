@@ -9,7 +9,7 @@ from yarrowdoor import Address, Backoff, Clock, Down, Ended, Lost, PermissionFai
 from yarrowdoor import tries, vigil
 
 from .network import Endpoint, StreamEndpoint
-from .server import CHANNEL_BIND, CREATE_PERMISSION, Server, Where, attribute, unxored, xored
+from .server import CHANNEL_BIND, CREATE_PERMISSION, Server, Where, attribute, parse, unxored, xored
 
 PEER, OTHER = ("10.1.0.1", 9), ("10.1.0.2", 9)
 QUICK = Backoff(first=0.05, longest=0.2)
@@ -149,6 +149,32 @@ class Returns(Case):
             self.assertEqual(len(states), 1)
             asked = [ip for _, ip in endpoint.server.asked if ip.startswith("192.0.2.")]
             self.assertLessEqual(len(asked), 2)  # and not one for each error
+
+    async def test_a_question_that_ends_with_its_client(self) -> None:
+        """Who waits for its answer, since a request failed, asks the next client, and is not cancelled."""
+        endpoint = await self.serve(Restarting(), StreamEndpoint)
+        relay, states = self.relay(endpoint)
+        receive, asked = endpoint.server.receive, asyncio.Event()
+
+        def silent(data: bytes, source: Where, now: float) -> Any:
+            found = parse(data)
+            if found.kind == CREATE_PERMISSION and unxored(found.attributes[0x0012])[0].startswith("192.0.2."):
+                asked.set()
+                return []
+            return receive(data, source, now)
+
+        async with relay:
+            endpoint.server.forget()
+            endpoint.server.receive = silent
+            asking = asyncio.ensure_future(relay.permit(PEER[0]))  # gets a 437
+            await asyncio.wait_for(asked.wait(), 30)
+            self.assertEqual((len(states), asking.done()), (1, False))
+            endpoint.end(resets=True)
+            await asyncio.wait([asking], timeout=30)
+            self.assertEqual((asking.done(), asking.cancelled()), (True, False))
+            await asking
+            endpoint.server.receive = receive
+            await self.echo(relay)
 
     async def test_a_stream_that_breaks(self) -> None:
         endpoint = await self.serve(Restarting(), StreamEndpoint)
