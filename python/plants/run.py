@@ -6,6 +6,7 @@ Each `NAME.edit` has a line `file:`, lines `old:` and `new:` in pairs, whose `ol
 with the test. Without a name all are tried, N (2) side by side. It prints a line for each, and ends with 0 where each is seen.
 """
 import argparse
+import functools
 import pathlib
 import re
 import shutil
@@ -13,10 +14,12 @@ import subprocess
 import sys
 import tempfile
 from concurrent.futures import ThreadPoolExecutor
-from typing import List, Tuple
+from typing import List, Optional, Tuple
 
 PLANTS = pathlib.Path(__file__).resolve().parent
 TOP = PLANTS.parent
+# How long a test may take, in seconds.
+LIMIT = 300
 
 
 def fields(edit: pathlib.Path) -> List[Tuple[str, str]]:
@@ -38,6 +41,24 @@ def plant(edit: pathlib.Path, room: pathlib.Path) -> str:
     return found["seen"]
 
 
+def run(test: str, at: pathlib.Path) -> Tuple[Optional[int], str]:
+    """Runs a test in a folder: its status, or None where it takes too long, and the last line of its summary."""
+    words = [sys.executable, "-B", "-m", "unittest", test]
+    try:
+        ran = subprocess.run(words, cwd=at, stdout=subprocess.PIPE, stderr=subprocess.STDOUT, text=True, timeout=LIMIT)
+    except subprocess.TimeoutExpired:
+        return None, f"over {LIMIT} s"
+    # What a test leaves behind may be printed after its summary.
+    summary = [it for it in ran.stdout.splitlines() if re.match(r"OK$|FAILED \(", it)]
+    return ran.returncode, summary[-1] if summary else "no summary"
+
+
+@functools.lru_cache(maxsize=None)
+def run_without(test: str) -> Tuple[Optional[int], str]:
+    """Runs a test on the package as it is, once for all edits that it sees."""
+    return run(test, TOP)
+
+
 def try_one(edit: pathlib.Path) -> Tuple[bool, str]:
     """Whether the test passes without the edit and fails with it, and what to say."""
     with tempfile.TemporaryDirectory() as folder:
@@ -48,18 +69,9 @@ def try_one(edit: pathlib.Path) -> Tuple[bool, str]:
         seen = plant(edit, room)
         if (TOP.parent / "docs").exists():
             shutil.copytree(TOP.parent / "docs", pathlib.Path(folder, "docs"))  # Tests compare runs with a page.
-        words = [sys.executable, "-B", "-m", "unittest", seen]
-        ends = []
-        for at in (TOP, room):
-            try:
-                ran = subprocess.run(words, cwd=at, stdout=subprocess.PIPE, stderr=subprocess.STDOUT, text=True, timeout=300)
-            except subprocess.TimeoutExpired:
-                return False, f"NOT SEEN: {edit.stem}: {seen} takes over 300 s"
-            # What a test leaves behind may be printed after its summary.
-            summary = [it for it in ran.stdout.splitlines() if re.match(r"OK$|FAILED \(", it)]
-            ends.append((ran.returncode, summary[-1] if summary else "no summary"))
-    is_seen = ends[0] == (0, "OK") and ends[1][1].startswith("FAILED")
-    return is_seen, f"{'seen' if is_seen else 'NOT SEEN'}: {edit.stem}: {seen}: without it {ends[0][1]}, with it {ends[1][1]}"
+        without, found = run_without(seen), run(seen, room)
+    is_seen = without == (0, "OK") and found[1].startswith("FAILED")
+    return is_seen, f"{'seen' if is_seen else 'NOT SEEN'}: {edit.stem}: {seen}: without it {without[1]}, with it {found[1]}"
 
 
 def main() -> None:
