@@ -1,0 +1,103 @@
+"""Data of peers and to peers, of many lengths, and addresses that were packed before."""
+import os
+import unittest
+from typing import Any, List
+
+from yarrowdoor import Address, TurnClient, address
+from yarrowdoor import client as sans_io
+from yarrowdoor.kept import MOST, Kept
+
+from .network import Network, StreamEndpoint
+from .server import Server
+
+
+class Keeping(Network):
+    """A network that keeps what comes to the client, too."""
+
+    def __init__(self, came: List[bytes]) -> None:
+        super().__init__(Server())
+        self.came = came
+
+    def to_client(self, data: bytes) -> None:
+        self.came.append(data)
+        super().to_client(data)
+
+
+class Data(unittest.TestCase):
+    def setUp(self) -> None:
+        self.peer = ("10.1.0.1", 9)
+        self.came: List[bytes] = []
+        self.network = Keeping(self.came)
+        self.network.run(1)
+        self.network.client.create_permission(self.peer[0], self.network.now)
+        self.network.run(2)
+        self.came.clear()
+
+    def test_what_is_sent(self) -> None:
+        """A Send indication has 36 bytes more, and its data is filled up to a multiple of four (RFC 8656, section 11.1)."""
+        client, now = self.network.client, self.network.now
+        for size in (0, 1, 1200, 2047, 2048, 1200, 65_455, 65_456, 65_457, 65_504, 1200):
+            data = os.urandom(size)
+            for given in (data, bytearray(data)):
+                for packet in (client.send_to(self.peer, given, now).data, client.data_to(self.peer, given, now)):
+                    self.assertEqual((len(packet), packet[36:36 + size]), (36 + (size + 3) // 4 * 4, data))
+
+    def test_what_comes(self) -> None:
+        """`data_from` says what `recv` does, and gives data as a tuple."""
+        client, now = self.network.client, self.network.now
+        sent = [os.urandom(it) for it in (1, 1200, 2047, 2048, 1200, 60_000)]
+        for data in sent:
+            self.network.send(data, self.peer)
+        self.network.run(3)
+        self.assertEqual(len(self.came), len(sent))
+        for packet, data in zip(self.came, sent):
+            start = packet.index(data)
+            self.assertEqual(client.data_from(packet, now), (data, self.peer, start))
+            self.assertEqual(client.recv(packet, now), sans_io.PeerData(data, Address(*self.peer), "udp", start))
+        for other in (b"", b"none of ours", bytes(2048)):
+            self.assertEqual((client.data_from(other, now), client.recv(other, now)), (sans_io.Ignored(), sans_io.Ignored()))
+        with self.assertRaises(ValueError):
+            client.data_from(b"", -1)
+
+
+class AfterTheEnd(unittest.IsolatedAsyncioTestCase):
+    async def test_data_that_comes_late(self) -> None:
+        """A stream may still bring some when its client has ended: it is dropped."""
+        endpoint = await StreamEndpoint.start(Server())
+        self.addCleanup(endpoint.close)
+        taken: List[Any] = []
+        relay = TurnClient(endpoint.uri, "user", "pass", receiver=lambda data, peer: taken.append(data))
+        async with relay:
+            await relay.bind(("10.1.0.1", 9))
+            link = relay._session().link
+            link.user.received(b"\x40\x00\x00\x04data", link)
+            self.assertEqual(taken, [b"data"])
+        getattr(link, "data_received")(b"\x40\x00\x00\x04late")
+        self.assertEqual(taken, [b"data"])
+
+
+class KeptResults(unittest.TestCase):
+    def test_a_limit(self) -> None:
+        """Each is made once, as long as few are asked for, and never more are kept than the limit."""
+        made: List[int] = []
+
+        def make(number: int) -> int:
+            made.append(number)
+            return -number
+
+        kept = Kept(make)
+        for _ in range(2):
+            self.assertEqual([kept[it] for it in range(100)], [-it for it in range(100)])
+        self.assertEqual(len(made), 100)
+        for number in range(3 * MOST):
+            self.assertEqual(kept[number], -number)
+            self.assertLessEqual(len(kept), MOST)
+
+    def test_what_is_no_address(self) -> None:
+        for _ in range(2):
+            with self.assertRaises(ValueError):
+                address.packed(("10.0.0", 1))
+
+
+if __name__ == "__main__":
+    unittest.main()
