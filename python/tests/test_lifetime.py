@@ -88,6 +88,17 @@ class Opening(unittest.IsolatedAsyncioTestCase):
         with self.assertRaisesRegex(Ended, "^the client was closed$"):
             await asyncio.wait_for(sending, 10)
 
+    async def test_requests_that_wait_while_it_is_closed(self) -> None:
+        """Those that were not made yet end with the client, too, and are not refused."""
+        endpoint = await self.serve(delay=0.2)
+        relay = TurnClient(endpoint.uri, "user", "pass")
+        await relay.open()
+        asking = [asyncio.ensure_future(relay.permit(f"10.1.0.{number}")) for number in range(1, 31)]
+        await asyncio.sleep(0)
+        await relay.close()
+        found = await asyncio.gather(*asking, return_exceptions=True)
+        self.assertEqual({repr(it) for it in found if it is not None}, {repr(Ended("the client was closed"))})
+
     async def test_opening_that_is_cancelled_when_it_is_done(self) -> None:
         endpoint = await self.serve()
         relay = TurnClient(endpoint.uri, "user", "pass")
