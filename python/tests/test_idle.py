@@ -182,6 +182,22 @@ class Idle(unittest.TestCase):
             self.assertEqual(list(relay.lost), [])
         endpoint.close()
 
+    def test_closing(self) -> None:
+        run(self.closes())
+
+    async def closes(self) -> None:
+        """While the relayed address is given back, nobody is let go."""
+        endpoint: Any = await Watched.start(Server())
+        failed: List[Any] = []
+        asyncio.get_running_loop().set_exception_handler(lambda _, context: failed.append(context))
+        relay = TurnClient(endpoint.uri, "user", "pass", clock=LoopClock(), idle=1)
+        await relay.open()
+        await relay.permit(PEER[0])
+        endpoint.server.is_dead = True
+        await relay.close()  # in two seconds, since there is no answer
+        self.assertEqual(failed, [])
+        endpoint.close()
+
     def test_none_is_let_go_without_it(self) -> None:
         run(self.without())
 

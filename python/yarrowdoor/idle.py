@@ -7,7 +7,7 @@ from typing import Dict, Optional, Set, Tuple
 from .address import Address
 from .asked import About
 from .clock import Clock
-from .errors import Refused
+from .errors import Ended, Refused
 from .grants import Grants
 from .inbox import Receiver
 
@@ -59,7 +59,7 @@ class Idle:
         """Says whether there is still such a grant."""
         try:
             self._grants.set_kept(about, is_kept)
-        except Refused:
+        except (Ended, Refused):
             return False
         return True
 
