@@ -124,7 +124,7 @@ class Client:
         if kind == _RANGE:
             piece = data[start:start + size]
             return PeerData(piece if piece.__class__ is bytes else bytes(piece), peer_of(peer), self._relay_name, start)
-        return self._received(kind)
+        return _received(self._handle, kind)
 
     def data_from(self, data: bytes, now: int) -> Union[Piece, Received]:
         """What `recv` answers, for a client with one socket, the one to the server. Data of a peer that is a slice of what was
@@ -132,19 +132,7 @@ class Client:
         kind, size, start, peer = self._receive(now, data)
         if kind == _RANGE:
             return data[start:start + size], peer_of(peer), start
-        return self._received(kind)
-
-    def _received(self, kind: int) -> Received:
-        """What `recv` answers where there is no data in the bytes themselves."""
-        if kind == c.HANDLED:
-            return _HANDLED
-        if kind == c.IGNORED:
-            return _IGNORED
-        answer, pieces = self._handle.last()
-        if kind == c.PEER_DATA:
-            return PeerData(pieces, peer_of(answer.peer), TRANSPORT_NAMES[answer.transport], None)
-        return PeerIcmp(peer_of(answer.peer), TRANSPORT_NAMES[answer.transport], answer.icmp_type, answer.icmp_code,
-                        answer.icmp_data)
+        return _received(self._handle, kind)
 
     def poll_recv(self, now: int) -> Optional[PeerData]:
         """The next data of peers in the streams that were passed in, or None. Over UDP it always is None."""
@@ -162,21 +150,14 @@ class Client:
         kind, sent = send(now, packed(peer), data)
         if kind == _PACKET and not self._relay_way:
             return Packet(sent, self._way_name, self._local_name, self._remote_name)
-        return packet_of(self._refused(kind), sent)
+        return packet_of(_sent(self._handle, kind), sent)
 
     def data_to(self, peer: AddressLike, data: Buffer, now: int) -> bytes:
         """The bytes of `send_to` alone, for a client with one socket, the one to the server."""
         kind, sent = self._send(now, packed(peer), data)
         if kind != _PACKET:
-            self._refused(kind)
+            _sent(self._handle, kind)
         return sent
-
-    def _refused(self, kind: int) -> c.Answer:
-        """The answer of `send_to`, unless that was refused. It has no time of its own."""
-        answer, _ = self._handle.last()
-        if kind == c.REFUSED:
-            raise Refused(_REASONS.get(answer.error, str(answer.error)))
-        return answer
 
     # Requests
 
@@ -276,3 +257,24 @@ def _refuse(answer: c.Answer) -> None:
     """Raises `Refused` where the client refused the call."""
     if answer.kind == c.REFUSED:
         raise Refused(_REASONS.get(answer.error, str(answer.error)), answer.time)
+
+
+def _received(handle: Handle, kind: int) -> Received:
+    """What `recv` answers where the bytes have no data of a peer in one piece."""
+    if kind == c.HANDLED:
+        return _HANDLED
+    if kind == c.IGNORED:
+        return _IGNORED
+    answer, pieces = handle.last()
+    peer, transport = peer_of(answer.peer), TRANSPORT_NAMES[answer.transport]
+    if kind == c.PEER_DATA:
+        return PeerData(pieces, peer, transport, None)
+    return PeerIcmp(peer, transport, answer.icmp_type, answer.icmp_code, answer.icmp_data)
+
+
+def _sent(handle: Handle, kind: int) -> c.Answer:
+    """The answer of `send_to`, unless that was refused. It has no time of its own."""
+    answer, _ = handle.last()
+    if kind == c.REFUSED:
+        raise Refused(_REASONS.get(answer.error, str(answer.error)))
+    return answer

@@ -2,7 +2,7 @@
 from __future__ import annotations
 
 import argparse
-from typing import NoReturn
+from typing import Any, NoReturn
 
 from ..address import Address, checked_peer
 from ..uri import TurnUri, parse
@@ -19,8 +19,9 @@ _SECRETS = (f"Password: {PASSWORD} in the environment, --password-file, or asked
 class _Parser(argparse.ArgumentParser):
     """Takes no abbreviations, so that no word of a password is taken for the name of a file."""
 
-    def __init__(self, *args: object, **words: object) -> None:
-        super().__init__(*args, **{**words, "allow_abbrev": False})  # type: ignore[arg-type]
+    def __init__(self, *args: Any, **words: Any) -> None:
+        words["allow_abbrev"] = False
+        super().__init__(*args, **words)
 
     def error(self, message: str) -> NoReturn:
         self.exit(2, f"{self.prog}: {message} (see {self.prog} --help)\n")
