@@ -117,9 +117,12 @@ class Ends(Case):
             with self.subTest(code=code):
                 endpoint = await self.serve(Restarting())
                 endpoint.server.refused = functools.partial(lambda code, message, life: code, code)
-                relay, states = self.relay(endpoint)
+                relay, _ = self.relay(endpoint)
+                opening = asyncio.ensure_future(relay.open())
+                await self.until(lambda: opening.done() or endpoint.server.asks > asks)
+                self.assertTrue(opening.done(), "it is asked again")
                 with self.assertRaises(AllocationFailed) as failed:
-                    await asyncio.wait_for(relay.open(), 40)
+                    await opening
                 self.assertEqual((failed.exception.code, endpoint.server.asks), (code, asks))
 
     async def test_twice_486_and_then_room(self) -> None:
