@@ -11,6 +11,8 @@ The caller passes in bytes and times, and gets packets to send, data of peers, e
         ...                                         # wait for a packet up to then
         answer = client.recv(sock.recv(65536), now())
 
+With one socket, the one to the server, `data_to` and `data_from` take less time than `send_to` and `recv`.
+
 Times are nanoseconds of a clock that never goes back, from 0 to 2^62. An address is what sockets have: `(IP, port)`, and for
 IPv6 `(IP, port, flow, scope)` where one of the two is not 0. Transports are `"udp"` and `"tcp"`.
 
@@ -47,7 +49,7 @@ _Item = TypeVar("_Item")
 # Data of a peer, the peer, and where in the datagram it began.
 Piece = Tuple[bytes, Address, int]
 _HANDLED, _IGNORED = Handled(), Ignored()
-_RANGE, _PACKET = c.PEER_DATA_RANGE, c.PACKET
+_RANGE = c.PEER_DATA_RANGE
 _REASONS = {1: "already-exists", 2: "no-allocation", 3: "no-permission", 4: "no-socket", 5: "expired", 6: "not-granted"}
 
 
@@ -123,7 +125,7 @@ class Client:
         kind, size, start, peer = receive(now, data)
         if kind == _RANGE:
             piece = data[start:start + size]
-            return PeerData(piece if piece.__class__ is bytes else bytes(piece), peer_of(peer), self._relay_name, start)
+            return PeerData(piece if type(piece) is bytes else bytes(piece), peer_of(peer), self._relay_name, start)
         return _received(self._handle, kind)
 
     def data_from(self, data: bytes, now: int) -> Union[Piece, Received]:
@@ -147,16 +149,18 @@ class Client:
         `Refused` (`no-permission`, `no-socket`). `ValueError` for over 65,504 bytes where the allocation is over UDP.
         """
         send = self._send if transport is None else self._handle.sending(number(TRANSPORTS, transport))
-        kind, sent = send(now, packed(peer), data)
-        if kind == _PACKET and not self._relay_way:
+        sent = send(now, packed(peer), data)
+        if sent is None:
+            raise _refusal(self._handle)
+        if not self._relay_way:
             return Packet(sent, self._way_name, self._local_name, self._remote_name)
-        return packet_of(_sent(self._handle, kind), sent)
+        return packet_of(self._handle.last()[0], sent)
 
     def data_to(self, peer: AddressLike, data: Buffer, now: int) -> bytes:
         """The bytes of `send_to` alone, for a client with one socket, the one to the server."""
-        kind, sent = self._send(now, packed(peer), data)
-        if kind != _PACKET:
-            _sent(self._handle, kind)
+        sent = self._send(now, packed(peer), data)
+        if sent is None:
+            raise _refusal(self._handle)
         return sent
 
     # Requests
@@ -272,9 +276,7 @@ def _received(handle: Handle, kind: int) -> Received:
     return PeerIcmp(peer, transport, answer.icmp_type, answer.icmp_code, answer.icmp_data)
 
 
-def _sent(handle: Handle, kind: int) -> c.Answer:
-    """The answer of `send_to`, unless that was refused. It has no time of its own."""
+def _refusal(handle: Handle) -> Refused:
+    """Why the client has refused `send_to`. It has no time of its own."""
     answer, _ = handle.last()
-    if kind == c.REFUSED:
-        raise Refused(_REASONS.get(answer.error, str(answer.error)))
-    return answer
+    return Refused(_REASONS.get(answer.error, str(answer.error)))

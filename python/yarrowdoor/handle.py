@@ -21,8 +21,8 @@ __all__ = ["Buffer", "Calls", "Handle", "Receive", "Send", "memory_of"]
 Buffer = Union[bytes, bytearray, memoryview]
 # The call RECV, of a time and bytes: kind, length, start and peer, of which the last three count where the kind is PEER_DATA_RANGE.
 Receive = Callable[[int, Buffer], Tuple[int, int, int, bytes]]
-# The call SEND_TO, of a time, a peer and data: kind, and the bytes to send where it is PACKET.
-Send = Callable[[int, bytes, Buffer], Tuple[int, bytes]]
+# The call SEND_TO, of a time, a peer and data: the bytes to send, or None where `Handle.last` says why there are none.
+Send = Callable[[int, bytes, Buffer], Optional[bytes]]
 
 
 class Calls(Protocol):
@@ -153,7 +153,7 @@ class Handle:
                 raise refusal() from None
             try:
                 time[0] = now
-                given = data if data.__class__ is bytes else _pointed(data)
+                given = data if type(data) is bytes else _pointed(data)
                 size = len(given)
                 passed = _USUAL[size] if size < _MANY else _passed(size)
                 kind = call(client, request_at, given, passed, room_at, room_size, answer_at)
@@ -177,7 +177,7 @@ class Handle:
         room, room_at, room_size, answer_at = self._room.view, self._room.at, self._room.size, self._answer_at
         lengths, last_peer, last_size, last = memoryview(self._answer).cast("Q"), NO_ADDRESS, 0, room[:0]
 
-        def send(now: int, peer: bytes, data: Buffer) -> Tuple[int, bytes]:
+        def send(now: int, peer: bytes, data: Buffer) -> Optional[bytes]:
             nonlocal last_peer, last_size, last
             try:
                 client = take()
@@ -187,7 +187,7 @@ class Handle:
                 time[0] = now
                 if peer is not last_peer:
                     place[:] = last_peer = peer
-                given = data if data.__class__ is bytes else _pointed(data)
+                given = data if type(data) is bytes else _pointed(data)
                 size = len(given)
                 passed = _USUAL[size] if size < _MANY else _passed(size)
                 kind = call(client, request_at, given, passed, room_at, room_size, answer_at)
@@ -195,22 +195,24 @@ class Handle:
                     size = lengths[_LEN]
                     if size != last_size:
                         last, last_size = room[:size], size
-                    return kind, last.tobytes()
+                    return last.tobytes()
             except (TypeError, ValueError) as error:
                 _fail_time(now, error)
             finally:
                 give(client)
-            return self._send_long(now, transport, peer, data) if kind == SMALL_BUFFER else _other(kind)
+            if kind == SMALL_BUFFER:
+                return self._send_long(now, transport, peer, data)
+            return fail(kind) if kind < SMALL_BUFFER else None
 
         return send
 
-    def _send_long(self, now: int, transport: int, peer: bytes, data: Buffer) -> Tuple[int, bytes]:
+    def _send_long(self, now: int, transport: int, peer: bytes, data: Buffer) -> Optional[bytes]:
         """The call SEND_TO for data that the buffer does not hold."""
-        client, given = self._begin(), bytes(data)
+        given, room = bytes(data), Room(memoryview(data).nbytes + MAX_OVERHEAD)
+        client = self._begin()
         try:
-            room = Room(len(given) + MAX_OVERHEAD)
             kind = self._make(client, (now, SEND_TO, 0, transport, 0, NO_ADDRESS, NO_ADDRESS, peer, NO_ADDRESS), given, room)
-            return kind, bytes(room.view[: LENGTHS.unpack_from(self._answer)[0]])
+            return bytes(room.view[: LENGTHS.unpack_from(self._answer)[0]]) if kind == PACKET else None
         finally:
             self._give(client)
 
@@ -242,13 +244,6 @@ def _pointed(data: Buffer) -> Union[bytes, ctypes.Array[ctypes.c_char]]:
     if view.readonly or not view.c_contiguous or not view.nbytes:
         return view.tobytes()
     return (ctypes.c_char * view.nbytes).from_buffer(view)
-
-
-def _other(kind: int) -> Tuple[int, bytes]:
-    """What `Send` answers where there is no packet, or raises."""
-    if kind <= SMALL_BUFFER:
-        fail(kind)
-    return kind, b""
 
 
 def _fail_time(now: int, error: Exception) -> NoReturn:
