@@ -51,9 +51,9 @@ class Data(unittest.TestCase):
         self.network.run(3)
         self.assertEqual(len(self.came), len(sent))
         for packet, data in zip(self.came, sent):
-            start = packet.index(data)
-            self.assertEqual(client.data_from(packet, now), (data, self.peer, start))
-            self.assertEqual(client.recv(packet, now), sans_io.PeerData(data, Address(*self.peer), "udp", start))
+            self.assertEqual(packet[36:36 + len(data)], data)
+            self.assertEqual(client.data_from(packet, now), (data, self.peer, 36))
+            self.assertEqual(client.recv(packet, now), sans_io.PeerData(data, Address(*self.peer), "udp", 36))
         for other in (b"", b"none of ours", bytes(2048)):
             self.assertEqual((client.data_from(other, now), client.recv(other, now)), (sans_io.Ignored(), sans_io.Ignored()))
         with self.assertRaises(ValueError):
