@@ -55,8 +55,9 @@ def run(test: str, at: pathlib.Path) -> Tuple[Optional[int], str]:
 
 @functools.lru_cache(maxsize=None)
 def run_without(test: str) -> Tuple[Optional[int], str]:
-    """Runs a test on the package as it is, once for all edits that it sees."""
-    return run(test, TOP)
+    """Runs a test on the package as it is, for all edits that it sees. One that a busy machine has made fail is run once more."""
+    found = run(test, TOP)
+    return found if found == (0, "OK") else run(test, TOP)
 
 
 def try_one(edit: pathlib.Path) -> Tuple[bool, str]:
