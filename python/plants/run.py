@@ -19,7 +19,7 @@ from typing import List, Optional, Tuple
 PLANTS = pathlib.Path(__file__).resolve().parent
 TOP = PLANTS.parent
 # How long a test may take, in seconds.
-LIMIT = 300
+LIMIT = 600
 
 
 def fields(edit: pathlib.Path) -> List[Tuple[str, str]]:
