@@ -151,7 +151,11 @@ export function addressAt(view, place) {
 
 /** Addresses that are read one after the other, and mostly are the same one: it is made once. */
 export class LastAddress {
-    #words = new Uint32Array(SIZE.ADDRESS / 4);
+    #words = new Int32Array(SIZE.ADDRESS / 4);
+    /** The first word of the IP address, and that of port and family: of an IPv4 address they say all. */
+    #ip = 0;
+    #port = 0;
+    #isFour = false;
     /** @type {Address} */
     #found = Object.freeze({ address: "0.0.0.0", port: 0, family: "IPv4" });
 
@@ -162,25 +166,17 @@ export class LastAddress {
      * @returns {Address}
      */
     at(view, place) {
-        return this.#isAt(view, place) ? this.#found : this.#read(view, place);
+        const isAlike = view.getInt32(place + ADDRESS.PORT, true) === this.#port && view.getInt32(place, true) === this.#ip;
+        return isAlike && (this.#isFour || this.#isAt(view, place)) ? this.#found : this.#read(view, place);
     }
 
     /**
-     * Whether the last address stands there too. Of an IPv4 address, port, family and one word say all.
+     * Whether each word of the last address stands there too.
      * @param {DataView} view
      * @param {number} place
      */
     #isAt(view, place) {
-        const words = this.#words;
-        if (view.getUint32(place + ADDRESS.PORT, true) !== words[ADDRESS.PORT / 4] || view.getUint32(place, true) !== words[0]) {
-            return false;
-        }
-        for (let at = this.#found.family === "IPv4" ? words.length : 1; at < words.length; at++) {
-            if (view.getUint32(place + 4 * at, true) !== words[at]) {
-                return false;
-            }
-        }
-        return true;
+        return this.#words.every((word, at) => view.getInt32(place + 4 * at, true) === word);
     }
 
     /**
@@ -188,8 +184,11 @@ export class LastAddress {
      * @param {number} place
      */
     #read(view, place) {
-        this.#words.forEach((_, at, words) => (words[at] = view.getUint32(place + 4 * at, true)));
+        this.#words.forEach((_, at, words) => (words[at] = view.getInt32(place + 4 * at, true)));
+        this.#ip = this.#words[0];
+        this.#port = this.#words[ADDRESS.PORT / 4];
         this.#found = Object.freeze(addressAt(view, place));
+        this.#isFour = this.#found.family === "IPv4";
         return this.#found;
     }
 }

@@ -64,12 +64,27 @@ export class ModuleBuffer {
  */
 export function partOf(buffer, library, offset, length, name) {
     if (!(buffer instanceof ModuleBuffer) || buffer.library !== library) {
-        throw new TypeError(`${name} is a buffer of the client's own library, as client.buffer(length) gives it`);
+        throw noBuffer(name);
     }
     if (offset >>> 0 !== offset || length >>> 0 !== length || offset + length > buffer.length) {
-        throw new RangeError(`${name} has ${buffer.length} bytes, and not ${String(length)} from ${String(offset)} on`);
+        throw noPart(buffer, offset, length, name);
     }
     return buffer.place + offset;
+}
+
+/** @param {string} name */
+function noBuffer(name) {
+    return new TypeError(`${name} is a buffer of the client's own library, as client.buffer(length) gives it`);
+}
+
+/**
+ * @param {ModuleBuffer} buffer
+ * @param {number} offset
+ * @param {number} length
+ * @param {string} name
+ */
+function noPart(buffer, offset, length, name) {
+    return new RangeError(`${name} has ${buffer.length} bytes, and not ${String(length)} from ${String(offset)} on`);
 }
 
 /**

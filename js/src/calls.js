@@ -1,9 +1,11 @@
 // How the calls of one client are made: its requests in the module, and what is thrown for answers that are errors.
+//
+// What each packet needs is short, and what is rare is in functions of its own: so engines put it all into the caller's loop.
 import { LastAddress, addressAt, parseIp, putAddress } from "./address.js";
 import { LibraryError, OutOfMemory, Refused } from "./errors.js";
 import { ANSWER, CALL, KIND, MAX_OVERHEAD, MAX_PACKET, MAX_PAYLOAD, REASONS, REQUEST, SETTINGS, SIZE } from "./layout.js";
 import { TRANSPORT, numberOf, putSettings } from "./settings.js";
-import { putTime, timeAt } from "./time.js";
+import { passTime, timeAt } from "./time.js";
 
 /** @typedef {import("./address.js").AddressLike} AddressLike */
 /** @typedef {import("./answers.js").Transport} Transport */
@@ -76,9 +78,7 @@ export class Calls {
      * @param {Time} now
      */
     poll(now) {
-        const { library } = this;
-        putTime(library.view, this.#requests[CALL.POLL], now);
-        return this.checked(library.call(this.held, this.#requests[CALL.POLL], 0, 0, 0, 0), now);
+        return this.#call(this.#requests[CALL.POLL], now, 0, 0, 0, 0);
     }
 
     /**
@@ -87,9 +87,7 @@ export class Calls {
      * @param {Time} now
      */
     fetch(call, now) {
-        const { library } = this, buffer = library.outputOf(MAX_PACKET).place;
-        putTime(library.view, this.#requests[call], now);
-        return this.checked(library.call(this.held, this.#requests[call], 0, 0, buffer, MAX_PACKET), now);
+        return this.#call(this.#requests[call], now, 0, 0, this.library.outputOf(MAX_PACKET).place, MAX_PACKET);
     }
 
     /** The bytes of the last answer, with those that did not fit. */
@@ -105,15 +103,27 @@ export class Calls {
      * @param {{ transport?: Transport, remote?: AddressLike, local?: AddressLike }} [from]
      */
     recv(place, len, now, from) {
+        if (this.isStream || from) {
+            return this.#recvOtherwise(place, len, now, from);
+        }
+        return this.#call(this.#requests[CALL.RECV], now, place, len, 0, 0);
+    }
+
+    /**
+     * As `recv`, for a stream, or for bytes of another socket.
+     * @param {number} place
+     * @param {number} len
+     * @param {Time} now
+     * @param {{ transport?: Transport, remote?: AddressLike, local?: AddressLike } | undefined} from
+     */
+    #recvOtherwise(place, len, now, from) {
         const { library, isStream } = this, buffer = isStream ? library.outputOf(MAX_PACKET).place : 0;
         let request = this.#requests[CALL.RECV];
         if (from) {
             const { transport = isStream ? "tcp" : "udp", remote = this.remote, local = this.local } = from;
-            request = this.#fill(CALL.RECV, now, { transport, from: remote, to: local });
-        } else {
-            putTime(library.view, request, now);
+            request = this.#fill(CALL.RECV, { transport, from: remote, to: local });
         }
-        return this.checked(library.call(this.held, request, place, len, buffer, isStream ? MAX_PACKET : 0), now);
+        return this.#call(request, now, place, len, buffer, isStream ? MAX_PACKET : 0);
     }
 
     /**
@@ -126,17 +136,30 @@ export class Calls {
      * @param {Transport | undefined} transport
      */
     sendTo(peer, place, len, buffer, now, transport) {
-        const { library } = this, request = this.#requests[CALL.SEND_TO];
-        putTime(library.view, request, now);
-        if (transport !== undefined) {
-            library.view.setUint32(request + REQUEST.TRANSPORT, numberOf(TRANSPORT, transport, "transport"), true);
-        }
+        const request = this.#requests[CALL.SEND_TO];
         this.#putPeer(request, peer);
-        const kind = library.call(this.held, request, place, len, buffer, len + MAX_OVERHEAD);
         if (transport !== undefined) {
+            return this.#sendOver(transport, place, len, buffer, now);
+        }
+        return this.#call(request, now, place, len, buffer, len + MAX_OVERHEAD);
+    }
+
+    /**
+     * As `sendTo`, over this transport between server and peer, to the peer that stands in the request.
+     * @param {Transport} transport
+     * @param {number} place
+     * @param {number} len
+     * @param {number} buffer
+     * @param {Time} now
+     */
+    #sendOver(transport, place, len, buffer, now) {
+        const { library } = this, request = this.#requests[CALL.SEND_TO];
+        library.view.setUint32(request + REQUEST.TRANSPORT, numberOf(TRANSPORT, transport, "transport"), true);
+        try {
+            return this.#call(request, now, place, len, buffer, len + MAX_OVERHEAD);
+        } finally {
             library.view.setUint32(request + REQUEST.TRANSPORT, this.relay, true);
         }
-        return this.checked(kind, now);
     }
 
     /**
@@ -160,7 +183,7 @@ export class Calls {
      * @param {Fields} [fields]
      */
     ask(kind, now, fields) {
-        return this.checked(this.library.call(this.held, this.#fill(kind, now, fields), 0, 0, 0, 0), now);
+        return this.#call(this.#fill(kind, fields), now, 0, 0, 0, 0);
     }
 
     /**
@@ -169,19 +192,17 @@ export class Calls {
      * @param {Fields} fields
      */
     look(kind, fields) {
-        return this.checked(this.library.look(this.held, this.#fill(kind, 0n, fields)), 0n);
+        return this.checked(this.library.look(this.held, this.#fill(kind, fields)), 0n);
     }
 
     /**
-     * Writes the request for a call that is not made for each packet.
+     * Writes the request for a call that is not made for each packet. Its time is 0, which a call sets.
      * @param {number} kind
-     * @param {Time} now
      * @param {Fields} fields
      */
-    #fill(kind, now, { id = 0, transport, ...addresses } = {}) {
+    #fill(kind, { id = 0, transport, ...addresses } = {}) {
         const { bytes, view } = this.library, request = this.#requests[OTHER];
         bytes.fill(0, request, request + SIZE.REQUEST);
-        putTime(view, request, now);
         view.setUint32(request + REQUEST.KIND, kind, true);
         view.setUint32(request + REQUEST.ID, id, true);
         if (transport !== undefined) {
@@ -206,21 +227,43 @@ export class Calls {
     }
 
     /**
+     * Makes a call with this request, and gives the kind of its answer.
+     * @param {number} request
+     * @param {Time} now
+     * @param {number} place
+     * @param {number} len
+     * @param {number} buffer
+     * @param {number} room
+     */
+    #call(request, now, place, len, buffer, room) {
+        const { library } = this, nanoseconds = passTime(library.view, request, now);
+        return this.checked(library.call(this.held, request, nanoseconds, place, len, buffer, room), now);
+    }
+
+    /**
      * The kind of an answer, or what it stands for, if that is an error.
      * @param {number} kind
      * @param {Time} now
      */
     checked(kind, now) {
-        if (kind >= KIND.DONE) {
-            return kind;
+        if (kind < KIND.DONE) {
+            throw this.#errorOf(kind, now);
         }
+        return kind;
+    }
+
+    /**
+     * @param {number} kind
+     * @param {Time} now
+     */
+    #errorOf(kind, now) {
         const { view, answer } = this.library;
         switch (kind) {
             case KIND.REFUSED:
-                throw new Refused(REASONS[view.getUint32(answer + ANSWER.ERROR, true)], timeAt(view, answer + ANSWER.TIME, now));
-            case KIND.OUT_OF_MEMORY: throw new OutOfMemory();
-            case KIND.BAD_PAYLOAD: throw new RangeError(`data has at most ${MAX_PAYLOAD} bytes`);
-            default: throw new LibraryError(`the module answers ${kind}`);
+                return new Refused(REASONS[view.getUint32(answer + ANSWER.ERROR, true)], timeAt(view, answer + ANSWER.TIME, now));
+            case KIND.OUT_OF_MEMORY: return new OutOfMemory();
+            case KIND.BAD_PAYLOAD: return new RangeError(`data has at most ${MAX_PAYLOAD} bytes`);
+            default: return new LibraryError(`the module answers ${kind}`);
         }
     }
 }

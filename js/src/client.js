@@ -194,15 +194,14 @@ export class Client {
      * @returns {import("./answers.js").ReceivedInBuffer}
      */
     recvFrom(buffer, offset, length, now, from) {
-        const { library, peers } = this.#calls, place = partOf(buffer, library, offset, length, "buffer");
-        const kind = this.#calls.recv(place, length, now, from);
+        const calls = this.#calls, { library } = calls, place = partOf(buffer, library, offset, length, "buffer");
+        const kind = calls.recv(place, length, now, from);
         if (kind !== KIND.PEER_DATA_RANGE) {
             return this.#withoutRange(kind);
         }
         const { view, answer } = library, start = offset + view.getUint32(answer + ANSWER.START, true);
-        const peer = peers.at(view, answer + ANSWER.PEER);
-        this.#received ??= new DataInBuffer(buffer, peer);
-        return this.#received.set(buffer, start, view.getUint32(answer + ANSWER.LEN, true), peer, transportAt(view, answer));
+        const peer = calls.peers.at(view, answer + ANSWER.PEER), received = (this.#received ??= new DataInBuffer(buffer, peer));
+        return received.set(buffer, start, view.getUint32(answer + ANSWER.LEN, true), peer, transportAt(view, answer));
     }
 
     /**

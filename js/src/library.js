@@ -10,7 +10,7 @@ import { findRandom } from "./random.js";
  * @typedef {{ memory: WebAssembly.Memory, alloc(len: number): number, dealloc(place: number): void, limit(bytes: number): void,
  *     client_new(settings: number, user: number, userLen: number, password: number, passwordLen: number, seed: number,
  *         seedLen: number, place: number): number,
- *     client_call(client: number, request: number, bytes: number, len: number, buffer: number, room: number,
+ *     client_call(client: number, request: number, now: number, bytes: number, len: number, buffer: number, room: number,
  *         answer: number): number,
  *     client_look(client: number, request: number, answer: number): number, client_free(client: number): void,
  *     read_message(transport: number, bytes: number, len: number, message: number): number,
@@ -131,6 +131,15 @@ export class Library {
     }
 
     /**
+     * Throws why a client cannot be called.
+     * @returns {never}
+     */
+    #refuse() {
+        this.#check();
+        throw new Ended("the client was closed");
+    }
+
+    /**
      * Memory of the module, at a multiple of 16. OutOfMemory.
      * @param {number} len
      */
@@ -231,22 +240,22 @@ export class Library {
     }
 
     /**
-     * Makes a call, and gives the kind of its answer.
+     * Makes a call, and gives the kind of its answer. `now` is in nanoseconds; less than 0 is the time that stands in the request.
      * @param {Held} held
      * @param {number} request
+     * @param {number} now
      * @param {number} bytes
      * @param {number} len
      * @param {number} buffer
      * @param {number} room
      */
-    call(held, request, bytes, len, buffer, room) {
+    call(held, request, now, bytes, len, buffer, room) {
         if (held.client === 0 || this.#fault !== undefined) {
-            this.#check();
-            throw new Ended("the client was closed");
+            this.#refuse();
         }
         let kind = 0;
         try {
-            kind = this.#exports.client_call(held.client, request, bytes, len, buffer, room, this.answer);
+            kind = this.#exports.client_call(held.client, request, now, bytes, len, buffer, room, this.answer);
         } catch (error) {
             this.#stop(error);
         }
@@ -263,8 +272,7 @@ export class Library {
      */
     look(held, request) {
         if (held.client === 0 || this.#fault !== undefined) {
-            this.#check();
-            throw new Ended("the client was closed");
+            this.#refuse();
         }
         try {
             return this.#exports.client_look(held.client, request, this.answer);
@@ -320,7 +328,7 @@ export class Library {
         for (let at = 0, more = len; ; more = this.view.getUint32(this.answer + ANSWER.LEN, true)) {
             all.set(this.bytes.subarray(buffer, buffer + more), at);
             at += more;
-            if (at >= all.length || this.call(held, readRequest, 0, 0, buffer, room) !== KIND.BYTES) {
+            if (at >= all.length || this.call(held, readRequest, 0, 0, 0, buffer, room) !== KIND.BYTES) {
                 return all;
             }
         }

@@ -38,6 +38,22 @@ export function putTime(view, place, time, name = "now", most = LATEST) {
 }
 
 /**
+ * A time as the module takes it with a call: nanoseconds, or where a number cannot have them less than 0, and they are written to a
+ * place as a number of 64 bits. RangeError where it is no time.
+ * @param {DataView} view
+ * @param {number} place
+ * @param {Time} time
+ */
+export function passTime(view, place, time) {
+    const nanoseconds = typeof time === "number" ? Math.round(time * NANOSECONDS) : -1;
+    if (nanoseconds >= 0 && nanoseconds <= MOST) {
+        return nanoseconds;
+    }
+    putTime(view, place, time);
+    return -1;
+}
+
+/**
  * Reads a time, in the unit of another one. In milliseconds it is not before the time that stands there.
  * @param {DataView} view
  * @param {number} place

@@ -34,6 +34,8 @@ test("times are exact in nanoseconds, and never read as earlier", async () => {
         const { until } = client.poll(now), exact = BigInt(Math.round(now * 1e6)) + 333_000_333n;
         assert.ok(BigInt(Math.round(until * 1e6)) >= exact, `${now}: ${until} is before ${exact}`);
         assert.equal(client.poll(exact - 1n).until, exact);
+        assert.equal(client.pollTransmit(exact - 1n), undefined);
+        assert.ok(client.pollTransmit(exact));
         client.close();
     }
 });

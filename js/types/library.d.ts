@@ -77,15 +77,16 @@ export class Library {
         client: number;
     };
     /**
-     * Makes a call, and gives the kind of its answer.
+     * Makes a call, and gives the kind of its answer. `now` is in nanoseconds; less than 0 is the time that stands in the request.
      * @param {Held} held
      * @param {number} request
+     * @param {number} now
      * @param {number} bytes
      * @param {number} len
      * @param {number} buffer
      * @param {number} room
      */
-    call(held: Held, request: number, bytes: number, len: number, buffer: number, room: number): number;
+    call(held: Held, request: number, now: number, bytes: number, len: number, buffer: number, room: number): number;
     /**
      * Makes a call that only looks.
      * @param {Held} held
@@ -138,7 +139,7 @@ export type Exports = {
     dealloc(place: number): void;
     limit(bytes: number): void;
     client_new(settings: number, user: number, userLen: number, password: number, passwordLen: number, seed: number, seedLen: number, place: number): number;
-    client_call(client: number, request: number, bytes: number, len: number, buffer: number, room: number, answer: number): number;
+    client_call(client: number, request: number, now: number, bytes: number, len: number, buffer: number, room: number, answer: number): number;
     client_look(client: number, request: number, answer: number): number;
     client_free(client: number): void;
     read_message(transport: number, bytes: number, len: number, message: number): number;

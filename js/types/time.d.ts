@@ -8,6 +8,14 @@
  */
 export function putTime(view: DataView, place: number, time: Time, name?: string | undefined, most?: bigint | undefined): void;
 /**
+ * A time as the module takes it with a call: nanoseconds, or where a number cannot have them less than 0, and they are written to a
+ * place as a number of 64 bits. RangeError where it is no time.
+ * @param {DataView} view
+ * @param {number} place
+ * @param {Time} time
+ */
+export function passTime(view: DataView, place: number, time: Time): number;
+/**
  * Reads a time, in the unit of another one. In milliseconds it is not before the time that stands there.
  * @param {DataView} view
  * @param {number} place

@@ -1,5 +1,7 @@
 /* The library's calls with pointers and lengths of 32 bits, which JavaScript has as plain numbers. The module's memory has no
-   more, so that nothing is cut. An answer is set to 0 before a call, as the functions of the header do. */
+   more, so that nothing is cut. An answer is set to 0 before a call, as the functions of the header do. The time of a call is a
+   double too, which JavaScript has in a register: two halves of 32 bits, written to the request by JavaScript, are slow to read
+   as one number. */
 
 typedef __UINT64_TYPE__ u64;
 typedef __UINT32_TYPE__ u32;
@@ -35,10 +37,14 @@ __attribute__((export_name("client_new"))) u32 client_new(u32 settings, u32 user
     return kind;
 }
 
-/* As yarrowdoor_call, with the answer set to 0 before. */
-__attribute__((export_name("client_call"))) u32 client_call(u32 client, u32 request, u32 bytes, u32 bytes_len, u32 buffer,
-                                                            u32 buffer_len, u32 answer)
+/* As yarrowdoor_call, with the answer set to 0 before. `now` is the time of the request, whole nanoseconds up to 2^62, or less
+   than 0, and then it is the one that stands in the request. */
+__attribute__((export_name("client_call"))) u32 client_call(u32 client, u32 request, double now, u32 bytes, u32 bytes_len,
+                                                            u32 buffer, u32 buffer_len, u32 answer)
 {
+    if (now >= 0) {
+        *(u64 *)at(request) = (u64)now;
+    }
     clear(at(answer));
     return yarrowdoor_call(at(client), at(request), at(bytes), bytes_len, at(buffer), buffer_len, at(answer));
 }
