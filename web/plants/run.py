@@ -1,12 +1,14 @@
 #!/usr/bin/env python3
 """Shows that tests of the page see what they are for: takes something out of a copy of it, and expects the test that is named to fail.
 
-    python3 web/plants/run.py [NAME..]
+    python3 web/plants/run.py [--jobs N] [NAME..]
 
 Each `NAME.edit` has a line `file:`, lines `old:` and `new:` in pairs, whose `old` text stands in the file once, and a line `seen:`
-with the test, as tools/test-web takes it. Without a name all are tried, one after the other. It prints a line for each, and ends with
+with the test, as tools/test-web takes it. Without a name all are tried, N (2) side by side. It prints a line for each, and ends with
 0 where each is seen: where the test passes without the edit, and fails with it by an assertion.
 """
+import argparse
+import concurrent.futures
 import os
 import pathlib
 import re
@@ -66,8 +68,13 @@ def try_one(name):
 
 
 def main(words):
-    names = words or sorted(path.stem for path in (TOP / "web" / "plants").glob("*.edit"))
-    seen = sum(try_one(name) for name in names)
+    parser = argparse.ArgumentParser()
+    parser.add_argument("--jobs", type=int, default=2)
+    parser.add_argument("names", nargs="*")
+    given = parser.parse_args(words)
+    names = given.names or sorted(path.stem for path in (TOP / "web" / "plants").glob("*.edit"))
+    with concurrent.futures.ThreadPoolExecutor(given.jobs) as pool:
+        seen = sum(pool.map(try_one, names))
     print(f"{seen} seen, {len(names) - seen} not seen")
     sys.exit(0 if seen == len(names) else 1)
 
