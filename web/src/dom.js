@@ -1,6 +1,8 @@
 // Elements of the page. Text is text: nothing here reads markup.
 
 const SVG = "http://www.w3.org/2000/svg";
+/** A window in which the parts of the page stand side by side, as in style.css. */
+export const WIDE = "(min-width: 60rem)";
 
 function filled(element, attributes, children) {
     for (const [name, value] of Object.entries(attributes)) {

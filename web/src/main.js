@@ -1,6 +1,6 @@
 // Loads the module and the list of runs, and shows the page.
 import { Library } from "../yarrowdoor/src/library.js";
-import { byId } from "./dom.js";
+import { WIDE, byId } from "./dom.js";
 import { Page } from "./page.js";
 import { QUESTIONS } from "./questions.js";
 import { RunsView, showQuestions } from "./runs-view.js";
@@ -17,7 +17,7 @@ async function start() {
     const [library, runs] = await Promise.all([Library.shared(), list()]), page = new Page(library, runs, new RunsView(runs));
     showQuestions(QUESTIONS, (question) => page.ask(question));
     byId("skip").addEventListener("click", () => byId("ladder").focus());
-    byId("all-runs").open = matchMedia("(min-width: 60rem)").matches;
+    byId("all-runs").open = matchMedia(WIDE).matches;
     await page.openAddress();
 }
 

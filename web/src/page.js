@@ -5,7 +5,7 @@ import { captureOf } from "./capture.js";
 import { linesOfSilence } from "./caller.js";
 import { checksOf } from "./checks.js";
 import { attributeOf } from "./decode.js";
-import { byId, make } from "./dom.js";
+import { WIDE, byId, make } from "./dom.js";
 import { BadEdit } from "./edits.js";
 import { toHex } from "./hex.js";
 import { History } from "./history.js";
@@ -202,7 +202,8 @@ export class Page {
             byId("asked").replaceChildren(`${question.name}: ${question.about}`);
             byId("asked").hidden = false;
             byId("ladder").focus({ preventScroll: true });
-            byId("title").scrollIntoView({ block: "nearest" });
+            // In one column the questions fill the window: the answer is below them.
+            byId("title").scrollIntoView({ block: matchMedia(WIDE).matches ? "nearest" : "start" });
         });
     }
 

@@ -176,6 +176,18 @@ class Everybody(unittest.TestCase):
                 drawn = self.page.driver.execute_script("return document.querySelector('#ladder svg').getBoundingClientRect().width")
                 self.assertLessEqual(drawn, width)
 
+    def test_the_answer_to_a_question_is_in_sight(self):
+        for width, height in ((360, 640), (500, 800), (1300, 780)):
+            with self.subTest(width=width):
+                self.page.size(width, height)
+                self.page.load()
+                self.page.ask("Forge a success")
+                row = self.page.driver.execute_script("""
+                    const box = document.querySelector("#ladder [aria-selected=true]").getBoundingClientRect();
+                    return [box.top, box.bottom];
+                """)
+                self.assertTrue(0 <= row[0] < row[1] <= height, row)
+
     def test_pictures_show_the_page(self):
         with tempfile.TemporaryDirectory() as folder:
             self.page.size(1200, 780)
