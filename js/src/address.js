@@ -152,10 +152,9 @@ export function addressAt(view, place) {
 /** Addresses that are read one after the other, and mostly are the same one: it is made once. */
 export class LastAddress {
     #words = new Int32Array(SIZE.ADDRESS / 4);
-    /** The first word of the IP address, and that of port and family: of an IPv4 address they say all. */
+    /** Two words of an IPv4 address, of IP address and of port and family, say all of it. For another one the latter is -1. */
     #ip = 0;
-    #port = 0;
-    #isFour = false;
+    #port = -1;
     /** @type {Address} */
     #found = Object.freeze({ address: "0.0.0.0", port: 0, family: "IPv4" });
 
@@ -166,29 +165,23 @@ export class LastAddress {
      * @returns {Address}
      */
     at(view, place) {
-        const isAlike = view.getInt32(place + ADDRESS.PORT, true) === this.#port && view.getInt32(place, true) === this.#ip;
-        return isAlike && (this.#isFour || this.#isAt(view, place)) ? this.#found : this.#read(view, place);
+        const isSame = view.getInt32(place + ADDRESS.PORT, true) === this.#port && view.getInt32(place, true) === this.#ip;
+        return isSame ? this.#found : this.#read(view, place);
     }
 
     /**
-     * Whether each word of the last address stands there too.
-     * @param {DataView} view
-     * @param {number} place
-     */
-    #isAt(view, place) {
-        return this.#words.every((word, at) => view.getInt32(place + 4 * at, true) === word);
-    }
-
-    /**
+     * Compares all words, and where one differs reads the address.
      * @param {DataView} view
      * @param {number} place
      */
     #read(view, place) {
+        if (this.#words.every((word, at) => view.getInt32(place + 4 * at, true) === word)) {
+            return this.#found;
+        }
         this.#words.forEach((_, at, words) => (words[at] = view.getInt32(place + 4 * at, true)));
-        this.#ip = this.#words[0];
-        this.#port = this.#words[ADDRESS.PORT / 4];
         this.#found = Object.freeze(addressAt(view, place));
-        this.#isFour = this.#found.family === "IPv4";
+        this.#ip = this.#words[0];
+        this.#port = this.#found.family === "IPv4" ? this.#words[ADDRESS.PORT / 4] : -1;
         return this.#found;
     }
 }

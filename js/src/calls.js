@@ -192,7 +192,7 @@ export class Calls {
      * @param {Fields} fields
      */
     look(kind, fields) {
-        return this.checked(this.library.look(this.held, this.#fill(kind, fields)), 0n);
+        return this.#checked(this.library.look(this.held, this.#fill(kind, fields)), 0n);
     }
 
     /**
@@ -237,7 +237,7 @@ export class Calls {
      */
     #call(request, now, place, len, buffer, room) {
         const { library } = this, nanoseconds = passTime(library.view, request, now);
-        return this.checked(library.call(this.held, request, nanoseconds, place, len, buffer, room), now);
+        return this.#checked(library.call(this.held, request, nanoseconds, place, len, buffer, room), now);
     }
 
     /**
@@ -245,7 +245,7 @@ export class Calls {
      * @param {number} kind
      * @param {Time} now
      */
-    checked(kind, now) {
+    #checked(kind, now) {
         if (kind < KIND.DONE) {
             throw this.#errorOf(kind, now);
         }

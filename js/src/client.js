@@ -250,16 +250,16 @@ export class Client {
      * @param {Transport} [transport]
      */
     sendFrom(peer, buffer, offset, length, now, into, transport) {
-        const { library, isStream, local, remote } = this.#calls, place = partOf(buffer, library, offset, length, "buffer");
+        const calls = this.#calls, { library } = calls, place = partOf(buffer, library, offset, length, "buffer");
         const room = length + MAX_OVERHEAD, to = partOf(into, library, 0, room, "into");
         checkApart(place, length, to, room);
-        this.#calls.sendTo(peer, place, length, to, now, transport);
-        this.#sent ??= new PacketInBuffer(into, local, remote);
-        if (isStream) {
+        calls.sendTo(peer, place, length, to, now, transport);
+        const sent = (this.#sent ??= new PacketInBuffer(into, calls.local, calls.remote));
+        if (calls.isStream) {
             const way = this.#way();
-            this.#sent.setWay(way.transport, way.local, way.remote);
+            sent.setWay(way.transport, way.local, way.remote);
         }
-        return this.#sent.set(into, library.view.getUint32(library.answer + ANSWER.LEN, true));
+        return sent.set(into, library.view.getUint32(library.answer + ANSWER.LEN, true));
     }
 
     // Requests

@@ -72,12 +72,6 @@ export class Calls {
      * @param {Fields} fields
      */
     look(kind: number, fields: Fields): number;
-    /**
-     * The kind of an answer, or what it stands for, if that is an error.
-     * @param {number} kind
-     * @param {Time} now
-     */
-    checked(kind: number, now: Time): number;
     #private;
 }
 export type AddressLike = import("./address.js").AddressLike;
