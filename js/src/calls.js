@@ -136,30 +136,14 @@ export class Calls {
      * @param {Transport | undefined} transport
      */
     sendTo(peer, place, len, buffer, now, transport) {
-        const request = this.#requests[CALL.SEND_TO];
-        this.#putPeer(request, peer);
-        if (transport !== undefined) {
-            return this.#sendOver(transport, place, len, buffer, now);
+        let request = this.#requests[CALL.SEND_TO];
+        if (transport === undefined) {
+            this.#putPeer(request, peer);
+        } else {
+            request = this.#fill(CALL.SEND_TO, { transport });
+            this.#putAddress(request + REQUEST.PEER, peer, "peer");
         }
         return this.#call(request, now, place, len, buffer, len + MAX_OVERHEAD);
-    }
-
-    /**
-     * As `sendTo`, over this transport between server and peer, to the peer that stands in the request.
-     * @param {Transport} transport
-     * @param {number} place
-     * @param {number} len
-     * @param {number} buffer
-     * @param {Time} now
-     */
-    #sendOver(transport, place, len, buffer, now) {
-        const { library } = this, request = this.#requests[CALL.SEND_TO];
-        library.view.setUint32(request + REQUEST.TRANSPORT, numberOf(TRANSPORT, transport, "transport"), true);
-        try {
-            return this.#call(request, now, place, len, buffer, len + MAX_OVERHEAD);
-        } finally {
-            library.view.setUint32(request + REQUEST.TRANSPORT, this.relay, true);
-        }
     }
 
     /**

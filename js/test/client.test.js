@@ -101,6 +101,7 @@ test("arguments that are no call are a TypeError or a RangeError, and nothing is
         () => client.recv("text", 0), () => client.recv([1, 2], 0), () => client.sendTo({ address: "example.org", port: 1 }, new Uint8Array(), NOW),
         () => client.sendTo({ address: "10.0.0.3", port: 65_536 }, new Uint8Array(), NOW), () => client.sendTo(undefined, new Uint8Array(), NOW),
         () => client.sendTo(PEER, new Uint8Array(65_505), NOW), () => client.sendTo(PEER, new Uint8Array(1), NOW, { transport: "sctp" }),
+        () => client.sendTo(undefined, new Uint8Array(), NOW, { transport: "udp" }),
         () => client.createPermission("10.0.0", NOW), () => client.createPermission("::1%2", NOW), () => parse(shared, new Uint8Array(), "dtls"),
         () => new Client({ ...SETTINGS, username: "" }, shared), () => new Client({ ...SETTINGS, username: "\ud800" }, shared),
         () => new Client({ ...SETTINGS, credential: 7 }, shared), () => new Client({ ...SETTINGS, families: [] }, shared),
