@@ -38,12 +38,12 @@ class Causes:
             if one in self.asked:
                 self.allow("allocate-failed", one)
 
-    def reply(self, request, message, now):
+    def reply(self, request, message, now, is_ignored):
         """A signed reply to a request creates or refuses what was requested."""
         asked, peer = request.message.method, request.peer()
         is_granted = message.kind == stun.SUCCESS
         if asked == stun.ALLOCATE:
-            self.allocate(message)
+            self.allocate(message, is_ignored)
         elif message.method == asked and asked in (stun.CREATE_PERMISSION, stun.CHANNEL_BIND):
             if asked == stun.CHANNEL_BIND:
                 self.allow("bound" if is_granted else "bind-failed", peer)
@@ -51,15 +51,17 @@ class Causes:
             self.allow("permitted" if is_granted else "permit-failed", peer[0])
             self.fails_from(now + PERMISSION * SECOND, "permit-failed", peer[0])
 
-    def allocate(self, message):
-        """The families whose address it brings are requested no more, nor are the others: these fail."""
+    def allocate(self, message, is_ignored):
+        """The families whose address it brings are requested no more, nor are the others: these fail. A client that had ended
+        ignores it, and has all families to report as failed."""
         found = message.addresses(stun.RELAYED) if message.kind == stun.SUCCESS else []
         brought = {str(address[0].version) for address in found}
         for address in found:
             self.allow("allocated", address)
         self.allowed |= {("allocate-failed", one) for one in self.asked - brought}
-        self.asked -= brought
-        self.allowed -= {("allocate-failed", one) for one in brought}
+        if not is_ignored:
+            self.asked -= brought
+            self.allowed -= {("allocate-failed", one) for one in brought}
 
 
 def told(call):
@@ -76,7 +78,7 @@ def faults(runs):
     for call, facts in walk(run):
         step = facts.take(call)
         for request, message in step.replies:
-            causes.reply(request, message, call.time)
+            causes.reply(request, message, call.time, call.answer == ["ignored"])
         causes.call(call, facts)
         if call.name != "event" or call.answer == ["none"]:
             continue

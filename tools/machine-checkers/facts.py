@@ -113,7 +113,7 @@ class Facts:
             step.inputs = []
         for one in step.inputs:
             if one.message is not None and one.message.is_response() and one.mode != "bound":
-                self.answered(one, call.time, step)
+                self.answered(one, call, step)
 
     def frames(self, local, raw):
         """The frames that are whole with this piece of the stream, or all bytes of a bound one."""
@@ -134,7 +134,7 @@ class Facts:
         self.streams[local] = held
         return found
 
-    def answered(self, one, now, step):
+    def answered(self, one, call, step):
         """A response came: whose it is, and what it grants the first time if it is signed."""
         request, message = self.requests.get(one.message.id), one.message
         if request is None or (one.mode == "waiting") != (request.message.method == stun.CONNECTION_BIND):
@@ -146,13 +146,14 @@ class Facts:
             (step.replies if first else step.copies).append((request, message))
             if first:
                 request.reply = message
-                self.grant(request, message, one, now)
+                self.grant(request, message, one, call)
         elif message.kind == stun.ERROR and message.code() in (401, 438) and message.first(stun.NONCE) is not None:
             step.challenges.append((request, message, one))
 
-    def grant(self, request, message, one, now):
-        """What a signed success grants, by what was requested."""
-        asked = request.message.method
+    def grant(self, request, message, one, call):
+        """What a signed success grants, by what was requested. One that is ignored, since its request was given up, takes no
+        channel's number: another channel may have it by now."""
+        asked, now = request.message.method, call.time
         if message.kind != stun.SUCCESS or message.method != asked and asked != stun.ALLOCATE:
             return
         lifetime, peer = message.number(stun.LIFETIME), request.peer()
@@ -166,7 +167,8 @@ class Facts:
             self.permit(peer[0], now)
         elif asked == stun.CHANNEL_BIND:
             self.permit(peer[0], now)
-            self.channels[int.from_bytes(request.message.first(stun.CHANNEL_NUMBER)[:2], "big")] = peer
+            if call.answer != ["ignored"]:
+                self.channels[int.from_bytes(request.message.first(stun.CHANNEL_NUMBER)[:2], "big")] = peer
         elif asked == stun.CONNECTION_BIND and one.local in self.sockets:
             self.bound[one.local] = self.sockets[one.local][1]
 
