@@ -37,7 +37,7 @@ abbrev pub both_with : {A : Type 0} → List Stream → A × State → A × Stat
 both_with x p = (p.0, with_streams x p.1)
 
 module _ (x : List Stream) where
-  alike-cond : (b : Bool) (t u v w : State) → t ≡ with_streams x v → u ≡ with_streams x w → cond b t u ≡ with_streams x (cond b v w)
+  pub alike-cond : (b : Bool) (t u v w : State) → t ≡ with_streams x v → u ≡ with_streams x w → cond b t u ≡ with_streams x (cond b v w)
   alike-cond true t u v w k l = k
   alike-cond false t u v w k l = l
 
@@ -45,7 +45,7 @@ module _ (x : List Stream) where
   pair-cond true t u v w k l = k
   pair-cond false t u v w k l = l
 
-  alike-fold : {X : Type 0} (f : State → X → State) → ((t : State) (y : X) → f (with_streams x t) y ≡ with_streams x (f t y)) → (ys : List X) (s : State)
+  pub alike-fold : {X : Type 0} (f : State → X → State) → ((t : State) (y : X) → f (with_streams x t) y ≡ with_streams x (f t y)) → (ys : List X) (s : State)
       → fold f (with_streams x s) ys ≡ with_streams x (fold f s ys)
   alike-fold f step [] s = refl
   alike-fold f step (y ∷ ys) s = ap (λ t. fold f t ys) (step s y) ∙ alike-fold f step ys (f s y)

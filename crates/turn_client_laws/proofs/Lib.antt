@@ -1,6 +1,9 @@
 pub mod AcceptedReplyLemmas
 pub mod AllocateFamilies
+pub mod AnyStreamsCalls
+pub mod AnyStreamsEffects
 pub mod AnyStreamsLemmas
+pub mod AnyStreamsTime
 pub mod BoundLemmas
 pub mod BoundStreamLemmas
 pub mod CaseLemmas

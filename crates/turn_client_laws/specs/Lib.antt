@@ -24,3 +24,4 @@ pub mod LawsStates
 pub mod LawsSteps
 pub mod LawsStreams
 pub mod LawsWakeup
+pub mod StreamEffects

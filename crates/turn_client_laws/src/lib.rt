@@ -68,5 +68,7 @@ pub use states::{
     listings_have_grants, requests_go_to_the_server,
 };
 pub use steps::{challenges_are_counted, phases_go_on, realm_stays, stays_closed};
-pub use streams::{streams_are_drained, streams_stay_apart};
+pub use streams::{
+    calls_leave_streams, one_stream_is_opened_or_bound, streams_are_drained, streams_stay_apart,
+};
 pub use wakeup::wakeup_is_the_least_time;
