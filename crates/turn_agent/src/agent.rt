@@ -274,11 +274,12 @@ impl StunAgent {
         Ok(Transmit::new(bytes, self.schedule.transport, self.local_addr, to))
     }
 
-    /// Processes a message received from this address, and returns whether it is accepted.
+    /// Processes a message received from this address, and returns whether it is accepted: a response is,
+    /// once, if its ID is outstanding (RFC 8489, section 6.3) and it came from the address to which the
+    /// request was sent (our choice).
     ///
-    /// A response is accepted if its ID is outstanding (RFC 8489, section 6.3) and it came from the
-    /// address to which the request was sent (our choice). It ends the transaction, so no copy of it
-    /// is accepted. Requests and indications are always accepted.
+    /// It ends its transaction, so no copy of it is accepted. Requests and indications are always
+    /// accepted.
     pub fn handle_stun_message(&mut self, message: &Message<'_>, from: SocketAddr) -> bool
         ensures step { (result, self.new) ≡ handle_step self.old message.now from }
         ensures ended { IsTrue result → IsResponse (class_of (type_of message.now))

@@ -113,7 +113,8 @@ impl LongTermClientAuth {
         self.anonymous_username = anonymous_username;
     }
 
-    /// What is to be done with the message. Allocates no memory, and copies nothing of the message.
+    /// Whether the message is a challenge, is signed under what the client holds, or is refused. Allocates
+    /// no memory, and copies nothing of the message.
     ///
     /// A challenge is judged before any integrity attribute (our choice: the first one cannot be
     /// signed, RFC 8489, section 9.2.5).
@@ -213,7 +214,7 @@ impl LongTermClientAuth {
         self.held.is_some()
     }
 
-    /// Signs the message. To a request it adds the user, the realm, the nonce, with SHA-256 the password
+    /// Signs the message: to a request it adds the user, the realm, the nonce, with SHA-256 the password
     /// algorithms, and the integrity, in this order; to any other message the integrity alone (RFC 8489,
     /// section 9.2.4). The bytes before it stay, but for the length in the header. For a message with the
     /// room that `message_signature_bytes` and `reply_signature_bytes` return, no memory is allocated.

@@ -47,7 +47,8 @@ impl<'a> Model for Message<'a> {
 }
 
 impl<'a> Message<'a> {
-    /// The message in the bytes, which are all of it.
+    /// The message that the bytes are, all of them, by the grammar of RFC 8489, sections 5 and 14, or the
+    /// first reason why they are none.
     ///
     /// # Errors
     ///
