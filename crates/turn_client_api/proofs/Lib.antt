@@ -1,7 +1,7 @@
 pub mod AddressLemmas
 pub mod AllocationLemmas
 mod ConfigLemmas
-pub mod EarlyLapseLemmas
+pub mod EarlyExpiryLemmas
+pub mod ExpirySteps
 pub mod HasLemmas
-pub mod LapseSteps
 pub mod StreamEnds

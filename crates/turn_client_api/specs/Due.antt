@@ -90,16 +90,16 @@ keepalive_times s =
 
 -- from when on time removes the grant, reserves the active channel, or frees the reserved number; an
 -- expired allocation stays while a request for it is pending
-abbrev pub lapse_of : State → Grant → Option ℕ
-lapse_of s (Allocation a) = if a.is_expired && has_request (Allocation a) s then None else Some a.expiry
-lapse_of s (Permission ip (Active lease)) = Some lease.expiry
-lapse_of s (Channel number peer (Active lease)) = Some lease.expiry
-lapse_of s (Channel number peer (Reserved until)) = Some (until + 1)
-lapse_of s (Connection c) = c.deadline
-lapse_of s _ = None
+abbrev pub expiry_time : State → Grant → Option ℕ
+expiry_time s (Allocation a) = if a.is_expired && has_request (Allocation a) s then None else Some a.expiry
+expiry_time s (Permission ip (Active lease)) = Some lease.expiry
+expiry_time s (Channel number peer (Active lease)) = Some lease.expiry
+expiry_time s (Channel number peer (Reserved until)) = Some (until + 1)
+expiry_time s (Connection c) = c.deadline
+expiry_time s _ = None
 
 abbrev pub expiry_times : State → List ℕ
-expiry_times s = filter_map (lapse_of s) s.grants
+expiry_times s = filter_map (expiry_time s) s.grants
 
 -- ---- when a client has to be polled again
 

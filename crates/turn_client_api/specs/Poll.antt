@@ -36,13 +36,13 @@ abbrev pub failed : (Grant → Bool) → State → State
 failed which s = jump (failures_among which s) (without_grants which s)
 
 -- a permission or channel is expired from its expiry on
-abbrev pub is_lapsed_permission : ℕ → Grant → Bool
-is_lapsed_permission now (Permission ip (Active lease)) = nat_le lease.expiry now
-is_lapsed_permission now _ = false
+abbrev pub is_expired_permission : ℕ → Grant → Bool
+is_expired_permission now (Permission ip (Active lease)) = nat_le lease.expiry now
+is_expired_permission now _ = false
 
-abbrev pub is_lapsed_channel : ℕ → Grant → Bool
-is_lapsed_channel now (Channel number peer (Active lease)) = nat_le lease.expiry now
-is_lapsed_channel now _ = false
+abbrev pub is_expired_channel : ℕ → Grant → Bool
+is_expired_channel now (Channel number peer (Active lease)) = nat_le lease.expiry now
+is_expired_channel now _ = false
 
 abbrev pub is_over : ℕ → Grant → Bool
 is_over now (Channel number peer (Reserved until)) = nat_lt until now
@@ -55,10 +55,10 @@ is_unbound purposes now (Connection c) =
 is_unbound purposes now _ = false
 
 -- one channel per allocation and call: its failure is queued first, and its number and peer are reserved
-abbrev pub channel_lapsed : Option Grant → State → State
-channel_lapsed (Some (Channel number peer (Active lease))) s =
+abbrev pub channel_expired : Option Grant → State → State
+channel_expired (Some (Channel number peer (Active lease))) s =
     jump (ChannelCreateFailed s.config.allocation_transport peer ∷ []) (reserved number peer lease.expiry s)
-channel_lapsed _ s = s
+channel_expired _ s = s
 
 -- connections that are not bound are to be closed, after all others
 abbrev pub unbound : (Grant → Bool) → State → State
@@ -73,12 +73,12 @@ is_timed_out_offer given grant = option_map_or (λ id. is_of_request id grant) g
 abbrev pub failed_by_timeout : AddressFamily → List Purpose → (Grant → Bool) → State → State
 failed_by_timeout family purposes which s = failed (λ g. is_of family g && which g && is_for_any purposes g) s
 
-abbrev pub last_channel_lapsed : AddressFamily → ℕ → State → State
-last_channel_lapsed family now s =
-    channel_lapsed (find (λ g. is_of family g && is_lapsed_channel now g) (reverse s.grants)) s
+abbrev pub last_channel_expired : AddressFamily → ℕ → State → State
+last_channel_expired family now s =
+    channel_expired (find (λ g. is_of family g && is_expired_channel now g) (reverse s.grants)) s
 
-abbrev pub permissions_lapsed : AddressFamily → ℕ → State → State
-permissions_lapsed family now s = failed (λ g. is_of family g && is_lapsed_permission now g) s
+abbrev pub permissions_expired : AddressFamily → ℕ → State → State
+permissions_expired family now s = failed (λ g. is_of family g && is_expired_permission now g) s
 
 abbrev pub connections_unbound : AddressFamily → List Purpose → ℕ → State → State
 connections_unbound family purposes now s = unbound (λ g. is_of family g && is_unbound purposes now g) s
@@ -95,12 +95,12 @@ abbrev pub set_free : AddressFamily → ℕ → State → State
 set_free family now s = without_grants (λ g. is_of family g && is_over now g) s
 
 -- all of this in an allocation that stays
-abbrev pub lapsed_in : AddressFamily → Option ℕ → List Purpose → ℕ → State → State
-lapsed_in family given purposes now s = in_sequence (
+abbrev pub expired_in : AddressFamily → Option ℕ → List Purpose → ℕ → State → State
+expired_in family given purposes now s = in_sequence (
     failed_by_timeout family purposes is_pending_channel
     ∷ failed_by_timeout family purposes is_pending_permission
-    ∷ last_channel_lapsed family now
-    ∷ permissions_lapsed family now
+    ∷ last_channel_expired family now
+    ∷ permissions_expired family now
     ∷ failed_by_timeout family purposes is_connect
     ∷ connections_unbound family purposes now
     ∷ offers_timed_out family given
@@ -110,14 +110,14 @@ lapsed_in family given purposes now s = in_sequence (
     ) s
 
 -- an allocation that is removed takes all grants in it, and no event reports it
-abbrev pub lapsed_allocation : Option ℕ → List Purpose → ℕ → State → Relay → State
-lapsed_allocation given purposes now s a =
+abbrev pub expired_allocation : Option ℕ → List Purpose → ℕ → State → Relay → State
+expired_allocation given purposes now s a =
     if allocation_expires purposes now s a then without_grants (is_of (family_of a.relayed)) s
-    else lapsed_in (family_of a.relayed) given purposes now s
+    else expired_in (family_of a.relayed) given purposes now s
 
 -- all allocations, in the order in which the server granted them
-abbrev pub lapsed : Option ℕ → ℕ → State → State
-lapsed given now s = fold (lapsed_allocation given (timed_out_purposes given s) now) s (allocations s)
+abbrev pub expired_at : Option ℕ → ℕ → State → State
+expired_at given now s = fold (expired_allocation given (timed_out_purposes given s) now) s (allocations s)
 
 -- ---- the caller is to open a data connection
 
@@ -178,7 +178,7 @@ timed_step Requesting (Some id) now s = silent_step s
 timed_step Authenticating None now s = answer_step None now s
 timed_step Authenticating (Some id) now s =
     answer_step (Some id) now (if is_listed_for_allocation id s then closed s else s)
-timed_step Allocated given now s = answer_step given now (lapsed given now s)
+timed_step Allocated given now s = answer_step given now (expired_at given now s)
 timed_step Closed given now s = (Do.Closed, s)
 
 abbrev pub timed_out_step : ℕ → State → TurnPollRet × State

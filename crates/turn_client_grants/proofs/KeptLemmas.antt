@@ -21,7 +21,7 @@ use Rattle.turn_client_grants.specs.Index.{IsIndex}
 use Rattle.turn_client_grants.specs.Keys.{is_found_by}
 use Rattle.turn_client_grants.specs.Lists.{find_allocation_in, with_lists}
 use Rattle.turn_client_grants.specs.Pending.{is_pending, is_refreshed}
-use Rattle.turn_client_grants.specs.Summary.{IsSummary, end_in, far, is_kept, is_requested, is_reserved, is_untold, kept_expiry, lapse_in, never}
+use Rattle.turn_client_grants.specs.Summary.{IsSummary, end_in, far, is_kept, is_requested, is_reserved, is_untold, kept_expiry, expiry_time_in, never}
 use Rattle.turn_client_grants.specs.Table.{unlisted_in}
 use Rattle.turn_client_grants.specs.GrantFilter.{purposes_in}
 use Rattle.turn_client_grants.specs.declared.key.Key.{Key}
@@ -70,7 +70,7 @@ any-joined p was others last is = rw is (sym (list_any-append p others last))
 pub summary-joined : (was now : Summary) (rows others last : List Grant) (listed : List Listing) → list_any (λ g. is_some (as_allocation g)) last ≡ false → rows ≡ others ++ last
     → now.first ≡ was.first → now.second ≡ was.second
     → now.end ≡ fold min was.end (filter_map end_in last)
-    → now.lapse ≡ fold min was.lapse (filter_map (lapse_in listed) last)
+    → now.next_expiry ≡ fold min was.next_expiry (filter_map (expiry_time_in listed) last)
     → now.keeps_first ≡ was.keeps_first → now.keeps_second ≡ was.keeps_second
     → ((s : State) → now.permissions ≡ fold min was.permissions (filter_map (kept_expiry false (with_lists rows listed s)) last))
     → ((s : State) → now.channels ≡ fold min was.channels (filter_map (kept_expiry true (with_lists rows listed s)) last))
@@ -78,13 +78,13 @@ pub summary-joined : (was now : Summary) (rows others last : List Grant) (listed
     → now.has_requested ≡ (was.has_requested || list_any is_requested last)
     → now.has_reserved ≡ (was.has_reserved || list_any is_reserved last)
     → IsSummary was others listed → IsSummary now rows listed
-summary-joined was now rows others last listed none are first second end lapse keeps_first keeps_second permissions channels untold requested reserved summed =
+summary-joined was now rows others last listed none are first second end next_expiry keeps_first keeps_second permissions channels untold requested reserved summed =
     let relays : filter_map as_allocation rows ≡ filter_map as_allocation others = ap (filter_map as_allocation) are ∙ relays-joined others last none in
     record {
       first = first ∙ (summed.first ∙ ap (λ xs. slice_get xs 0) (sym relays));
       second = second ∙ (summed.second ∙ ap (λ xs. slice_get xs 1) (sym relays));
       end = end ∙ (least-joined end_in max_time was.end others last summed.end ∙ ap (λ gs. fold min max_time (filter_map end_in gs)) (sym are));
-      lapse = lapse ∙ (least-joined (lapse_in listed) never was.lapse others last summed.lapse ∙ ap (λ gs. fold min never (filter_map (lapse_in listed) gs)) (sym are));
+      next_expiry = next_expiry ∙ (least-joined (expiry_time_in listed) never was.next_expiry others last summed.next_expiry ∙ ap (λ gs. fold min never (filter_map (expiry_time_in listed) gs)) (sym are));
       keeps_first = keeps_first ∙ (summed.keeps_first ∙ ap (λ xs. option_map_or (is_kept listed) (slice_get xs 0) false) (sym relays));
       keeps_second = keeps_second ∙ (summed.keeps_second ∙ ap (λ xs. option_map_or (is_kept listed) (slice_get xs 1) false) (sym relays));
       permissions = λ s.
@@ -125,8 +125,8 @@ no-relay g h = grind arith
 no-end : (g : Grant) → is_pending g ≡ true → end_in g ≡ None
 no-end g h = grind arith
 
-no-lapse : (listed : List Listing) (g : Grant) → is_pending g ≡ true → lapse_in listed g ≡ None
-no-lapse listed g h = grind arith
+no-expiry : (listed : List Listing) (g : Grant) → is_pending g ≡ true → expiry_time_in listed g ≡ None
+no-expiry listed g h = grind arith
 
 pub not-refreshed : (g : Grant) → is_pending g ≡ true → is_refreshed g ≡ false
 not-refreshed g h = grind arith
@@ -154,7 +154,7 @@ summary-without summary gone rows listed are summed =
       first = summed.first ∙ ap (λ xs. slice_get xs 0) (sym relays);
       second = summed.second ∙ ap (λ xs. slice_get xs 1) (sym relays);
       end = summed.end ∙ ap (λ xs. fold min max_time xs) (sym (given-without end_in no-end gone rows are));
-      lapse = summed.lapse ∙ ap (λ xs. fold min never xs) (sym (given-without (lapse_in listed) (no-lapse listed) gone rows are));
+      next_expiry = summed.next_expiry ∙ ap (λ xs. fold min never xs) (sym (given-without (expiry_time_in listed) (no-expiry listed) gone rows are));
       keeps_first = summed.keeps_first ∙ ap (λ xs. option_map_or (is_kept listed) (slice_get xs 0) false) (sym relays);
       keeps_second = summed.keeps_second ∙ ap (λ xs. option_map_or (is_kept listed) (slice_get xs 1) false) (sym relays);
       permissions = λ s. summed.permissions s ∙ ap (λ xs. fold min far xs) (sym (kept false s relays));
@@ -178,10 +178,10 @@ abbrev AreAlike : List Grant → List Listing → List Listing → Type 0
 AreAlike [] listed later = Unit {0}
 AreAlike (g ∷ rows) listed later = (is_refreshed g ≡ true → requests_for g later ≡ requests_for g listed) × AreAlike rows listed later
 
-lapses-alike : (rows : List Grant) (listed later : List Listing) → AreAlike rows listed later → filter_map (lapse_in later) rows ≡ filter_map (lapse_in listed) rows
-lapses-alike [] listed later alike = refl
-lapses-alike (Allocation a ∷ rows) listed later alike = rw (alike.0 refl, lapses-alike rows listed later alike.1) refl
-lapses-alike (g ∷ rows) listed later alike = grind (arith, lapses-alike rows listed later alike.1)
+expiries-alike : (rows : List Grant) (listed later : List Listing) → AreAlike rows listed later → filter_map (expiry_time_in later) rows ≡ filter_map (expiry_time_in listed) rows
+expiries-alike [] listed later alike = refl
+expiries-alike (Allocation a ∷ rows) listed later alike = rw (alike.0 refl, expiries-alike rows listed later alike.1) refl
+expiries-alike (g ∷ rows) listed later alike = grind (arith, expiries-alike rows listed later alike.1)
 
 refreshes-alike : (of_channels : Bool) (all rows : List Grant) (listed later : List Listing) (s : State) → AreAlike rows listed later
     → filter_map (kept_expiry of_channels (with_lists all later s)) rows ≡ filter_map (kept_expiry of_channels (with_lists all listed s)) rows
@@ -209,7 +209,7 @@ summary-alike summary rows listed later alike summed = record {
   first = summed.first;
   second = summed.second;
   end = summed.end;
-  lapse = summed.lapse ∙ ap (λ xs. fold min never xs) (sym (lapses-alike rows listed later alike));
+  next_expiry = summed.next_expiry ∙ ap (λ xs. fold min never xs) (sym (expiries-alike rows listed later alike));
   keeps_first = summed.keeps_first ∙ sym (keeps-alike 0 rows listed later alike);
   keeps_second = summed.keeps_second ∙ sym (keeps-alike 1 rows listed later alike);
   permissions = λ s. summed.permissions s ∙ ap (λ xs. fold min far xs) (sym (refreshes-alike false rows rows listed later s alike));

@@ -28,11 +28,11 @@ kept-no_less of_channels s g n time used unused le = by (needs_refresh g s) refl
 pub left-by : (totals : Totals) (g : Grant) (grants : List Grant) (listed : List Listing) → adds_nothing totals g ≡ true → ReadsAlike totals [] totals (g ∷ []) grants listed
 unfolding kept_expiry
 left-by totals (Permission ip (Active lease)) grants listed is =
-    let first = and_parts (nat_le totals.end lease.expiry) (nat_le totals.lapse lease.expiry && nat_le totals.permissions lease.expiry) is in
-    let others = and_parts (nat_le totals.lapse lease.expiry) (nat_le totals.permissions lease.expiry) first.1 in
+    let first = and_parts (nat_le totals.end lease.expiry) (nat_le totals.next_expiry lease.expiry && nat_le totals.permissions lease.expiry) is in
+    let others = and_parts (nat_le totals.next_expiry lease.expiry) (nat_le totals.permissions lease.expiry) first.1 in
     record {
       end = no-less totals.end lease.expiry first.0;
-      lapse = no-less totals.lapse lease.expiry others.0;
+      next_expiry = no-less totals.next_expiry lease.expiry others.0;
       permissions = λ s.
           kept-no_less false (with_lists grants listed s) (Permission ip (Active lease)) totals.permissions lease.expiry (λ e. rw e refl) (λ e. rw e refl) others.1;
       channels = λ s. refl;
@@ -41,11 +41,11 @@ left-by totals (Permission ip (Active lease)) grants listed is =
       reserved = refl;
     }
 left-by totals (Channel number peer (Active lease)) grants listed is =
-    let first = and_parts (nat_le totals.end lease.expiry) (nat_le totals.lapse lease.expiry && nat_le totals.channels lease.expiry) is in
-    let others = and_parts (nat_le totals.lapse lease.expiry) (nat_le totals.channels lease.expiry) first.1 in
+    let first = and_parts (nat_le totals.end lease.expiry) (nat_le totals.next_expiry lease.expiry && nat_le totals.channels lease.expiry) is in
+    let others = and_parts (nat_le totals.next_expiry lease.expiry) (nat_le totals.channels lease.expiry) first.1 in
     record {
       end = no-less totals.end lease.expiry first.0;
-      lapse = no-less totals.lapse lease.expiry others.0;
+      next_expiry = no-less totals.next_expiry lease.expiry others.0;
       permissions = λ s. refl;
       channels = λ s.
           kept-no_less true (with_lists grants listed s) (Channel number peer (Active lease)) totals.channels lease.expiry (λ e. rw e refl) (λ e. rw e refl) others.1;

@@ -8,7 +8,7 @@ use Rattle.std.proofs.lemmas.List.Elements.{All-cons, All-nil}
 use Rattle.std.specs.declared.net.socket_addr.SocketAddr.{SocketAddr}
 use Rattle.turn_types.specs.declared.family.AddressFamily.{AddressFamily}
 use Rattle.turn_client_api.specs.Calls.{channels_to, progress_to, reserved_from}
-use Rattle.turn_client_api.specs.Due.{end_of, refresh_time, lapse_of, expiry_times}
+use Rattle.turn_client_api.specs.Due.{end_of, refresh_time, expiry_time, expiry_times}
 use Rattle.turn_client_api.specs.Grants.{as_allocation, family_of, is_of, is_of_family, is_of_request}
 use Rattle.turn_client_api.specs.Poll.{first_unreported, unreported_in}
 use Rattle.turn_client_api.specs.State.{State, max_time}
@@ -22,7 +22,7 @@ use Rattle.turn_client_api.specs.declared.grant.Relay.{Relay}
 use Rattle.turn_client_grants.specs.Due.{all_times, relay_ends}
 use Rattle.turn_client_grants.specs.Lists.{with_lists}
 use Rattle.turn_client_grants.specs.Refresh.{due_purpose, first_refresh}
-use Rattle.turn_client_grants.specs.Summary.{end_in, is_requested, is_reserved, is_untold, lapse_in, never}
+use Rattle.turn_client_grants.specs.Summary.{end_in, is_requested, is_reserved, is_untold, expiry_time_in, never}
 use Rattle.turn_client_grants.proofs.RefreshLemmas.{refreshes_first, refreshes_none}
 
 -- ---- the least of several times
@@ -61,14 +61,14 @@ filter_map-same : (f h : Grant → Option ℕ) → ((g : Grant) → f g ≡ h g)
 filter_map-same f h same [] = refl
 filter_map-same f h same (g ∷ gs) = rw (same g, filter_map-same f h same gs) refl
 
-lapse-same : (grants : List Grant) (listed : List Listing) (s : State) (g : Grant) → lapse_of (with_lists grants listed s) g ≡ lapse_in listed g
-lapse-same grants listed s g = grind arith
+expiry_time-same : (grants : List Grant) (listed : List Listing) (s : State) (g : Grant) → expiry_time (with_lists grants listed s) g ≡ expiry_time_in listed g
+expiry_time-same grants listed s g = grind arith
 
 -- nothing expires before the earliest time at which something does
-pub early-all : (now : ℕ) (grants : List Grant) (listed : List Listing) (s : State) → now < fold min never (filter_map (lapse_in listed) grants)
+pub early-all : (now : ℕ) (grants : List Grant) (listed : List Listing) (s : State) → now < fold min never (filter_map (expiry_time_in listed) grants)
     → All (λ time. now < time) (expiry_times (with_lists grants listed s))
 early-all now grants listed s lt =
-    rw (filter_map-same (lapse_of (with_lists grants listed s)) (lapse_in listed) (lapse-same grants listed s) grants) (below-all now never (filter_map (lapse_in listed) grants) lt)
+    rw (filter_map-same (expiry_time (with_lists grants listed s)) (expiry_time_in listed) (expiry_time-same grants listed s) grants) (below-all now never (filter_map (expiry_time_in listed) grants) lt)
 
 -- ---- before the first refresh
 

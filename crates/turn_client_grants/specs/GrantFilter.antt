@@ -4,7 +4,7 @@ use Rattle.turn_client_api.specs.Grants.{as_allocation, is_channel_of, is_connec
 use Rattle.turn_client_api.specs.Grants.{is_pending_permission, is_permission_of}
 use Rattle.turn_client_api.specs.Calls.{is_granted_in, is_open_to}
 use Rattle.turn_client_api.specs.Effect.{is_asked_permission}
-use Rattle.turn_client_api.specs.Poll.{is_timed_out_offer, is_lapsed_permission, is_over, is_unbound}
+use Rattle.turn_client_api.specs.Poll.{is_timed_out_offer, is_expired_permission, is_over, is_unbound}
 use Rattle.turn_client_api.specs.declared.grant.Grant.{Grant}
 use Rattle.turn_client_api.specs.declared.grant.Purpose.{Purpose}
 use Rattle.turn_client_grants.specs.declared.purposes.Purposes.{Purposes}
@@ -25,7 +25,7 @@ holds (W.ChannelOf number) = is_channel_of number
 holds (W.OpenTo peer) = is_open_to peer
 holds (W.ConnectTo peer) = is_connect_to peer
 holds (W.ConnectionFrom local) = is_connection_from local
-holds (W.LapsedPermissions family now) = λ g. is_of family g && is_lapsed_permission now g
+holds (W.ExpiredPermissions family now) = λ g. is_of family g && is_expired_permission now g
 holds (W.FreedChannels family now) = λ g. is_of family g && is_over now g
 holds (W.PendingPermissionsOf purposes) = is_asked_permission (purposes_in purposes)
 holds (W.PendingPermissionsIn family purposes) = λ g. is_of family g && is_pending_permission g && is_for_any (purposes_in purposes) g

@@ -7,7 +7,7 @@ use Rattle.turn_client_grants.specs.declared.totals.Totals.{Totals}
 
 -- the time is no earlier than the earliest expiries, and than this one of what is to be refreshed
 abbrev pub is_no_earlier : Totals → ℕ → ℕ → Bool
-is_no_earlier totals refreshed time = nat_le totals.end time && (nat_le totals.lapse time && nat_le refreshed time)
+is_no_earlier totals refreshed time = nat_le totals.end time && (nat_le totals.next_expiry time && nat_le refreshed time)
 
 -- an active permission or channel expires no earlier than any that was read
 abbrev pub adds_nothing : Totals → Grant → Bool

@@ -27,14 +27,14 @@ end_in _ = None
 
 -- the time at which the grant expires, its reservation ends or its deadline passes: an expired allocation
 -- stays while a request for it awaits its response
-abbrev pub lapse_in : List Listing → Grant → Option ℕ
-lapse_in listed (Allocation a) =
+abbrev pub expiry_time_in : List Listing → Grant → Option ℕ
+expiry_time_in listed (Allocation a) =
     if a.is_expired && list_any (λ l. is_for l.purpose (Allocation a)) listed then None else Some a.expiry
-lapse_in listed (Permission ip (Active lease)) = Some lease.expiry
-lapse_in listed (Channel number peer (Active lease)) = Some lease.expiry
-lapse_in listed (Channel number peer (Reserved until)) = Some (until + 1)
-lapse_in listed (Connection c) = c.deadline
-lapse_in listed _ = None
+expiry_time_in listed (Permission ip (Active lease)) = Some lease.expiry
+expiry_time_in listed (Channel number peer (Active lease)) = Some lease.expiry
+expiry_time_in listed (Channel number peer (Reserved until)) = Some (until + 1)
+expiry_time_in listed (Connection c) = c.deadline
+expiry_time_in listed _ = None
 
 -- later than every time
 abbrev pub never : ℕ
@@ -99,7 +99,7 @@ is_reserved _ = false
 -- what is read from the rest of some grants, after what was read before, is what is read from all of them
 pub record ReadsAlike (now : Totals) (rest : List Grant) (start : Totals) (all grants : List Grant) (listed : List Listing) : Type 0 where
   pub end : fold min now.end (filter_map end_in rest) ≡ fold min start.end (filter_map end_in all)
-  pub lapse : fold min now.lapse (filter_map (lapse_in listed) rest) ≡ fold min start.lapse (filter_map (lapse_in listed) all)
+  pub next_expiry : fold min now.next_expiry (filter_map (expiry_time_in listed) rest) ≡ fold min start.next_expiry (filter_map (expiry_time_in listed) all)
   pub permissions : (s : State) → fold min now.permissions (filter_map (kept_expiry false (with_lists grants listed s)) rest)
       ≡ fold min start.permissions (filter_map (kept_expiry false (with_lists grants listed s)) all)
   pub channels : (s : State) → fold min now.channels (filter_map (kept_expiry true (with_lists grants listed s)) rest)
@@ -113,7 +113,7 @@ pub record IsSummary (summary : Summary) (grants : List Grant) (listed : List Li
   pub first : summary.first ≡ slice_get (filter_map as_allocation grants) 0
   pub second : summary.second ≡ slice_get (filter_map as_allocation grants) 1
   pub end : summary.end ≡ fold min max_time (filter_map end_in grants)
-  pub lapse : summary.lapse ≡ fold min never (filter_map (lapse_in listed) grants)
+  pub next_expiry : summary.next_expiry ≡ fold min never (filter_map (expiry_time_in listed) grants)
   pub keeps_first : summary.keeps_first ≡ option_map_or (is_kept listed) (slice_get (filter_map as_allocation grants) 0) false
   pub keeps_second : summary.keeps_second ≡ option_map_or (is_kept listed) (slice_get (filter_map as_allocation grants) 1) false
   pub permissions : (s : State) → summary.permissions ≡ fold min far (filter_map (kept_expiry false (with_lists grants listed s)) grants)

@@ -9,7 +9,7 @@ use crate::kind::{
     is_active, is_allocation, is_channel_of, is_connect, is_connect_to, is_connection_from, is_of,
     is_pending_channel, is_pending_permission, is_permission_of,
 };
-use crate::lapsed::{is_lapsed_permission, is_over, is_timed_out_offer, is_unbound};
+use crate::past_expiry::{is_expired_permission, is_over, is_timed_out_offer, is_unbound};
 use crate::purposes::Purposes;
 use std::net::{IpAddr, SocketAddr};
 use turn_client_api::Grant;
@@ -39,7 +39,7 @@ pub enum GrantFilter {
     /// The data connection from this local address.
     ConnectionFrom(SocketAddr),
     /// Active permissions of this family whose expiry is this time or earlier.
-    LapsedPermissions(AddressFamily, Instant),
+    ExpiredPermissions(AddressFamily, Instant),
     /// Channels of this family that were reserved until a time before this one.
     FreedChannels(AddressFamily, Instant),
     /// Pending permissions for which a request with these purposes was made.
@@ -75,8 +75,8 @@ impl GrantFilter {
             GrantFilter::OpenTo(peer) => is_open_to(*peer, grant),
             GrantFilter::ConnectTo(peer) => is_connect_to(*peer, grant),
             GrantFilter::ConnectionFrom(local) => is_connection_from(*local, grant),
-            GrantFilter::LapsedPermissions(family, now) => {
-                is_of(*family, grant) && is_lapsed_permission(*now, grant)
+            GrantFilter::ExpiredPermissions(family, now) => {
+                is_of(*family, grant) && is_expired_permission(*now, grant)
             }
             GrantFilter::FreedChannels(family, now) => is_of(*family, grant)
                 && is_over(*now, grant),

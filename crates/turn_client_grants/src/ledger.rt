@@ -31,7 +31,7 @@ mod ask;
 mod connect;
 mod data;
 mod keep;
-mod lapse;
+mod expiry;
 mod poll;
 mod read;
 

@@ -28,7 +28,7 @@ mod failures;
 mod grant_filter;
 mod key;
 mod kind;
-mod lapsed;
+mod past_expiry;
 mod ledger;
 mod listed;
 mod listings;

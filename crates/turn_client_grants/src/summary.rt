@@ -34,7 +34,7 @@ pub struct Summary {
     /// The earliest expiry or deadline of the grants other than allocations, or the greatest time.
     pub end: Instant,
     /// The earliest time at which a grant expires, in nanoseconds, or 2^63 if none does.
-    pub lapse: u64,
+    pub next_expiry: u64,
     /// Whether the allocation that the server granted first is to be refreshed.
     pub keeps_first: bool,
     /// Whether the other one is.
@@ -61,7 +61,7 @@ pub(crate) fn summary_of(grants: &[Grant], listed: &[Listing]) -> Summary
     let keeps_second = is_kept(listed, &second);
     let start = Totals {
         end: Instant::from_nanos(GREATEST),
-        lapse: NEVER,
+        next_expiry: NEVER,
         permissions: u64::MAX,
         channels: u64::MAX,
         has_untold: false,
@@ -73,7 +73,7 @@ pub(crate) fn summary_of(grants: &[Grant], listed: &[Listing]) -> Summary
         first,
         second,
         end: totals.end,
-        lapse: totals.lapse,
+        next_expiry: totals.next_expiry,
         keeps_first,
         keeps_second,
         permissions: totals.permissions,
@@ -126,7 +126,7 @@ fn joined(summary: &Summary, grants: &[Grant], listed: &[Listing], last: &[Grant
 {
     let start = Totals {
         end: summary.end,
-        lapse: summary.lapse,
+        next_expiry: summary.next_expiry,
         permissions: summary.permissions,
         channels: summary.channels,
         has_untold: summary.has_untold,
@@ -138,7 +138,7 @@ fn joined(summary: &Summary, grants: &[Grant], listed: &[Listing], last: &[Grant
         first: summary.first,
         second: summary.second,
         end: totals.end,
-        lapse: totals.lapse,
+        next_expiry: totals.next_expiry,
         keeps_first: summary.keeps_first,
         keeps_second: summary.keeps_second,
         permissions: totals.permissions,

@@ -7,7 +7,7 @@ ghost use Rattle.turn_client_api.specs.State.{State};
 ghost use Rattle.turn_client_api.specs.declared.grant.Grant.TheVariants.{Allocation};
 ghost use Rattle.turn_client_grants.specs.Lists.{with_lists};
 ghost use Rattle.turn_client_grants.specs.Passed.{adds_nothing, is_no_earlier};
-ghost use Rattle.turn_client_grants.specs.Summary.{ReadsAlike, end_in, expiry_by_kind, is_requested, is_reserved, is_untold, kept_expiry, lapse_in, needs_refresh};
+ghost use Rattle.turn_client_grants.specs.Summary.{ReadsAlike, end_in, expiry_by_kind, is_requested, is_reserved, is_untold, kept_expiry, expiry_time_in, needs_refresh};
 
 use crate::due::{is_in_use, least};
 use crate::listed::has_request;
@@ -20,7 +20,7 @@ pub struct Totals {
     /// The earliest expiry or deadline of the grants other than allocations, or the greatest time.
     pub end: Instant,
     /// The earliest time at which a grant expires, in nanoseconds, or 2^63 if none does.
-    pub lapse: u64,
+    pub next_expiry: u64,
     /// The earliest expiry of a permission that is to be refreshed, in nanoseconds, or 2^64 - 1.
     pub permissions: u64,
     /// The earliest expiry of a channel that is to be refreshed, in nanoseconds, or 2^64 - 1.
@@ -69,7 +69,7 @@ fn adds_nothing(totals: &Totals, grant: &Grant) -> bool
 fn is_no_earlier(totals: &Totals, refreshed: u64, time: u64) -> bool
     ensures { result ≡ is_no_earlier totals.now refreshed time }
 {
-    totals.end.as_nanos() <= time && totals.lapse <= time && refreshed <= time
+    totals.end.as_nanos() <= time && totals.next_expiry <= time && refreshed <= time
 }
 
 /// What is read from one grant more.
@@ -82,7 +82,7 @@ fn with_grant(totals: &Totals, grants: &[Grant], listed: &[Listing], grant: &Gra
     }
     Totals {
         end: least(totals.end, end_in(grant)),
-        lapse: least_nanos(totals.lapse, lapse_in(listed, grant)),
+        next_expiry: least_nanos(totals.next_expiry, expiry_time_in(listed, grant)),
         permissions: least_kept(false, totals.permissions, grants, listed, grant),
         channels: least_kept(true, totals.channels, grants, listed, grant),
         has_untold: totals.has_untold || is_untold(grant),
@@ -116,8 +116,8 @@ fn is_awaited(listed: &[Listing], relay: &Relay) -> bool
 
 /// The time at which the grant expires, its reservation ends or its deadline passes, in
 /// nanoseconds.
-fn lapse_in(listed: &[Listing], grant: &Grant) -> Option<u64>
-    ensures { result ≡ lapse_in listed.now grant.now }
+fn expiry_time_in(listed: &[Listing], grant: &Grant) -> Option<u64>
+    ensures { result ≡ expiry_time_in listed.now grant.now }
 {
     match grant {
         Grant::Allocation(relay) => {

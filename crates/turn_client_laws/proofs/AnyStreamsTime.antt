@@ -11,8 +11,8 @@ use Rattle.turn_client_api.specs.Calls.{is_allocated}
 use Rattle.turn_client_api.specs.Due.{end_of, has_event, has_queued_request, has_reply, is_new, is_paused, is_refreshable, keepalive_times, max_wait, next_wakeup, pause_end, refresh_time}
 use Rattle.turn_client_api.specs.Effect.{closed, transaction_ended}
 use Rattle.turn_client_api.specs.Grants.{allocations, family_of, is_connect, is_of, is_pending_channel, is_pending_permission}
-use Rattle.turn_client_api.specs.Poll.{allocation_expires, answer_by, answer_step, channel_lapsed, connections_unbound, failed_by_timeout, is_lapsed_channel, is_listed_for_allocation, lapsed}
-use Rattle.turn_client_api.specs.Poll.{lapsed_allocation, lapsed_in, last_channel_lapsed, next_offer, offer_step, offers_timed_out, permissions_lapsed, poll_step, refreshes_timed_out, set_free, timed_out_purposes}
+use Rattle.turn_client_api.specs.Poll.{allocation_expires, answer_by, answer_step, channel_expired, connections_unbound, failed_by_timeout, is_expired_channel, is_listed_for_allocation, expired_at}
+use Rattle.turn_client_api.specs.Poll.{expired_allocation, expired_in, last_channel_expired, next_offer, offer_step, offers_timed_out, permissions_expired, poll_step, refreshes_timed_out, set_free, timed_out_purposes}
 use Rattle.turn_client_api.specs.Poll.{timed_out_step, timed_step}
 use Rattle.turn_client_api.specs.State.{State, agent_of, later_by, max_time}
 use Rattle.turn_client_api.specs.Transmit.{idle_step, is_ranked, is_refresh_due, keepalive_step, next_refresh, queue_step, refresh_purpose, refresh_step, reply_step, transmit_step}
@@ -81,31 +81,31 @@ module _ (x : List Stream) where
   transmit-alike now s =
       pair-found (due (agent_of s) now) _ _ _ _ (λ t. refl) (pair-cond x (is_paused now s) _ _ _ _ refl (queue-alike now s))
 
-  -- ---- what lapses
+  -- ---- what expires
 
-  last-alike : (o : Option Grant) (s : State) → channel_lapsed o (with_streams x s) ≡ with_streams x (channel_lapsed o s)
+  last-alike : (o : Option Grant) (s : State) → channel_expired o (with_streams x s) ≡ with_streams x (channel_expired o s)
   last-alike (Some (Channel number peer (Active lease))) s = refl
   last-alike o s = refl
 
-  lapsed_in-alike : (family : AddressFamily) (given : Option ℕ) (purposes : List Purpose) (now : ℕ) (s : State)
-      → lapsed_in family given purposes now (with_streams x s) ≡ with_streams x (lapsed_in family given purposes now s)
-  lapsed_in-alike family given purposes now s =
+  expired_in-alike : (family : AddressFamily) (given : Option ℕ) (purposes : List Purpose) (now : ℕ) (s : State)
+      → expired_in family given purposes now (with_streams x s) ≡ with_streams x (expired_in family given purposes now s)
+  expired_in-alike family given purposes now s =
       let t = failed_by_timeout family purposes is_pending_permission (failed_by_timeout family purposes is_pending_channel s) in
-      ap behind (last-alike (find (λ g. is_of family g && is_lapsed_channel now g) (reverse t.grants)) t)
+      ap behind (last-alike (find (λ g. is_of family g && is_expired_channel now g) (reverse t.grants)) t)
     where
       behind : State → State
       behind t =
           set_free family now (refreshes_timed_out family purposes (offers_timed_out family given
-          (connections_unbound family purposes now (failed_by_timeout family purposes is_connect (permissions_lapsed family now t)))))
+          (connections_unbound family purposes now (failed_by_timeout family purposes is_connect (permissions_expired family now t)))))
 
-  lapsed-alike : (given : Option ℕ) (now : ℕ) (s : State) → lapsed given now (with_streams x s) ≡ with_streams x (lapsed given now s)
-  lapsed-alike given now s = alike-fold x (lapsed_allocation given purposes now) one (allocations s) s
+  expired_at-alike : (given : Option ℕ) (now : ℕ) (s : State) → expired_at given now (with_streams x s) ≡ with_streams x (expired_at given now s)
+  expired_at-alike given now s = alike-fold x (expired_allocation given purposes now) one (allocations s) s
     where
       purposes : List Purpose
       purposes = timed_out_purposes given s
 
-      one : (t : State) (a : Relay) → lapsed_allocation given purposes now (with_streams x t) a ≡ with_streams x (lapsed_allocation given purposes now t a)
-      one t a = alike-cond x (allocation_expires purposes now t a) _ _ _ _ refl (lapsed_in-alike (family_of a.relayed) given purposes now t)
+      one : (t : State) (a : Relay) → expired_allocation given purposes now (with_streams x t) a ≡ with_streams x (expired_allocation given purposes now t a)
+      one t a = alike-cond x (allocation_expires purposes now t a) _ _ _ _ refl (expired_in-alike (family_of a.relayed) given purposes now t)
 
   -- ---- poll
 
@@ -146,7 +146,7 @@ module _ (x : List Stream) where
       by : (b : Bool) → answer_step (Some id) now (cond b (closed (with_streams x s)) (with_streams x s)) ≡ both_with x (answer_step (Some id) now (cond b (closed s) s))
       by true = answer-alike (Some id) now (closed s)
       by false = answer-alike (Some id) now s
-  timed-alike Allocated given now s = ap (answer_step given now) (lapsed-alike given now s) ∙ answer-alike given now (lapsed given now s)
+  timed-alike Allocated given now s = ap (answer_step given now) (expired_at-alike given now s) ∙ answer-alike given now (expired_at given now s)
   timed-alike Closed given now s = refl
 
   timed_out-alike : (now : ℕ) (s : State) → timed_out_step now (with_streams x s) ≡ both_with x (timed_out_step now s)

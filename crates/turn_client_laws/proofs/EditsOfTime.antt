@@ -23,9 +23,9 @@ use Rattle.turn_client_api.specs.Grants.{allocations, family_of, is_connect, is_
 use Rattle.turn_client_api.specs.Requests.{request_started, asked_lifetime, first_allocate, fresh_id, id_used, request_for}
 use Rattle.turn_client_api.specs.Effect.{closed, transaction_ended, reserved}
 use Rattle.turn_client_api.specs.Due.{has_event, has_reply, is_paused, keepalive_times}
-use Rattle.turn_client_api.specs.Poll.{answer_step, channel_lapsed, connections_unbound, timed_out_purposes, timed_out_step, allocation_expires, failed_by_timeout, is_timed_out_offer}
-use Rattle.turn_client_api.specs.Poll.{is_lapsed_channel, is_lapsed_permission, is_listed_for_allocation, is_over, is_unbound, lapsed, lapsed_allocation, lapsed_in, next_offer, offer_step}
-use Rattle.turn_client_api.specs.Poll.{offers_timed_out, permissions_lapsed, poll_step, silent_step, timed_step}
+use Rattle.turn_client_api.specs.Poll.{answer_step, channel_expired, connections_unbound, timed_out_purposes, timed_out_step, allocation_expires, failed_by_timeout, is_timed_out_offer}
+use Rattle.turn_client_api.specs.Poll.{is_expired_channel, is_expired_permission, is_listed_for_allocation, is_over, is_unbound, expired_at, expired_allocation, expired_in, next_offer, offer_step}
+use Rattle.turn_client_api.specs.Poll.{offers_timed_out, permissions_expired, poll_step, silent_step, timed_step}
 use Rattle.turn_client_api.specs.Transmit.{idle_step, is_due_in, keepalive_step, queue_step, refresh_purpose, refreshes_in, refreshes_of_rank, sent, transmit_step}
 use Rattle.turn_client_api.specs.Transmit as T
 use Rattle.turn_client_laws.specs.LawsStates.{is_asked_by}
@@ -35,7 +35,7 @@ use Rattle.turn_client_laws.proofs.InAllocationLemmas.{has-any, same_family-self
 use Rattle.turn_client_laws.proofs.GrantOriginEffectLemmas.{same_ip-same}
 use Rattle.turn_client_laws.proofs.Edits.{IsAskable, KeepsEdits, SparesAllocations}
 use Rattle.turn_client_laws.proofs.EditsOfReplies.{closed-walk, each, either, found, one-of, removed, asked-walk, reserved-walk, spares-kind, spelled-else, unlisted-walk, told-alike}
-use Rattle.turn_client_api.proofs.LapseSteps.{lapsed_in-does}
+use Rattle.turn_client_api.proofs.ExpirySteps.{expired_in-does}
 use Rattle.turn_client_laws.proofs.CaseLemmas.{by_test, answer-by}
 
 -- ---- what is refreshed exists
@@ -116,23 +116,23 @@ module _ (R : State → State → Type 0) (k : KeepsEdits R) where
       removed R k (λ g. is_of family g && which g && is_for_any purposes g) (λ a. and_left (is_of family (Allocation a) && which (Allocation a)) _
       (and_right (is_of family (Allocation a)) (which (Allocation a)) (spares a))) s end
 
-  channel_lapsed-walk : (o : Option Grant) (s : State) → ((g : Grant) → o ≡ Some g → Has g s.grants) → R s (channel_lapsed o s)
-  channel_lapsed-walk (Some (Channel number peer (Active expiry))) s there =
+  channel_expired-walk : (o : Option Grant) (s : State) → ((g : Grant) → o ≡ Some g → Has g s.grants) → R s (channel_expired o s)
+  channel_expired-walk (Some (Channel number peer (Active expiry))) s there =
       let t = reserved number peer expiry.expiry s in
-      let end = channel_lapsed (Some (Channel number peer (Active expiry))) s in
+      let end = channel_expired (Some (Channel number peer (Active expiry))) s in
       then s t end (reserved-walk R k number peer (Active expiry) expiry.expiry s (there (Channel number peer (Active expiry)) refl)) (k.aside t end)
-  channel_lapsed-walk o s there = k.same s
+  channel_expired-walk o s there = k.same s
 
-  lapsed_in-walk : (family : AddressFamily) (given : Option ℕ) (purposes : List Purpose) (now : ℕ) (s : State) → R s (lapsed_in family given purposes now s)
-  lapsed_in-walk family given purposes now =
-      let lapses = λ (x : Grant). is_of family x && is_lapsed_channel now x in
-      lapsed_in-does R family given purposes now (record {
+  expired_in-walk : (family : AddressFamily) (given : Option ℕ) (purposes : List Purpose) (now : ℕ) (s : State) → R s (expired_in family given purposes now s)
+  expired_in-walk family given purposes now =
+      let has_expired = λ (x : Grant). is_of family x && is_expired_channel now x in
+      expired_in-does R family given purposes now (record {
         trans = k.trans;
         channels = λ t. vain-walk family purposes is_pending_channel t (λ r. refl);
         permissions = λ t. vain-walk family purposes is_pending_permission t (λ r. refl);
         last_channel = λ t.
-            channel_lapsed-walk (find lapses (reverse t.grants)) t (λ x found. has-unreversed x t.grants (has-found lapses x (reverse t.grants) found).0);
-        lapsed_permissions = λ t. removed R k _ (spares-kind family (is_lapsed_permission now) (λ r. refl)) t (permissions_lapsed family now t);
+            channel_expired-walk (find has_expired (reverse t.grants)) t (λ x found. has-unreversed x t.grants (has-found has_expired x (reverse t.grants) found).0);
+        expired_permissions = λ t. removed R k _ (spares-kind family (is_expired_permission now) (λ r. refl)) t (permissions_expired family now t);
         connects = λ t. vain-walk family purposes is_connect t (λ r. refl);
         connections = λ t. removed R k _ (spares-kind family (is_unbound purposes now) (λ r. refl)) t (connections_unbound family purposes now t);
         offers = λ t. removed R k _ (spares-kind family (is_timed_out_offer given) (no-given given)) t (offers_timed_out family given t);
@@ -140,14 +140,14 @@ module _ (R : State → State → Type 0) (k : KeepsEdits R) where
         frees = λ t. k.removes _ t (spares-kind family (is_over now) (λ r. refl));
       })
 
-  lapsed-walk : (given : Option ℕ) (now : ℕ) (s : State) → R s (lapsed given now s)
-  lapsed-walk given now s = each R k (lapsed_allocation given purposes now) by (allocations s) s
+  expired_at-walk : (given : Option ℕ) (now : ℕ) (s : State) → R s (expired_at given now s)
+  expired_at-walk given now s = each R k (expired_allocation given purposes now) by (allocations s) s
     where
       purposes : List Purpose
       purposes = timed_out_purposes given s
 
-      by : (t : State) (a : Relay) → R t (lapsed_allocation given purposes now t a)
-      by t a = one-of R k (allocation_expires purposes now t a) t _ _ (k.removes_family (family_of a.relayed) t) (lapsed_in-walk (family_of a.relayed) given purposes now t)
+      by : (t : State) (a : Relay) → R t (expired_allocation given purposes now t a)
+      by t a = one-of R k (allocation_expires purposes now t a) t _ _ (k.removes_family (family_of a.relayed) t) (expired_in-walk (family_of a.relayed) given purposes now t)
 
   answer-walk : (given : Option ℕ) (now : ℕ) (s : State) → R s (answer_step given now s).1
   answer-walk given now s = answer-by (R s) given now s (λ closes. k.aside s (record s { closes = closes }))
@@ -169,7 +169,7 @@ module _ (R : State → State → Type 0) (k : KeepsEdits R) where
   timed_in_phase Authenticating None now s = answer-walk None now (record s { phase = Authenticating })
   timed_in_phase Allocated given now s =
       let u = record s { phase = Allocated } in
-      then u (lapsed given now u) (answer_step given now (lapsed given now u)).1 (lapsed-walk given now u) (answer-walk given now (lapsed given now u))
+      then u (expired_at given now u) (answer_step given now (expired_at given now u)).1 (expired_at-walk given now u) (answer-walk given now (expired_at given now u))
   timed_in_phase p given now s = k.same (record s { phase = p })
 
   given_up-walk : (now : ℕ) (s : State) → R s (timed_out_step now s).1

@@ -21,16 +21,16 @@ use Rattle.turn_client_api.specs.declared.grant.Purpose.{Purpose}
 use Rattle.turn_client_api.specs.Grants.{allocations, failure_of, failures_among, family_of, is_channel_of, is_connect, is_for_any, is_of, is_pending_channel, is_pending_permission, without_grants}
 use Rattle.turn_client_api.specs.Effect.{closed, transaction_ended, reserved}
 use Rattle.turn_client_api.specs.Due.{has_event, has_reply}
-use Rattle.turn_client_api.specs.Poll.{answer_step, channel_lapsed, connections_unbound, failed, timed_out_step, allocation_expires, failed_by_timeout, is_lapsed_channel, is_listed_for_allocation}
-use Rattle.turn_client_api.specs.Poll.{is_over, lapsed, lapsed_allocation, lapsed_in, last_channel_lapsed, next_offer, offer_step, offers_timed_out, permissions_lapsed, poll_step, timed_step}
+use Rattle.turn_client_api.specs.Poll.{answer_step, channel_expired, connections_unbound, failed, timed_out_step, allocation_expires, failed_by_timeout, is_expired_channel, is_listed_for_allocation}
+use Rattle.turn_client_api.specs.Poll.{is_over, expired_at, expired_allocation, expired_in, last_channel_expired, next_offer, offer_step, offers_timed_out, permissions_expired, poll_step, timed_step}
 use Rattle.turn_client_api.specs.Poll.{as_reported, first_reported, unbound, unreported_in, timed_out_purposes}
 use Rattle.turn_client_laws.specs.LawsBodies.{TellsOfFailed, can_fail, max_failures}
 use Rattle.turn_client_api.specs.declared.event.TurnEvent.{TurnEvent}
 use Rattle.turn_client_api.specs.declared.event.TurnEvent.TheVariants.{AllocationCreateFailed}
 use Rattle.turn_client_api.specs.declared.poll.TurnPollRet.{TurnPollRet}
 use Rattle.turn_client_api.proofs.HasLemmas.{Has, has-found, has-unreversed}
-use Rattle.turn_client_laws.proofs.LapseLemmas.{IsReserved}
-use Rattle.turn_client_api.proofs.LapseSteps.{lapsed_in-does}
+use Rattle.turn_client_laws.proofs.AfterExpiryLemmas.{IsReserved}
+use Rattle.turn_client_api.proofs.ExpirySteps.{expired_in-does}
 use Rattle.turn_client_laws.proofs.CaseLemmas.{by_test, by_found, answer-by}
 use Rattle.turn_client_laws.proofs.EditsOfReplies.{and-false}
 use Rattle.turn_client_api.specs.declared.grant.Lease.{Lease}
@@ -127,7 +127,7 @@ without-tells which s = let fewer = count-filter (λ g. not (which g)) s.grants 
 -- ---- one channel
 
 active-tells : (number : ℕ) (peer : SocketAddr) (expiry : Lease) (s : State) → Has (Channel number peer (Active expiry)) s.grants
-    → TellsOfFailed s (channel_lapsed (Some (Channel number peer (Active expiry))) s)
+    → TellsOfFailed s (channel_expired (Some (Channel number peer (Active expiry))) s)
 unfolding count
 active-tells number peer expiry s there =
     let kept = filter (λ g. not (is_channel_of number g)) s.grants in
@@ -135,16 +135,16 @@ active-tells number peer expiry s there =
     let more = count-append kept ((reserved number peer expiry.expiry (record s { grants = [] })).grants) in
     omega (arith, fewer, more)
 
-channel-tells : (o : Option Grant) (s : State) → ((g : Grant) → o ≡ Some g → Has g s.grants) → TellsOfFailed s (channel_lapsed o s)
+channel-tells : (o : Option Grant) (s : State) → ((g : Grant) → o ≡ Some g → Has g s.grants) → TellsOfFailed s (channel_expired o s)
 channel-tells (Some (Channel number peer (Active expiry))) s there = active-tells number peer expiry s (there (Channel number peer (Active expiry)) refl)
 channel-tells o s there = tells-self s
 
-last-tells : (family : AddressFamily) (now : ℕ) (s : State) → TellsOfFailed s (last_channel_lapsed family now s)
+last-tells : (family : AddressFamily) (now : ℕ) (s : State) → TellsOfFailed s (last_channel_expired family now s)
 last-tells family now s =
     channel-tells (find test (reverse s.grants)) s (λ g e. has-unreversed g s.grants (has-found test g (reverse s.grants) e).0)
   where
     test : Grant → Bool
-    test g = is_of family g && is_lapsed_channel now g
+    test g = is_of family g && is_expired_channel now g
 
 -- ---- what expires is not reserved
 
@@ -167,7 +167,7 @@ module _ (family : AddressFamily) (purposes : List Purpose) where
       let g = Channel number peer (Reserved until) in
       rw (none number peer until) (and-none-between (is_of family g) (is_for_any purposes g))))
 
-  permissions-tell : (now : ℕ) (s : State) → TellsOfFailed s (permissions_lapsed family now s)
+  permissions-tell : (now : ℕ) (s : State) → TellsOfFailed s (permissions_expired family now s)
   permissions-tell now s = failed-tells _ s (spared _ (λ number peer until. and-false (is_of family (Channel number peer (Reserved until)))))
 
   connections-tell : (now : ℕ) (s : State) → TellsOfFailed s (connections_unbound family purposes now s)
@@ -177,13 +177,13 @@ module _ (family : AddressFamily) (purposes : List Purpose) where
   offers-tell None s = failed-tells _ s (spared _ (λ number peer until. and-false (is_of family (Channel number peer (Reserved until)))))
   offers-tell (Some id) s = failed-tells _ s (spared _ (λ number peer until. and-false (is_of family (Channel number peer (Reserved until)))))
 
-  lapsed_in-tells : (given : Option ℕ) (now : ℕ) (s : State) → TellsOfFailed s (lapsed_in family given purposes now s)
-  lapsed_in-tells given now = lapsed_in-does TellsOfFailed family given purposes now (record {
+  expired_in-tells : (given : Option ℕ) (now : ℕ) (s : State) → TellsOfFailed s (expired_in family given purposes now s)
+  expired_in-tells given now = expired_in-does TellsOfFailed family given purposes now (record {
     trans = tells-then;
     channels = vain-tells is_pending_channel (λ number peer until. refl);
     permissions = vain-tells is_pending_permission (λ number peer until. refl);
     last_channel = last-tells family now;
-    lapsed_permissions = permissions-tell now;
+    expired_permissions = permissions-tell now;
     connects = vain-tells is_connect (λ number peer until. refl);
     connections = connections-tell now;
     offers = offers-tell given;
@@ -191,18 +191,18 @@ module _ (family : AddressFamily) (purposes : List Purpose) where
     frees = without-tells (λ g. is_of family g && is_over now g);
   })
 
-allocation-tells : (given : Option ℕ) (purposes : List Purpose) (now : ℕ) (s : State) (a : Relay) → TellsOfFailed s (lapsed_allocation given purposes now s a)
+allocation-tells : (given : Option ℕ) (purposes : List Purpose) (now : ℕ) (s : State) (a : Relay) → TellsOfFailed s (expired_allocation given purposes now s a)
 allocation-tells given purposes now s a =
-    by_test (TellsOfFailed s) (allocation_expires purposes now s a) _ _ (λ e. without-tells (is_of (family_of a.relayed)) s) (λ e. lapsed_in-tells (family_of a.relayed) purposes given now s)
+    by_test (TellsOfFailed s) (allocation_expires purposes now s a) _ _ (λ e. without-tells (is_of (family_of a.relayed)) s) (λ e. expired_in-tells (family_of a.relayed) purposes given now s)
 
-each-tells : (given : Option ℕ) (purposes : List Purpose) (now : ℕ) (relays : List Relay) (s : State) → TellsOfFailed s (fold (lapsed_allocation given purposes now) s relays)
+each-tells : (given : Option ℕ) (purposes : List Purpose) (now : ℕ) (relays : List Relay) (s : State) → TellsOfFailed s (fold (expired_allocation given purposes now) s relays)
 each-tells given purposes now [] s = tells-self s
 each-tells given purposes now (a ∷ relays) s =
-    let t = lapsed_allocation given purposes now s a in
-    tells-then s t (fold (lapsed_allocation given purposes now) t relays) (allocation-tells given purposes now s a) (each-tells given purposes now relays t)
+    let t = expired_allocation given purposes now s a in
+    tells-then s t (fold (expired_allocation given purposes now) t relays) (allocation-tells given purposes now s a) (each-tells given purposes now relays t)
 
-lapsed-tells : (given : Option ℕ) (now : ℕ) (s : State) → TellsOfFailed s (lapsed given now s)
-lapsed-tells given now s = each-tells given (timed_out_purposes given s) now (allocations s) s
+expired_at-tells : (given : Option ℕ) (now : ℕ) (s : State) → TellsOfFailed s (expired_at given now s)
+expired_at-tells given now s = each-tells given (timed_out_purposes given s) now (allocations s) s
 
 -- ---- poll
 
@@ -228,7 +228,7 @@ timed-tells Authenticating None now s other = answer-tells None now s
 timed-tells Authenticating (Some id) now s other =
     by_test (λ (t : State). TellsOfFailed s (answer_step (Some id) now t).1) (is_listed_for_allocation id s) (closed s) s
     (λ e. tells-then s (closed s) (answer_step (Some id) now (closed s)).1 (tells-self s) (answer-tells (Some id) now (closed s))) (λ e. answer-tells (Some id) now s)
-timed-tells Allocated given now s other = tells-then s (lapsed given now s) (answer_step given now (lapsed given now s)).1 (lapsed-tells given now s) (answer-tells given now (lapsed given now s))
+timed-tells Allocated given now s other = tells-then s (expired_at given now s) (answer_step given now (expired_at given now s)).1 (expired_at-tells given now s) (answer-tells given now (expired_at given now s))
 timed-tells p given now s other = tells-self s
 
 offer-tells : (offer : DataOffer) (s : State) → TellsOfFailed s (offer_step offer s).1

@@ -1,4 +1,5 @@
 pub mod AcceptedReplyLemmas
+pub mod AfterExpiryLemmas
 pub mod AllocateFamilies
 pub mod AnyStreamsCalls
 pub mod AnyStreamsEffects
@@ -37,7 +38,6 @@ pub mod InAllocation
 pub mod InAllocationLemmas
 pub mod IndicatedOffers
 pub mod KeptLemmas
-pub mod LapseLemmas
 pub mod LateReplyLemmas
 pub mod ListedGrants
 pub mod MemoryLemmas

@@ -22,17 +22,17 @@ use Rattle.turn_client_api.specs.Grants.{allocations, family_of, is_of, without_
 use Rattle.turn_client_api.specs.Requests.{first_allocate, fresh_id, id_used, request_for, to_server}
 use Rattle.turn_client_api.specs.Effect.{closed, transaction_ended}
 use Rattle.turn_client_api.specs.Due.{has_event, has_reply, is_paused, keepalive_times, expiry_times}
-use Rattle.turn_client_api.specs.Poll.{answer_by, answer_step, channel_lapsed, timed_out_purposes, timed_out_step, allocation_expires, is_lapsed_channel}
-use Rattle.turn_client_api.specs.Poll.{is_listed_for_allocation, lapsed, lapsed_allocation, lapsed_in, next_offer, offer_step, poll_step}
+use Rattle.turn_client_api.specs.Poll.{answer_by, answer_step, channel_expired, timed_out_purposes, timed_out_step, allocation_expires, is_expired_channel}
+use Rattle.turn_client_api.specs.Poll.{is_listed_for_allocation, expired_at, expired_allocation, expired_in, next_offer, offer_step, poll_step}
 use Rattle.turn_client_api.specs.Poll.{timed_step, as_reported, first_reported, unreported_in}
 use Rattle.turn_client_api.specs.Transmit.{idle_step, keepalive_step, queue_step, refreshes_in, reply_step, sent, sent_at_once, transmit_step}
 use Rattle.turn_client_api.specs.declared.call.Call.{Call}
 use Rattle.turn_client_api.specs.declared.call.Call.TheVariants.{Poll, PollTransmit}
 use Rattle.turn_client_laws.specs.LawsRequests.{AsksFor, IsMade}
 use Rattle.turn_client_laws.specs.LawsGone.{IsTakenBy, IsTimeUp, grant_identity}
-use Rattle.turn_client_api.proofs.EarlyLapseLemmas.{lapsed-none}
+use Rattle.turn_client_api.proofs.EarlyExpiryLemmas.{expired_at-none}
 use Rattle.turn_client_api.proofs.HasLemmas.{Has, all-has, has-found}
-use Rattle.turn_client_laws.proofs.LapseLemmas.{lapsed-shrinks}
+use Rattle.turn_client_laws.proofs.AfterExpiryLemmas.{expired_at-shrinks}
 use Rattle.turn_client_laws.proofs.MoveCallLemmas.{Does, ListedAt, MadeAt, does-same, does-settled}
 use Rattle.turn_client_laws.proofs.MoveLemmas.{Adds, Loses, Never, Settles, adds-filter, adds-never, adds-one, adds-same, adds-then, by_test, loses-same}
 use Rattle.turn_client_laws.proofs.MoveLemmas.{none-found, on_choice, on_test, settles-same, loses-cons}
@@ -40,7 +40,7 @@ use Rattle.turn_client_laws.proofs.GrantOriginLemmas.{has-mapped}
 use Rattle.turn_client_laws.proofs.MoveMessageLemmas.{made-of}
 use Rattle.turn_client_laws.proofs.MoveSocketLemmas.{by_found}
 use Rattle.turn_client_laws.proofs.StandLemmas.{has-contains}
-use Rattle.turn_client_api.proofs.LapseSteps.{lapsed_in-does}
+use Rattle.turn_client_api.proofs.ExpirySteps.{expired_in-does}
 
 -- ---- what is listed as time passes
 
@@ -54,17 +54,17 @@ fewer-same s = adds-same Never s.listed
 fewer-then : (s t u : State) → Fewer s t → Fewer t u → Fewer s u
 fewer-then s t u first later = adds-then Never s.listed t.listed u.listed first later
 
-channel-fewer : (o : Option Grant) (s : State) → Fewer s (channel_lapsed o s)
+channel-fewer : (o : Option Grant) (s : State) → Fewer s (channel_expired o s)
 channel-fewer (Some (Channel number peer (Active expiry))) s = adds-filter Never _ s.listed
 channel-fewer o s = fewer-same s
 
-lapsed_in-fewer : (family : AddressFamily) (given : Option ℕ) (purposes : List Purpose) (now : ℕ) (s : State) → Fewer s (lapsed_in family given purposes now s)
-lapsed_in-fewer family given purposes now = lapsed_in-does Fewer family given purposes now (record {
+expired_in-fewer : (family : AddressFamily) (given : Option ℕ) (purposes : List Purpose) (now : ℕ) (s : State) → Fewer s (expired_in family given purposes now s)
+expired_in-fewer family given purposes now = expired_in-does Fewer family given purposes now (record {
   trans = fewer-then;
   channels = λ t. adds-filter Never _ t.listed;
   permissions = λ t. adds-filter Never _ t.listed;
-  last_channel = λ t. channel-fewer (find (λ g. is_of family g && is_lapsed_channel now g) (reverse t.grants)) t;
-  lapsed_permissions = λ t. adds-filter Never _ t.listed;
+  last_channel = λ t. channel-fewer (find (λ g. is_of family g && is_expired_channel now g) (reverse t.grants)) t;
+  expired_permissions = λ t. adds-filter Never _ t.listed;
   connects = λ t. adds-filter Never _ t.listed;
   connections = λ t. adds-filter Never _ t.listed;
   offers = λ t. adds-filter Never _ t.listed;
@@ -72,14 +72,14 @@ lapsed_in-fewer family given purposes now = lapsed_in-does Fewer family given pu
   frees = λ t. adds-filter Never _ t.listed;
 })
 
-lapsed-fewer : (given : Option ℕ) (purposes : List Purpose) (now : ℕ) (relays : List Relay) (s : State) → Fewer s (fold (lapsed_allocation given purposes now) s relays)
-lapsed-fewer given purposes now [] s = fewer-same s
-lapsed-fewer given purposes now (a ∷ relays) s =
-    let t = lapsed_allocation given purposes now s a in
-    fewer-then s t (fold (lapsed_allocation given purposes now) t relays)
-    (on_test (Fewer s) (allocation_expires purposes now s a) (without_grants (is_of (family_of a.relayed)) s) (lapsed_in (family_of a.relayed) given purposes now s) (adds-filter Never _ s.listed)
-    (lapsed_in-fewer (family_of a.relayed) given purposes now s))
-    (lapsed-fewer given purposes now relays t)
+expired_at-fewer : (given : Option ℕ) (purposes : List Purpose) (now : ℕ) (relays : List Relay) (s : State) → Fewer s (fold (expired_allocation given purposes now) s relays)
+expired_at-fewer given purposes now [] s = fewer-same s
+expired_at-fewer given purposes now (a ∷ relays) s =
+    let t = expired_allocation given purposes now s a in
+    fewer-then s t (fold (expired_allocation given purposes now) t relays)
+    (on_test (Fewer s) (allocation_expires purposes now s a) (without_grants (is_of (family_of a.relayed)) s) (expired_in (family_of a.relayed) given purposes now s) (adds-filter Never _ s.listed)
+    (expired_in-fewer (family_of a.relayed) given purposes now s))
+    (expired_at-fewer given purposes now relays t)
 
 -- ---- what time removes
 
@@ -116,14 +116,14 @@ module _ (now : ℕ) (s : State) where
   none-ends : (p : Phase) → s.phase ≡ p → Ends (timed_step p None now s).1
   none-ends Requesting e = answer-ends None s same-ends
   none-ends Authenticating e = answer-ends None s same-ends
-  none-ends Allocated e = answer-ends None (lapsed None now s) (by (early-or now (expiry_times s)))
+  none-ends Allocated e = answer-ends None (expired_at None now s) (by (early-or now (expiry_times s)))
     where
-      by : All (λ m. now < m) (expiry_times s) ⊎ ((m : ℕ) × Contains (expiry_times s) m × (m ≤ now)) → Ends (lapsed None now s)
-      by (inl early) = rw (lapsed-none now s early) same-ends
+      by : All (λ m. now < m) (expiry_times s) ⊎ ((m : ℕ) × Contains (expiry_times s) m × (m ≤ now)) → Ends (expired_at None now s)
+      by (inl early) = rw (expired_at-none now s early) same-ends
       by (inr come) = (
-        subst (λ ts. Adds Never s.transactions ts) (sym (lapsed-shrinks None now s).transactions) (adds-same Never s.transactions),
-        lapsed-fewer None (timed_out_purposes None s) now (allocations s) s,
-        up-loses (inr (e, come)) (lapsed None now s).grants,
+        subst (λ ts. Adds Never s.transactions ts) (sym (expired_at-shrinks None now s).transactions) (adds-same Never s.transactions),
+        expired_at-fewer None (timed_out_purposes None s) now (allocations s) s,
+        up-loses (inr (e, come)) (expired_at None now s).grants,
       )
   none-ends p e = same-ends
 
@@ -147,10 +147,10 @@ module _ (now : ℕ) (s : State) where
           at : (b : Bool) → Ends (answer_step (Some x.id) now (cond b (closed u) u)).1
           at true = answer-ends (Some x.id) (closed u) shut
           at false = answer-ends (Some x.id) u over
-      by Allocated = answer-ends (Some x.id) (lapsed (Some x.id) now u) (
-        subst (λ ts. Adds Never s.transactions ts) (sym (lapsed-shrinks (Some x.id) now u).transactions) (adds-filter Never _ s.transactions),
-        lapsed-fewer (Some x.id) (timed_out_purposes (Some x.id) u) now (allocations u) u,
-        up-loses up (lapsed (Some x.id) now u).grants,
+      by Allocated = answer-ends (Some x.id) (expired_at (Some x.id) now u) (
+        subst (λ ts. Adds Never s.transactions ts) (sym (expired_at-shrinks (Some x.id) now u).transactions) (adds-filter Never _ s.transactions),
+        expired_at-fewer (Some x.id) (timed_out_purposes (Some x.id) u) now (allocations u) u,
+        up-loses up (expired_at (Some x.id) now u).grants,
       )
       by p = over
 

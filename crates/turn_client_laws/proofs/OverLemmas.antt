@@ -23,10 +23,10 @@ use Rattle.turn_client_api.specs.declared.state.Phase.TheVariants.{Requesting, A
 use Rattle.turn_client_api.specs.Grants.{as_allocation, allocations, family_of, family_of_grant, is_channel_of, is_connect, is_for_any, is_of, is_of_request, is_pending_channel, is_pending_permission}
 use Rattle.turn_client_api.specs.Effect.{closed, transaction_ended, reserved_time}
 use Rattle.turn_client_api.specs.Due.{has_event, has_reply}
-use Rattle.turn_client_api.specs.Poll.{answer_step, channel_lapsed, connections_unbound, timed_out_purposes, timed_out_step, allocation_expires}
+use Rattle.turn_client_api.specs.Poll.{answer_step, channel_expired, connections_unbound, timed_out_purposes, timed_out_step, allocation_expires}
 use Rattle.turn_client_api.specs.Poll.{failed_by_timeout, is_timed_out_offer}
-use Rattle.turn_client_api.specs.Poll.{is_lapsed_channel, is_lapsed_permission, is_listed_for_allocation, is_over, is_unbound, lapsed, lapsed_allocation, lapsed_in, last_channel_lapsed, next_offer}
-use Rattle.turn_client_api.specs.Poll.{offer_step, offers_timed_out, permissions_lapsed, poll_step, timed_step}
+use Rattle.turn_client_api.specs.Poll.{is_expired_channel, is_expired_permission, is_listed_for_allocation, is_over, is_unbound, expired_at, expired_allocation, expired_in, last_channel_expired, next_offer}
+use Rattle.turn_client_api.specs.Poll.{offer_step, offers_timed_out, permissions_expired, poll_step, timed_step}
 use Rattle.turn_client_api.specs.Steps.{Leaves}
 use Rattle.turn_client_api.specs.declared.call.Call.TheVariants.{Poll}
 use Rattle.turn_client_laws.specs.LawsNumbers.{HasDistinctNumbers, number_of_channel}
@@ -154,20 +154,20 @@ module _ (now : ℕ) (s : State) (apart : HasDistinctNumbers s) where
       from is (inr (inl e)) = (was, first, inr (n, peer, expiry, refl, e))
       from is (inr (inr none)) = absurd none
 
-  channel-traces : (o : Option Grant) (t : State) → ((g : Grant) → o ≡ Some g → Has g t.grants) → Traces t.grants → Traces (channel_lapsed o t).grants
+  channel-traces : (o : Option Grant) (t : State) → ((g : Grant) → o ≡ Some g → Has g t.grants) → Traces t.grants → Traces (channel_expired o t).grants
   channel-traces (Some (Channel n peer (Active expiry))) t there traces = reserved-traces n peer expiry t.grants (there (Channel n peer (Active expiry)) refl) traces
   channel-traces o t there traces = traces
 
   -- ---- what is removed has expired
 
   -- the expiry of a permission
-  permission-over : (family : AddressFamily) → TakesOver (λ g. is_of family g && is_lapsed_permission now g)
-  permission-over family g is ages e = by is ages (and_parts (is_of family is) (is_lapsed_permission now is) e).1
+  permission-over : (family : AddressFamily) → TakesOver (λ g. is_of family g && is_expired_permission now g)
+  permission-over family g is ages e = by is ages (and_parts (is_of family is) (is_expired_permission now is) e).1
     where
-      by : (is : Grant) → Ages g is → is_lapsed_permission now is ≡ true → Over g
-      by (Permission ip (Active expiry)) (inl e) lapsed = inl (rw (sym e) (leb-true expiry.expiry now lapsed))
-      by (Permission ip (Active expiry)) (inr (n, peer, end, e, f)) lapsed = cc
-      by is _ lapsed = cc
+      by : (is : Grant) → Ages g is → is_expired_permission now is ≡ true → Over g
+      by (Permission ip (Active expiry)) (inl e) expired_at = inl (rw (sym e) (leb-true expiry.expiry now expired_at))
+      by (Permission ip (Active expiry)) (inr (n, peer, end, e, f)) expired_at = cc
+      by is _ expired_at = cc
 
   -- what was reserved long enough
   free-over : (family : AddressFamily) → TakesOver (λ g. is_of family g && is_over now g)
@@ -261,37 +261,37 @@ module _ (now : ℕ) (s : State) (apart : HasDistinctNumbers s) where
 
     -- ---- one allocation after the other
 
-    lapsed_in-traces : (family : AddressFamily) (t : State) → Traces t.grants → Traces (lapsed_in family given purposes now t).grants
-    lapsed_in-traces family t traces =
+    expired_in-traces : (family : AddressFamily) (t : State) → Traces t.grants → Traces (expired_in family given purposes now t).grants
+    expired_in-traces family t traces =
         let a = failed_by_timeout family purposes is_pending_channel t in
         let b = failed_by_timeout family purposes is_pending_permission a in
-        let c = last_channel_lapsed family now b in
-        let d = permissions_lapsed family now c in
+        let c = last_channel_expired family now b in
+        let d = permissions_expired family now c in
         let f = failed_by_timeout family purposes is_connect d in
         let g = connections_unbound family purposes now f in
         let h = offers_timed_out family given g in
-        let lapses = λ (y : Grant). is_of family y && is_lapsed_channel now y in
+        let has_expired = λ (y : Grant). is_of family y && is_expired_channel now y in
         let in_a = filtered _ t.grants (vain-over family is_pending_channel channel-vain) traces in
         let in_b = filtered _ a.grants (vain-over family is_pending_permission permission-vain) in_a in
-        let in_c = channel-traces (find lapses (reverse b.grants)) b (λ y found. has-unreversed y b.grants (has-found lapses y (reverse b.grants) found).0) in_b in
+        let in_c = channel-traces (find has_expired (reverse b.grants)) b (λ y found. has-unreversed y b.grants (has-found has_expired y (reverse b.grants) found).0) in_b in
         let in_d = filtered _ c.grants (permission-over family) in_c in
         let in_f = filtered _ d.grants (vain-over family is_connect connect-vain) in_d in
         let in_g = filtered _ f.grants (unbound-over family) in_f in
         let in_h = filtered _ g.grants (offer-over family) in_g in
         filtered _ h.grants (free-over family) in_h
 
-    allocation-traces : (a : Relay) → Has (Allocation a) s.grants → (t : State) → Traces t.grants → Traces (lapsed_allocation given purposes now t a).grants
+    allocation-traces : (a : Relay) → Has (Allocation a) s.grants → (t : State) → Traces t.grants → Traces (expired_allocation given purposes now t a).grants
     allocation-traces a there t traces = by (allocation_expires purposes now t a) refl
       where
-        by : (b : Bool) → allocation_expires purposes now t a ≡ b → Traces (lapsed_allocation given purposes now t a).grants
+        by : (b : Bool) → allocation_expires purposes now t a ≡ b → Traces (expired_allocation given purposes now t a).grants
         by true f = rw f (filtered (is_of (family_of a.relayed)) t.grants (family-over a there (leb-true a.expiry now (and_parts (leb a.expiry now) _ f).0)) traces)
-        by false f = rw f (lapsed_in-traces (family_of a.relayed) t traces)
+        by false f = rw f (expired_in-traces (family_of a.relayed) t traces)
 
     all-trace : (relays : List Relay) → ((a : Relay) → Has a relays → Has (Allocation a) s.grants) → (t : State) → Traces t.grants
-        → Traces (fold (lapsed_allocation given purposes now) t relays).grants
+        → Traces (fold (expired_allocation given purposes now) t relays).grants
     all-trace [] there t traces = traces
     all-trace (a ∷ relays) there t traces =
-        all-trace relays (λ b here. there b (inr here)) (lapsed_allocation given purposes now t a) (allocation-traces a (there a (inl refl)) t traces)
+        all-trace relays (λ b here. there b (inr here)) (expired_allocation given purposes now t a) (allocation-traces a (there a (inl refl)) t traces)
 
     allocation-there : (a : Relay) → Has a (allocations s) → Has (Allocation a) s.grants
     allocation-there a here = let (g, there, reads) = has-filter_map as_allocation a s.grants here in of g reads there
@@ -301,8 +301,8 @@ module _ (now : ℕ) (s : State) (apart : HasDistinctNumbers s) where
         of g reads there = absurd (none-some a reads)
 
     -- whatever is outstanding
-    lapsed-traces : (t : State) → t.grants ≡ s.grants → t.listed ≡ s.listed → Traces (fold (lapsed_allocation given purposes now) t (allocations s)).grants
-    lapsed-traces t same listed = all-trace (allocations s) allocation-there t (rw same traces-same)
+    expired_at-traces : (t : State) → t.grants ≡ s.grants → t.listed ≡ s.listed → Traces (fold (expired_allocation given purposes now) t (allocations s)).grants
+    expired_at-traces t same listed = all-trace (allocations s) allocation-there t (rw same traces-same)
 
   -- ---- a poll
 
@@ -323,7 +323,7 @@ module _ (now : ℕ) (s : State) (apart : HasDistinctNumbers s) where
   none-spares : timed_out_transaction (agent_of s) now ≡ None → (p : Phase) → s.phase ≡ p → Spares (timed_step p None now s).1.grants
   none-spares e Requesting f = subst Spares (sym (answer-grants None s)) spares-same
   none-spares e Authenticating f = subst Spares (sym (answer-grants None s)) spares-same
-  none-spares e Allocated f = subst Spares (sym (answer-grants None (lapsed None now s))) (traces-spare (lapsed None now s).grants f (lapsed-traces None e s refl refl))
+  none-spares e Allocated f = subst Spares (sym (answer-grants None (expired_at None now s))) (traces-spare (expired_at None now s).grants f (expired_at-traces None e s refl refl))
   none-spares e p f = spares-same
 
   given-spares : (x : Transaction) → timed_out_transaction (agent_of s) now ≡ Some x → (p : Phase) → s.phase ≡ p → Spares (timed_step p (Some x.id) now (transaction_ended x.id s)).1.grants
@@ -337,7 +337,7 @@ module _ (now : ℕ) (s : State) (apart : HasDistinctNumbers s) where
       by false = subst Spares (sym (answer-grants (Some x.id) u)) spares-same
   given-spares x e Allocated f =
       let u = transaction_ended x.id s in
-      subst Spares (sym (answer-grants (Some x.id) (lapsed (Some x.id) now u))) (traces-spare (lapsed (Some x.id) now u).grants f (lapsed-traces (Some x) e u refl refl))
+      subst Spares (sym (answer-grants (Some x.id) (expired_at (Some x.id) now u))) (traces-spare (expired_at (Some x.id) now u).grants f (expired_at-traces (Some x) e u refl refl))
   given-spares x e p f = spares-same
 
   timed-spares : (o : Option Transaction) → timed_out_transaction (agent_of s) now ≡ o

@@ -18,14 +18,14 @@ use Rattle.turn_client_api.specs.Grants.{allocations}
 use Rattle.turn_client_api.specs.Effect.{closed, transaction_ended}
 use Rattle.turn_client_api.specs.Calls.{is_allocated}
 use Rattle.turn_client_api.specs.Due.{has_event, has_reply, is_new, least_due, next_wakeup}
-use Rattle.turn_client_api.specs.Poll.{answer_by, answer_step, timed_out_step, is_listed_for_allocation, lapsed, next_offer, offer_step, poll_step, timed_step}
+use Rattle.turn_client_api.specs.Poll.{answer_by, answer_step, timed_out_step, is_listed_for_allocation, expired_at, next_offer, offer_step, poll_step, timed_step}
 use Rattle.turn_client_api.specs.Alarm.{AllHaveAllocation, IsBeforeGrants, HasWorkNow, FitsPhaseForPoll, IsIdleUntil, IsTimely}
 use Rattle.turn_client_api.specs.declared.event.TurnEvent.{TurnEvent}
 use Rattle.turn_client_api.specs.declared.poll.TurnPollRet.{TurnPollRet}
 use Rattle.turn_client_api.specs.declared.poll.TurnPollRet.TheVariants as Do
 use Rattle.turn_client_api.proofs.HasLemmas.{Has, has-found}
 use Rattle.turn_client_laws.proofs.ReadyLemmas.{Alive, IsReady, new-busy, ready-busy, ready-silent, reply-busy}
-use Rattle.turn_client_laws.proofs.LapseLemmas.{lapsed-alive, lapsed-no_offer, lapsed-shrinks}
+use Rattle.turn_client_laws.proofs.AfterExpiryLemmas.{expired_at-alive, expired_at-no_offer, expired_at-shrinks}
 use Rattle.turn_client_laws.proofs.WakeupLemmas.{phase-old}
 use Rattle.turn_client_laws.proofs.InAllocationLemmas.{has-any}
 
@@ -165,11 +165,11 @@ given-timely now s orderly range no_reply no_offer x given p e = by p e
     by New e = now-timely now s u (inr (inl (new-busy now u e (orderly.nothing_sent e))))
     by Authenticating e = over (is_listed_for_allocation x.id u) e
     by Allocated e =
-        let t = lapsed (Some x.id) now u in
-        let shrinks = lapsed-shrinks (Some x.id) now u in
+        let t = expired_at (Some x.id) now u in
+        let shrinks = expired_at-shrinks (Some x.id) now u in
         let gave_later : GaveUp s t = (x, outstanding, rw shrinks.transactions (is_outstanding-without x.id s.transactions)) in
         answer-timely now s (Some x.id) t (settled-given now s t range (old-phase Allocated t.phase (shrinks.phase ∙ e) (λ new. cc)) (rw shrinks.queue no_reply)
-        (lapsed-no_offer u t shrinks no_offer) gave_later)
+        (expired_at-no_offer u t shrinks no_offer) gave_later)
     by p e = tt
 
 none-timely : (now : ℕ) (s : State) → FitsPhaseForPoll s → AllHaveAllocation s → now ≤ 2 ^ 62 → has_reply s ≡ false → next_offer s ≡ None → timed_out_transaction (agent_of s) now ≡ None → (p : Phase)
@@ -194,8 +194,8 @@ none-timely now s orderly stand range no_reply no_offer none p e = by p e
     by Requesting e = before_grants (old-phase Requesting s.phase e (λ new. cc)) (orderly.no_grants (subst IsBeforeGrants (sym e) tt))
     by Authenticating e = before_grants (old-phase Authenticating s.phase e (λ new. cc)) (orderly.no_grants (subst IsBeforeGrants (sym e) tt))
     by Allocated e =
-        let t = lapsed None now s in
-        let shrinks = lapsed-shrinks None now s in
+        let t = expired_at None now s in
+        let shrinks = expired_at-shrinks None now s in
         let live : t.phase ≡ Allocated = shrinks.phase ∙ e in
         answer-timely now s None t (record {
           in_range = range;
@@ -203,8 +203,8 @@ none-timely now s orderly stand range no_reply no_offer none p e = by p e
           no_reply = rw shrinks.queue no_reply;
           gave_up = λ f. cc;
           none_over = λ f. subst (λ a. timed_out_transaction a now ≡ None) (sym shrinks.agent) none;
-          no_offer = lapsed-no_offer s t shrinks no_offer;
-          alive = λ quiet f. lapsed-alive None now s stand quiet;
+          no_offer = expired_at-no_offer s t shrinks no_offer;
+          alive = λ quiet f. expired_at-alive None now s stand quiet;
           grants_later = λ f. inl live;
         })
 

@@ -3,13 +3,13 @@ pub mod LawsAllocates
 pub mod LawsBodies
 pub mod LawsBound
 pub mod LawsDoubles
+pub mod LawsExpiries
 pub mod LawsGone
 pub mod LawsGrantAllocations
 pub mod LawsGranted
 pub mod LawsHandled
 pub mod LawsInputs
 pub mod LawsKept
-pub mod LawsLapses
 pub mod LawsMessages
 pub mod LawsNumbers
 pub mod LawsOrder

@@ -6,7 +6,7 @@ ghost use Rattle.turn_client_api.specs.declared.state.Phase.TheVariants.{Request
 ghost use Rattle.turn_client_api.specs.declared.state.Stream.{Stream};
 ghost use Rattle.turn_client_api.specs.Due.{least_due, expiry_times};
 ghost use Rattle.turn_client_api.specs.Calls.{free_number};
-ghost use Rattle.turn_client_api.specs.Poll.{lapsed, poll_step};
+ghost use Rattle.turn_client_api.specs.Poll.{expired_at, poll_step};
 ghost use Rattle.turn_client_api.specs.Streams.{frame_step, poll_recv_step, next_frame_step};
 ghost use Rattle.turn_client_laws.specs.Handled.{poll_recv_inputs};
 ghost use Rattle.turn_client_laws.specs.LawsStreams.{NeedsMoreBytes};
@@ -17,8 +17,8 @@ ghost use Rattle.turn_client_laws.specs.LawsBodies.{AreTakenUpTo, IsAsideFrom, I
 /// the deadlines of data connections that wait to be bound (RFC 6062, section 4.3), and those just after
 /// the time until which a channel is reserved. An expired allocation has none while a request for it is
 /// pending.
-pub fn nothing_lapses_early()
-    ensures { (now : ℕ) (s : State) → All (λ time. now < time) (expiry_times s) → lapsed None now s ≡ s }
+pub fn nothing_expires_early()
+    ensures { (now : ℕ) (s : State) → All (λ time. now < time) (expiry_times s) → expired_at None now s ≡ s }
 {}
 
 /// For each event that a `poll` queues there is one grant fewer that can fail: so it queues at most as many

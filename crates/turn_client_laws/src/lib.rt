@@ -13,7 +13,7 @@ mod granted;
 mod ids;
 mod inputs;
 mod kept;
-mod lapses;
+mod expiries;
 mod messages;
 mod numbers;
 mod order;
@@ -35,7 +35,7 @@ pub use alarm::no_deadline_is_missed;
 pub use allocates::allocates_ask_for_families;
 pub use bodies::{
     drained_streams_rest, events_are_bounded, inputs_leave_other_streams,
-    least_free_number_is_bound, least_time_has_parts, nothing_lapses_early,
+    least_free_number_is_bound, least_time_has_parts, nothing_expires_early,
 };
 pub use bound::only_a_signed_success_binds;
 pub use doubles::grants_are_distinct;
@@ -44,7 +44,7 @@ pub use grant_allocations::grants_have_allocations;
 pub use granted::only_a_signed_success_grants;
 pub use ids::drawn_ids_are_free;
 pub use inputs::{calls_process_inputs, inputs_are_frames, messages_leave_streams};
-pub use lapses::grants_lapse;
+pub use expiries::grants_expire;
 pub use messages::{
     allocations_are_answered, challenges_are_answered, connects_are_answered, grants_are_answered,
     refreshes_are_answered,

@@ -52,7 +52,7 @@ pub fn wakeups_are_reported()
     // A permission that was granted at 100 ms: a minute before it expires.
     ensures permission { (s : State) → (poll_step 100_000_000 (with_permission 50_000_000 s)).0 ≡ Do.WaitUntil 240_100_000_000 }
     // A permission that expires at 300.1 s, before the pause ends at 300.12 s: its expiry.
-    ensures lapse { (s : State) → (poll_step 300_080_000_000 (with_permission 300_070_000_000 s)).0 ≡ Do.WaitUntil 300_100_000_000 }
+    ensures expiry { (s : State) → (poll_step 300_080_000_000 (with_permission 300_070_000_000 s)).0 ≡ Do.WaitUntil 300_100_000_000 }
     // A permission that is requested at 60 ms, 10 ms after the last request: the end of the pause.
     ensures queued { (s : State) → (poll_step 60_000_000 (asking_at_60_ms s)).0 ≡ Do.WaitUntil 100_000_000 }
     ensures paused { (s : State) → next_transmit 99_999_999 (asking_at_60_ms s) ≡ None }

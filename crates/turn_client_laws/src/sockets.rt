@@ -41,6 +41,6 @@ pub fn sockets_are_taken()
     // If the caller has none, the offer is removed, and no event reports it.
     ensures none { (s : State) → (opened peer None s) ≡ (Ok tt, relaying_tcp (permission ∷ []) s) }
     // One that is not bound in time is to be closed.
-    ensures lapsed { (text : List ℕ) (s : State) → (poll_step (seconds 39) (with_waiting text s)).0 ≡ TcpClose data_end server }
+    ensures expired { (text : List ℕ) (s : State) → (poll_step (seconds 39) (with_waiting text s)).0 ≡ TcpClose data_end server }
     ensures failed { (text : List ℕ) (s : State) → (poll_step (seconds 39) (with_waiting text s)).1.events ≡ TcpConnectFailed peer ∷ [] }
 {}

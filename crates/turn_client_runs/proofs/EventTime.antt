@@ -21,14 +21,14 @@ use Rattle.turn_client_api.specs.Due.{has_event, has_reply}
 use Rattle.turn_client_api.specs.Effect.{closed, reserved, transaction_ended}
 use Rattle.turn_client_api.specs.Grants.{allocations, failure_of, failures_among, family_of, is_channel_of, is_connect, is_for_any, is_of, is_of_request, is_pending_channel, is_pending_permission}
 use Rattle.turn_client_api.specs.Grants.{purposes_of, without_grants}
-use Rattle.turn_client_api.specs.Poll.{allocation_expires, answer_step, channel_lapsed, failed, is_lapsed_channel, is_lapsed_permission, is_listed_for_allocation}
-use Rattle.turn_client_api.specs.Poll.{is_timed_out_offer, is_unbound, lapsed, lapsed_allocation, lapsed_in, next_offer, offer_step, poll_step, silent_step}
+use Rattle.turn_client_api.specs.Poll.{allocation_expires, answer_step, channel_expired, failed, is_expired_channel, is_expired_permission, is_listed_for_allocation}
+use Rattle.turn_client_api.specs.Poll.{is_timed_out_offer, is_unbound, expired_at, expired_allocation, expired_in, next_offer, offer_step, poll_step, silent_step}
 use Rattle.turn_client_api.specs.Poll.{timed_out_purposes, timed_out_step, timed_step}
 use Rattle.turn_client_laws.proofs.CaseLemmas.{answer-by, by_found, by_test}
 use Rattle.turn_client_laws.proofs.GrantOriginLemmas.{has-mapped}
 use Rattle.turn_client_api.proofs.HasLemmas.{Has, has-append, has-filter, has-filter_map, has-found, has-unreversed}
-use Rattle.turn_client_laws.proofs.LapseLemmas.{IsReserved}
-use Rattle.turn_client_api.proofs.LapseSteps.{lapsed_in-does}
+use Rattle.turn_client_laws.proofs.AfterExpiryLemmas.{IsReserved}
+use Rattle.turn_client_api.proofs.ExpirySteps.{expired_in-does}
 use Rattle.turn_client_laws.proofs.StandLemmas.{has-contains}
 use Rattle.turn_client_runs.specs.Events.{FailsInTime, HasFailed}
 use Rattle.turn_client_runs.proofs.EventLemmas.{Tells, adds-before, adds-none, told-one, tells-fold, tells-same, tells-trans}
@@ -79,10 +79,10 @@ module _ (given : Option ℕ) (purposes : List Purpose) (now : ℕ) (before : St
           let (here, is) = has-filter which g s.grants kept in
           (g, was-there s keeps g here (loses g is), ap (λ c. failure_of c.allocation_transport g) (sym keeps.0) ∙ told, loses g is)
 
-  channel-says : (o : Option Grant) (s : State) → ((g : Grant) → o ≡ Some g → Has g s.grants × (is_lapsed_channel now g ≡ true)) → Say s (channel_lapsed o s)
+  channel-says : (o : Option Grant) (s : State) → ((g : Grant) → o ≡ Some g → Has g s.grants × (is_expired_channel now g ≡ true)) → Say s (channel_expired o s)
   channel-says (Some (Channel number peer (Active expiry))) s found =
       let g = Channel number peer (Active expiry) in
-      let end = channel_lapsed (Some g) s in
+      let end = channel_expired (Some g) s in
       let (there, is) = found g refl in
       let lost : IsLost g = leb-true expiry.expiry now is in
       λ keeps. (
@@ -120,9 +120,9 @@ module _ (given : Option ℕ) (purposes : List Purpose) (now : ℕ) (before : St
   lost-connect (Connect peer) is for = for
   lost-connect g is for = cc
 
-  lapsed-permission : (g : Grant) → is_lapsed_permission now g ≡ true → IsLost g
-  lapsed-permission (Permission ip (Active expiry)) is = leb-true expiry.expiry now is
-  lapsed-permission g is = cc
+  expired-permission : (g : Grant) → is_expired_permission now g ≡ true → IsLost g
+  expired-permission (Permission ip (Active expiry)) is = leb-true expiry.expiry now is
+  expired-permission g is = cc
 
   unbound-connection : (g : Grant) → is_unbound purposes now g ≡ true → IsLost g
   unbound-connection (Connection c) is = by c.deadline refl is
@@ -145,13 +145,13 @@ module _ (given : Option ℕ) (purposes : List Purpose) (now : ℕ) (before : St
 
   -- ---- an allocation that stays, and all of them
 
-  lapsed_in-says : (family : AddressFamily) (s : State) → Say s (lapsed_in family given purposes now s)
-  lapsed_in-says family = lapsed_in-does Say family given purposes now (record {
+  expired_in-says : (family : AddressFamily) (s : State) → Say s (expired_in family given purposes now s)
+  expired_in-says family = expired_in-does Say family given purposes now (record {
     trans = tells-trans Keeps Lost;
     channels = failed-says _ (asked-for family is_pending_channel lost-channel);
     permissions = failed-says _ (asked-for family is_pending_permission lost-permission);
     last_channel = λ s. channel-says (find (test family) (reverse s.grants)) s (found family s);
-    lapsed_permissions = failed-says _ (of-kind family (is_lapsed_permission now) lapsed-permission);
+    expired_permissions = failed-says _ (of-kind family (is_expired_permission now) expired-permission);
     connects = failed-says _ (asked-for family is_connect lost-connect);
     connections = failed-says _ (of-kind family (is_unbound purposes now) unbound-connection);
     offers = failed-says _ (of-kind family (is_timed_out_offer given) timed_out-offer);
@@ -160,17 +160,17 @@ module _ (given : Option ℕ) (purposes : List Purpose) (now : ℕ) (before : St
   })
     where
       test : AddressFamily → Grant → Bool
-      test family g = is_of family g && is_lapsed_channel now g
+      test family g = is_of family g && is_expired_channel now g
 
-      found : (family : AddressFamily) (s : State) (g : Grant) → find (test family) (reverse s.grants) ≡ Some g → Has g s.grants × (is_lapsed_channel now g ≡ true)
+      found : (family : AddressFamily) (s : State) (g : Grant) → find (test family) (reverse s.grants) ≡ Some g → Has g s.grants × (is_expired_channel now g ≡ true)
       found family s g e =
           let (there, is) = has-found (test family) g (reverse s.grants) e in
-          (has-unreversed g s.grants there, (and_parts (is_of family g) (is_lapsed_channel now g) is).1)
+          (has-unreversed g s.grants there, (and_parts (is_of family g) (is_expired_channel now g) is).1)
 
-  lapsed-says : (relays : List Relay) (s : State) → Say s (fold (lapsed_allocation given purposes now) s relays)
-  lapsed-says relays = tells-fold Keeps Lost (lapsed_allocation given purposes now) relays
-      (λ t a there. by_test (Say t) (allocation_expires purposes now t a) (without_grants (is_of (family_of a.relayed)) t) (lapsed_in (family_of a.relayed) given purposes now t)
-      (λ e. without-says (is_of (family_of a.relayed)) t) (λ e. lapsed_in-says (family_of a.relayed) t))
+  expired_at-says : (relays : List Relay) (s : State) → Say s (fold (expired_allocation given purposes now) s relays)
+  expired_at-says relays = tells-fold Keeps Lost (expired_allocation given purposes now) relays
+      (λ t a there. by_test (Say t) (allocation_expires purposes now t a) (without_grants (is_of (family_of a.relayed)) t) (expired_in (family_of a.relayed) given purposes now t)
+      (λ e. without-says (is_of (family_of a.relayed)) t) (λ e. expired_in-says (family_of a.relayed) t))
 
 -- ---- a `poll`
 
@@ -216,10 +216,10 @@ module _ (now : ℕ) (s : State) where
       by (Connection c) (deadline, is, inr for) = (deadline, is, inr (x, timed, for))
       by g lost = absurd lost
 
-  lapsed-adds : (given : Option ℕ) (t : State) → t.config ≡ s.config → t.grants ≡ s.grants → t.events ≡ s.events → GivenBy given (timed_out_purposes given t) → TimeAdds (lapsed given now t)
-  lapsed-adds given t config grants events by e there =
+  expired_at-adds : (given : Option ℕ) (t : State) → t.config ≡ s.config → t.grants ≡ s.grants → t.events ≡ s.events → GivenBy given (timed_out_purposes given t) → TimeAdds (expired_at given now t)
+  expired_at-adds given t config grants events by e there =
       let keeps : Keeps given (timed_out_purposes given t) now s t = (config, λ g has. inl (subst (Has g) grants has)) in
-      elim ((lapsed-says given (timed_out_purposes given t) now s (allocations t) t keeps).1 e there) [
+      elim ((expired_at-says given (timed_out_purposes given t) now s (allocations t) t keeps).1 e there) [
         | inl old ↦ inl (subst (Has e) events old)
         | inr (g, has, told, lost) ↦ inr (inr (g, has-contains g s.grants has, told, lost-fails given (timed_out_purposes given t) by g lost))
       ]
@@ -248,13 +248,13 @@ module _ (now : ℕ) (s : State) where
       by Authenticating phase =
           by_test (λ (u : State). TimeAdds (answer_step (Some x.id) now u).1) (is_listed_for_allocation x.id t) (closed t) t
           (λ e. answer-adds (Some x.id) (closed t) (none-adds (closed t) refl)) (λ e. answer-adds (Some x.id) t (none-adds t refl))
-      by Allocated phase = answer-adds (Some x.id) (lapsed (Some x.id) now t) (lapsed-adds (Some x.id) t refl refl refl (x, is, refl, refl))
+      by Allocated phase = answer-adds (Some x.id) (expired_at (Some x.id) now t) (expired_at-adds (Some x.id) t refl refl refl (x, is, refl, refl))
       by p phase = none-adds t refl
 
   untimed-adds : (p : Phase) → TimeAdds (timed_step p None now s).1
   untimed-adds Requesting = answer-adds None s (none-adds s refl)
   untimed-adds Authenticating = answer-adds None s (none-adds s refl)
-  untimed-adds Allocated = answer-adds None (lapsed None now s) (lapsed-adds None s refl refl refl refl)
+  untimed-adds Allocated = answer-adds None (expired_at None now s) (expired_at-adds None s refl refl refl refl)
   untimed-adds p = none-adds s refl
 
   pub poll-adds : TimeAdds (poll_step now s).1

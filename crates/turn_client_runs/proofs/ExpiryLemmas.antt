@@ -15,7 +15,7 @@ use Rattle.turn_client_api.specs.Calls.{is_allocated}
 use Rattle.turn_client_api.specs.Due.{due_times, end_of, has_event, has_queued_request, has_reply, is_new, keepalive_times, least_due, next_wakeup, pause_end, refresh_of}
 use Rattle.turn_client_api.specs.Effect.{closed, transaction_ended}
 use Rattle.turn_client_api.specs.Grants.{allocations}
-use Rattle.turn_client_api.specs.Poll.{answer_by, answer_step, is_listed_for_allocation, lapsed, next_offer, offer_step, poll_step, timed_out_step, timed_step}
+use Rattle.turn_client_api.specs.Poll.{answer_by, answer_step, is_listed_for_allocation, expired_at, next_offer, offer_step, poll_step, timed_out_step, timed_step}
 use Rattle.turn_client_laws.proofs.CaseLemmas.{by_found, by_test}
 use Rattle.turn_client_api.proofs.HasLemmas.{Has, flat_map-has, has-left, has-right, least-le}
 use Rattle.turn_client_laws.proofs.StandLemmas.{contains-has}
@@ -71,7 +71,7 @@ module _ (now : ℕ) where
   timed-waits Requesting (Some id) s = tt
   timed-waits Authenticating None s = answer-waits None s
   timed-waits Authenticating (Some id) s = answer-waits (Some id) (cond (is_listed_for_allocation id s) (closed s) s)
-  timed-waits Allocated given s = answer-waits given (lapsed given now s)
+  timed-waits Allocated given s = answer-waits given (expired_at given now s)
   timed-waits Closed given s = tt
 
   pub poll-waits : (s : State) → Waits (poll_step now s)

@@ -36,14 +36,14 @@ use Rattle.turn_client_api.specs.Retry.{state_after_retry}
 use Rattle.turn_client_api.specs.Due.{has_event, has_reply, is_paused, keepalive_times}
 use Rattle.turn_client_api.specs.Payloads.{Outcome, Handled, message_step, signed_step}
 use Rattle.turn_client_api.specs.Transmit.{idle_step, keepalive_step, queue_step, reply_step, sent_at_once, transmit_step, without_first_reply}
-use Rattle.turn_client_api.specs.Poll.{answer_by, answer_step, lapsed, next_offer, offer_step, poll_step, timed_out_step, timed_step}
+use Rattle.turn_client_api.specs.Poll.{answer_by, answer_step, expired_at, next_offer, offer_step, poll_step, timed_out_step, timed_step}
 use Rattle.turn_client_api.specs.Steps.{packet_step, state_after, state_after_all}
 use Rattle.turn_client_api.specs.declared.call.Call.{Call}
 use Rattle.turn_client_api.specs.declared.call.Call.TheVariants.{Poll, PollTransmit, PollEvent, Recv}
 use Rattle.turn_client_laws.proofs.CaseLemmas.{answer-by}
 use Rattle.turn_client_api.proofs.HasLemmas.{Has, all-has, cases_Option, filter-none, has-all, has-append}
 use Rattle.turn_client_laws.proofs.GrantOriginLemmas.{has-mapped}
-use Rattle.turn_client_laws.proofs.LapseLemmas.{lapsed-shrinks}
+use Rattle.turn_client_laws.proofs.AfterExpiryLemmas.{expired_at-shrinks}
 use Rattle.std.specs.declared.net.socket_addr.SocketAddr.TheVariants.{V4}
 use Rattle.turn_client_api.specs.Config.{Config}
 use Rattle.turn_client_runs.proofs.ChallengeLemmas.{run-configured}
@@ -386,7 +386,7 @@ polled-allocated now s e = event (has_event s || has_reply s)
     answers given t f = answer-by (λ (u : State). u.phase ≡ Allocated) given now t (λ closes. f)
 
     steps : (f : Phase) (given : Option ℕ) (t : State) → f ≡ Allocated → t.phase ≡ Allocated → Is (timed_step f given now t)
-    steps f given t g h = rw g (answers given (lapsed given now t) ((lapsed-shrinks given now t).phase ∙ h))
+    steps f given t g h = rw g (answers given (expired_at given now t) ((expired_at-shrinks given now t).phase ∙ h))
 
     times : (o : Option Transaction) → Is (option_map_or (λ t. timed_step s.phase (Some t.id) now (transaction_ended t.id s)) o (timed_step s.phase None now s))
     times None = steps s.phase None s e e

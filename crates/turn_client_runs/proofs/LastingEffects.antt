@@ -26,7 +26,7 @@ use Rattle.turn_client_runs.proofs.LastingCounts.{passes, passes-two}
 use Rattle.turn_client_runs.specs.Lasting.{as_granted, Grants, ahead_of, expiry_of, with_expiry}
 use Rattle.turn_client_runs.proofs.LastingStands.{IsActive, IsLeased, IsRefreshing, IsUnique, is_waiting}
 use Rattle.turn_client_runs.proofs.LastingTransmits.{same_ip-self}
-use Rattle.turn_client_laws.proofs.LapseLemmas.{IsReserved}
+use Rattle.turn_client_laws.proofs.AfterExpiryLemmas.{IsReserved}
 use Rattle.turn_client_laws.proofs.InAllocationLemmas.{has-any}
 use Rattle.turn_client_laws.proofs.TwoPurposes.{purpose-with}
 use Rattle.turn_client_api.specs.Due.{is_kept}

@@ -14,12 +14,12 @@ use Rattle.turn_client_api.specs.declared.grant.Progress.TheVariants.{Active, Pe
 use Rattle.turn_client_api.specs.declared.grant.Relay.{Relay}
 use Rattle.turn_client_api.proofs.HasLemmas.{Has}
 use Rattle.turn_client_laws.proofs.InAllocationLemmas.{Room, room-more}
-use Rattle.turn_client_laws.proofs.LapseLemmas.{IsReserved}
+use Rattle.turn_client_laws.proofs.AfterExpiryLemmas.{IsReserved}
 use Rattle.turn_client_runs.specs.History.{History, IsSeldom, extra_since, was_let_go}
 use Rattle.turn_client_runs.specs.Lasting.{expiry_of}
 use Rattle.turn_client_runs.proofs.LastingCounts.{passes}
 use Rattle.turn_client_runs.proofs.LastingHistory.{GoesOn, known-later, pending-later_on}
-use Rattle.turn_client_runs.proofs.LastingLapses.{IsGone, IsTidy, Lapses, asked_in, is_lost, unasked-less}
+use Rattle.turn_client_runs.proofs.LastingLeft.{IsGone, IsTidy, ExpiresInto, asked_in, is_lost, unasked-less}
 use Rattle.turn_client_runs.proofs.LastingStands.{Follows, Goes, IsAwaited, IsGranted, IsIdle, IsKept, IsKnown, IsLeased, IsPending, IsWell, Remains, Stands, asked-before}
 use Rattle.turn_client_runs.proofs.LastingStands.{bound-le, due_of, early-paced, is_waiting, pause-le, pending-more, stands-early, still-paced}
 use Rattle.turn_client_runs.proofs.LastingStands.{used}
@@ -53,7 +53,7 @@ gone-unserved now since s near g gone = absurd gone
 
 module _ (count slots extras delay now : ℕ) (past later : History) (s : State) (k : IsKept count slots extras delay now past s.transactions s) (on : GoesOn s.transactions past later)
     (seldom : IsSeldom extras s.config.refresh_ahead now later) (row : s.challenges ≤ later.challenged) (grants : List Grant) (listed : List Listing) (events : List TurnEvent) (closes : List SocketAddr)
-    (lapses : Lapses now s.grants s.listed grants listed) (tidy : IsTidy grants listed)
+    (expires_into : ExpiresInto now s.grants s.listed grants listed) (tidy : IsTidy grants listed)
     (counts : (since : ℕ) → since ≤ now → extra_since since past + passes (is_lost s.listed listed) s.grants ≤ extra_since since later) where
   abbrev t : State
   t = record s { grants = grants; listed = listed; events = events; closes = closes }
@@ -73,17 +73,17 @@ module _ (count slots extras delay now : ℕ) (past later : History) (s : State)
   ]
 
   allocation-stays : (a : Relay) → Has (Allocation a) s.grants → Has (Allocation a) grants
-  allocation-stays a there = lapses.stays (Allocation a) there (λ none. none)
+  allocation-stays a there = expires_into.stays (Allocation a) there (λ none. none)
 
   pending-stays : (until : ℕ) (g : Grant) → Has g s.grants → (IsGone now g → ⊥) → IsPending until past s.transactions s.listed g → IsPending until later s.transactions listed g
   pending-stays until g there not pending =
       let on_time = pending-later_on count slots extras delay now past later s.transactions s on.same on.more until g pending in
-      pending-more until later s.transactions s.transactions s.listed listed g (λ x h. h) (λ l h for. lapses.remains l h g there for not) on_time
+      pending-more until later s.transactions s.transactions s.listed listed g (λ x h. h) (λ l h for. expires_into.remains l h g there for not) on_time
 
   -- as many were served, or are extra
   still-used : (since : ℕ) → since ≤ now → now < since + 150_000_000_000 → used past s since ≤ used later t since
   still-used since before near =
-      let served = lapses.serves is_waiting (λ g. nat_le (since + 150_000_000_000) (due_of s g)) (gone-unserved now since s near) in
+      let served = expires_into.serves is_waiting (λ g. nat_le (since + 150_000_000_000) (due_of s g)) (gone-unserved now since s near) in
       let extra = counts since before in
       omega (arith, served, extra)
 
@@ -95,7 +95,7 @@ module _ (count slots extras delay now : ℕ) (past later : History) (s : State)
         transaction = a.transaction;
         there = a.there;
         listing = a.listing;
-        within = lapses.remains a.listing a.within g there a.for (stands-stays g there was);
+        within = expires_into.remains a.listing a.within g there a.for (stands-stays g there was);
         for = a.for;
         same = a.same;
         in_time = let e = on.same a.transaction a.there in let early = a.in_time in omega (arith, e, early);
@@ -106,7 +106,7 @@ module _ (count slots extras delay now : ℕ) (past later : History) (s : State)
             let pace = k.pace in
             let more = still-used (due_of s g) (omega (arith, late)) (omega (arith, idle.soon, few, pace)) in
             inr (record {
-              unasked = unasked-less s.listed listed lapses.listed g idle.unasked;
+              unasked = unasked-less s.listed listed expires_into.listed g idle.unasked;
               near = idle.near;
               soon = still-paced _ _ now _ _ (due_of s g) (due_of s g) slots _ _ refl refl refl more idle.soon;
               paused = still-paced _ _ (pause_end s) _ _ (due_of s g) (due_of s g) slots _ _ refl refl refl more idle.paused;
@@ -114,7 +114,7 @@ module _ (count slots extras delay now : ℕ) (past later : History) (s : State)
         | inr early ↦
             let few = k.few in
             inr (record {
-              unasked = unasked-less s.listed listed lapses.listed g idle.unasked;
+              unasked = unasked-less s.listed listed expires_into.listed g idle.unasked;
               near = idle.near;
               soon = early-paced s.config.request_cadence _ now _ _ now (due_of s g) slots _ refl refl few (omega arith) early;
               paused = early-paced s.config.request_cadence _ (pause_end s) _ _ now (due_of s g) slots _ refl refl few (pause-le now s k.sent) early;
@@ -126,21 +126,21 @@ module _ (count slots extras delay now : ℕ) (past later : History) (s : State)
     | inl (waits, pending) ↦ inl (waits, pending-stays now g there (waits-stays now g waits) pending)
     | inr (inl stands) ↦ inr (inl (stands-left g there stands))
     | inr (inr (freed, inl leased)) ↦ inr (inr (on.let_go g freed, inl leased))
-    | inr (inr (freed, inr (is, none))) ↦ inr (inr (on.let_go g freed, inr (is, unasked-less s.listed listed lapses.listed g none)))
+    | inr (inr (freed, inr (is, none))) ↦ inr (inr (on.let_go g freed, inr (is, unasked-less s.listed listed expires_into.listed g none)))
   ]
 
   well-left : (g : Grant) → Has g grants → IsWell count slots extras delay now later s.transactions t g
-  well-left g h = elim (lapses.came g h) [
+  well-left g h = elim (expires_into.came g h) [
     | inl old ↦ well-old g old
     | inr takes ↦ inr (inr (on.let_go g (takes.let_go past ∙ gone-let_go takes.was takes.there takes.gone), inr (takes.is, takes.unasked)))
   ]
 
   known-left : (g : Grant) → Has g grants → IsKnown now later t g
-  known-left g h = elim (lapses.came g h) [
+  known-left g h = elim (expires_into.came g h) [
     | inl old ↦
         let (waits, due) = k.known g old in (
           λ w. known-later past later on.let_go g (waits w),
-          λ leased asked. due leased (asked-before (has_request g s) (asked_in listed g) (unasked-less s.listed listed lapses.listed g) asked),
+          λ leased asked. due leased (asked-before (has_request g s) (asked_in listed g) (unasked-less s.listed listed expires_into.listed g) asked),
         )
     | inr takes ↦ (λ w. absurd (reserved-waits g takes.is w), λ leased asked. absurd (reserved-leased g takes.is leased))
   ]
@@ -159,12 +159,12 @@ module _ (count slots extras delay now : ℕ) (past later : History) (s : State)
     heard = λ x h. let e = on.same x h in let late = k.heard x h in omega (arith, e, late);
     seldom = seldom;
     row = row;
-    asked = λ l h. let (refreshes, (g, there, for)) = k.asked l (lapses.listed l h) in (refreshes, (g, lapses.held l h g there for, for));
-    size = let a = k.size in let b = lapses.size in omega (arith, a, b);
+    asked = λ l h. let (refreshes, (g, there, for)) = k.asked l (expires_into.listed l h) in (refreshes, (g, expires_into.held l h g there for, for));
+    size = let a = k.size in let b = expires_into.size in omega (arith, a, b);
     single = tidy.single;
     linked = tidy.linked;
     in_range = k.in_range;
-    housed = λ g h. elim (lapses.came g h) [
+    housed = λ g h. elim (expires_into.came g h) [
       | inl old ↦ room (family_of_grant g) (k.housed g old)
       | inr takes ↦ subst (Room grants) (sym takes.family) (room (family_of_grant takes.was) (k.housed takes.was takes.there))
     ];
@@ -179,10 +179,10 @@ module _ (count slots extras delay now : ℕ) (past later : History) (s : State)
   goes-left = record { let_go = on.let_go; remain = remains; follow = follows }
     where
       remains : (g : Grant) → Has g s.grants → IsGranted g → was_let_go later g ≡ false → Remains g t
-      remains g there granted none = (g, lapses.stays g there not, refl, granted)
+      remains g there granted none = (g, expires_into.stays g there not, refl, granted)
         where
           not : IsGone now g → ⊥
           not gone = let no : false ≡ true = sym none ∙ on.let_go g (gone-let_go g there gone) in cc
 
       follows : (until : ℕ) (g : Grant) → Has g s.grants → is_waiting g ≡ true → IsPending until past s.transactions s.listed g → was_let_go later g ≡ false → Follows until later s.transactions g t
-      follows until g there waits pending none = inl (lapses.stays g there (waits-stays now g waits), pending-stays until g there (waits-stays now g waits) pending)
+      follows until g there waits pending none = inl (expires_into.stays g there (waits-stays now g waits), pending-stays until g there (waits-stays now g waits) pending)

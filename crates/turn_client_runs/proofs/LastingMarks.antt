@@ -17,7 +17,7 @@ use Rattle.turn_client_api.specs.declared.grant.Purpose.TheVariants.{ForChannel,
 use Rattle.turn_client_api.proofs.HasLemmas.{Has, map-has}
 use Rattle.turn_client_laws.proofs.GrantOriginLemmas.{has-mapped}
 use Rattle.turn_client_laws.proofs.InAllocationLemmas.{Room, room-more}
-use Rattle.turn_client_laws.proofs.LapseLemmas.{IsReserved}
+use Rattle.turn_client_laws.proofs.AfterExpiryLemmas.{IsReserved}
 use Rattle.turn_client_runs.specs.History.{History, was_let_go}
 use Rattle.turn_client_runs.specs.Lasting.{ahead_of, expiry_of}
 use Rattle.turn_client_runs.proofs.LastingCounts.{or_first, passes-map, passes-mapped}

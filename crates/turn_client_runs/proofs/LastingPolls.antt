@@ -16,11 +16,11 @@ use Rattle.turn_client_api.specs.declared.grant.Grant.TheVariants.{Allocation, P
 use Rattle.turn_client_api.specs.declared.grant.Relay.{Relay}
 use Rattle.turn_client_api.specs.Grants.{allocations, family_of}
 use Rattle.turn_client_api.specs.Due.{has_event, has_reply}
-use Rattle.turn_client_api.specs.Poll.{answer_step, first_unreported, lapsed, next_offer, offer_step, poll_step, timed_out_step, timed_step, unreported_in}
+use Rattle.turn_client_api.specs.Poll.{answer_step, first_unreported, expired_at, next_offer, offer_step, poll_step, timed_out_step, timed_step, unreported_in}
 use Rattle.turn_client_laws.proofs.CaseLemmas.{answer-by}
 use Rattle.turn_client_api.proofs.HasLemmas.{Has}
 use Rattle.turn_client_runs.specs.History.{History}
-use Rattle.turn_client_runs.proofs.LastingLapses.{IsPlain}
+use Rattle.turn_client_runs.proofs.LastingLeft.{IsPlain}
 use Rattle.turn_client_runs.proofs.LastingStands.{kept-changed, IsKept, Stands}
 
 -- ---- no data connections
@@ -50,16 +50,16 @@ no-offer s p all = rw (p, filter_map-none (λ (a : Relay). first_unreported (fam
 
 -- nothing changes, or what is over expires, and a connection to close is reported at most
 pub polls : (P : State → Type 0) (now : ℕ) (s : State) → s.phase ≡ Allocated → ArePlain s → timed_out_transaction (agent_of s) now ≡ None → P s
-    → ((closes : List SocketAddr) → P (record (lapsed None now s) { closes = closes })) → P (poll_step now s).1
+    → ((closes : List SocketAddr) → P (record (expired_at None now s) { closes = closes })) → P (poll_step now s).1
 polls P now s p all none same each = by (has_event s || has_reply s) refl
   where
-    answers : P (answer_step None now (lapsed None now s)).1
-    answers = answer-by P None now (lapsed None now s) each
+    answers : P (answer_step None now (expired_at None now s)).1
+    answers = answer-by P None now (expired_at None now s) each
 
-    allocated : (ph : Phase) → ph ≡ Allocated → timed_step ph None now s ≡ answer_step None now (lapsed None now s)
+    allocated : (ph : Phase) → ph ≡ Allocated → timed_step ph None now s ≡ answer_step None now (expired_at None now s)
     allocated ph e = rw e refl
 
-    times_out : timed_out_step now s ≡ answer_step None now (lapsed None now s)
+    times_out : timed_out_step now s ≡ answer_step None now (expired_at None now s)
     times_out = rw (timed_out_step, none) (allocated s.phase p)
 
     waits : P (option_map_or (λ offer. offer_step offer s) (next_offer s) (timed_out_step now s)).1

@@ -15,7 +15,7 @@ use Rattle.turn_client_api.specs.declared.grant.Listing.{Listing}
 use Rattle.turn_client_api.specs.declared.grant.Purpose.{Purpose}
 use Rattle.turn_client_api.specs.declared.grant.Purpose.TheVariants.{ForRefresh, ForPermission, ForChannel}
 use Rattle.turn_client_api.specs.Grants.{family_of, family_of_grant, has_request, is_for, purposes_of}
-use Rattle.turn_client_laws.proofs.LapseLemmas.{IsReserved}
+use Rattle.turn_client_laws.proofs.AfterExpiryLemmas.{IsReserved}
 use Rattle.turn_client_api.specs.Due.{is_kept, pause_end}
 use Rattle.turn_client_api.specs.declared.state.Queued.{Queued}
 use Rattle.turn_client_api.specs.Effect.{effect}

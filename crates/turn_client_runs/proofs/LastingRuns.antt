@@ -41,7 +41,7 @@ use Rattle.turn_auth.specs.LongTerm.{Challenge}
 use Rattle.turn_client_api.specs.Effect.{transaction_ended}
 use Rattle.turn_client_api.specs.Payloads.{Handled, Ignored, Outcome, challenge_step, datagram_step, message_step, response_step, signed_step}
 use Rattle.turn_client_api.specs.Calls.{bind_channel_step, create_permission_step}
-use Rattle.turn_client_api.specs.Poll.{lapsed, poll_step}
+use Rattle.turn_client_api.specs.Poll.{expired_at, poll_step}
 use Rattle.turn_client_api.specs.Transmit.{transmit_step}
 use Rattle.turn_client_api.specs.Requests.{fresh_id}
 use Rattle.turn_client_api.specs.Steps.{packet_step, state_after, state_after_all}
@@ -66,7 +66,7 @@ use Rattle.turn_client_runs.proofs.LastingTime.{time-kept}
 use Rattle.turn_client_runs.proofs.LastingPolls.{ArePlain, kept-aside, polls}
 use Rattle.turn_client_runs.proofs.LastingTransmits.{transmit-kept}
 use Rattle.turn_client_runs.proofs.LastingExpiry.{goes-left, kept-left}
-use Rattle.turn_client_runs.proofs.LastingLapses.{IsTidy, is_lost, lapsed-passes}
+use Rattle.turn_client_runs.proofs.LastingLeft.{IsTidy, is_lost, expired_at-passes}
 use Rattle.turn_client_runs.proofs.LastingMarks.{goes-marked, kept-marked}
 use Rattle.turn_client_runs.proofs.LastingReplies.{IsAnswered, IsGiven, all-answered, all-known}
 
@@ -515,16 +515,16 @@ module _ (count slots extras delay before : ℕ) (past : History) (s : State) wh
           let there = allocation-there a s.grants h in
           lt-leb a.expiry now (stands-early count slots extras delay now past s k (Allocation a) there (allocation-stands count slots extras delay now past s.transactions s k a there))
 
-      expires : (closes : List SocketAddr) → (poll_step now s).1 ≡ record (lapsed None now s) { closes = closes } → Keeps now past (onward (Poll now)) (record (lapsed None now s) { closes = closes })
+      expires : (closes : List SocketAddr) → (poll_step now s).1 ≡ record (expired_at None now s) { closes = closes } → Keeps now past (onward (Poll now)) (record (expired_at None now s) { closes = closes })
       expires closes is =
-          let u = lapsed None now s in
-          let (alters, (lapses, tidy)) = lapsed-passes now s early (tidy-of count slots extras delay now past s k) in
+          let u = expired_at None now s in
+          let (alters, (expires_into, tidy)) = expired_at-passes now s early (tidy-of count slots extras delay now past s k) in
           let on = call-goes_on (Poll now) now past s in
           let counts = lost-counts now (record u { closes = closes }) is in
           let same : record s { grants = u.grants; listed = u.listed; events = u.events; closes = closes } ≡ record u { closes = closes } = ap (λ (x : State). record x { closes = closes }) (sym alters) in
           subst (Keeps now past (onward (Poll now))) same (
-            kept-left count slots extras delay now past (onward (Poll now)) s k on seldom k.row u.grants u.listed u.events closes lapses tidy counts,
-            goes-left count slots extras delay now past (onward (Poll now)) s k on seldom k.row u.grants u.listed u.events closes lapses tidy counts,
+            kept-left count slots extras delay now past (onward (Poll now)) s k on seldom k.row u.grants u.listed u.events closes expires_into tidy counts,
+            goes-left count slots extras delay now past (onward (Poll now)) s k on seldom k.row u.grants u.listed u.events closes expires_into tidy counts,
           )
 
   -- ---- what is let go, or kept again

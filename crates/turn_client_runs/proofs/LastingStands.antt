@@ -22,7 +22,7 @@ use Rattle.turn_client_api.specs.declared.grant.Relay.{Relay}
 use Rattle.turn_client_api.specs.Due.{has_reply, is_kept, pause_end, refresh_time_by_kind}
 use Rattle.turn_client_api.proofs.HasLemmas.{Has}
 use Rattle.turn_client_laws.proofs.InAllocationLemmas.{Room}
-use Rattle.turn_client_laws.proofs.LapseLemmas.{IsReserved}
+use Rattle.turn_client_laws.proofs.AfterExpiryLemmas.{IsReserved}
 use Rattle.turn_client_runs.specs.History.{History, IsSeldom, all_waits, extra_since, waited, was_let_go}
 use Rattle.turn_client_runs.specs.Lasting.{as_granted, with_expiry, ahead_of, expiry_of}
 use Rattle.turn_client_runs.proofs.LastingCounts.{passes, passes-less}

@@ -29,7 +29,7 @@ use Rattle.turn_client_api.specs.Transmit.{is_due_in, is_refresh_due, keepalive_
 use Rattle.turn_client_api.specs.Transmit.{sent_at_once, transmit_step, without_first_reply}
 use Rattle.turn_client_api.proofs.HasLemmas.{Has, filter_map-has, first-has, has-append, has-filter, has-filter_map, has-flat_map, has-left, has-right}
 use Rattle.turn_client_laws.proofs.InAllocationLemmas.{same_family-self}
-use Rattle.turn_client_laws.proofs.LapseLemmas.{IsReserved}
+use Rattle.turn_client_laws.proofs.AfterExpiryLemmas.{IsReserved}
 use Rattle.turn_client_runs.specs.History.{History}
 use Rattle.turn_client_runs.proofs.LastingCounts.{passes, passes-more, passes-same}
 use Rattle.turn_client_runs.proofs.LastingHistory.{lone-more}

@@ -32,7 +32,7 @@ use Rattle.turn_client_api.specs.Connections.{is_connected, is_connecting}
 use Rattle.turn_client_api.specs.Due.{has_event, has_reply, is_paused, keepalive_times}
 use Rattle.turn_client_api.specs.Effect.{closed, transaction_ended}
 use Rattle.turn_client_api.specs.Grants.{allocations, as_connection, family_of, find_allocation_to, has_active_permission, is_of, is_past, is_permission_of, permission_state, same_transport}
-use Rattle.turn_client_api.specs.Poll.{allocation_expires, answer_step, channel_lapsed, is_lapsed_channel, is_listed_for_allocation, lapsed, lapsed_allocation, lapsed_in, next_offer, poll_step}
+use Rattle.turn_client_api.specs.Poll.{allocation_expires, answer_step, channel_expired, is_expired_channel, is_listed_for_allocation, expired_at, expired_allocation, expired_in, next_offer, poll_step}
 use Rattle.turn_client_api.specs.Poll.{timed_out_purposes, timed_out_step, timed_step}
 use Rattle.turn_client_api.specs.Steps.{state_after}
 use Rattle.turn_client_api.specs.Transmit.{idle_step, keepalive_step, queue_step, refreshes_in, reply_step, transmit_step}
@@ -40,7 +40,7 @@ use Rattle.turn_client_laws.specs.Handled.{Input, handled}
 use Rattle.turn_client_laws.proofs.CaseLemmas.{answer-by, by_found, by_test}
 use Rattle.turn_client_laws.proofs.GrantOriginLemmas.{has-mapped}
 use Rattle.turn_client_api.proofs.HasLemmas.{Has}
-use Rattle.turn_client_api.proofs.LapseSteps.{lapsed_in-does}
+use Rattle.turn_client_api.proofs.ExpirySteps.{expired_in-does}
 use Rattle.turn_client_laws.proofs.RunKeepLemmas.{poll_recv-kept, recv-kept}
 use Rattle.turn_client_laws.proofs.TurnKeepLemmas.{before-kept}
 use Rattle.turn_client_runs.proofs.LoneConnects.{HasLoneConnects, KeepsLone, KeepsLone-IsKept, asks-filtered, asks-lone, asks-one, fold-lone, gone-lone, lone-filter}
@@ -131,17 +131,17 @@ module _ (s : State) where
 
 -- ---- time
 
-channel-lapses : (o : Option Grant) (s : State) → KeepsLone s (channel_lapsed o s)
-channel-lapses (Some (Channel number peer (Active lease))) s = lone-filter _ s.listed
-channel-lapses o s = λ lone. lone
+channel-expires : (o : Option Grant) (s : State) → KeepsLone s (channel_expired o s)
+channel-expires (Some (Channel number peer (Active lease))) s = lone-filter _ s.listed
+channel-expires o s = λ lone. lone
 
-lapsed_in-lone : (family : AddressFamily) (given : Option ℕ) (purposes : List Purpose) (now : ℕ) (s : State) → KeepsLone s (lapsed_in family given purposes now s)
-lapsed_in-lone family given purposes now = lapsed_in-does KeepsLone family given purposes now (record {
+expired_in-lone : (family : AddressFamily) (given : Option ℕ) (purposes : List Purpose) (now : ℕ) (s : State) → KeepsLone s (expired_in family given purposes now s)
+expired_in-lone family given purposes now = expired_in-does KeepsLone family given purposes now (record {
   trans = λ s t u first second lone. second (first lone);
   channels = λ s. lone-filter _ s.listed;
   permissions = λ s. lone-filter _ s.listed;
-  last_channel = λ s. channel-lapses (find (λ g. is_of family g && is_lapsed_channel now g) (reverse s.grants)) s;
-  lapsed_permissions = λ s. lone-filter _ s.listed;
+  last_channel = λ s. channel-expires (find (λ g. is_of family g && is_expired_channel now g) (reverse s.grants)) s;
+  expired_permissions = λ s. lone-filter _ s.listed;
   connects = λ s. lone-filter _ s.listed;
   connections = λ s. lone-filter _ s.listed;
   offers = λ s. lone-filter _ s.listed;
@@ -149,11 +149,11 @@ lapsed_in-lone family given purposes now = lapsed_in-does KeepsLone family given
   frees = λ s. lone-filter _ s.listed;
 })
 
-lapsed-lone : (given : Option ℕ) (now : ℕ) (s : State) → KeepsLone s (lapsed given now s)
-lapsed-lone given now s =
+expired_at-lone : (given : Option ℕ) (now : ℕ) (s : State) → KeepsLone s (expired_at given now s)
+expired_at-lone given now s =
     let purposes = timed_out_purposes given s in
-    fold-lone (lapsed_allocation given purposes now)
-    (λ t a. by_test (KeepsLone t) (allocation_expires purposes now t a) _ _ (λ is. lone-filter _ t.listed) (λ other. lapsed_in-lone (family_of a.relayed) given purposes now t)) (allocations s) s
+    fold-lone (expired_allocation given purposes now)
+    (λ t a. by_test (KeepsLone t) (allocation_expires purposes now t a) _ _ (λ is. lone-filter _ t.listed) (λ other. expired_in-lone (family_of a.relayed) given purposes now t)) (allocations s) s
 
 answer-lone : (given : Option ℕ) (now : ℕ) (s t : State) → KeepsLone s t → KeepsLone s (answer_step given now t).1
 answer-lone given now s t keeps = answer-by (KeepsLone s) given now t (λ closes. keeps)
@@ -165,7 +165,7 @@ timed-lone Authenticating None now s = answer-lone None now s s (λ lone. lone)
 timed-lone Authenticating (Some id) now s =
     by_test (λ (u : State). KeepsLone s (answer_step (Some id) now u).1) (is_listed_for_allocation id s) (closed s) s
     (λ f. answer-lone (Some id) now s (closed s) (lone-filter _ s.listed)) (λ f. answer-lone (Some id) now s s (λ lone. lone))
-timed-lone Allocated given now s = answer-lone given now s (lapsed given now s) (lapsed-lone given now s)
+timed-lone Allocated given now s = answer-lone given now s (expired_at given now s) (expired_at-lone given now s)
 timed-lone p given now s = λ lone. lone
 
 poll-lone : (now : ℕ) (s : State) → KeepsLone s (poll_step now s).1

@@ -39,7 +39,7 @@ use Rattle.turn_client_api.specs.Due.{has_event, has_reply, is_paused, keepalive
 use Rattle.turn_client_api.specs.Effect.{closed, fail_all, transaction_ended}
 use Rattle.turn_client_api.specs.Grants.{allocations, as_connection, family_of, family_of_ip, find_allocation_to, has_active_permission}
 use Rattle.turn_client_api.specs.Grants.{is_past, is_permission_of, permission_state, same_transport, with_expired, with_grant}
-use Rattle.turn_client_api.specs.Poll.{answer_step, is_listed_for_allocation, lapsed, next_offer, offer_step, poll_step, timed_out_step, timed_step}
+use Rattle.turn_client_api.specs.Poll.{answer_step, is_listed_for_allocation, expired_at, next_offer, offer_step, poll_step, timed_out_step, timed_step}
 use Rattle.turn_client_api.specs.Requests.{accepted_reply, asked_lifetime, connection_timed_out, fresh_id, requested}
 use Rattle.turn_client_api.specs.Retry.{bind_time}
 use Rattle.turn_client_api.specs.Steps.{state_after}
@@ -48,7 +48,7 @@ use Rattle.turn_client_laws.specs.LawsHandled.{TakesInput}
 use Rattle.turn_client_laws.specs.LawsRequests.{AsksFor, IsListedFor}
 use Rattle.turn_client_laws.proofs.CaseLemmas.{answer-by, by_found, by_test}
 use Rattle.turn_client_api.proofs.HasLemmas.{Has, first-has, has-filter_map, has-flat_map}
-use Rattle.turn_client_laws.proofs.LapseLemmas.{lapsed-shrinks}
+use Rattle.turn_client_laws.proofs.AfterExpiryLemmas.{expired_at-shrinks}
 use Rattle.turn_client_laws.proofs.MoveLemmas.{Adds, adds-one, adds-same}
 use Rattle.turn_client_laws.proofs.MoveTurnLemmas.{listings-made}
 use Rattle.turn_client_laws.proofs.StandLemmas.{contains-has, has-contains}
@@ -142,7 +142,7 @@ poll-quiet now s =
     timed Authenticating None t h = answered None t h
     timed Authenticating (Some id) t h =
         by_test (λ (u : State). Same (answer_step (Some id) now u).1) (is_listed_for_allocation id t) (closed t) t (λ e. answered (Some id) (closed t) h) (λ e. answered (Some id) t h)
-    timed Allocated given t h = answered given (lapsed given now t) ((lapsed-shrinks given now t).queue ∙ h)
+    timed Allocated given t h = answered given (expired_at given now t) ((expired_at-shrinks given now t).queue ∙ h)
     timed p given t h = h
 
 -- ---- all of them

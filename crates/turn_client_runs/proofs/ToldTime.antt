@@ -18,13 +18,13 @@ use Rattle.turn_client_api.specs.declared.state.Phase.TheVariants.{Requesting, A
 use Rattle.turn_client_api.specs.Due.{has_event, has_reply}
 use Rattle.turn_client_api.specs.Effect.{closed, reserved_time, transaction_ended}
 use Rattle.turn_client_api.specs.Grants.{allocations, family_of, is_channel_of, is_connect, is_for_any, is_of, is_pending_channel, is_pending_permission, without_grants}
-use Rattle.turn_client_api.specs.Poll.{allocation_expires, answer_step, as_reported, channel_lapsed, first_reported, is_lapsed_channel, is_lapsed_permission, is_listed_for_allocation}
-use Rattle.turn_client_api.specs.Poll.{is_over, is_timed_out_offer, is_unbound, lapsed, lapsed_allocation, lapsed_in, next_offer, offer_step, poll_step, refreshes_timed_out, set_free}
+use Rattle.turn_client_api.specs.Poll.{allocation_expires, answer_step, as_reported, channel_expired, first_reported, is_expired_channel, is_expired_permission, is_listed_for_allocation}
+use Rattle.turn_client_api.specs.Poll.{is_over, is_timed_out_offer, is_unbound, expired_at, expired_allocation, expired_in, next_offer, offer_step, poll_step, refreshes_timed_out, set_free}
 use Rattle.turn_client_api.specs.Poll.{silent_step}
 use Rattle.turn_client_api.specs.Poll.{timed_out_purposes, timed_out_step, timed_step, unreported_in}
 use Rattle.turn_client_laws.proofs.CaseLemmas.{answer-by, by_found, by_test}
 use Rattle.turn_client_api.proofs.HasLemmas.{Has, cases_Option, has-found, has-unreversed}
-use Rattle.turn_client_api.proofs.LapseSteps.{lapsed_in-does}
+use Rattle.turn_client_api.proofs.ExpirySteps.{expired_in-does}
 use Rattle.turn_client_runs.specs.Told.{is_like, is_to_come}
 use Rattle.turn_client_runs.proofs.LastingCounts.{passes, passes-append}
 use Rattle.turn_client_runs.proofs.ToldCounts.{passes-reverse}
@@ -49,10 +49,10 @@ pending-connect (Connection c) is = cc
 pending-connect g is = tt
 
 module _ (given : Option ℕ) (purposes : List Purpose) (now : ℕ) where
-  lapsed-permission : (g : Grant) → is_lapsed_permission now g ≡ true → IsLosable g
-  lapsed-permission (Channel number peer (Reserved until)) is = cc
-  lapsed-permission (Connection c) is = cc
-  lapsed-permission g is = tt
+  expired-permission : (g : Grant) → is_expired_permission now g ≡ true → IsLosable g
+  expired-permission (Channel number peer (Reserved until)) is = cc
+  expired-permission (Connection c) is = cc
+  expired-permission g is = tt
 
   unbound-connection : (g : Grant) → is_unbound purposes now g ≡ true → IsLosable g
   unbound-connection (Channel number peer (Reserved until)) is = cc
@@ -81,23 +81,23 @@ module _ (given : Option ℕ) (purposes : List Purpose) (now : ℕ) where
     same : (s : State) → Spends e s s
     same s = spends-same e s s refl refl refl
 
-    channel-lapses : (o : Option Grant) (s : State) → ((g : Grant) → o ≡ Some g → Has g s.grants) → Spends e s (channel_lapsed o s)
-    channel-lapses (Some (Channel number peer (Active lease))) s found =
+    channel-expires : (o : Option Grant) (s : State) → ((g : Grant) → o ≡ Some g → Has g s.grants) → Spends e s (channel_expired o s)
+    channel-expires (Some (Channel number peer (Active lease))) s found =
         spends-replaced-first e (is_channel_of number) (ChannelCreateFailed s.config.allocation_transport peer) (Channel number peer (Active lease)) s
         (found (Channel number peer (Active lease)) refl) (eq-eqb number number refl) (Channel number peer (Reserved (later_by reserved_time lease.expiry)))
-        (channel-reserved e s.config.allocation_transport number peer lease (later_by reserved_time lease.expiry)) (channel_lapsed (Some (Channel number peer (Active lease))) s) refl refl refl
-    channel-lapses o s found = same s
+        (channel-reserved e s.config.allocation_transport number peer lease (later_by reserved_time lease.expiry)) (channel_expired (Some (Channel number peer (Active lease))) s) refl refl refl
+    channel-expires o s found = same s
 
     -- ---- an allocation that stays, and all of them
 
-    lapsed_in-spends : (family : AddressFamily) (s : State) → Spends e s (lapsed_in family given purposes now s)
-    lapsed_in-spends family = lapsed_in-does (Spends e) family given purposes now (record {
+    expired_in-spends : (family : AddressFamily) (s : State) → Spends e s (expired_in family given purposes now s)
+    expired_in-spends family = expired_in-does (Spends e) family given purposes now (record {
       trans = spends-trans e;
       channels = spends-failed e _ (asked-for family is_pending_channel pending-channel);
       permissions = spends-failed e _ (asked-for family is_pending_permission pending-permission);
-      last_channel = λ s. channel-lapses (find (λ g. is_of family g && is_lapsed_channel now g) (reverse s.grants)) s
-          (λ g found. has-unreversed g s.grants (has-found (λ h. is_of family h && is_lapsed_channel now h) g (reverse s.grants) found).0);
-      lapsed_permissions = spends-failed e _ (of-kind family (is_lapsed_permission now) lapsed-permission);
+      last_channel = λ s. channel-expires (find (λ g. is_of family g && is_expired_channel now g) (reverse s.grants)) s
+          (λ g found. has-unreversed g s.grants (has-found (λ h. is_of family h && is_expired_channel now h) g (reverse s.grants) found).0);
+      expired_permissions = spends-failed e _ (of-kind family (is_expired_permission now) expired-permission);
       connects = spends-failed e _ (asked-for family is_connect pending-connect);
       connections = spends-failed e _ (of-kind family (is_unbound purposes now) unbound-connection);
       offers = spends-failed e _ (of-kind family (is_timed_out_offer given) (timed_out-offer given));
@@ -105,10 +105,10 @@ module _ (given : Option ℕ) (purposes : List Purpose) (now : ℕ) where
       frees = λ s. spends-removed e (λ g. is_of family g && is_over now g) s (set_free family now s) refl refl refl;
     })
 
-    lapsed-spends : (relays : List Relay) (s : State) → Spends e s (fold (lapsed_allocation given purposes now) s relays)
-    lapsed-spends relays = spends-fold e (lapsed_allocation given purposes now) relays (λ t a there.
-        by_test (Spends e t) (allocation_expires purposes now t a) (without_grants (is_of (family_of a.relayed)) t) (lapsed_in (family_of a.relayed) given purposes now t)
-        (λ is. spends-removed e (is_of (family_of a.relayed)) t (without_grants (is_of (family_of a.relayed)) t) refl refl refl) (λ other. lapsed_in-spends (family_of a.relayed) t))
+    expired_at-spends : (relays : List Relay) (s : State) → Spends e s (fold (expired_allocation given purposes now) s relays)
+    expired_at-spends relays = spends-fold e (expired_allocation given purposes now) relays (λ t a there.
+        by_test (Spends e t) (allocation_expires purposes now t a) (without_grants (is_of (family_of a.relayed)) t) (expired_in (family_of a.relayed) given purposes now t)
+        (λ is. spends-removed e (is_of (family_of a.relayed)) t (without_grants (is_of (family_of a.relayed)) t) refl refl refl) (λ other. expired_in-spends (family_of a.relayed) t))
 
 -- ---- offers are reported, of which as much may come
 
@@ -147,7 +147,7 @@ module _ (e : TurnEvent) (now : ℕ) where
   timed-spends Authenticating (Some id) s =
       by_test (λ (u : State). Spends e s (answer_step (Some id) now u).1) (is_listed_for_allocation id s) (closed s) s
       (λ f. answer-spends (Some id) s (closed s) (spends-same e s (closed s) refl refl refl)) (λ f. answer-spends (Some id) s s (untouched s))
-  timed-spends Allocated given s = answer-spends given s (lapsed given now s) (lapsed-spends given (timed_out_purposes given s) now e (allocations s) s)
+  timed-spends Allocated given s = answer-spends given s (expired_at given now s) (expired_at-spends given (timed_out_purposes given s) now e (allocations s) s)
   timed-spends p given s = untouched s
 
   pub poll-spends : (s : State) → Spends e s (poll_step now s).1

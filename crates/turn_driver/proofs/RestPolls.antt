@@ -13,8 +13,8 @@ use Rattle.turn_client_api.specs.Config.{timers_of}
 use Rattle.turn_client_api.specs.Due.{has_event, has_reply}
 use Rattle.turn_client_api.specs.Effect.{closed, reserved_time, transaction_ended}
 use Rattle.turn_client_api.specs.Grants.{allocations, family_of, is_channel_of, is_of, is_of_family, without_grants}
-use Rattle.turn_client_api.specs.Poll.{answer_by, answer_step, as_reported, channel_lapsed, failed, first_reported, first_unreported, is_lapsed_channel, is_listed_for_allocation, lapsed}
-use Rattle.turn_client_api.specs.Poll.{allocation_expires, lapsed_allocation, lapsed_in, next_offer, offer_step, poll_step, timed_out_purposes, timed_out_step}
+use Rattle.turn_client_api.specs.Poll.{answer_by, answer_step, as_reported, channel_expired, failed, first_reported, first_unreported, is_expired_channel, is_listed_for_allocation, expired_at}
+use Rattle.turn_client_api.specs.Poll.{allocation_expires, expired_allocation, expired_in, next_offer, offer_step, poll_step, timed_out_purposes, timed_out_step}
 use Rattle.turn_client_api.specs.Poll.{timed_step, unbound, unreported_in}
 use Rattle.turn_client_api.specs.State.{State, agent_of, later_by}
 use Rattle.turn_client_api.specs.declared.grant.DataOffer.{DataOffer}
@@ -30,7 +30,7 @@ use Rattle.turn_client_api.specs.declared.state.Phase.TheVariants.{New, Requesti
 use Rattle.turn_client_laws.proofs.CaseLemmas.{answer-by}
 use Rattle.turn_client_api.proofs.HasLemmas.{Has, first-has, has-filter_map, has-found, has-unreversed}
 use Rattle.turn_client_laws.proofs.InAllocationLemmas.{same_family-true}
-use Rattle.turn_client_api.proofs.LapseSteps.{lapsed_in-does}
+use Rattle.turn_client_api.proofs.ExpirySteps.{expired_in-does}
 use Rattle.turn_client_laws.proofs.StreamWeightLemmas.{weight}
 use Rattle.turn_driver.proofs.RestWeights.{GetsOn, IsParted, KeepsUp, fewer, five-same, gets-on-further, left_to_do, load, load-append, may-same, may_send, parted}
 use Rattle.turn_driver.proofs.RestWeights.{removed-load, resends_left, steps_of}
@@ -114,7 +114,7 @@ freed-ages which s = record {
     by (inl (same, none)) = inr (ap load same, refl)
     by (inr less) = inl less
 
-channel-ages : (o : Option Grant) (s : State) → ((g : Grant) → o ≡ Some g → Has g s.grants) → Ages s (channel_lapsed o s)
+channel-ages : (o : Option Grant) (s : State) → ((g : Grant) → o ≡ Some g → Has g s.grants) → Ages s (channel_expired o s)
 channel-ages (Some (Channel number peer (Active lease))) s there = record {
   stands = record { config = refl; transport = refl; last_send = refl; streams = refl; transactions = refl; queue = refl };
   phase = refl;
@@ -125,15 +125,15 @@ channel-ages (Some (Channel number peer (Active lease))) s there = record {
 }
 channel-ages o s there = ages-self s
 
-lapsed_in-ages : (family : AddressFamily) (given : Option ℕ) (purposes : List Purpose) (now : ℕ) (s : State) → Ages s (lapsed_in family given purposes now s)
-lapsed_in-ages family given purposes now =
-    let lapses = λ (x : Grant). is_of family x && is_lapsed_channel now x in
-    lapsed_in-does Ages family given purposes now (record {
+expired_in-ages : (family : AddressFamily) (given : Option ℕ) (purposes : List Purpose) (now : ℕ) (s : State) → Ages s (expired_in family given purposes now s)
+expired_in-ages family given purposes now =
+    let has_expired = λ (x : Grant). is_of family x && is_expired_channel now x in
+    expired_in-does Ages family given purposes now (record {
       trans = ages-trans;
       channels = λ t. failed-ages _ t;
       permissions = λ t. failed-ages _ t;
-      last_channel = λ t. channel-ages (find lapses (reverse t.grants)) t (λ x found. has-unreversed x t.grants (has-found lapses x (reverse t.grants) found).0);
-      lapsed_permissions = λ t. failed-ages _ t;
+      last_channel = λ t. channel-ages (find has_expired (reverse t.grants)) t (λ x found. has-unreversed x t.grants (has-found has_expired x (reverse t.grants) found).0);
+      expired_permissions = λ t. failed-ages _ t;
       connects = λ t. failed-ages _ t;
       connections = λ t. unbound-ages _ t;
       offers = λ t. failed-ages _ t;
@@ -145,21 +145,21 @@ lapsed_in-ages family given purposes now =
       frees = λ t. freed-ages _ t;
     })
 
-allocation-ages : (given : Option ℕ) (purposes : List Purpose) (now : ℕ) (s : State) (a : Relay) → Ages s (lapsed_allocation given purposes now s a)
+allocation-ages : (given : Option ℕ) (purposes : List Purpose) (now : ℕ) (s : State) (a : Relay) → Ages s (expired_allocation given purposes now s a)
 allocation-ages given purposes now s a = by (allocation_expires purposes now s a)
   where
-    by : (b : Bool) → Ages s (cond b (without_grants (is_of (family_of a.relayed)) s) (lapsed_in (family_of a.relayed) given purposes now s))
+    by : (b : Bool) → Ages s (cond b (without_grants (is_of (family_of a.relayed)) s) (expired_in (family_of a.relayed) given purposes now s))
     by true = freed-ages (is_of (family_of a.relayed)) s
-    by false = lapsed_in-ages (family_of a.relayed) given purposes now s
+    by false = expired_in-ages (family_of a.relayed) given purposes now s
 
-each-ages : (given : Option ℕ) (purposes : List Purpose) (now : ℕ) (relays : List Relay) (s : State) → Ages s (fold (lapsed_allocation given purposes now) s relays)
+each-ages : (given : Option ℕ) (purposes : List Purpose) (now : ℕ) (relays : List Relay) (s : State) → Ages s (fold (expired_allocation given purposes now) s relays)
 each-ages given purposes now [] s = ages-self s
 each-ages given purposes now (a ∷ relays) s =
-    let t = lapsed_allocation given purposes now s a in
-    ages-trans s t (fold (lapsed_allocation given purposes now) t relays) (allocation-ages given purposes now s a) (each-ages given purposes now relays t)
+    let t = expired_allocation given purposes now s a in
+    ages-trans s t (fold (expired_allocation given purposes now) t relays) (allocation-ages given purposes now s a) (each-ages given purposes now relays t)
 
-pub lapsed-ages : (given : Option ℕ) (now : ℕ) (s : State) → Ages s (lapsed given now s)
-lapsed-ages given now s = each-ages given (timed_out_purposes given s) now (allocations s) s
+pub expired_at-ages : (given : Option ℕ) (now : ℕ) (s : State) → Ages s (expired_at given now s)
+expired_at-ages given now s = each-ages given (timed_out_purposes given s) now (allocations s) s
 
 -- ---- the five numbers
 
@@ -233,7 +233,7 @@ none-IsTold : (p : Phase) (now : ℕ) (s : State) → IsTold (left_to_do now) s 
 none-IsTold New now s = inr (refl, refl)
 none-IsTold Requesting now s = answer-IsTold (left_to_do now) (closing now) None now s s (inr (refl, refl))
 none-IsTold Authenticating now s = answer-IsTold (left_to_do now) (closing now) None now s s (inr (refl, refl))
-none-IsTold Allocated now s = answer-IsTold (left_to_do now) (closing now) None now s (lapsed None now s) (ages-KeepsUp now s (lapsed None now s) (lapsed-ages None now s))
+none-IsTold Allocated now s = answer-IsTold (left_to_do now) (closing now) None now s (expired_at None now s) (ages-KeepsUp now s (expired_at None now s) (expired_at-ages None now s))
 none-IsTold Closed now s = inr (refl, refl)
 
 -- a request timed out
@@ -255,7 +255,7 @@ timed-stands Authenticating id now s = answer-stands (Some id) now s _ (by (is_l
     by : (b : Bool) → Stands s (cond b (closed s) s)
     by true = record { config = refl; transport = refl; last_send = refl; streams = refl; transactions = refl; queue = refl }
     by false = stands-self s
-timed-stands Allocated id now s = answer-stands (Some id) now s (lapsed (Some id) now s) (lapsed-ages (Some id) now s).stands
+timed-stands Allocated id now s = answer-stands (Some id) now s (expired_at (Some id) now s) (expired_at-ages (Some id) now s).stands
 timed-stands Closed id now s = stands-self s
 
 timed-IsTold : (now : ℕ) (s : State) (x : Transaction) → timed_out_transaction (agent_of s) now ≡ Some x → IsTold (left_to_do now) s (timed_step s.phase (Some x.id) now (transaction_ended x.id s))

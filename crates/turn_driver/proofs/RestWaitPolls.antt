@@ -12,7 +12,7 @@ use Rattle.turn_agent.specs.declared.transaction.Transaction.{Transaction}
 use Rattle.turn_client_api.specs.Config.{timers_of}
 use Rattle.turn_client_api.specs.Effect.{closed, reserved_time, transaction_ended}
 use Rattle.turn_client_api.specs.Grants.{allocations, family_of, is_channel_of, is_for, is_for_any, is_of, without_grants}
-use Rattle.turn_client_api.specs.Poll.{allocation_expires, poll_step, channel_lapsed, failed, is_lapsed_channel, is_listed_for_allocation, lapsed, lapsed_allocation, lapsed_in}
+use Rattle.turn_client_api.specs.Poll.{allocation_expires, poll_step, channel_expired, failed, is_expired_channel, is_listed_for_allocation, expired_at, expired_allocation, expired_in}
 use Rattle.turn_client_api.specs.Poll.{refreshes_timed_out, timed_step, unbound}
 use Rattle.turn_client_api.specs.State.{State, agent_of, later_by}
 use Rattle.turn_client_api.specs.declared.grant.Grant.{Grant}
@@ -25,9 +25,9 @@ use Rattle.turn_client_api.specs.declared.state.Phase.{Phase}
 use Rattle.turn_client_api.specs.declared.state.Phase.TheVariants.{New, Requesting, Authenticating, Allocated, Closed}
 use Rattle.turn_client_laws.proofs.CaseLemmas.{answer-by}
 use Rattle.turn_client_api.proofs.HasLemmas.{Has, has-found, has-unreversed}
-use Rattle.turn_client_api.proofs.LapseSteps.{lapsed_in-does}
+use Rattle.turn_client_api.proofs.ExpirySteps.{expired_in-does}
 use Rattle.turn_client_laws.proofs.StreamWeightLemmas.{weight}
-use Rattle.turn_driver.proofs.RestPolls.{Closes, IsTold, Stands, answer-IsTold, gets-on-IsTold, lapsed-ages, offer-lighter, stands-self, stands-trans, timed-stands, told-by}
+use Rattle.turn_driver.proofs.RestPolls.{Closes, IsTold, Stands, answer-IsTold, gets-on-IsTold, expired_at-ages, offer-lighter, stands-self, stands-trans, timed-stands, told-by}
 use Rattle.turn_driver.proofs.RestWaits.{is_over, left_to_await, may_begin, may_keep, over, over-without}
 use Rattle.turn_driver.proofs.RestWeights.{GetsOn, IsParted, KeepsUp, load, load-append, parted, removed-load}
 
@@ -106,7 +106,7 @@ freed-calms which s = record {
     by (inl (same, none)) = inr (same, all-stay which s.grants s.listed none, refl)
     by (inr less) = inl less
 
-channel-calms : (o : Option Grant) (s : State) → ((g : Grant) → o ≡ Some g → Has g s.grants) → Calms s (channel_lapsed o s)
+channel-calms : (o : Option Grant) (s : State) → ((g : Grant) → o ≡ Some g → Has g s.grants) → Calms s (channel_expired o s)
 channel-calms (Some (Channel number peer (Active lease))) s there = record {
   stands = record { config = refl; transport = refl; last_send = refl; streams = refl; transactions = refl; queue = refl };
   phase = refl;
@@ -129,15 +129,15 @@ listed-calms family s = record {
   calmer = inr (refl, all-stay (λ g. is_of family g && is_for_any [] g) s.grants s.listed (no-family family s.grants), refl);
 }
 
-lapsed_in-calms : (family : AddressFamily) (now : ℕ) (s : State) → Calms s (lapsed_in family None [] now s)
-lapsed_in-calms family now =
-    let lapses = λ (x : Grant). is_of family x && is_lapsed_channel now x in
-    lapsed_in-does Calms family None [] now (record {
+expired_in-calms : (family : AddressFamily) (now : ℕ) (s : State) → Calms s (expired_in family None [] now s)
+expired_in-calms family now =
+    let has_expired = λ (x : Grant). is_of family x && is_expired_channel now x in
+    expired_in-does Calms family None [] now (record {
       trans = calms-trans;
       channels = λ t. failed-calms _ t;
       permissions = λ t. failed-calms _ t;
-      last_channel = λ t. channel-calms (find lapses (reverse t.grants)) t (λ x found. has-unreversed x t.grants (has-found lapses x (reverse t.grants) found).0);
-      lapsed_permissions = λ t. failed-calms _ t;
+      last_channel = λ t. channel-calms (find has_expired (reverse t.grants)) t (λ x found. has-unreversed x t.grants (has-found has_expired x (reverse t.grants) found).0);
+      expired_permissions = λ t. failed-calms _ t;
       connects = λ t. failed-calms _ t;
       connections = λ t. unbound-calms _ t;
       offers = λ t. failed-calms _ t;
@@ -145,21 +145,21 @@ lapsed_in-calms family now =
       frees = λ t. freed-calms _ t;
     })
 
-allocation-calms : (now : ℕ) (s : State) (a : Relay) → Calms s (lapsed_allocation None [] now s a)
+allocation-calms : (now : ℕ) (s : State) (a : Relay) → Calms s (expired_allocation None [] now s a)
 allocation-calms now s a = by (allocation_expires [] now s a)
   where
-    by : (b : Bool) → Calms s (cond b (without_grants (is_of (family_of a.relayed)) s) (lapsed_in (family_of a.relayed) None [] now s))
+    by : (b : Bool) → Calms s (cond b (without_grants (is_of (family_of a.relayed)) s) (expired_in (family_of a.relayed) None [] now s))
     by true = freed-calms (is_of (family_of a.relayed)) s
-    by false = lapsed_in-calms (family_of a.relayed) now s
+    by false = expired_in-calms (family_of a.relayed) now s
 
-each-calms : (now : ℕ) (relays : List Relay) (s : State) → Calms s (fold (lapsed_allocation None [] now) s relays)
+each-calms : (now : ℕ) (relays : List Relay) (s : State) → Calms s (fold (expired_allocation None [] now) s relays)
 each-calms now [] s = calms-self s
 each-calms now (a ∷ relays) s =
-    let t = lapsed_allocation None [] now s a in
-    calms-trans s t (fold (lapsed_allocation None [] now) t relays) (allocation-calms now s a) (each-calms now relays t)
+    let t = expired_allocation None [] now s a in
+    calms-trans s t (fold (expired_allocation None [] now) t relays) (allocation-calms now s a) (each-calms now relays t)
 
-lapsed-calms : (now : ℕ) (s : State) → Calms s (lapsed None now s)
-lapsed-calms now s = each-calms now (allocations s) s
+expired_at-calms : (now : ℕ) (s : State) → Calms s (expired_at None now s)
+expired_at-calms now s = each-calms now (allocations s) s
 
 -- ---- the seven numbers
 
@@ -204,7 +204,7 @@ none-told : (p : Phase) (now : ℕ) (s : State) → IsTold (left_to_await now) s
 none-told New now s = inr (refl, refl)
 none-told Requesting now s = answer-IsTold (left_to_await now) (closing now) None now s s (inr (refl, refl))
 none-told Authenticating now s = answer-IsTold (left_to_await now) (closing now) None now s s (inr (refl, refl))
-none-told Allocated now s = answer-IsTold (left_to_await now) (closing now) None now s (lapsed None now s) (calms-KeepsUp now s (lapsed None now s) (lapsed-calms now s))
+none-told Allocated now s = answer-IsTold (left_to_await now) (closing now) None now s (expired_at None now s) (calms-KeepsUp now s (expired_at None now s) (expired_at-calms now s))
 none-told Closed now s = inr (refl, refl)
 
 -- a client that is not new stays so
@@ -216,7 +216,7 @@ old-stays Authenticating id now s e = answer-by (λ t. may_begin t.phase ≤ 0) 
     by : (b : Bool) → may_begin (cond b (closed s) s).phase ≤ 0
     by true = omega arith
     by false = rw e (omega arith)
-old-stays Allocated id now s e = answer-by (λ t. may_begin t.phase ≤ 0) (Some id) now (lapsed (Some id) now s) (λ closes. rw (lapsed-ages (Some id) now s).phase (rw e (omega arith)))
+old-stays Allocated id now s e = answer-by (λ t. may_begin t.phase ≤ 0) (Some id) now (expired_at (Some id) now s) (λ closes. rw (expired_at-ages (Some id) now s).phase (rw e (omega arith)))
 old-stays Closed id now s e = rw e (omega arith)
 
 timed-told : (now : ℕ) (s : State) (x : Transaction) → timed_out_transaction (agent_of s) now ≡ Some x

@@ -11,7 +11,7 @@ ghost use Rattle.turn_client_api.specs.Connections.{is_connected, is_indicated};
 ghost use Rattle.turn_client_api.specs.Grants.{find_allocation, allocations, channel_at, channel_peer, as_allocation, as_connection, first_in, is_channel_of};
 ghost use Rattle.turn_client_api.specs.Grants.{is_connect_to, is_for, is_of, is_of_family, is_listed, has_active_permission, permission_progress, purposes_of};
 ghost use Rattle.turn_client_api.specs.Judgement.{is_bind_of};
-ghost use Rattle.turn_client_api.specs.Poll.{is_lapsed_channel, next_offer};
+ghost use Rattle.turn_client_api.specs.Poll.{is_expired_channel, next_offer};
 ghost use Rattle.turn_client_api.specs.State.{State};
 ghost use Rattle.turn_client_api.specs.declared.grant.Grant.TheVariants.{Channel};
 ghost use Rattle.turn_client_api.specs.declared.grant.Progress.TheVariants.{Pending};
@@ -76,11 +76,11 @@ impl GrantTable {
     }
 
     /// The last channel of this family that is active and expires at this time or earlier.
-    pub(crate) fn last_lapsed_channel(&self, family: AddressFamily, now: Instant) -> Option<Grant>
-        ensures found { result ≡ find (λ g. is_of family g && is_lapsed_channel now g) (reverse self.now.grants) }
+    pub(crate) fn last_expired_channel(&self, family: AddressFamily, now: Instant) -> Option<Grant>
+        ensures found { result ≡ find (λ g. is_of family g && is_expired_channel now g) (reverse self.now.grants) }
         ensures numbers { list_all is_numbered self.now.grants ≡ true }
     {
-        reads::last_lapsed_channel(self.grants.as_slice(), family, now)
+        reads::last_expired_channel(self.grants.as_slice(), family, now)
     }
 
     /// Whether some request was made for the grant.
@@ -353,7 +353,7 @@ impl GrantTable {
     pub(crate) fn is_early(&self, now: Instant) -> bool
         ensures { (s : State) → result ≡ true → All (λ time. now < time) (expiry_times (with_table self.now s)) }
     {
-        now.as_nanos() < self.summary.lapse
+        now.as_nanos() < self.summary.next_expiry
     }
 }
 

@@ -1,7 +1,7 @@
 //! What a ledger should hold, as plain lists that are kept by hand.
 
 pub(crate) mod answers;
-pub(crate) mod lapses;
+pub(crate) mod expiries;
 pub(crate) mod reads;
 pub(crate) mod times;
 

@@ -131,8 +131,8 @@ fn first_changes(
         5 => asks::refresh(ledger, plain, draw),
         6 => asks::again(ledger, plain, draw),
         7 => asks::gives_back(ledger, plain, draw),
-        8 => answers::lapse(ledger, plain, draw),
-        _ => answers::lapse_given_up(ledger, plain, draw),
+        8 => answers::expire_grants(ledger, plain, draw),
+        _ => answers::expire_given_up(ledger, plain, draw),
     }
 }
 

@@ -189,7 +189,7 @@ fn left_at(alloc: Global, now: u64) -> Result<usize, AllocError> {
         Grant::Connection(waiting()),
     ];
     let mut ledger = holding(alloc, &grants, &Purposes::none())?;
-    ledger.lapse(None, seconds(now));
+    ledger.expire_grants(None, seconds(now));
     Ok(ledger.table().count())
 }
 

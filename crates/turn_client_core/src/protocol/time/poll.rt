@@ -4,7 +4,7 @@ ghost use Rattle.std.specs.Prelude.{◌≡◌, ◌≤◌, ◌^◌, ◌++◌, dro
 ghost use Rattle.turn_client_api.specs.Alarm.{IsTimely};
 ghost use Rattle.turn_client_laws.specs.LawsGrantAllocations.{GrantsHaveAllocations};
 ghost use Rattle.turn_client_laws.specs.LawsOrder.{FitsPhase};
-ghost use Rattle.turn_client_api.specs.Poll.{answer_step, timed_out_step, lapsed, next_offer, is_listed_for_allocation, offer_step, poll_step, timed_step};
+ghost use Rattle.turn_client_api.specs.Poll.{answer_step, timed_out_step, expired_at, next_offer, is_listed_for_allocation, offer_step, poll_step, timed_step};
 ghost use Rattle.turn_client_core.specs.Polled.{is_without_allocation, unallocated};
 
 use crate::protocol::TurnClientProtocol;
@@ -119,7 +119,7 @@ impl TurnClientProtocol {
         ensures { (result, self.new) ≡ timed_out_step now self.old }
     {
         let given = self.give_up(now);
-        self.lapse(&given, now);
+        self.expire_grants(&given, now);
         self.answer(&given, now)
     }
 
@@ -159,10 +159,10 @@ impl TurnClientProtocol {
     }
 
     /// Handles all expiries at this time or earlier, and the request that timed out, if there is one.
-    fn lapse(&mut self, given: &Option<TransactionId>, now: Instant)
-        ensures { self.new ≡ lapsed given.now now self.old }
+    fn expire_grants(&mut self, given: &Option<TransactionId>, now: Instant)
+        ensures { self.new ≡ expired_at given.now now self.old }
     {
-        self.ledger.lapse(*given, now);
+        self.ledger.expire_grants(*given, now);
     }
 
     /// What the caller is to do: close a connection, nothing more, or wait.

@@ -7,7 +7,7 @@ unfolding refresh_time
 returns c = record {
   allocations = λ s. refl;
   permission = λ s. refl;
-  lapse = λ s. refl;
+  expiry = λ s. refl;
   queued = λ s. refl;
   paused = λ s. refl;
   longer = λ s. refl;

@@ -12,6 +12,6 @@ returns c = record {
   streams = λ s. refl;
   deadline = λ s. refl;
   none = λ s. refl;
-  lapsed = λ text s. refl;
+  expired = λ text s. refl;
   failed = λ text s. refl;
 }

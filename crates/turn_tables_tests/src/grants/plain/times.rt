@@ -1,6 +1,6 @@
 //! When rows are refreshed, and what is refreshed first, on plain lists.
 
-use crate::grants::plain::lapses::is_in;
+use crate::grants::plain::expiries::is_in;
 use crate::grants::plain::{Kind, Plain, Row, SECOND, Stage, address, family, is_ipv6, number_of};
 use turn_client_api::Purpose;
 

@@ -108,21 +108,21 @@ pub(crate) fn delete_answered(
 }
 
 /// What expires by now, without a request that timed out.
-pub(crate) fn lapse(
+pub(crate) fn expire_grants(
     ledger: &mut GrantLedger,
     plain: &mut Plain,
     draw: &Draw,
 ) -> Result<(), AllocError> {
-    ledger.lapse(None, at(draw.now));
-    plain.lapse(None, draw.now)
+    ledger.expire_grants(None, at(draw.now));
+    plain.expire_grants(None, draw.now)
 }
 
 /// What expires by now, and what a request that timed out was made for.
-pub(crate) fn lapse_given_up(
+pub(crate) fn expire_given_up(
     ledger: &mut GrantLedger,
     plain: &mut Plain,
     draw: &Draw,
 ) -> Result<(), AllocError> {
-    ledger.lapse(Some(id(draw.m)), at(draw.now));
-    plain.lapse(Some(draw.m), draw.now)
+    ledger.expire_grants(Some(id(draw.m)), at(draw.now));
+    plain.expire_grants(Some(draw.m), draw.now)
 }

@@ -12,5 +12,5 @@ returns-then-le-clause-found c =
 
 pub returns-clause-found : goal.returns-clause-found
 returns-clause-found c =
-    let lapsed : nat_le c.args.now c.in-Some.found.1 ≡ false = search rules in
-    rw (← c.active_channel.ensures.found, c.in-Some.is, lapsed) refl
+    let expired_at : nat_le c.args.now c.in-Some.found.1 ≡ false = search rules in
+    rw (← c.active_channel.ensures.found, c.in-Some.is, expired_at) refl
