@@ -112,16 +112,16 @@ emptied-rest local s e = none-emptied local s.streams e
 attempt-out : (message : List ℕ) (local : SocketAddr) (bytes : List ℕ) (s : State) → is_some (attempt_indicated message (with_bytes local bytes s)) ≡ is_some (attempt_indicated message s)
 attempt-out message local bytes s = by (connection_id_in message) (peer_in message) refl refl
   where
-    heeded : (peer : SocketAddr) (id : ℕ) → connection_id_in message ≡ Some id → peer_in message ≡ Some peer → (b : Bool) → accepts_attempt peer s ≡ b
+    accepted : (peer : SocketAddr) (id : ℕ) → connection_id_in message ≡ Some id → peer_in message ≡ Some peer → (b : Bool) → accepts_attempt peer s ≡ b
         → is_some (attempt_indicated message (with_bytes local bytes s)) ≡ is_some (attempt_indicated message s)
-    heeded peer id e f true h = rw (e, f, h) refl
-    heeded peer id e f false h = rw (e, f, h) refl
+    accepted peer id e f true h = rw (e, f, h) refl
+    accepted peer id e f false h = rw (e, f, h) refl
 
     by : (id : Option ℕ) (peer : Option SocketAddr) → connection_id_in message ≡ id → peer_in message ≡ peer
         → is_some (attempt_indicated message (with_bytes local bytes s)) ≡ is_some (attempt_indicated message s)
     by None peer e f = rw e refl
     by (Some id) None e f = rw (e, f) refl
-    by (Some id) (Some peer) e f = heeded peer id e f (accepts_attempt peer s) refl
+    by (Some id) (Some peer) e f = accepted peer id e f (accepts_attempt peer s) refl
 
 message-out : (message : List ℕ) (local : SocketAddr) (bytes : List ℕ) (s : State) → message_takes_memory message (with_bytes local bytes s) ≡ message_takes_memory message s
 message-out message local bytes s = by (judgement_of s message) refl

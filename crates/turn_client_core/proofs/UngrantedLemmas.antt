@@ -84,7 +84,7 @@ Stays-KeepsAllEdits = record {
   rebinds = λ number peer was progress s there. (λ h. λ u. absurd (rw (h u) at there), keeps-same s);
   holds = λ message d s e. (λ h. h, Keeps-KeepsAllEdits.holds message d s e);
   counts = λ s held few. (λ h. λ u. h (before-after s.phase u), Keeps-KeepsAllEdits.counts s held few);
-  resets = λ heeded s. (λ h. h, Keeps-KeepsAllEdits.resets heeded s);
+  resets = λ accepted s. (λ h. h, Keeps-KeepsAllEdits.resets accepted s);
   empties = λ s. (λ h. λ u. ap (filter (λ g. not true)) (h u), keeps-same s);
   allocates = λ message lifetime now s e none.
       (λ h. λ u. absurd (granted-with (taken_addresses s.families (relayed_in message)) u), Keeps-KeepsAllEdits.allocates message lifetime now s e none);

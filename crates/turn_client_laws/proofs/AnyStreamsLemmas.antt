@@ -147,15 +147,15 @@ module _ (x : List Stream) where
       (Ignored, with_streams x s) ≡ both_with x (option_map_or {T = State} {U = Outcome × State} (λ t. (Handled, t)) (attempt_indicated message s) (Ignored, s))
   indicated-alike message s = by (connection_id_in message) refl (peer_in message) refl
     where
-      heeded_if : (b : Bool) (t : State) → option_map_or {T = State} {U = Outcome × State} (λ t. (Handled, t)) (cond b (Some (with_streams x t)) None) (Ignored, with_streams x s) ≡ both_with x
+      accepted_if : (b : Bool) (t : State) → option_map_or {T = State} {U = Outcome × State} (λ t. (Handled, t)) (cond b (Some (with_streams x t)) None) (Ignored, with_streams x s) ≡ both_with x
           (option_map_or {T = State} {U = Outcome × State} (λ t. (Handled, t)) (cond b (Some t) None) (Ignored, s))
-      heeded_if true t = refl
-      heeded_if false t = refl
+      accepted_if true t = refl
+      accepted_if false t = refl
 
       by : (i : Option ℕ) → connection_id_in message ≡ i → (p : Option SocketAddr) → peer_in message ≡ p
           → option_map_or {T = State} {U = Outcome × State} (λ t. (Handled, t)) (attempt_indicated message (with_streams x s)) (Ignored, with_streams x s) ≡ both_with x
           (option_map_or {T = State} {U = Outcome × State} (λ t. (Handled, t)) (attempt_indicated message s) (Ignored, s))
-      by (Some id) e (Some peer) f = rw (e, f) (heeded_if (accepts_attempt peer s) _)
+      by (Some id) e (Some peer) f = rw (e, f) (accepted_if (accepts_attempt peer s) _)
       by (Some id) e None f = rw (e, f) refl
       by None e p f = rw e refl
 

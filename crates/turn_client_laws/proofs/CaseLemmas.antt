@@ -61,9 +61,9 @@ module _ (P : State → Type 0) (message : List ℕ) (s : State) where
   ]
 
 -- what is ignored changes nothing
-pub by_heeded : (P : State → Type 0) (o : Option State) (s : State) → IfSome o P → P s → P (option_map_or {T = State} {U = Outcome × State} (λ t. (Handled, t)) o (Ignored, s)).1
-by_heeded P None s p q = q
-by_heeded P (Some t) s p q = p
+pub by_accepted : (P : State → Type 0) (o : Option State) (s : State) → IfSome o P → P s → P (option_map_or {T = State} {U = Outcome × State} (λ t. (Handled, t)) o (Ignored, s)).1
+by_accepted P None s p q = q
+by_accepted P (Some t) s p q = p
 
 -- ---- a message of a connection
 

@@ -217,7 +217,7 @@ KeepsDistinctGrants-KeepsAllEdits = record {
   rebinds = rebound-tidy;
   holds = λ message d s e. (λ u. u, λ h. h);
   counts = λ s held few. (ungranted-after s.phase, λ h. record { none = λ u. h.none (ungranted-after s.phase u); single = h.single });
-  resets = λ heeded s. (λ u. u, λ h. h);
+  resets = λ accepted s. (λ u. u, λ h. h);
   empties = λ s. (λ u. u, filtered (λ g. not true) s.phase s.grants);
   allocates = λ message lifetime now s e none. allocates-tidy message lifetime now s e;
   permits = λ ip is_kept expiry s is.

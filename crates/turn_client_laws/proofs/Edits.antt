@@ -166,7 +166,7 @@ pub record KeepsEdits (R : State → State → Type 0) : Type 0 where
 -- ---- what messages are made of, too
 
 -- where the count of challenges may begin anew, this holds of the message
-pub record KeepsHeeded (Heeded : Type 0) (R : State → State → Type 0) : Type 0 where
+pub record KeepsAccepted (HasAccepted : Type 0) (R : State → State → Type 0) : Type 0 where
   pub edits : KeepsEdits R
   -- grants are extended, and end
   pub reshapes : (grants : List Grant) (s : State) → map outline grants ≡ map outline s.grants → R s (record s { grants = grants })
@@ -176,7 +176,7 @@ pub record KeepsHeeded (Heeded : Type 0) (R : State → State → Type 0) : Type
   -- challenges
   pub holds : (message : List ℕ) (d : Challenge) (s : State) → challenge_in s message ≡ Some d → R s (with_held d s)
   pub counts : (s : State) → IsSome s.held → s.challenges < s.config.max_stale_nonces → R s (record s { phase = phase_after s.phase; challenges = s.challenges + 1 })
-  pub resets : Heeded → (s : State) → R s (challenges_reset s)
+  pub resets : HasAccepted → (s : State) → R s (challenges_reset s)
   -- all grants are removed
   pub empties : (s : State) → R s (without_grants (λ g. true) s)
   -- the server allocates
@@ -200,7 +200,7 @@ IgnoresAll R = (s : State) (streams : List Stream) → R s (record s { streams =
 
 -- of each message
 abbrev pub KeepsAllEdits : (State → State → Type 0) → Type 0
-KeepsAllEdits R = KeepsHeeded ⊤ R
+KeepsAllEdits R = KeepsAccepted ⊤ R
 
 -- ---- outlines
 

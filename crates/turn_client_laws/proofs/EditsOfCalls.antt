@@ -53,7 +53,7 @@ use Rattle.turn_client_laws.proofs.GrantOriginEffectLemmas.{same_ip-same}
 use Rattle.turn_client_laws.proofs.DoubleLemmas.{no-connection, no-permission}
 use Rattle.turn_client_laws.proofs.RunKeepLemmas.{poll_recv-kept, recv-kept}
 use Rattle.turn_client_laws.proofs.MemoryLemmas.{leaves-kept}
-use Rattle.turn_client_laws.proofs.Edits.{IsAskable, KeepsAllEdits, KeepsEdits, IgnoresAll, KeepsHeeded}
+use Rattle.turn_client_laws.proofs.Edits.{IsAskable, KeepsAllEdits, KeepsEdits, IgnoresAll, KeepsAccepted}
 use Rattle.turn_client_laws.proofs.EditsOfReplies.{allocations-change, marked-alike, closed-walk, either, fail-walk, found, gone-walk, one-of, requested-walk, asked-walk, spelled-else, expired-alike}
 use Rattle.turn_client_laws.proofs.EditsOfTime.{channel-asked, for-there, poll-walk, transmit-walk}
 use Rattle.turn_client_laws.proofs.EditsOfMessages.{edits-IsKept}
@@ -341,8 +341,8 @@ module _ (R : State → State → Type 0) (k : KeepsEdits R) where
 
 -- ---- all calls
 
-pub expires-walk : (Heeded : Type 0) (R : State → State → Type 0) → KeepsHeeded Heeded R → (now : ℕ) (s : State) → R s (all_expired now s)
-expires-walk Heeded R k now s = allocations-change Heeded R k (λ r. true) (λ r. record r { expiry = now; is_expired = true }) (λ r. refl) s
+pub expires-walk : (HasAccepted : Type 0) (R : State → State → Type 0) → KeepsAccepted HasAccepted R → (now : ℕ) (s : State) → R s (all_expired now s)
+expires-walk HasAccepted R k now s = allocations-change HasAccepted R k (λ r. true) (λ r. record r { expiry = now; is_expired = true }) (λ r. refl) s
 
 pub calls-walk : (R : State → State → Type 0) → KeepsAllEdits R → IgnoresAll R → (call : Call) (s : State) → R s (state_after call s)
 calls-walk R k streams (Recv packet now) s = recv-kept R (edits-IsKept R k streams) packet.transport packet.from packet.to packet.payload now s

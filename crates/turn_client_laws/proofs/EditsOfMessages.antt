@@ -44,9 +44,9 @@ use Rattle.turn_client_laws.proofs.GrantOriginLemmas.{has-mapped}
 use Rattle.turn_client_laws.proofs.ChallengeJudgement.{Challenged-is, bind-is}
 use Rattle.turn_client_laws.proofs.StandLemmas.{has-contains}
 use Rattle.turn_client_laws.proofs.RunKeepLemmas.{IsKept}
-use Rattle.turn_client_laws.proofs.Edits.{KeepsAllEdits, IgnoresAll, KeepsHeeded}
+use Rattle.turn_client_laws.proofs.Edits.{KeepsAllEdits, IgnoresAll, KeepsAccepted}
 use Rattle.turn_client_laws.proofs.EditsOfReplies.{asked-walk, deadline-walk, effects-walk, fail-walk, gone-walk, removed, requested-walk, spelled-else, unlisted-walk, without-allocates}
-use Rattle.turn_client_laws.proofs.CaseLemmas.{requested-by, indicated-by, by_heeded, bind-by, by_test}
+use Rattle.turn_client_laws.proofs.CaseLemmas.{requested-by, indicated-by, by_accepted, bind-by, by_test}
 
 -- ---- what may be requested again
 
@@ -147,7 +147,7 @@ granted-with (a ∷ others) u = u
 
 -- ---- a walk over messages
 
-module _ (Heeded : Type 0) (R : State → State → Type 0) (k : KeepsHeeded Heeded R) where
+module _ (HasAccepted : Type 0) (R : State → State → Type 0) (k : KeepsAccepted HasAccepted R) where
   then : (s t u : State) → R s t → R t u → R s u
   then s t u = k.edits.trans s t u
 
@@ -184,12 +184,12 @@ module _ (Heeded : Type 0) (R : State → State → Type 0) (k : KeepsHeeded Hee
 
   -- ---- signed replies
 
-  reply-walk : (is_granted : Bool) (message : List ℕ) (now : ℕ) (s : State) → ((p : Purpose) → Has p (answered_purposes message s) → Heeded) → (IsUngranted s.phase → ⊥)
+  reply-walk : (is_granted : Bool) (message : List ℕ) (now : ℕ) (s : State) → ((p : Purpose) → Has p (answered_purposes message s) → HasAccepted) → (IsUngranted s.phase → ⊥)
       → R s (response_step is_granted message now s).1
-  reply-walk is_granted message now s heeded granted =
-      effects-walk Heeded R k s (id_of message) granted is_granted message now (method_in message) (answered_purposes message s) (transaction_ended (id_of message) s)
+  reply-walk is_granted message now s accepted granted =
+      effects-walk HasAccepted R k s (id_of message) granted is_granted message now (method_in message) (answered_purposes message s) (transaction_ended (id_of message) s)
       (k.edits.finishes (id_of message) s)
-      (λ connect a there. there) heeded (λ p there. has-filter (is_answered (method_in message)) p (purposes_of (id_of message) s) there)
+      (λ connect a there. there) accepted (λ p there. has-filter (is_answered (method_in message)) p (purposes_of (id_of message) s) there)
 
   granted-walk : (message : List ℕ) (now : ℕ) (s : State) → s.phase ≡ Authenticating → R s (allocate_granted message now s)
   granted-walk message now s e = by (lifetime_in message)
@@ -238,17 +238,17 @@ module _ (Heeded : Type 0) (R : State → State → Type 0) (k : KeepsHeeded Hee
       by false f = rw f (fail-walk R k.edits s)
 
   signed-walk : (p : Phase) (is_granted : Bool) (message : List ℕ) (now : ℕ) (s : State) (j : Judgement) → judgement_of (record s { phase = p }) message ≡ j → IsSigned j
-      → ((q : Purpose) → Has q (answered_purposes message (record s { phase = p })) → Heeded) → R (record s { phase = p }) (signed_step is_granted message now (record s { phase = p })).1
-  signed-walk Authenticating true message now s j e h heeded =
+      → ((q : Purpose) → Has q (answered_purposes message (record s { phase = p })) → HasAccepted) → R (record s { phase = p }) (signed_step is_granted message now (record s { phase = p })).1
+  signed-walk Authenticating true message now s j e h accepted =
       let u = record s { phase = Authenticating } in
       then u (transaction_ended (id_of message) u) _ (k.edits.finishes (id_of message) u) (granted-walk message now (transaction_ended (id_of message) u) refl)
-  signed-walk Authenticating false message now s j e h heeded =
+  signed-walk Authenticating false message now s j e h accepted =
       let u = record s { phase = Authenticating } in
       then u (transaction_ended (id_of message) u) _ (k.edits.finishes (id_of message) u) (denied-walk (fresh_id u) message now (transaction_ended (id_of message) u) refl)
-  signed-walk New g message now s j e h heeded = absurd (new-unsigned j e h)
-  signed-walk Requesting g message now s j e h heeded = absurd (requesting-unsigned (answers_one (record s { phase = Requesting }) message)
+  signed-walk New g message now s j e h accepted = absurd (new-unsigned j e h)
+  signed-walk Requesting g message now s j e h accepted = absurd (requesting-unsigned (answers_one (record s { phase = Requesting }) message)
       (challenge_in (record s { phase = Requesting }) message) j e h)
-  signed-walk p g message now s j e h heeded = reply-walk g message now (record s { phase = p }) heeded (λ u. u)
+  signed-walk p g message now s j e h accepted = reply-walk g message now (record s { phase = p }) accepted (λ u. u)
 
   -- ---- the server requests a connection
 
@@ -257,23 +257,23 @@ module _ (Heeded : Type 0) (R : State → State → Type 0) (k : KeepsHeeded Hee
       requested-by (R s) message s (λ queue. k.edits.queues queue s begun)
       (λ id peer room free. k.offers id peer (ServerRequest (id_of message)) s (allocation-room Tcp (socket_ip peer) s room) (λ f. cc))
 
-  heeded-walk : (id : ℕ) (peer : SocketAddr) (s : State) → accepts_attempt peer s ≡ true → R s (with_offer id peer ServerIndication s)
-  heeded-walk id peer s e =
+  accepted-walk : (id : ℕ) (peer : SocketAddr) (s : State) → accepts_attempt peer s ≡ true → R s (with_offer id peer ServerIndication s)
+  accepted-walk id peer s e =
       let few = and_parts _ (ltb (length (filter is_indicated s.grants)) max_indicated) e in
       let free = and_parts _ (not (is_connected peer s || is_connecting peer s)) few.0 in
       let let_in = and_parts (is_some (find_allocation_to Tcp (socket_ip peer) s)) (has_active_permission (socket_ip peer) s) free.0 in
       k.offers id peer ServerIndication s (allocation-room Tcp (socket_ip peer) s let_in.0) (λ f. ltb-true (length (filter is_indicated s.grants)) max_indicated few.1)
 
   indicated-walk : (message : List ℕ) (s : State) → IfSome (attempt_indicated message s) (R s)
-  indicated-walk message s = indicated-by (R s) message s (λ id peer accepts. heeded-walk id peer s accepts)
+  indicated-walk message s = indicated-by (R s) message s (λ id peer accepts. accepted-walk id peer s accepts)
 
   -- ---- messages
 
-  pub message-walk : (message : List ℕ) (now : ℕ) (s : State) → (IsReplyAccepted message now s → Heeded) → R s (message_step message now s).1
+  pub message-walk : (message : List ℕ) (now : ℕ) (s : State) → (IsReplyAccepted message now s → HasAccepted) → R s (message_step message now s).1
   message-walk message now s allowed = by (judgement_of s message) refl
     where
-      heeded : (j : Judgement) → judgement_of s message ≡ j → IsSigned j → (p : Purpose) → Has p (answered_purposes message s) → Heeded
-      heeded j e is p there = allowed (subst IsSigned (sym e) is, (p, has-contains p (answered_purposes message s) there))
+      accepted : (j : Judgement) → judgement_of s message ≡ j → IsSigned j → (p : Purpose) → Has p (answered_purposes message s) → HasAccepted
+      accepted j e is p there = allowed (subst IsSigned (sym e) is, (p, has-contains p (answered_purposes message s) there))
 
       if_asked : IsBegun s.phase → R s (cond {A = Outcome × State} (eqb (method_in message) connection_attempt_method) (Handled, attempt_requested message s) (Ignored, s)).1
       if_asked begun =
@@ -282,10 +282,10 @@ module _ (Heeded : Type 0) (R : State → State → Type 0) (k : KeepsHeeded Hee
       by : (j : Judgement) → judgement_of s message ≡ j → R s (message_step message now s).1
       by (Challenged d) e = rw e (challenge-walk message d now s (judged-begun s message (Challenged d) e tt) (Challenged-is s message d e))
       by Fatal e = rw e (wrong-walk s.phase message s)
-      by ConnectionAttempt e = rw e (by_heeded (R s) (attempt_indicated message s) s (indicated-walk message s) (k.edits.same s))
+      by ConnectionAttempt e = rw e (by_accepted (R s) (attempt_indicated message s) s (indicated-walk message s) (k.edits.same s))
       by SignedRequest e = rw e (if_asked (judged-begun s message SignedRequest e tt))
-      by SignedSuccess e = rw e (signed-walk s.phase true message now s SignedSuccess e tt (heeded SignedSuccess e tt))
-      by SignedError e = rw e (signed-walk s.phase false message now s SignedError e tt (heeded SignedError e tt))
+      by SignedSuccess e = rw e (signed-walk s.phase true message now s SignedSuccess e tt (accepted SignedSuccess e tt))
+      by SignedError e = rw e (signed-walk s.phase false message now s SignedError e tt (accepted SignedError e tt))
       by j e = rw e (k.edits.same s)
 
   -- ---- connections that wait to be bound
@@ -322,14 +322,14 @@ module _ (Heeded : Type 0) (R : State → State → Type 0) (k : KeepsHeeded Hee
           (then s a _ (k.holds message d s e)
           (then a more _ (asked-walk R k.edits fresh text purpose now a begun askable (spelled-else fresh text purpose a allocated (bind-other c purpose is)))
           (then more alone _ (others-unlisted c a purpose now) (then alone t _ (k.edits.queues t.queue alone begun)
-          (deadline-walk Heeded R k c.local (Some (later_by bind_time now)) t)))))
+          (deadline-walk HasAccepted R k c.local (Some (later_by bind_time now)) t)))))
 
   bound-walk : IgnoresAll R → (c : DataConnection) (s : State) → R s (bound c s)
   bound-walk streams c s =
       let a = unlisted (is_connection_from c.local) s in
       let b = with_deadline c.local None a in
       let d = with_mode c.local (Bound c.peer) b in
-      then s a _ (unlisted-walk R k.edits (is_connection_from c.local) s) (then a b _ (deadline-walk Heeded R k c.local None a) (then b d _ (streams b d.streams) (k.edits.aside d (bound c s))))
+      then s a _ (unlisted-walk R k.edits (is_connection_from c.local) s) (then a b _ (deadline-walk HasAccepted R k c.local None a) (then b d _ (streams b d.streams) (k.edits.aside d (bound c s))))
 
   not_bound-walk : (c : DataConnection) (s : State) → R s (not_bound c s)
   not_bound-walk c s = removed R k.edits (is_connection_from c.local) (λ a. refl) s (not_bound c s)

@@ -31,7 +31,7 @@ use Rattle.turn_client_api.specs.Payloads.{is_answered}
 use Rattle.turn_client_laws.specs.LawsOrder.{IsBegun, IsUngranted}
 use Rattle.turn_client_api.specs.Poll.{as_reported, first_reported, unreported_in}
 use Rattle.turn_client_api.proofs.HasLemmas.{Has, filter-has, has-filter, has-filter_map, has-left, map-has, first-has}
-use Rattle.turn_client_laws.proofs.Edits.{IsAskable, IsSpelled, KeepsEdits, SparesAllocations, listing, outline, AllocationsStay, KeepsHeeded, aged}
+use Rattle.turn_client_laws.proofs.Edits.{IsAskable, IsSpelled, KeepsEdits, SparesAllocations, listing, outline, AllocationsStay, KeepsAccepted, aged}
 use Rattle.turn_client_laws.proofs.CaseLemmas.{by_test, by_found}
 use Rattle.turn_client_api.specs.Calls.{marked, with_marks}
 use Rattle.turn_client_api.specs.Effect.{granted_until}
@@ -233,7 +233,7 @@ effect-stays id is_granted message now method s p connect answers = λ a there. 
 
 -- ---- effects
 
-module _ (Heeded : Type 0) (R : State → State → Type 0) (k : KeepsHeeded Heeded R) where
+module _ (HasAccepted : Type 0) (R : State → State → Type 0) (k : KeepsAccepted HasAccepted R) where
   pub allocations-change : (which : Relay → Bool) (change : Relay → Relay) → ((a : Relay) → (change a).relayed ≡ a.relayed) → (s : State) → R s (with_allocations which change s)
   allocations-change which change same s = k.reshapes (with_allocations which change s).grants s (alike-map outline (changed_allocation which change) (changed-outline which change same) s.grants)
 
@@ -290,8 +290,8 @@ module _ (Heeded : Type 0) (R : State → State → Type 0) (k : KeepsHeeded Hee
           (k.edits.aside t (active_channel_answered number peer expiry.expiry false now s)))
       by o e g = rw e (k.edits.same s)
 
-  prolonged-walk : Heeded → (family : AddressFamily) (lifetime now : ℕ) (s : State) → R s (prolonged family lifetime now s)
-  prolonged-walk heeded family lifetime now s = one-of R k.edits (leb min_lifetime lifetime) s _ s longer (k.edits.same s)
+  prolonged-walk : HasAccepted → (family : AddressFamily) (lifetime now : ℕ) (s : State) → R s (prolonged family lifetime now s)
+  prolonged-walk accepted family lifetime now s = one-of R k.edits (leb min_lifetime lifetime) s _ s longer (k.edits.same s)
     where
       t : State
       t = unlisted (λ g. is_some (as_allocation g) && is_of family g) s
@@ -300,19 +300,19 @@ module _ (Heeded : Type 0) (R : State → State → Type 0) (k : KeepsHeeded Hee
       u = with_allocations (λ a. is_of_family family a.relayed) (λ a. record a { expiry = later_by (seconds lifetime) now }) t
 
       longer : R s (challenges_reset u)
-      longer = k.edits.trans s t _ (unlisted-walk R k.edits _ s) (k.edits.trans t u _ (allocations-change _ _ (λ a. refl) t) (k.resets heeded u))
+      longer = k.edits.trans s t _ (unlisted-walk R k.edits _ s) (k.edits.trans t u _ (allocations-change _ _ (λ a. refl) t) (k.resets accepted u))
 
-  all_gone-walk : Heeded → (s : State) → R s (challenges_reset (all_gone s))
-  all_gone-walk heeded s =
+  all_gone-walk : HasAccepted → (s : State) → R s (challenges_reset (all_gone s))
+  all_gone-walk accepted s =
       let t = without_grants (λ g. true) s in
-      k.edits.trans s t _ (k.empties s) (k.edits.trans t (all_gone s) _ (closed-walk R k.edits t) (k.resets heeded (all_gone s)))
+      k.edits.trans s t _ (k.empties s) (k.edits.trans t (all_gone s) _ (closed-walk R k.edits t) (k.resets accepted (all_gone s)))
 
-  refreshed-walk : Heeded → (family : AddressFamily) (lifetime : ℕ) (is_granted : Bool) (message : List ℕ) (now : ℕ) (s : State) → R s (refreshed family lifetime is_granted message now s)
-  refreshed-walk heeded family lifetime is_granted message now s =
+  refreshed-walk : HasAccepted → (family : AddressFamily) (lifetime : ℕ) (is_granted : Bool) (message : List ℕ) (now : ℕ) (s : State) → R s (refreshed family lifetime is_granted message now s)
+  refreshed-walk accepted family lifetime is_granted message now s =
       one-of R k.edits (eqb lifetime 0) s _ _
-      (one-of R k.edits (is_granted || has_code allocation_mismatch message) s _ _ (all_gone-walk heeded s) (k.edits.same s))
+      (one-of R k.edits (is_granted || has_code allocation_mismatch message) s _ _ (all_gone-walk accepted s) (k.edits.same s))
       (one-of R k.edits is_granted s _ _
-      (by_found (R s) _ (lifetime_in message) s (λ granted e. prolonged-walk heeded family granted now s) (k.edits.same s)) (k.edits.same s))
+      (by_found (R s) _ (lifetime_in message) s (λ granted e. prolonged-walk accepted family granted now s) (k.edits.same s)) (k.edits.same s))
 
   -- the reply was received when the client was in the first state
   module _ (first : State) (id : ℕ) (granted : IsUngranted first.phase → ⊥) where
@@ -328,24 +328,24 @@ module _ (Heeded : Type 0) (R : State → State → Type 0) (k : KeepsHeeded Hee
     connect-walk peer (Some connection_id) s since stay listed = k.connects id connection_id peer first s since stay granted listed
     connect-walk peer None s since stay listed = k.edits.trans first s _ since (removed R k.edits (is_connect_to peer) (λ a. refl) s (connect_answered peer None s))
 
-    reset : Heeded → (s t : State) → R first s → R s t → R first (challenges_reset t)
-    reset heeded s t since step = k.edits.trans first t _ (k.edits.trans first s t since step) (k.resets heeded t)
+    reset : HasAccepted → (s t : State) → R first s → R s t → R first (challenges_reset t)
+    reset accepted s t since step = k.edits.trans first t _ (k.edits.trans first s t since step) (k.resets accepted t)
 
-    effect-walk : Heeded → (is_granted : Bool) (message : List ℕ) (now method : ℕ) (s : State) (p : Purpose) → R first s → Stay method s → IsAnswered method p
+    effect-walk : HasAccepted → (is_granted : Bool) (message : List ℕ) (now method : ℕ) (s : State) (p : Purpose) → R first s → Stay method s → IsAnswered method p
         → R first (effect id is_granted message now s p)
-    effect-walk heeded is_granted message now method s (ForRefresh family lifetime) since stay answers = k.edits.trans first s _ since (refreshed-walk heeded family lifetime is_granted message now s)
-    effect-walk heeded is_granted message now method s (ForPermission ip) since stay answers = reset heeded s _ since (permission-walk ip is_granted now s)
-    effect-walk heeded is_granted message now method s (ForChannel number peer) since stay answers = reset heeded s _ since (channel-walk number id is_granted now s)
-    effect-walk heeded is_granted message now method s (ForConnect peer) since stay answers =
+    effect-walk accepted is_granted message now method s (ForRefresh family lifetime) since stay answers = k.edits.trans first s _ since (refreshed-walk accepted family lifetime is_granted message now s)
+    effect-walk accepted is_granted message now method s (ForPermission ip) since stay answers = reset accepted s _ since (permission-walk ip is_granted now s)
+    effect-walk accepted is_granted message now method s (ForChannel number peer) since stay answers = reset accepted s _ since (channel-walk number id is_granted now s)
+    effect-walk accepted is_granted message now method s (ForConnect peer) since stay answers =
         let o = cond is_granted (connection_id_in message) None in
-        k.edits.trans first (connect_answered peer o s) _ (connect-walk peer o s since (stay answers.1) answers.0) (k.resets heeded (connect_answered peer o s))
-    effect-walk heeded is_granted message now method s p since stay answers = since
+        k.edits.trans first (connect_answered peer o s) _ (connect-walk peer o s since (stay answers.1) answers.0) (k.resets accepted (connect_answered peer o s))
+    effect-walk accepted is_granted message now method s p since stay answers = since
 
     pub effects-walk : (is_granted : Bool) (message : List ℕ) (now method : ℕ) (purposes : List Purpose) (s : State) → R first s → Stay method s
-        → ((p : Purpose) → Has p purposes → Heeded) → ((p : Purpose) → Has p purposes → IsAnswered method p) → R first (fold (effect id is_granted message now) s purposes)
-    effects-walk is_granted message now method [] s since stay heeded answers = since
-    effects-walk is_granted message now method (p ∷ purposes) s since stay heeded answers =
+        → ((p : Purpose) → Has p purposes → HasAccepted) → ((p : Purpose) → Has p purposes → IsAnswered method p) → R first (fold (effect id is_granted message now) s purposes)
+    effects-walk is_granted message now method [] s since stay accepted answers = since
+    effects-walk is_granted message now method (p ∷ purposes) s since stay accepted answers =
         let t = effect id is_granted message now s p in
-        effects-walk is_granted message now method purposes t (effect-walk (heeded p (inl refl)) is_granted message now method s p since stay (answers p (inl refl)))
-        (λ connect a there. effect-stays id is_granted message now method s p connect (answers p (inl refl)).1 a (stay connect a there)) (λ q there. heeded q (inr there))
+        effects-walk is_granted message now method purposes t (effect-walk (accepted p (inl refl)) is_granted message now method s p since stay (answers p (inl refl)))
+        (λ connect a there. effect-stays id is_granted message now method s p connect (answers p (inl refl)).1 a (stay connect a there)) (λ q there. accepted q (inr there))
         (λ q there. answers q (inr there))

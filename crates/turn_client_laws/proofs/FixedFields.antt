@@ -36,6 +36,6 @@ fixed-all-edits part = all-phase-edits ⊤ (SameIn part) (record {
   edits = fixed-phase-edits part;
   holds = λ message d s e. refl;
   counts = λ s held few. refl;
-  resets = λ heeded s. refl;
+  resets = λ accepted s. refl;
   allocates = λ addresses s e. refl;
 })

@@ -87,7 +87,7 @@ module _ (P : List Grant → Type 0) (k : KeepsGrants P) where
     rebinds = λ number peer was progress s there h. k.rebinds number peer was progress s.grants there h;
     holds = λ message d s e h. h;
     counts = λ s held few h. h;
-    resets = λ heeded s h. h;
+    resets = λ accepted s h. h;
     empties = λ s h. k.filters (λ g. not true) s.grants h;
     allocates = λ message lifetime now s phase none h. k.allocates lifetime now s.families (relayed_in message) s.grants h;
     permits = λ ip is_kept expiry s is h.

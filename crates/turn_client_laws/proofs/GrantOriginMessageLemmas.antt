@@ -32,7 +32,7 @@ use Rattle.turn_client_laws.proofs.ChallengeJudgement.{AnswersAllocate, IsSigned
 use Rattle.turn_client_laws.proofs.StandLemmas.{Covers, Leaves, Left, covers-left, has-contains, leaves-cond, leaves-same, left-one, left-same}
 use Rattle.turn_client_laws.proofs.GrantOriginLemmas.{ChannelsWithin, Gives, IsGiven, IsGivenOf, Takes, gives-append, gives-covers, gives-left, has-mapped, purposes-within, takes-fold}
 use Rattle.turn_client_laws.proofs.GrantOriginEffectLemmas.{effect-takes}
-use Rattle.turn_client_laws.proofs.CaseLemmas.{requested-by, indicated-by, by_heeded, by_test, by_found}
+use Rattle.turn_client_laws.proofs.CaseLemmas.{requested-by, indicated-by, by_accepted, by_test, by_found}
 use Rattle.turn_client_laws.proofs.InAllocationLemmas.{any-has, has-any}
 
 -- ---- what is judged to be granted
@@ -193,7 +193,7 @@ message-grants g message now s = by (judgement_of s message) refl
     by Fatal e = rw e (left (wrong_step message s).1 (same (wrong_step message s).1 (wrong-grants s.phase message s)))
     by ConnectionAttempt e =
         let t = (option_map_or {T = State} {U = Outcome × State} (λ t. (Handled, t)) (attempt_indicated message s) (Ignored, s)).1 in
-        rw e (left t (by_heeded (Leaves s) (attempt_indicated message s) s (indicated-leaves message s) (leaves-same s)))
+        rw e (left t (by_accepted (Leaves s) (attempt_indicated message s) s (indicated-leaves message s) (leaves-same s)))
     by SignedRequest e =
         let t = (cond {A = Outcome × State} (eqb (method_in message) connection_attempt_method) (Handled, attempt_requested message s) (Ignored, s)).1 in
         let asked = λ (p : Outcome × State). Leaves s p.1 in

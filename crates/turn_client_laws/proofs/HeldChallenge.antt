@@ -34,7 +34,7 @@ StayHeld-KeepsAllEdits = all-phase-edits ⊤ StayHeld (record {
   edits = record { rest = λ s t h. h; trans = λ s t u first second h. second (first h); sends = λ now s h. h; begins = λ now s new h. tt; ends = λ s h. tt };
   holds = λ message d s e h. held-any s.phase (Some d) refl;
   counts = λ s held few h. held-any (phase_after s.phase) s.held held;
-  resets = λ heeded s h. h;
+  resets = λ accepted s h. h;
   allocates = λ addresses s e h. held-with addresses s.held (subst (λ (p : Phase). IsHeldIn p s.held) e h);
 })
 

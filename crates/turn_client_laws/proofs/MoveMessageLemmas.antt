@@ -225,12 +225,12 @@ requested-turns Taken message now s = turns-settled Taken message now s _ (by (c
 indicated-settles : (Taken : Grant → Type 0) (message : List ℕ) (s : State) → IfSome (attempt_indicated message s) (Settles Taken s)
 indicated-settles Taken message s = by (connection_id_in message) refl (peer_in message) refl
   where
-    heeded_if : (b : Bool) (t : State) → Settles Taken s t → IfSome (cond b (Some t) None) (Settles Taken s)
-    heeded_if true t k = k
-    heeded_if false t k = tt
+    accepted_if : (b : Bool) (t : State) → Settles Taken s t → IfSome (cond b (Some t) None) (Settles Taken s)
+    accepted_if true t k = k
+    accepted_if false t k = tt
 
     by : (i : Option ℕ) → connection_id_in message ≡ i → (p : Option SocketAddr) → peer_in message ≡ p → IfSome (attempt_indicated message s) (Settles Taken s)
-    by (Some id) e (Some peer) f = rw (e, f) (heeded_if (accepts_attempt peer s) _
+    by (Some id) e (Some peer) f = rw (e, f) (accepted_if (accepts_attempt peer s) _
         (adds-same Never s.transactions, adds-same Never s.listed, loses-more Taken s.grants s.grants _ (loses-same Taken s.grants)))
     by (Some id) e None f = rw (e, f) tt
     by None e p f = rw e tt

@@ -16,7 +16,7 @@ use Rattle.turn_client_api.specs.Retry.{phase_after, with_held}
 use Rattle.turn_client_api.specs.Calls.{offer_taken}
 use Rattle.turn_client_api.specs.Transmit.{sent}
 use Rattle.turn_agent.specs.Agent.{resent}
-use Rattle.turn_client_laws.proofs.Edits.{KeepsEdits, KeepsHeeded}
+use Rattle.turn_client_laws.proofs.Edits.{KeepsEdits, KeepsAccepted}
 
 -- a state with grants, requests and queues as in another one
 abbrev pub with_rest : State → State → State
@@ -39,12 +39,12 @@ pub record KeepsPhaseEdits (R : State → State → Type 0) : Type 0 where
   pub ends : (s : State) → R s (record s { phase = Closed })
 
 -- those of messages, too
-pub record KeepsAllPhaseEdits (Heeded : Type 0) (R : State → State → Type 0) : Type 0 where
+pub record KeepsAllPhaseEdits (HasAccepted : Type 0) (R : State → State → Type 0) : Type 0 where
   pub edits : KeepsPhaseEdits R
   pub holds : (message : List ℕ) (d : Challenge) (s : State) → challenge_in s message ≡ Some d → R s (with_held d s)
   pub counts : (s : State) → IsSome s.held → s.challenges < s.config.max_stale_nonces
       → R s (record s { phase = phase_after s.phase; challenges = s.challenges + 1 })
-  pub resets : Heeded → (s : State) → R s (challenges_reset s)
+  pub resets : HasAccepted → (s : State) → R s (challenges_reset s)
   pub allocates : (addresses : List SocketAddr) (s : State) → s.phase ≡ Authenticating → R s (record s { phase = phase_with addresses })
 
 pub phase-edits : (R : State → State → Type 0) → KeepsPhaseEdits R → KeepsEdits R
@@ -73,8 +73,8 @@ phase-edits R k = record {
   reserves = λ number peer was until s there. k.rest s (with_grant (Channel number peer (Reserved until)) (without_grants (is_channel_of number) s));
 }
 
-pub all-phase-edits : (Heeded : Type 0) (R : State → State → Type 0) → KeepsAllPhaseEdits Heeded R → KeepsHeeded Heeded R
-all-phase-edits Heeded R k = record {
+pub all-phase-edits : (HasAccepted : Type 0) (R : State → State → Type 0) → KeepsAllPhaseEdits HasAccepted R → KeepsAccepted HasAccepted R
+all-phase-edits HasAccepted R k = record {
   edits = phase-edits R k.edits;
   reshapes = λ grants s e. k.edits.rest s (record s { grants = grants });
   rebinds = λ number peer was progress s there. k.edits.rest s (with_grant (Channel number peer progress) (without_grants (is_channel_of number) s));

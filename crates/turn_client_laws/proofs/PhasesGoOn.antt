@@ -109,7 +109,7 @@ Keeps-KeepsAllEdits = all-phase-edits ⊤ Keeps (record {
   edits = Keeps-KeepsPhaseEdits;
   holds = λ message d s e. (λ h. h, λ h. h, takes-realm s message d e, (keeps-same s).3);
   counts = λ s held few. (λ h. ap phase_after h, λ h. omega (arith, few), (keeps-same s).2, (rank-after s.phase, λ h. h));
-  resets = λ heeded s. (λ h. h, λ h. omega arith, (keeps-same s).2, (keeps-same s).3);
+  resets = λ accepted s. (λ h. h, λ h. omega arith, (keeps-same s).2, (keeps-same s).3);
   allocates = λ addresses s e. allocates-keeps addresses s.phase s e;
 })
 

@@ -14,7 +14,7 @@ use Rattle.turn_client_laws.specs.LawsSteps.{IsChallengeCounted, KeepsRealm}
 use Rattle.turn_client_api.specs.Steps.{state_after, state_after_all}
 use Rattle.turn_client_api.specs.declared.call.Call.{Call}
 use Rattle.turn_client_laws.proofs.ConfiguredLemmas.{leaves-configured}
-use Rattle.turn_client_laws.proofs.CountLemmas.{bringing, leaves-heeded}
+use Rattle.turn_client_laws.proofs.CountLemmas.{bringing, leaves-accepted}
 use Rattle.turn_client_laws.proofs.PhasesGoOn.{challenge-IsCounted, leaves-keeps}
 use Rattle.turn_client_laws.proofs.TurnBringLemmas.{turn-brings}
 use Rattle.turn_client_laws.proofs.TurnLemmas.{brought}
@@ -47,20 +47,20 @@ challenge-counts one c =
 
 -- ---- how many in sequence
 
-abbrev IsHeededIn : Input → Type 0
-IsHeededIn one = ((processed one).1.challenges < one.before.challenges) × (is_message one.bytes ≡ true) × IsReplyAccepted one.bytes one.time one.before
+abbrev IsAcceptedIn : Input → Type 0
+IsAcceptedIn one = ((processed one).1.challenges < one.before.challenges) × (is_message one.bytes ≡ true) × IsReplyAccepted one.bytes one.time one.before
 
-abbrev IsWellHeeded : Input → Type 0
-IsWellHeeded one = (is_message one.bytes ≡ true) × IsReplyAccepted one.bytes one.time one.before
+abbrev IsWellAccepted : Input → Type 0
+IsWellAccepted one = (is_message one.bytes ≡ true) × IsReplyAccepted one.bytes one.time one.before
 
 -- an input makes the count no less, or is accepted
-turn-grows : (one : Input) → (one.before.challenges ≤ (processed one).1.challenges) ⊎ IsHeededIn one
+turn-grows : (one : Input) → (one.before.challenges ≤ (processed one).1.challenges) ⊎ IsAcceptedIn one
 turn-grows one =
     let n = one.before.challenges in
     elim (cases_lt (processed one).1.challenges n) [
-      | inl fewer ↦ elim (turn-brings (λ s. s.challenges < n) IsWellHeeded (brought (λ s. s.challenges < n) IsReplyAccepted (bringing n)) one fewer) [
+      | inl fewer ↦ elim (turn-brings (λ s. s.challenges < n) IsWellAccepted (brought (λ s. s.challenges < n) IsReplyAccepted (bringing n)) one fewer) [
         | inl less ↦ absurd (omega (arith, less))
-        | inr heeded ↦ inr (fewer, heeded.0, heeded.1)
+        | inr accepted ↦ inr (fewer, accepted.0, accepted.1)
       ]
       | inr more ↦ inl more
     ]
@@ -81,15 +81,15 @@ lead-counts (one ∷ later) s t (first, lead) = by (lead-counts later (processed
     count true e grows rest = rw e (let more = ltb-true one.before.challenges (processed one).1.challenges e in omega (arith, more, rest, same))
     count false e grows rest = rw e (omega (arith, grows, rest, same))
 
-    by : Counts (processed one).1 t later → (one.before.challenges ≤ (processed one).1.challenges) ⊎ IsHeededIn one → Counts s t (one ∷ later)
+    by : Counts (processed one).1 t later → (one.before.challenges ≤ (processed one).1.challenges) ⊎ IsAcceptedIn one → Counts s t (one ∷ later)
     by (inl rest) (inl grows) = inl (count (is_answer one) refl grows rest)
-    by (inl rest) (inr heeded) = inr (among-first IsHeededIn one later heeded)
-    by (inr among) grows = inr (among-later IsHeededIn one later among)
+    by (inl rest) (inr accepted) = inr (among-first IsAcceptedIn one later accepted)
+    by (inr among) grows = inr (among-later IsAcceptedIn one later among)
 
 -- a call that processes nothing
 idle-counts : (call : Call) (s : State) → handled call s ≡ [] → Counts s (state_after call s) (handled call s)
 idle-counts call s none = elim (cases_lt (state_after call s).challenges s.challenges) [
-  | inl less ↦ absurd (among-none IsWellHeeded (subst (IsAmong IsWellHeeded) none (leaves-heeded call s (state_after call s) (inl refl) less)))
+  | inl less ↦ absurd (among-none IsWellAccepted (subst (IsAmong IsWellAccepted) none (leaves-accepted call s (state_after call s) (inl refl) less)))
   | inr more ↦ rw none (inl (omega (arith, more)))
 ]
 
@@ -110,15 +110,15 @@ run-counts s (call ∷ calls) =
     elim (call-counts call s) [
       | inl first ↦ elim (run-counts (state_after call s) calls) [
         | inl rest ↦ inl (let sum = answers-append turns more in omega (arith, first, rest, sum))
-        | inr among ↦ inr (among-right IsHeededIn turns more among)
+        | inr among ↦ inr (among-right IsAcceptedIn turns more among)
       ]
-      | inr among ↦ inr (among-left IsHeededIn turns more among)
+      | inr among ↦ inr (among-left IsAcceptedIn turns more among)
     ]
 
 -- only a signed reply lowers the count
 pub falls-by-replies : (s : State) (calls : List Call) → FallsByReplies s calls
 falls-by-replies s calls = (
-  λ one there fewer. elim (turn-grows one) [ inl more ↦ absurd (omega (arith, fewer, more)) | inr heeded ↦ (heeded.1, heeded.2) ],
+  λ one there fewer. elim (turn-grows one) [ inl more ↦ absurd (omega (arith, fewer, more)) | inr accepted ↦ (accepted.1, accepted.2) ],
   λ fewer. elim (run-counts s calls) [ inl counts ↦ absurd (omega (arith, fewer, counts)) | inr among ↦ among ],
 )
 

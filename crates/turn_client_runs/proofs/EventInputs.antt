@@ -37,7 +37,7 @@ use Rattle.turn_client_laws.specs.LawsHandled.{IsOverControl}
 use Rattle.turn_client_laws.specs.LawsReplies.{IsAccepted, IsAwaited, IsNotAwaited}
 use Rattle.turn_client_laws.proofs.AcceptedReplyLemmas.{accepted-gone}
 use Rattle.turn_client_laws.proofs.BoundLemmas.{binds-turn, found-local}
-use Rattle.turn_client_laws.proofs.CaseLemmas.{bind-by, by_found, by_heeded, by_test, indicated-by, requested-by}
+use Rattle.turn_client_laws.proofs.CaseLemmas.{bind-by, by_found, by_accepted, by_test, indicated-by, requested-by}
 use Rattle.turn_client_laws.proofs.ChallengeJudgement.{AnswersAllocate, IsSignedReply, Says, judgement-says}
 use Rattle.turn_client_laws.proofs.EditsOfMessages.{connection-there}
 use Rattle.turn_client_laws.proofs.GrantOriginCallLemmas.{Binds}
@@ -198,7 +198,7 @@ module _ (one : Input) (over : IsOverControl one) (whole : is_message one.bytes 
       by Fatal f says = rw f (adding-failed (inl f) (wrong_step message s).1 (wrong-events s.phase message s))
       by ConnectionAttempt f says =
           let t = (option_map_or {T = State} {U = Outcome × State} (λ t. (Handled, t)) (attempt_indicated message s) (Ignored, s)).1 in
-          rw f (adding-none t (by_heeded same (attempt_indicated message s) s (indicated-by same message s (λ id peer accepts. refl)) refl))
+          rw f (adding-none t (by_accepted same (attempt_indicated message s) s (indicated-by same message s (λ id peer accepts. refl)) refl))
       by SignedRequest f says =
           let t = (cond {A = Outcome × State} (eqb (method_in message) connection_attempt_method) (Handled, attempt_requested message s) (Ignored, s)).1 in
           rw f (adding-none t (by_test (λ (x : Outcome × State). same x.1) (eqb (method_in message) connection_attempt_method) (Handled, attempt_requested message s) (Ignored, s)

@@ -28,7 +28,7 @@ use Rattle.turn_client_api.specs.Payloads.{Outcome, answered_purposes, challenge
 use Rattle.turn_client_api.specs.Receive.{connection_gone}
 use Rattle.turn_client_api.specs.Requests.{connection_attempt_method, fresh_id, listings}
 use Rattle.turn_client_api.specs.Retry.{retried, state_after_retry}
-use Rattle.turn_client_laws.proofs.CaseLemmas.{bind-by, by_found, by_heeded, by_test, indicated-by, requested-by}
+use Rattle.turn_client_laws.proofs.CaseLemmas.{bind-by, by_found, by_accepted, by_test, indicated-by, requested-by}
 use Rattle.turn_client_laws.proofs.Edits.{listing}
 use Rattle.turn_client_laws.proofs.GrantOriginLemmas.{has-mapped}
 use Rattle.turn_client_api.proofs.HasLemmas.{Has, filter-none, has-append, has-filter, map-has}
@@ -229,7 +229,7 @@ message-lone message now s = by (judgement_of s message) refl
     by : (j : Judgement) → judgement_of s message ≡ j → KeepsLone s (message_step message now s).1
     by (Challenged d) e = rw e (challenge-lone message d now s)
     by Fatal e = rw e (wrong-lone s.phase message s)
-    by ConnectionAttempt e = rw e (by_heeded (KeepsLone s) (attempt_indicated message s) s (indicated-by (KeepsLone s) message s (λ id peer accepts lone. lone)) same)
+    by ConnectionAttempt e = rw e (by_accepted (KeepsLone s) (attempt_indicated message s) s (indicated-by (KeepsLone s) message s (λ id peer accepts lone. lone)) same)
     by SignedRequest e =
         rw e (by_test (λ (x : Outcome × State). KeepsLone s x.1) (eqb (method_in message) connection_attempt_method) _ _
         (λ is. requested-by (KeepsLone s) message s (λ queue lone. lone) (λ id peer room free lone. lone)) (λ other. same))

@@ -319,11 +319,11 @@ module _ (o : DataOffer) where
         → HasIt s ⊎ ((o.origin ≡ ServerIndication) × IsNamed × (accepts_attempt o.peer s ≡ true))
     indicated-back = by (connection_id_in message) refl (peer_in message) refl
       where
-        heeded : Option State → State
-        heeded t = (option_map_or {T = State} {U = Outcome × State} (λ u. (Handled, u)) t (Ignored, s)).1
+        accepted : Option State → State
+        accepted t = (option_map_or {T = State} {U = Outcome × State} (λ u. (Handled, u)) t (Ignored, s)).1
 
         Goal : ℕ → SocketAddr → Option State → Type 0
-        Goal id peer t = HasIt (heeded t) → HasIt s ⊎ ((o.origin ≡ ServerIndication) × IsNamedBy id peer × (accepts_attempt o.peer s ≡ true))
+        Goal id peer t = HasIt (accepted t) → HasIt s ⊎ ((o.origin ≡ ServerIndication) × IsNamedBy id peer × (accepts_attempt o.peer s ≡ true))
 
         offers : (id : ℕ) (peer : SocketAddr) → accepts_attempt peer s ≡ true → Goal id peer (Some (with_offer id peer ServerIndication s))
         offers id peer accepts there = elim (attempt-back id peer ServerIndication there) [
@@ -332,7 +332,7 @@ module _ (o : DataOffer) where
         ]
 
         by : (i : Option ℕ) → connection_id_in message ≡ i → (p : Option SocketAddr) → peer_in message ≡ p
-            → HasIt (heeded (attempt_indicated message s)) → HasIt s ⊎ ((o.origin ≡ ServerIndication) × IsNamed × (accepts_attempt o.peer s ≡ true))
+            → HasIt (accepted (attempt_indicated message s)) → HasIt s ⊎ ((o.origin ≡ ServerIndication) × IsNamed × (accepts_attempt o.peer s ≡ true))
         by (Some id) e (Some peer) f = rw (e, f) (by_test (Goal id peer) (accepts_attempt peer s) _ None (offers id peer) (λ refuses there. inl there))
         by (Some id) e None f = rw (e, f) (λ there. inl there)
         by None e p f = rw e (λ there. inl there)

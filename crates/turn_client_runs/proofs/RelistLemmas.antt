@@ -147,12 +147,12 @@ requested-listed message s = by (connection_id_in message) refl (peer_in message
 indicated-listed : (message : List ℕ) (s : State) → IfSome (attempt_indicated message s) (λ t. t.listed ≡ s.listed)
 indicated-listed message s = by (connection_id_in message) refl (peer_in message) refl
   where
-    heeded_if : (b : Bool) (t : State) → t.listed ≡ s.listed → IfSome (cond b (Some t) None) (λ u. u.listed ≡ s.listed)
-    heeded_if true t k = k
-    heeded_if false t k = tt
+    accepted_if : (b : Bool) (t : State) → t.listed ≡ s.listed → IfSome (cond b (Some t) None) (λ u. u.listed ≡ s.listed)
+    accepted_if true t k = k
+    accepted_if false t k = tt
 
     by : (i : Option ℕ) → connection_id_in message ≡ i → (p : Option SocketAddr) → peer_in message ≡ p → IfSome (attempt_indicated message s) (λ t. t.listed ≡ s.listed)
-    by (Some id) e (Some peer) f = rw (e, f) (heeded_if (accepts_attempt peer s) _ refl)
+    by (Some id) e (Some peer) f = rw (e, f) (accepted_if (accepts_attempt peer s) _ refl)
     by (Some id) e None f = rw (e, f) tt
     by None e p f = rw e tt
 

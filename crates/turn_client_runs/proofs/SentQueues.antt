@@ -32,7 +32,7 @@ use Rattle.turn_client_api.specs.Judgement.{lifetime_in, method_in, peer_in}
 use Rattle.turn_client_api.specs.Payloads.{Handled, Ignored, Outcome, answered_purposes, challenge_step, message_step, response_step, signed_step, wrong_step}
 use Rattle.turn_client_api.specs.Requests.{connection_attempt_method, connection_already_exists, bad_request, fresh_id, refused_reply, replied, requested}
 use Rattle.turn_client_api.specs.Retry.{retried, state_after_retry, with_held}
-use Rattle.turn_client_laws.proofs.CaseLemmas.{bind-by, by_found, by_heeded, by_test, indicated-by}
+use Rattle.turn_client_laws.proofs.CaseLemmas.{bind-by, by_found, by_accepted, by_test, indicated-by}
 use Rattle.turn_client_laws.proofs.EditsOfMessages.{purposes-listed}
 use Rattle.turn_client_api.proofs.HasLemmas.{Has, has-found}
 use Rattle.turn_client_laws.proofs.MoveLemmas.{Adds, adds-one, adds-same}
@@ -230,7 +230,7 @@ message-queues message now s = by (judgement_of s message) refl
     by (Challenged d) e = rw e (challenge-queues message now s d)
     by Fatal e = rw e (same message now s (wrong_step message s).1 (wrong-queues message now s s.phase))
     by ConnectionAttempt e =
-        rw e (by_heeded (After message now s) (attempt_indicated message s) s
+        rw e (by_accepted (After message now s) (attempt_indicated message s) s
         (indicated-by (After message now s) message s (λ id peer accepts. same message now s (with_offer id peer ServerIndication s) refl)) (same message now s s refl))
     by SignedRequest e =
         rw e (by_test (λ (x : Outcome × State). After message now s x.1) (eqb (method_in message) connection_attempt_method) (Handled, attempt_requested message s) (Ignored, s)

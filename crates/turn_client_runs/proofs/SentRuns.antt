@@ -78,7 +78,7 @@ Stays-KeepsAllEdits = all-phase-edits ⊤ Stays (record {
   };
   holds = λ message d s e. (refl, refl, refl, refl);
   counts = λ s held few. (refl, refl, refl, refl);
-  resets = λ heeded s. (refl, refl, refl, refl);
+  resets = λ accepted s. (refl, refl, refl, refl);
   allocates = λ addresses s e. (refl, refl, refl, refl);
 })
 

@@ -39,7 +39,7 @@ use Rattle.turn_client_laws.specs.Handled.{Input, processed}
 use Rattle.turn_client_laws.specs.LawsHandled.{DiffersInStreams, InputsLead}
 use Rattle.turn_client_api.proofs.AddressLemmas.{same_address-self, same_address-true}
 use Rattle.turn_client_laws.proofs.BoundLemmas.{found-local}
-use Rattle.turn_client_laws.proofs.CaseLemmas.{bind-by, by_found, by_heeded, by_test}
+use Rattle.turn_client_laws.proofs.CaseLemmas.{bind-by, by_found, by_accepted, by_test}
 use Rattle.turn_client_laws.proofs.EditsOfMessages.{connection-there}
 use Rattle.turn_client_api.proofs.HasLemmas.{Has, cases_Option}
 use Rattle.turn_client_laws.proofs.ListedGrants.{AllHaveGrant}
@@ -183,7 +183,7 @@ module _ (e : TurnEvent) where
       by Fatal f tells = brings message s (message_step message now s).1 (rw f (wrong-spends s.phase message s))
       by ConnectionAttempt f tells =
           let method : method_in message ≡ connection_attempt_method = rw f at tells in
-          rw f (by_heeded (Brings message s) (attempt_indicated message s) s
+          rw f (by_accepted (Brings message s) (attempt_indicated message s) s
           (indicated-names (Brings message s) message s (λ id peer names. offered message s method id peer ServerIndication names)) none)
       by SignedRequest f tells =
           rw f (by_test (λ (x : Outcome × State). Brings message s x.1) (eqb (method_in message) connection_attempt_method) (Handled, attempt_requested message s) (Ignored, s)
