@@ -32,8 +32,8 @@ use Rattle.turn_client_laws.specs.LawsGrantAllocations.{asked_family, IsAskedIn,
 use Rattle.turn_client_laws.specs.LawsStates.{is_asked_by}
 use Rattle.turn_client_api.proofs.AddressLemmas.{same_ip-true}
 use Rattle.turn_client_api.proofs.HasLemmas.{Has, all-has, has-all, has-filter, has-filter_map, has-right, cases_Option, first-has}
-use Rattle.turn_client_laws.proofs.InAllocationLemmas.{Backed, Housed, Houses, Room, Spares, SparesAll, all-spared, any-has, asked-more, has-any, housed-filter, housed-grant, housed-grants}
-use Rattle.turn_client_laws.proofs.InAllocationLemmas.{housed-listings, housed-shaped, housed-without, of-room, room-more, room-of, room-without, same_family-self, same_family-true, shape}
+use Rattle.turn_client_laws.proofs.InAllocationLemmas.{Backed, AreInAllocations, KeepsInAllocations, Room, Spares, SparesAll, all-spared, any-has, asked-more, has-any, in_allocations-filter, in_allocations-grant, in_allocations-grants}
+use Rattle.turn_client_laws.proofs.InAllocationLemmas.{in_allocations-listings, in_allocations-shaped, in_allocations-without, of-room, room-more, room-of, room-without, same_family-self, same_family-true, shape}
 use Rattle.turn_client_laws.proofs.TakenOfferLemmas.{no-offer, stays-first, was-first}
 use Rattle.turn_client_laws.proofs.GrantOriginLemmas.{has-mapped}
 use Rattle.turn_client_laws.proofs.Edits.{IsAskable, KeepsAllEdits, KeepsEdits, aged-outlines, outline}
@@ -42,16 +42,16 @@ use Rattle.turn_client_laws.proofs.EditsOfCalls.{leaves-walk}
 
 -- ---- grants are added and removed
 
-without-houses : (which : Grant → Bool) → Spares which → (s : State) → Houses s (without_grants which s)
-without-houses which spares s h = housed-without which spares s.grants s.listed h
+without-stays_in_allocations : (which : Grant → Bool) → Spares which → (s : State) → KeepsInAllocations s (without_grants which s)
+without-stays_in_allocations which spares s h = in_allocations-without which spares s.grants s.listed h
 
-with_grant-houses : (g : Grant) (s : State) → Room s.grants (family_of_grant g) → Houses s (with_grant g s)
-with_grant-houses g s room h = housed-grant s.grants g s.listed h room
+with_grant-stays_in_allocations : (g : Grant) (s : State) → Room s.grants (family_of_grant g) → KeepsInAllocations s (with_grant g s)
+with_grant-stays_in_allocations g s room h = in_allocations-grant s.grants g s.listed h room
 
 -- one of a family that has an allocation replaces these
-replaced-houses : (which : Grant → Bool) → SparesAll which → (g : Grant) (s : State) → (Housed s.grants s.listed → Room s.grants (family_of_grant g)) → Houses s (with_grant g (without_grants which s))
-replaced-houses which spares g s room h =
-    with_grant-houses g (without_grants which s) (room-without which spares s.grants (family_of_grant g) (room h)) (without-houses which (all-spared which spares) s h)
+replaced-stays_in_allocations : (which : Grant → Bool) → SparesAll which → (g : Grant) (s : State) → (AreInAllocations s.grants s.listed → Room s.grants (family_of_grant g)) → KeepsInAllocations s (with_grant g (without_grants which s))
+replaced-stays_in_allocations which spares g s room h =
+    with_grant-stays_in_allocations g (without_grants which s) (room-without which spares s.grants (family_of_grant g) (room h)) (without-stays_in_allocations which (all-spared which spares) s h)
 
 family-spares : (family : AddressFamily) → Spares (is_of family)
 family-spares family a g goes same = subst (λ (f : AddressFamily). same_family f family ≡ true) same goes
@@ -59,8 +59,8 @@ family-spares family a g goes same = subst (λ (f : AddressFamily). same_family 
 taken-room : (id : ℕ) (peer : SocketAddr) (s : State) (family : AddressFamily) → Room s.grants family → Room (offer_taken id peer s).grants family
 taken-room id peer s = room-more s.grants _ (λ a there. stays-first (is_offer_of id peer) (Allocation a) s.grants there refl)
 
-taken-houses : (id : ℕ) (peer : SocketAddr) (s : State) → Houses s (offer_taken id peer s)
-taken-houses id peer s h = record {
+taken-stays_in_allocations : (id : ℕ) (peer : SocketAddr) (s : State) → KeepsInAllocations s (offer_taken id peer s)
+taken-stays_in_allocations id peer s h = record {
   stands = λ g there. taken-room id peer s (family_of_grant g) (h.stands g (was-first (is_offer_of id peer) g s.grants there));
   backed = λ l there. asked-more s.grants _ l.purpose (λ g here for. stays-first (is_offer_of id peer) g s.grants here (no-offer id peer l.purpose g for)) (h.backed l there);
 }
@@ -71,7 +71,7 @@ same_address-family (V6 a) (V4 b) e = cc
 same_address-family a b e = refl
 
 -- an offer that exists has an allocation
-offer-room : (id : ℕ) (peer : SocketAddr) (origin : Origin) (s : State) → offer_origin id peer s ≡ Some origin → Housed s.grants s.listed → Room s.grants (family_of peer)
+offer-room : (id : ℕ) (peer : SocketAddr) (origin : Origin) (s : State) → offer_origin id peer s ≡ Some origin → AreInAllocations s.grants s.listed → Room s.grants (family_of peer)
 offer-room id peer origin s e h = elim (cases_Option (slice_get (filter_map as_offer (filter (is_offer_of id peer) s.grants)) 0)) [
   | inl f ↦ absurd (none-some origin (rw f at e))
   | inr (offer, f) ↦
@@ -86,7 +86,7 @@ offer-room id peer origin s e h = elim (cases_Option (slice_get (filter_map as_o
     of offer g reads is room = cc
 
 -- a permission that exists has an allocation
-permission-room : (ip : IpAddr) (p : Progress) (s : State) → permission_state ip s ≡ Some p → Housed s.grants s.listed → Room s.grants (family_of_ip ip)
+permission-room : (ip : IpAddr) (p : Progress) (s : State) → permission_state ip s ≡ Some p → AreInAllocations s.grants s.listed → Room s.grants (family_of_ip ip)
 permission-room ip p s e h =
     let (g, there, reads) = has-filter_map (permission_progress ip) p s.grants (first-has p (filter_map (permission_progress ip) s.grants) e) in
     of g reads (h.stands g there)
@@ -106,8 +106,8 @@ shapes-outline : (gs : List Grant) → map shape (map outline gs) ≡ map shape 
 shapes-outline [] = refl
 shapes-outline (g ∷ gs) = rw (shape-outline g, shapes-outline gs) refl
 
-reshaped-houses : (grants : List Grant) (s : State) → map outline grants ≡ map outline s.grants → Houses s (record s { grants = grants })
-reshaped-houses grants s e = housed-shaped s.grants grants s.listed (sym (shapes-outline s.grants) ∙ (ap (map shape) (sym e) ∙ shapes-outline grants))
+reshaped-stays_in_allocations : (grants : List Grant) (s : State) → map outline grants ≡ map outline s.grants → KeepsInAllocations s (record s { grants = grants })
+reshaped-stays_in_allocations grants s e = in_allocations-shaped s.grants grants s.listed (sym (shapes-outline s.grants) ∙ (ap (map shape) (sym e) ∙ shapes-outline grants))
 
 -- ---- requests
 
@@ -126,21 +126,21 @@ asked-backed gs (ForChannel number peer) (Channel other to progress) there is = 
 asked-backed gs (ForConnect peer) (Connect to) there is = λ family e. (Connect to, there, is, same_address-family to peer is ∙ same_Some (family_of peer) family e)
 asked-backed gs p g there is = cc
 
-askable-backed : (s : State) (p : Purpose) → Housed s.grants s.listed → IsAskable s p → Backed s.grants p
+askable-backed : (s : State) (p : Purpose) → AreInAllocations s.grants s.listed → IsAskable s p → Backed s.grants p
 askable-backed s p h (inl e) = subst (λ (x : Purpose). Backed s.grants x) (sym e) (unbacked s.grants ForAllocation refl)
 askable-backed s p h (inr (inl asked)) = let (g, there, is) = any-has (is_asked_by p) s.grants asked in asked-backed s.grants p g there is
 askable-backed s p h (inr (inr (l, there, e))) = subst (λ (x : Purpose). Backed s.grants x) e (h.backed l there)
 
 -- the peer of a CONNECT that is listed has an allocation
-connect-room : (id : ℕ) (peer : SocketAddr) (s : State) → Has (ForConnect peer) (purposes_of id s) → Housed s.grants s.listed → Room s.grants (family_of peer)
+connect-room : (id : ℕ) (peer : SocketAddr) (s : State) → Has (ForConnect peer) (purposes_of id s) → AreInAllocations s.grants s.listed → Room s.grants (family_of peer)
 connect-room id peer s listed h =
     let (l, there, e) = purposes-listed id s (ForConnect peer) listed in
     let (g, here, for, is) = subst (λ (x : Purpose). Backed s.grants x) e (h.backed l there) (family_of peer) refl in
     subst (λ (f : AddressFamily). Room s.grants f) is (h.stands g here)
 
 -- the server allocates
-allocates-houses : (lifetime now : ℕ) (addresses : List SocketAddr) (s : State) → Housed s.grants s.listed → Housed (s.grants ++ map (new_allocation lifetime now) addresses) s.listed
-allocates-houses lifetime now addresses s h = housed-grants s.grants made s.listed h own
+allocates-stays_in_allocations : (lifetime now : ℕ) (addresses : List SocketAddr) (s : State) → AreInAllocations s.grants s.listed → AreInAllocations (s.grants ++ map (new_allocation lifetime now) addresses) s.listed
+allocates-stays_in_allocations lifetime now addresses s h = in_allocations-grants s.grants made s.listed h own
   where
     made : List Grant
     made = map (new_allocation lifetime now) addresses
@@ -152,8 +152,8 @@ allocates-houses lifetime now addresses s h = housed-grants s.grants made s.list
 
 -- ---- each edit
 
-Houses-KeepsEdits : KeepsEdits Houses
-Houses-KeepsEdits = record {
+KeepsInAllocations-KeepsEdits : KeepsEdits KeepsInAllocations
+KeepsInAllocations-KeepsEdits = record {
   same = λ s h. h;
   trans = λ s t u first second h. second (first h);
   aside = λ s t h. h;
@@ -163,37 +163,37 @@ Houses-KeepsEdits = record {
   sends = λ now s waits h. h;
   begins = λ now s new h. h;
   ends = λ s none h. h;
-  asks = λ id text purposes now s begun askable spelled h. housed-listings s.grants s.listed id purposes h (λ p there. askable-backed s p h (askable p there));
+  asks = λ id text purposes now s begun askable spelled h. in_allocations-listings s.grants s.listed id purposes h (λ p there. askable-backed s p h (askable p there));
   finishes = λ id s h. h;
   resends = λ id now s h. h;
-  unlists = λ which s. housed-filter s.grants which s.listed;
-  removes = λ which s spares. without-houses which (all-spared which spares) s;
-  removes_family = λ family s. without-houses (is_of family) (family-spares family) s;
-  takes_offer = taken-houses;
-  ages = λ grants s e. reshaped-houses grants s (aged-outlines grants s.grants e);
-  permission = λ ip s phase room none. with_grant-houses (Permission ip (Pending true)) s room;
-  channel = λ number peer s phase room none within. with_grant-houses (Channel number peer (Pending true)) s room;
-  connect = λ peer s phase room none. with_grant-houses (Connect peer) s room;
+  unlists = λ which s. in_allocations-filter s.grants which s.listed;
+  removes = λ which s spares. without-stays_in_allocations which (all-spared which spares) s;
+  removes_family = λ family s. without-stays_in_allocations (is_of family) (family-spares family) s;
+  takes_offer = taken-stays_in_allocations;
+  ages = λ grants s e. reshaped-stays_in_allocations grants s (aged-outlines grants s.grants e);
+  permission = λ ip s phase room none. with_grant-stays_in_allocations (Permission ip (Pending true)) s room;
+  channel = λ number peer s phase room none within. with_grant-stays_in_allocations (Channel number peer (Pending true)) s room;
+  connect = λ peer s phase room none. with_grant-stays_in_allocations (Connect peer) s room;
   connection = λ id c origin s phase offer none waits h.
-      with_grant-houses (Connection c) (offer_taken id c.peer s) (taken-room id c.peer s (family_of c.peer) (offer-room id c.peer origin s offer h)) (taken-houses id c.peer s h);
-  reserves = λ number peer was until s there. replaced-houses (is_channel_of number) (λ a. refl) (Channel number peer (Reserved until)) s (λ h. h.stands (Channel number peer was) there);
+      with_grant-stays_in_allocations (Connection c) (offer_taken id c.peer s) (taken-room id c.peer s (family_of c.peer) (offer-room id c.peer origin s offer h)) (taken-stays_in_allocations id c.peer s h);
+  reserves = λ number peer was until s there. replaced-stays_in_allocations (is_channel_of number) (λ a. refl) (Channel number peer (Reserved until)) s (λ h. h.stands (Channel number peer was) there);
 }
 
-Houses-KeepsAllEdits : KeepsAllEdits Houses
-Houses-KeepsAllEdits = record {
-  edits = Houses-KeepsEdits;
-  reshapes = reshaped-houses;
-  rebinds = λ number peer was progress s there. replaced-houses (is_channel_of number) (λ a. refl) (Channel number peer progress) s (λ h. h.stands (Channel number peer was) there);
+KeepsInAllocations-KeepsAllEdits : KeepsAllEdits KeepsInAllocations
+KeepsInAllocations-KeepsAllEdits = record {
+  edits = KeepsInAllocations-KeepsEdits;
+  reshapes = reshaped-stays_in_allocations;
+  rebinds = λ number peer was progress s there. replaced-stays_in_allocations (is_channel_of number) (λ a. refl) (Channel number peer progress) s (λ h. h.stands (Channel number peer was) there);
   holds = λ message d s e h. h;
   counts = λ s held few h. h;
   resets = λ accepted s h. h;
-  empties = λ s. without-houses (λ g. true) (λ a g goes same. refl) s;
-  allocates = λ message lifetime now s e none. allocates-houses lifetime now (taken_addresses s.families (relayed_in message)) s;
-  permits = λ ip is_kept expiry s is. replaced-houses (is_permission_of ip) (λ a. refl) (Permission ip (Active expiry)) s (permission-room ip (Pending is_kept) s is);
+  empties = λ s. without-stays_in_allocations (λ g. true) (λ a g goes same. refl) s;
+  allocates = λ message lifetime now s e none. allocates-stays_in_allocations lifetime now (taken_addresses s.families (relayed_in message)) s;
+  permits = λ ip is_kept expiry s is. replaced-stays_in_allocations (is_permission_of ip) (λ a. refl) (Permission ip (Active expiry)) s (permission-room ip (Pending is_kept) s is);
   connects = λ id connection_id peer s t since stay granted listed h.
-      replaced-houses (is_connect_to peer) (λ a. refl) (Offer (record { connection_id = connection_id; peer = peer; is_reported = false; origin = OwnConnect })) t
+      replaced-stays_in_allocations (is_connect_to peer) (λ a. refl) (Offer (record { connection_id = connection_id; peer = peer; is_reported = false; origin = OwnConnect })) t
       (λ k. room-more s.grants t.grants stay (family_of peer) (connect-room id peer s listed h)) (since h);
-  offers = λ id peer origin s room few. with_grant-houses (Offer (record { connection_id = id; peer = peer; is_reported = false; origin = origin })) s room;
+  offers = λ id peer origin s room few. with_grant-stays_in_allocations (Offer (record { connection_id = id; peer = peer; is_reported = false; origin = origin })) s room;
 }
 
 -- ---- the statement of the law
@@ -206,8 +206,8 @@ some-if : {X : Type 0} (P : X → Type 0) (o : Option X) → ((x : X) → o ≡ 
 some-if P None each = tt
 some-if P (Some x) each = each x refl
 
-GrantsHaveAllocations-housed : (s : State) → GrantsHaveAllocations s → Housed s.grants s.listed
-GrantsHaveAllocations-housed s (stand, back) = record { stands = λ g there. room-of (family_of_grant g) s (has-all (HasAllocation s) g s.grants stand there); backed = backed }
+GrantsHaveAllocations-in_allocations : (s : State) → GrantsHaveAllocations s → AreInAllocations s.grants s.listed
+GrantsHaveAllocations-in_allocations s (stand, back) = record { stands = λ g there. room-of (family_of_grant g) s (has-all (HasAllocation s) g s.grants stand there); backed = backed }
   where
     backed : (l : Listing) → Has l s.listed → Backed s.grants l.purpose
     backed l there family e =
@@ -216,8 +216,8 @@ GrantsHaveAllocations-housed s (stand, back) = record { stands = λ g there. roo
         let (for, is) = and_parts (is_for l.purpose g) (is_of family g) passes in
         (g, here, for, same_family-true (family_of_grant g) family is)
 
-housed-GrantsHaveAllocations : (s : State) → Housed s.grants s.listed → GrantsHaveAllocations s
-housed-GrantsHaveAllocations s h = (
+in_allocations-GrantsHaveAllocations : (s : State) → AreInAllocations s.grants s.listed → GrantsHaveAllocations s
+in_allocations-GrantsHaveAllocations s h = (
   all-has (HasAllocation s) s.grants (λ g there. of-room (family_of_grant g) s (h.stands g there)),
   all-has (ReplyHasAllocation s) s.listed (λ l there. some-if (IsAskedIn s l.purpose) (asked_family l.purpose) (backed l there)),
 )
@@ -231,10 +231,10 @@ housed-GrantsHaveAllocations s h = (
 pub initial-GrantsHaveAllocations : (transport : TransportType) (local remote : SocketAddr) (config : Config) (seed : List ℕ) → GrantsHaveAllocations (initial transport local remote config seed)
 initial-GrantsHaveAllocations transport local remote config seed =
     let s = initial transport local remote config seed in
-    housed-GrantsHaveAllocations s (record { stands = λ g none. absurd none; backed = λ l none. absurd none })
+    in_allocations-GrantsHaveAllocations s (record { stands = λ g none. absurd none; backed = λ l none. absurd none })
 
 pub leaves-GrantsHaveAllocations : (call : Call) (s t : State) → Leaves call s t → GrantsHaveAllocations s → GrantsHaveAllocations t
-leaves-GrantsHaveAllocations call s t leaves h = housed-GrantsHaveAllocations t (leaves-walk Houses Houses-KeepsAllEdits (λ s streams h. h) call s t leaves (GrantsHaveAllocations-housed s h))
+leaves-GrantsHaveAllocations call s t leaves h = in_allocations-GrantsHaveAllocations t (leaves-walk KeepsInAllocations KeepsInAllocations-KeepsAllEdits (λ s streams h. h) call s t leaves (GrantsHaveAllocations-in_allocations s h))
 
 pub GrantsHaveAllocations-AllHaveAllocation : (s : State) → GrantsHaveAllocations s → AllHaveAllocation s
 GrantsHaveAllocations-AllHaveAllocation s h = h.0

@@ -67,13 +67,13 @@ Asked gs p family = (g : Grant) × Has g gs × (is_for p g ≡ true) × (family_
 abbrev pub Backed : List Grant → Purpose → Type 0
 Backed gs p = (family : AddressFamily) → asked_family p ≡ Some family → Asked gs p family
 
-pub record Housed (gs : List Grant) (ls : List Listing) : Type 0 where
+pub record AreInAllocations (gs : List Grant) (ls : List Listing) : Type 0 where
   pub stands : (g : Grant) → Has g gs → Room gs (family_of_grant g)
   pub backed : (l : Listing) → Has l ls → Backed gs l.purpose
 
 -- what has an allocation keeps it
-abbrev pub Houses : State → State → Type 0
-Houses s t = Housed s.grants s.listed → Housed t.grants t.listed
+abbrev pub KeepsInAllocations : State → State → Type 0
+KeepsInAllocations s t = AreInAllocations s.grants s.listed → AreInAllocations t.grants t.listed
 
 pub room-of : (family : AddressFamily) (s : State) → is_some (find_allocation family s) ≡ true → Room s.grants family
 room-of family s h = elim (cases_Option (find_allocation family s)) [
@@ -110,11 +110,11 @@ asked-more gs hs p more backed family e = let (g, there, for, is) = backed famil
 
 -- ---- listings are added and removed
 
-pub housed-filter : (gs : List Grant) (which : Listing → Bool) (ls : List Listing) → Housed gs ls → Housed gs (filter which ls)
-housed-filter gs which ls h = record { stands = h.stands; backed = λ l there. h.backed l (has-filter which l ls there).0 }
+pub in_allocations-filter : (gs : List Grant) (which : Listing → Bool) (ls : List Listing) → AreInAllocations gs ls → AreInAllocations gs (filter which ls)
+in_allocations-filter gs which ls h = record { stands = h.stands; backed = λ l there. h.backed l (has-filter which l ls there).0 }
 
-pub housed-listings : (gs : List Grant) (ls : List Listing) (id : ℕ) (ps : List Purpose) → Housed gs ls → ((p : Purpose) → Has p ps → Backed gs p) → Housed gs (ls ++ listings id ps)
-housed-listings gs ls id ps h each = record {
+pub in_allocations-listings : (gs : List Grant) (ls : List Listing) (id : ℕ) (ps : List Purpose) → AreInAllocations gs ls → ((p : Purpose) → Has p ps → Backed gs p) → AreInAllocations gs (ls ++ listings id ps)
+in_allocations-listings gs ls id ps h each = record {
   stands = h.stands;
   backed = λ l there. elim (has-append l ls (listings id ps) there) [
     | inl old ↦ h.backed l old
@@ -126,8 +126,8 @@ housed-listings gs ls id ps h each = record {
 
 -- ---- grants are added
 
-pub housed-grants : (gs hs : List Grant) (ls : List Listing) → Housed gs ls → ((g : Grant) → Has g hs → Room (gs ++ hs) (family_of_grant g)) → Housed (gs ++ hs) ls
-housed-grants gs hs ls h each = record {
+pub in_allocations-grants : (gs hs : List Grant) (ls : List Listing) → AreInAllocations gs ls → ((g : Grant) → Has g hs → Room (gs ++ hs) (family_of_grant g)) → AreInAllocations (gs ++ hs) ls
+in_allocations-grants gs hs ls h each = record {
   stands = λ g there. elim (has-append g gs hs there) [
     | inl old ↦ room-more gs (gs ++ hs) (λ a there. has-left (Allocation a) gs hs there) (family_of_grant g) (h.stands g old)
     | inr new ↦ each g new
@@ -136,8 +136,8 @@ housed-grants gs hs ls h each = record {
 }
 
 -- one grant more, of a family that has an allocation
-pub housed-grant : (gs : List Grant) (g : Grant) (ls : List Listing) → Housed gs ls → Room gs (family_of_grant g) → Housed (gs ++ g ∷ []) ls
-housed-grant gs g ls h room = housed-grants gs (g ∷ []) ls h (λ x there. elim there [
+pub in_allocations-grant : (gs : List Grant) (g : Grant) (ls : List Listing) → AreInAllocations gs ls → Room gs (family_of_grant g) → AreInAllocations (gs ++ g ∷ []) ls
+in_allocations-grant gs g ls h room = in_allocations-grants gs (g ∷ []) ls h (λ x there. elim there [
   | inl e ↦ subst (λ (y : Grant). Room (gs ++ g ∷ []) (family_of_grant y)) (sym e) (room-more gs (gs ++ g ∷ []) (λ a there. has-left (Allocation a) gs (g ∷ []) there) (family_of_grant g) room)
   | inr none ↦ absurd none
 ])
@@ -161,9 +161,9 @@ stays which g gs there kept = filter-has (λ x. not (which x)) g gs there (not_f
 pub room-without : (which : Grant → Bool) → SparesAll which → (gs : List Grant) (family : AddressFamily) → Room gs family → Room (filter (λ x. not (which x)) gs) family
 room-without which spares gs = room-more gs (filter (λ x. not (which x)) gs) (λ a there. stays which (Allocation a) gs there (spares a))
 
-pub housed-without : (which : Grant → Bool) → Spares which → (gs : List Grant) (ls : List Listing) → Housed gs ls
-    → Housed (filter (λ g. not (which g)) gs) (filter (λ l. not (list_any (λ g. which g && is_for l.purpose g) gs)) ls)
-housed-without which spares gs ls h = record { stands = stands; backed = backed }
+pub in_allocations-without : (which : Grant → Bool) → Spares which → (gs : List Grant) (ls : List Listing) → AreInAllocations gs ls
+    → AreInAllocations (filter (λ g. not (which g)) gs) (filter (λ l. not (list_any (λ g. which g && is_for l.purpose g) gs)) ls)
+in_allocations-without which spares gs ls h = record { stands = stands; backed = backed }
   where
     stands : (g : Grant) → Has g (filter (λ g. not (which g)) gs) → Room (filter (λ g. not (which g)) gs) (family_of_grant g)
     stands g there =
@@ -225,8 +225,8 @@ room-shaped gs hs e family (a, there, is) =
     let (b, it, as_was) = shape-allocation a h same in
     (b, subst (λ (x : Grant). Has x hs) it here, as_was ∙ is)
 
-pub housed-shaped : (gs hs : List Grant) (ls : List Listing) → map shape gs ≡ map shape hs → Housed gs ls → Housed hs ls
-housed-shaped gs hs ls e h = record { stands = stands; backed = backed }
+pub in_allocations-shaped : (gs hs : List Grant) (ls : List Listing) → map shape gs ≡ map shape hs → AreInAllocations gs ls → AreInAllocations hs ls
+in_allocations-shaped gs hs ls e h = record { stands = stands; backed = backed }
   where
     like : (x g : Grant) → shape x ≡ shape g → family_of_grant x ≡ family_of_grant g
     like x g same = sym (shape-family x) ∙ (ap family_of_grant same ∙ shape-family g)

@@ -503,16 +503,16 @@ abbrev AreFit : State → Type 0
 AreFit s = FitsPhase s × HasNoDoubles s × GrantsHaveAllocations s
 
 fit-stays : (call : Call) (s t : State) → Leaves call s t → AreFit s → AreFit t
-fit-stays call s t leaves (fits, distinct, housed) =
-    (leaves-steadies call s t leaves fits, leaves-single call s t leaves fits distinct, leaves-GrantsHaveAllocations call s t leaves housed)
+fit-stays call s t leaves (fits, distinct, in_allocations) =
+    (leaves-steadies call s t leaves fits, leaves-single call s t leaves fits distinct, leaves-GrantsHaveAllocations call s t leaves in_allocations)
 
 steady-next : (count slots extras delay start now lifetime : ℕ) (packet : Transmit (List ℕ)) (s : State) → AreFit s → IsPlain delay now s → (x : Transaction) → IsAsked delay now (start + delay) s x
     → now ≤ 2 ^ 62
     → IsAllocating packet s → s.queue ≡ [] → lifetime_in packet.payload ≡ Some lifetime → min_lifetime ≤ lifetime
     → HasRoom count slots extras s.config.request_cadence delay (min s.config.refresh_ahead (seconds 150))
     → IsWithin count slots (state_after (Recv packet now) s) → IsSteady count slots extras delay now (state_after (Recv packet now) s)
-steady-next count slots extras delay start now lifetime packet s (fits, distinct, housed) p x a range is empty said enough room within =
-    let after = fit-stays (Recv packet now) s (state_after (Recv packet now) s) (inl refl) (fits, distinct, housed) in
+steady-next count slots extras delay start now lifetime packet s (fits, distinct, in_allocations) p x a range is empty said enough room within =
+    let after = fit-stays (Recv packet now) s (state_after (Recv packet now) s) (inl refl) (fits, distinct, in_allocations) in
     let next : AreFit t × IsWithin count slots t = subst (λ (z : State). AreFit z × IsWithin count slots z) whole (after, within) in
     subst (IsSteady count slots extras delay now) (sym whole) (record {
       allocated = phase-some addresses is.relayed;
@@ -526,7 +526,7 @@ steady-next count slots extras delay start now lifetime packet s (fits, distinct
       room_for_more = room;
       within = next.1;
       distinct = next.0.1;
-      housed = GrantsHaveAllocations-AllHaveAllocation t next.0.2;
+      in_allocations = GrantsHaveAllocations-AllHaveAllocation t next.0.2;
       prompt = let first = p.prompt in let all = first-wait (timers_of s.config) s.transport in omega (arith, first, all);
       in_range = range;
     })

@@ -179,7 +179,7 @@ module _ (count slots extras delay now : ℕ) (past later : History) (s : State)
     single = k.single;
     linked = k.linked;
     in_range = k.in_range;
-    housed = k.housed;
+    in_allocations = k.in_allocations;
     known = λ g there. let (waits, due) = k.known g there in (λ w. known-later past later on.let_go g (waits w), due);
     each = λ g there. elim (k.each g there) [
       | inl (waits, pending) ↦ inl (waits, pending-again now g pending)
@@ -412,7 +412,7 @@ module _ (count slots extras delay now : ℕ) (past later : History) (s : State)
     single = k.single;
     linked = requests-more s s.grants copies (λ g h. h) (λ l h. ap (λ (m : Listing). m.id) (copied l h).2) copies-linked k.linked;
     in_range = k.in_range;
-    housed = k.housed;
+    in_allocations = k.in_allocations;
     known = λ g there.
         let (waits, due) = k.known g there in
         (λ w. known-later past later on.let_go g (waits w), λ leased asked. due leased (asked-before (has_request g s) (has_request g after) (not-asked g) asked));

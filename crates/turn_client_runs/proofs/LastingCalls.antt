@@ -210,8 +210,8 @@ module _ (count slots extras delay now : ℕ) (past : History) (s : State) (k : 
     single = are.single;
     linked = requests-more s t.grants (listings id ps) (λ g h. has-left g s.grants news h) (λ l h. ap (λ (m : Listing). m.id) (new-listing l h).2) (are.linked id) k.linked;
     in_range = k.in_range;
-    housed = λ g h. elim (has-append g s.grants news h) [
-      | inl old ↦ room-left (family_of_grant g) (k.housed g old)
+    in_allocations = λ g h. elim (has-append g s.grants news h) [
+      | inl old ↦ room-left (family_of_grant g) (k.in_allocations g old)
       | inr new ↦ room-left (family_of_grant g) (are.house g new)
     ];
     known = λ g h. elim (has-append g s.grants news h) [

@@ -164,9 +164,9 @@ module _ (count slots extras delay now : ℕ) (past later : History) (s : State)
     single = tidy.single;
     linked = tidy.linked;
     in_range = k.in_range;
-    housed = λ g h. elim (expires_into.came g h) [
-      | inl old ↦ room (family_of_grant g) (k.housed g old)
-      | inr takes ↦ subst (Room grants) (sym takes.family) (room (family_of_grant takes.was) (k.housed takes.was takes.there))
+    in_allocations = λ g h. elim (expires_into.came g h) [
+      | inl old ↦ room (family_of_grant g) (k.in_allocations g old)
+      | inr takes ↦ subst (Room grants) (sym takes.family) (room (family_of_grant takes.was) (k.in_allocations takes.was takes.there))
     ];
     known = known-left;
     each = well-left;

@@ -244,7 +244,7 @@ kept-with count slots extras delay now past later s same seldom row known each k
   single = k.single;
   linked = k.linked;
   in_range = k.in_range;
-  housed = k.housed;
+  in_allocations = k.in_allocations;
   known = known;
   each = each;
 }

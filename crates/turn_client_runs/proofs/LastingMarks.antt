@@ -218,7 +218,7 @@ module _ (count slots extras delay now : ℕ) (past : History) (s : State) (k : 
         let few = k.single q unique in
         omega (arith, few, passes-mapped (is_for q) (is_for q) mark s.grants (λ g there e. sym (mark-for q g) ∙ e));
     linked = λ id. linked-marked (listed_as id s.listed) (k.linked id);
-    housed = λ g h. let (x, there, e) = came g h in subst (λ (y : Grant). Room t.grants (family_of_grant y)) (sym e) (rw (mark-family x) (room (family_of_grant x) (k.housed x there)));
+    in_allocations = λ g h. let (x, there, e) = came g h in subst (λ (y : Grant). Room t.grants (family_of_grant y)) (sym e) (rw (mark-family x) (room (family_of_grant x) (k.in_allocations x there)));
     known = λ g h. let (x, there, e) = came g h in subst (IsKnown now past t) (sym e) (known-marked x there);
     each = λ g h. let (x, there, e) = came g h in subst (IsWell count slots extras delay now past s.transactions t) (sym e) (well-marked x there);
   })

@@ -100,7 +100,7 @@ steady-kept count slots extras delay now s is = record {
   single = single-first s.grants is.distinct;
   linked = λ id. rw is.none_listed tt;
   in_range = is.in_range;
-  housed = λ g there. room-of (family_of_grant g) s (has-all (λ g. is_some (Rattle.turn_client_api.specs.Grants.find_allocation (family_of_grant g) s) ≡ true) g s.grants is.housed there);
+  in_allocations = λ g there. room-of (family_of_grant g) s (has-all (λ g. is_some (Rattle.turn_client_api.specs.Grants.find_allocation (family_of_grant g) s) ≡ true) g s.grants is.in_allocations there);
   known = λ g there. (waits g there, λ leased asked. absurd (let no : false ≡ true = sym (unasked g s.listed is.none_listed) ∙ asked in cc));
   each = λ g there. inr (inl (stands g there));
 }

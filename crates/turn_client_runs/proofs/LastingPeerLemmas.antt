@@ -118,7 +118,7 @@ module _ (peers : List SocketAddr) (s : State) (many : length peers ≡ 4096) (o
     room_for_more = omega arith;
     within = (omega (arith, count), omega arith);
     distinct = (allocation-single 0x4000 peers, peers-single 0x4000 peers own);
-    housed = all-of (HasAllocation t) 0x4000 peers refl (λ n peer there. rw (of-family peer there) refl) (λ peer there. rw (of-family peer there) refl);
+    in_allocations = all-of (HasAllocation t) 0x4000 peers refl (λ n peer there. rw (of-family peer there) refl) (λ peer there. rw (of-family peer there) refl);
     prompt = omega arith;
     in_range = omega arith;
   }

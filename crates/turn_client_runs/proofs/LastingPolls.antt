@@ -87,7 +87,7 @@ module _ (count slots extras delay now : ℕ) (past : History) (transactions : L
     size = k.size;
     single = k.single;
     linked = k.linked;
-    housed = k.housed;
+    in_allocations = k.in_allocations;
     known = k.known;
     each = λ g there. elim (k.each g there) [ inl waits ↦ inl waits | inr (inl stands) ↦ inr (inl (stands-aside g stands)) | inr (inr loose) ↦ inr (inr loose) ];
   })

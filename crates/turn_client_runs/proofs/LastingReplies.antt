@@ -396,9 +396,9 @@ module _ (count slots extras delay now : ℕ) (past : History) (transactions : L
         omega (arith, few, passes-mapped (is_for q) (is_for q) (renews p expiry) u.grants (λ g there e. sym (renews-for q p expiry g) ∙ e));
     linked = linked-left count slots extras delay now past transactions u k p refreshing t.grants
         (λ g there other. subst (λ (h : Grant). Has h t.grants) (rw other refl) (map-has (renews p expiry) g u.grants there));
-    housed = λ g h.
+    in_allocations = λ g h.
         let (x, there, e) = has-mapped (renews p expiry) g u.grants h in
-        subst (λ (y : Grant). Room t.grants (family_of_grant y)) (sym e) (rw (renews-family x) (has-room (family_of_grant x) (k.housed x there)));
+        subst (λ (y : Grant). Room t.grants (family_of_grant y)) (sym e) (rw (renews-family x) (has-room (family_of_grant x) (k.in_allocations x there)));
     known = λ g h. let (x, there, e) = has-mapped (renews p expiry) g u.grants h in subst (IsKnown now past t) (sym e) (renews-known x there);
     each = λ g h. let (x, there, e) = has-mapped (renews p expiry) g u.grants h in subst (IsWell count slots extras delay now past transactions t) (sym e) (renews-well x there);
   })
@@ -550,10 +550,10 @@ module _ (count slots extras delay now : ℕ) (past : History) (transactions : L
         omega (arith, one, len, size);
     single = single-anew;
     linked = linked-left count slots extras delay now past transactions u k p refreshing after.grants stays-there;
-    housed = λ g h. elim (which g h) [
-      | inl (there, other) ↦ room-anew (family_of_grant g) (k.housed g there)
+    in_allocations = λ g h. elim (which g h) [
+      | inl (there, other) ↦ room-anew (family_of_grant g) (k.in_allocations g there)
       | inr e ↦ subst (λ (y : Grant). Room after.grants (family_of_grant y)) (sym e)
-          (subst (Room after.grants) anew.family (room-anew (family_of_grant anew.waits) (k.housed anew.waits anew.there)))
+          (subst (Room after.grants) anew.family (room-anew (family_of_grant anew.waits) (k.in_allocations anew.waits anew.there)))
     ];
     known = known-anew;
     each = well-anew;

@@ -60,14 +60,14 @@ all-one P a p = all-has P (a ∷ []) by
 
 pub on-time : (now time next : ℕ) (s : State) → FitsPhaseForPoll s → AllHaveAllocation s → poll_step now s ≡ (WaitUntil time, s) → now < time → now ≤ next → next ≤ time → next ≤ 2 ^ 62
     → IsOnTime now next s
-on-time now time next s fits housed told later from until range = record {
+on-time now time next s fits in_allocations told later from until range = record {
   later = from;
   in_range = range;
   punctual = λ t after before. ap (λ (p : Option (Transmit (List ℕ)) × State). p.0) (idle.sends_nothing t after (omega (arith, before, until)));
 }
   where
     timely : IsTimely (poll_step now s).0 now s (poll_step now s).1
-    timely = poll-timely now s fits housed (omega (arith, from, range))
+    timely = poll-timely now s fits in_allocations (omega (arith, from, range))
 
     idle : IsIdleUntil now time s
     idle = (subst (λ (p : TurnPollRet × State). IsTimely p.0 now s p.1) told timely).0 later
@@ -263,8 +263,8 @@ fits s p sent = record {
   no_grants = λ before. absurd (subst IsBeforeGrants p before);
 }
 
-three-housed : (time a p c : ℕ) (ids : Source) (s : State) → AllHaveAllocation (with_three time a p c ids s)
-three-housed time a p c ids s = all-has (HasAllocation (with_three time a p c ids s)) (with_three time a p c ids s).grants by
+three-in_allocations : (time a p c : ℕ) (ids : Source) (s : State) → AllHaveAllocation (with_three time a p c ids s)
+three-in_allocations time a p c ids s = all-has (HasAllocation (with_three time a p c ids s)) (with_three time a p c ids s).grants by
   where
     by : (g : Grant) → Has g (with_three time a p c ids s).grants → HasAllocation (with_three time a p c ids s) g
     by g (inl e) = rw e refl
@@ -275,7 +275,7 @@ three-housed time a p c ids s = all-has (HasAllocation (with_three time a p c id
 three-on-time : (now time next sent a p c : ℕ) (ids : Source) (s : State) → poll_step now (with_three sent a p c ids s) ≡ (WaitUntil time, with_three sent a p c ids s)
     → now < time → now ≤ next → next ≤ time → next ≤ 2 ^ 62 → IsOnTime now next (with_three sent a p c ids s)
 three-on-time now time next sent a p c ids s told later from until range =
-    on-time now time next (with_three sent a p c ids s) (fits (with_three sent a p c ids s) refl refl) (three-housed sent a p c ids s) told later from until range
+    on-time now time next (with_three sent a p c ids s) (fits (with_three sent a p c ids s) refl refl) (three-in_allocations sent a p c ids s) told later from until range
 
 -- ---- a refresh
 
@@ -310,7 +310,7 @@ module _ (before now time a p c a' p' c' : ℕ) (ids : Source) (purpose : Purpos
     held = some;
     small = omega arith;
     in_range = range;
-    awaits = on-time now time (now + delay) (asked sent) (fits (asked sent) refl refl) (three-housed sent a p c ids s) told (omega (arith, later)) (omega arith) later range;
+    awaits = on-time now time (now + delay) (asked sent) (fits (asked sent) refl refl) (three-in_allocations sent a p c ids s) told (omega (arith, later)) (omega arith) later range;
     replied = replied;
     answered = refl;
     calm = refl;
@@ -408,8 +408,8 @@ module _ (s : State) (some : IsSome s.held) where
   unfolding refresh_time
   told-bind = refl
 
-  bind-housed : AllHaveAllocation sent_bind
-  bind-housed = all-has (HasAllocation sent_bind) pending by
+  bind-in_allocations : AllHaveAllocation sent_bind
+  bind-in_allocations = all-has (HasAllocation sent_bind) pending by
     where
       by : (g : Grant) → Has g pending → HasAllocation sent_bind g
       by g (inl e) = rw e refl
@@ -450,7 +450,7 @@ module _ (s : State) (some : IsSome s.held) where
     held = some;
     small = omega arith;
     in_range = omega arith;
-    awaits = on-time 1_000_000_000 1_500_000_000 1_100_000_000 sent_bind (fits sent_bind refl refl) bind-housed told-bind (omega arith) (omega arith) (omega arith) (omega arith);
+    awaits = on-time 1_000_000_000 1_500_000_000 1_100_000_000 sent_bind (fits sent_bind refl refl) bind-in_allocations told-bind (omega arith) (omega arith) (omega arith) (omega arith);
     replied = replied-1 id1 text1;
     answered = refl;
     calm = refl;
@@ -602,7 +602,7 @@ module _ (s : State) (some : IsSome s.held) where
     room_for_more = omega arith;
     within = (omega arith, omega arith);
     distinct = (tt, tt);
-    housed = all-one (HasAllocation s0) (new_allocation 600 200_000_000 relayed_v4) refl;
+    in_allocations = all-one (HasAllocation s0) (new_allocation 600 200_000_000 relayed_v4) refl;
     prompt = omega arith;
     in_range = omega arith;
   }

@@ -156,7 +156,7 @@ module _ (count slots extras delay now : ℕ) (past : History) (s : State) (k : 
     single = k.single;
     linked = k.linked;
     in_range = k.in_range;
-    housed = k.housed;
+    in_allocations = k.in_allocations;
     known = k.known;
     each = λ g there. elim (k.each g there) [ inl waits ↦ inl waits | inr (inl stands) ↦ inr (inl (stands-ended g stands)) | inr (inr loose) ↦ inr (inr loose) ];
   }
@@ -246,7 +246,7 @@ module _ (count slots extras delay now : ℕ) (past : History) (s : State) (k : 
       single = done.kept.single;
       linked = done.kept.linked;
       in_range = done.kept.in_range;
-      housed = done.kept.housed;
+      in_allocations = done.kept.in_allocations;
       known = done.kept.known;
       each = λ g there. elim (done.kept.each g there) [
         | inl (waits, pending) ↦ inl (waits, pending-answered now g pending)

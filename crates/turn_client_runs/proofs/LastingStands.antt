@@ -284,7 +284,7 @@ pub record IsKept (count slots extras delay now : ℕ) (past : History) (transac
   pub single : AreSingle s.grants
   pub linked : AreRequests s.grants s.listed
   pub in_range : now ≤ 2 ^ 62
-  pub housed : (g : Grant) → Has g s.grants → Room s.grants (family_of_grant g)
+  pub in_allocations : (g : Grant) → Has g s.grants → Room s.grants (family_of_grant g)
   pub known : (g : Grant) → Has g s.grants → IsKnown now past s g
   pub each : (g : Grant) → Has g s.grants → IsWell count slots extras delay now past transactions s g
 
@@ -295,7 +295,7 @@ pub record AreKept (count slots extras delay now : ℕ) (past : History) (transa
   pub size : length s.grants ≤ count
   pub single : AreSingle s.grants
   pub linked : AreRequests s.grants s.listed
-  pub housed : (g : Grant) → Has g s.grants → Room s.grants (family_of_grant g)
+  pub in_allocations : (g : Grant) → Has g s.grants → Room s.grants (family_of_grant g)
   pub known : (g : Grant) → Has g s.grants → IsKnown now past s g
   pub each : (g : Grant) → Has g s.grants → IsWell count slots extras delay now past transactions s g
 
@@ -322,7 +322,7 @@ kept-changed count slots extras delay now past transactions s k grants listed ev
   single = are.single;
   linked = are.linked;
   in_range = k.in_range;
-  housed = are.housed;
+  in_allocations = are.in_allocations;
   known = are.known;
   each = are.each;
 }

@@ -96,7 +96,7 @@ module _ (count slots extras delay before now : ℕ) (past : History) (s : State
       sends : at_once < now → IsSome (next_refresh at_once s)
       sends early =
           due-sends at_once s g there (granted-active g stands.granted)
-          (is-due at_once s g (granted-active g stands.granted) (may-refresh s g all stands.granted (k.housed g there)) idle.unasked (omega arith))
+          (is-due at_once s g (granted-active g stands.granted) (may-refresh s g all stands.granted (k.in_allocations g there)) idle.unasked (omega arith))
           lasts a inside of (goes_on at_once early lasts)
 
       by : (queue : List Queued) → s.queue ≡ queue → now + s.config.request_cadence * length s.queue ≤ bound slots past s g
@@ -125,7 +125,7 @@ module _ (count slots extras delay before now : ℕ) (past : History) (s : State
 
   idles : (g : Grant) → Has g s.grants → Stands count slots extras delay before past s.transactions s g → IsIdle slots before past s g → now + s.config.request_cadence * length s.queue ≤ bound slots past s g
   idles g there stands idle =
-      let (a, here, same) = k.housed g there in
+      let (a, here, same) = k.in_allocations g there in
       idle-early g there stands idle a (there-of a here) (same_family-self (family_of_grant g) (family_of a.relayed) (sym same)) (λ time early less. omega (arith, early, allocation-early a here))
 
   sent-earlier : (o : Option ℕ) → IfSome o (λ time. time ≤ before) → IfSome o (λ time. time ≤ now)
@@ -151,7 +151,7 @@ module _ (count slots extras delay before now : ℕ) (past : History) (s : State
     single = k.single;
     linked = k.linked;
     in_range = in_time.on_time.in_range;
-    housed = k.housed;
+    in_allocations = k.in_allocations;
     known = λ g there. let (waits, due) = k.known g there in (waits, λ leased asked. let l = in_time.on_time.later in let d = due leased asked in omega (arith, l, d));
     each = λ g there. elim (k.each g there) [
       | inl (waits, p) ↦ inl (waits, pending-later before now past s.transactions s.listed g in_time.on_time.later p)

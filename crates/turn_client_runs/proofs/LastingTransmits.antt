@@ -278,7 +278,7 @@ module _ (count slots extras delay now : ℕ) (past : History) (s : State) (k : 
     single = k.single;
     linked = requests-more s s.grants (listing ∷ []) (λ g h. h) (λ l h. one-id l h) tt k.linked;
     in_range = k.in_range;
-    housed = k.housed;
+    in_allocations = k.in_allocations;
     known = λ g there. ((k.known g there).0, due-asked g there);
     each = λ g there. elim (k.each g there) [
       | inl (waits, p) ↦ inl (
@@ -343,7 +343,7 @@ module _ (count slots extras delay now : ℕ) (past : History) (s : State) (k : 
     single = k.single;
     linked = k.linked;
     in_range = k.in_range;
-    housed = k.housed;
+    in_allocations = k.in_allocations;
     known = k.known;
     each = λ g there. elim (k.each g there) [ inl waits ↦ inl waits | inr (inl stands) ↦ inr (inl (stands-queued g stands)) | inr (inr loose) ↦ inr (inr loose) ];
   }
@@ -359,11 +359,11 @@ module _ (count slots extras delay now : ℕ) (past : History) (s : State) (k : 
   still-early g there stands idle = elim (cases_lt now (due_of s g)) [
     | inl early ↦ early
     | inr late ↦
-        let (a, here, same) = k.housed g there in
+        let (a, here, same) = k.in_allocations g there in
         let inside : Has a (allocations s) = filter_map-has as_allocation (Allocation a) a s.grants here refl in
-        let is = is-due now s g (granted-active g stands.granted) (may-refresh s g kept-in_use stands.granted (k.housed g there)) idle.unasked late in
-        let housed = allocation-stands count slots extras delay now past s.transactions s k a here in
-        let goes_on : now ≤ a.expiry = let early = stands-early count slots extras delay now past s k (Allocation a) here housed in omega (arith, early) in
+        let is = is-due now s g (granted-active g stands.granted) (may-refresh s g kept-in_use stands.granted (k.in_allocations g there)) idle.unasked late in
+        let in_allocations = allocation-stands count slots extras delay now past s.transactions s k a here in
+        let goes_on : now ≤ a.expiry = let early = stands-early count slots extras delay now past s k (Allocation a) here in_allocations in omega (arith, early) in
         let alive = stands-early count slots extras delay now past s k g there stands in
         let some = due-sends now s g there (granted-active g stands.granted) is alive a inside (same_family-self (family_of_grant g) (family_of a.relayed) (sym same)) goes_on in
         absurd (let no : false ≡ true = rw nothing at some in cc)
@@ -403,7 +403,7 @@ module _ (count slots extras delay now : ℕ) (past : History) (s : State) (k : 
     single = k.single;
     linked = k.linked;
     in_range = k.in_range;
-    housed = k.housed;
+    in_allocations = k.in_allocations;
     known = k.known;
     each = λ g there. elim (k.each g there) [ inl waits ↦ inl waits | inr (inl stands) ↦ inr (inl (stands-alive g there stands)) | inr (inr loose) ↦ inr (inr loose) ];
   }

@@ -17,16 +17,16 @@ use Rattle.turn_client_runs.proofs.HoldLemmas.{holds-any}
 
 -- what a call of a client whose state fits its phase returns is timely
 tells-timely : (s : State) (call : Call) → FitsPhase s → GrantsHaveAllocations s → IsPolledInTime call → TellsTimely s call
-tells-timely s (Poll now) steady housed c =
-    (poll-timely now s (steady-FitsPhaseForPoll s steady) (GrantsHaveAllocations-AllHaveAllocation s housed) c, poll-waits now s)
-tells-timely s _ steady housed c = tt
+tells-timely s (Poll now) steady in_allocations c =
+    (poll-timely now s (steady-FitsPhaseForPoll s steady) (GrantsHaveAllocations-AllHaveAllocation s in_allocations) c, poll-waits now s)
+tells-timely s _ steady in_allocations c = tt
 
 -- such a client misses no deadline, whatever is called
 sleeps-through-nothing : (s : State) (calls : List Call) → FitsPhase s → GrantsHaveAllocations s → All IsPolledInTime calls → SleepsThroughNothing s calls
-sleeps-through-nothing s [] steady housed all = tt
-sleeps-through-nothing s (call ∷ calls) steady housed all = (
-  tells-timely s call steady housed (all 0 call (omega arith)),
-  sleeps-through-nothing (state_after call s) calls (leaves-steadies call s (state_after call s) (inl refl) steady) (leaves-GrantsHaveAllocations call s (state_after call s) (inl refl) housed)
+sleeps-through-nothing s [] steady in_allocations all = tt
+sleeps-through-nothing s (call ∷ calls) steady in_allocations all = (
+  tells-timely s call steady in_allocations (all 0 call (omega arith)),
+  sleeps-through-nothing (state_after call s) calls (leaves-steadies call s (state_after call s) (inl refl) steady) (leaves-GrantsHaveAllocations call s (state_after call s) (inl refl) in_allocations)
       (λ k d less. all (suc k) d (omega (arith, less))),
 )
 

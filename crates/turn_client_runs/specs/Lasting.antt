@@ -103,7 +103,7 @@ pub record IsSteady (count slots extras delay now : ℕ) (s : State) : Type 0 wh
   pub room_for_more : HasRoom count slots extras s.config.request_cadence delay (min s.config.refresh_ahead (seconds 150))
   pub within : IsWithin count slots s
   pub distinct : HasNoDoubles s
-  pub housed : AllHaveAllocation s
+  pub in_allocations : AllHaveAllocation s
   pub prompt : delay < all_waits (timers_of s.config) s.transport
   pub in_range : now ≤ 2 ^ 62
 

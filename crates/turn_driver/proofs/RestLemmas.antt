@@ -49,7 +49,7 @@ pub record Measures (fit : State → Type 0) (left : ℕ → State → List ℕ)
   pub sized : (now : ℕ) (s : State) → length (left now s) ≡ size
   pub calls : (call : Call) (s : State) → fit s → fit (state_after call s)
   pub phase : (s : State) → fit s → FitsPhase s
-  pub housed : (s : State) → fit s → GrantsHaveAllocations s
+  pub in_allocations : (s : State) → fit s → GrantsHaveAllocations s
   pub told : (now : ℕ) (s : State) → now ≤ 2 ^ 62 → fit s → IsTold (left now) s (poll_step now s)
   pub sends : (now : ℕ) (s : State) → now ≤ 2 ^ 62 → fit s → (packet : Transmit (List ℕ)) → (transmit_step now s).0 ≡ Some packet → GetsOn (left now) s (transmit_step now s).1
   pub tells : (now : ℕ) (event : TurnEvent) (events : List TurnEvent) (s : State) → GetsOn (left now) (record s { events = event ∷ events }) (record s { events = events })
@@ -120,7 +120,7 @@ module _ (fit : State → Type 0) (measure : ℕ → State → List ℕ) (size :
   polled-goes-on : fit s → GoesOn left s (poll_answer now s)
   polled-goes-on is =
       told-goes-on (poll_step now s) (m.told now s range is)
-      (poll-timely now s (steady-FitsPhaseForPoll s (m.phase s is)) (GrantsHaveAllocations-AllHaveAllocation s (m.housed s is)) range) (m.calls (PollCall now) s is)
+      (poll-timely now s (steady-FitsPhaseForPoll s (m.phase s is)) (GrantsHaveAllocations-AllHaveAllocation s (m.in_allocations s is)) range) (m.calls (PollCall now) s is)
 
 -- ---- the streams
 
@@ -274,7 +274,7 @@ rests fit measure size m s now range is = record { polls = λ came. polls (packe
 
 record IsFit (s : State) : Type 0 where
   phase : FitsPhase s
-  housed : GrantsHaveAllocations s
+  in_allocations : GrantsHaveAllocations s
   pauses : 0 < s.config.request_cadence
 
 pub config-stays : (call : Call) (s : State) → (state_after call s).config ≡ s.config
@@ -283,7 +283,7 @@ config-stays call s = calls-walk (SameIn (λ f. f.1.0)) (fixed-all-edits (λ f. 
 call-fit : (call : Call) (s : State) → IsFit s → IsFit (state_after call s)
 call-fit call s is = record {
   phase = leaves-steadies call s (state_after call s) (inl refl) is.phase;
-  housed = leaves-GrantsHaveAllocations call s (state_after call s) (inl refl) is.housed;
+  in_allocations = leaves-GrantsHaveAllocations call s (state_after call s) (inl refl) is.in_allocations;
   pauses = rw (config-stays call s) is.pauses;
 }
 
@@ -292,7 +292,7 @@ pausing = record {
   sized = λ now s. refl;
   calls = call-fit;
   phase = λ s is. is.phase;
-  housed = λ s is. is.housed;
+  in_allocations = λ s is. is.in_allocations;
   told = λ now s range is. poll-IsTold now s;
   sends = λ now s range is packet e. transmit-GetsOn now s is.pauses range packet e;
   tells = λ now event events s. inr (refl, inr (refl, inr (refl, inr (refl, inl (omega arith)))));
@@ -303,13 +303,13 @@ pausing = record {
 
 record IsPatient (s : State) : Type 0 where
   phase : FitsPhase s
-  housed : GrantsHaveAllocations s
+  in_allocations : GrantsHaveAllocations s
   waits : HasWaits s.transport s.config
 
 call-patient : (call : Call) (s : State) → IsPatient s → IsPatient (state_after call s)
 call-patient call s is = record {
   phase = leaves-steadies call s (state_after call s) (inl refl) is.phase;
-  housed = leaves-GrantsHaveAllocations call s (state_after call s) (inl refl) is.housed;
+  in_allocations = leaves-GrantsHaveAllocations call s (state_after call s) (inl refl) is.in_allocations;
   waits =
       let transport : (state_after call s).transport ≡ s.transport = calls-walk (SameIn (λ f. f.0)) (fixed-all-edits (λ f. f.0)) (λ t streams. refl) call s in
       rw (transport, config-stays call s) is.waits;
@@ -320,7 +320,7 @@ waiting-long = record {
   sized = λ now s. refl;
   calls = call-patient;
   phase = λ s is. is.phase;
-  housed = λ s is. is.housed;
+  in_allocations = λ s is. is.in_allocations;
   told = λ now s range is. poll-told now s;
   sends = λ now s range is packet e. transmit-awaits now s range is.waits.waits is.waits.keepalive packet e;
   tells = λ now event events s. inr (refl, inr (refl, inr (refl, inr (refl, inr (refl, inr (refl, inl (omega arith)))))));
@@ -332,7 +332,7 @@ loops-come-to-rest transport local remote config seed calls now (inl pauses) ran
     let first : State = initial transport local remote config seed in
     let fits : IsFit first = record {
       phase = initial-steady transport local remote config seed;
-      housed = initial-GrantsHaveAllocations transport local remote config seed;
+      in_allocations = initial-GrantsHaveAllocations transport local remote config seed;
       pauses = pauses;
     } in
     rests IsFit left_to_do 5 pausing (state_after_all first calls) now range (calls-fit IsFit call-fit calls first fits)
@@ -340,7 +340,7 @@ loops-come-to-rest transport local remote config seed calls now (inr waits) rang
     let first : State = initial transport local remote config seed in
     let fits : IsPatient first = record {
       phase = initial-steady transport local remote config seed;
-      housed = initial-GrantsHaveAllocations transport local remote config seed;
+      in_allocations = initial-GrantsHaveAllocations transport local remote config seed;
       waits = waits;
     } in
     rests IsPatient left_to_await 7 waiting-long (state_after_all first calls) now range (calls-fit IsPatient call-patient calls first fits)
