@@ -49,41 +49,41 @@ unfolding schedule
 sum-schedule t = sum_from t 0 (udp_resends t) (omega arith)
 
 -- the progress of the sum of the doubled waits: the next wait, how many are left, and their sum so far
-pub record IsDoubling (first greatest count turn wait left so_far : ℕ) : Type 0 where
-  pub next : wait ≡ first * 2 ^ turn
-  pub places : turn + left ≡ count
-  pub range : so_far ≤ turn * 2 ^ 64
-  pub whole : so_far + doubled_sum first greatest turn left ≡ doubled_sum first greatest 0 count
+pub record IsDoubling (first greatest count round wait left so_far : ℕ) : Type 0 where
+  pub next : wait ≡ first * 2 ^ round
+  pub places : round + left ≡ count
+  pub range : so_far ≤ round * 2 ^ 64
+  pub whole : so_far + doubled_sum first greatest round left ≡ doubled_sum first greatest 0 count
 
 -- one more wait
-pub IsDoubling-more : (first greatest count turn wait left so_far : ℕ) → IsDoubling first greatest count turn wait left so_far → (left ≡ 0 → ⊥) → wait < greatest → greatest < 2 ^ 64
-    → IsDoubling first greatest count (turn + 1) (wait * 2) (left - 1) (so_far + wait)
-IsDoubling-more first greatest count turn wait left so_far is some below small =
-    let step = doubled_sum-first first greatest turn left (omega arith) in
-    let here : doubled_wait first greatest turn ≡ first * 2 ^ turn = min-eq_left (omega (arith, is.next)) in
+pub IsDoubling-more : (first greatest count round wait left so_far : ℕ) → IsDoubling first greatest count round wait left so_far → (left ≡ 0 → ⊥) → wait < greatest → greatest < 2 ^ 64
+    → IsDoubling first greatest count (round + 1) (wait * 2) (left - 1) (so_far + wait)
+IsDoubling-more first greatest count round wait left so_far is some below small =
+    let step = doubled_sum-first first greatest round left (omega arith) in
+    let here : doubled_wait first greatest round ≡ first * 2 ^ round = min-eq_left (omega (arith, is.next)) in
     record {
-      next = rw (doubled_once first turn, is.next) refl;
+      next = rw (doubled_once first round, is.next) refl;
       places = omega (arith, is.places);
       range = omega (arith, is.range);
       whole = omega (arith, is.whole, is.next, step, here);
     }
 
 -- the sum when no wait is left, when all others are the greatest, and after 64 iterations
-pub IsDoubling-none : (first greatest count turn wait left so_far : ℕ) → IsDoubling first greatest count turn wait left so_far → left ≡ 0
+pub IsDoubling-none : (first greatest count round wait left so_far : ℕ) → IsDoubling first greatest count round wait left so_far → left ≡ 0
     → so_far + left * greatest ≡ doubled_sum first greatest 0 count
 unfolding doubled_sum
-IsDoubling-none first greatest count turn wait left so_far is none =
+IsDoubling-none first greatest count round wait left so_far is none =
     let whole : so_far + 0 ≡ doubled_sum first greatest 0 count = rw none at is.whole in
     rw none (omega (arith, whole))
 
-pub IsDoubling-greatest : (first greatest count turn wait left so_far : ℕ) → IsDoubling first greatest count turn wait left so_far → greatest ≤ wait
+pub IsDoubling-greatest : (first greatest count round wait left so_far : ℕ) → IsDoubling first greatest count round wait left so_far → greatest ≤ wait
     → so_far + left * greatest ≡ doubled_sum first greatest 0 count
-IsDoubling-greatest first greatest count turn wait left so_far is above =
-    omega (arith, is.whole, doubled_sum-greatest first greatest turn left (omega (arith, is.next)))
+IsDoubling-greatest first greatest count round wait left so_far is above =
+    omega (arith, is.whole, doubled_sum-greatest first greatest round left (omega (arith, is.next)))
 
-pub IsDoubling-far : (first greatest count turn wait left so_far : ℕ) → IsDoubling first greatest count turn wait left so_far → 64 ≤ turn → greatest < 2 ^ 64 → (0 < count → 0 < first)
+pub IsDoubling-far : (first greatest count round wait left so_far : ℕ) → IsDoubling first greatest count round wait left so_far → 64 ≤ round → greatest < 2 ^ 64 → (0 < count → 0 < first)
     → so_far + left * greatest ≡ doubled_sum first greatest 0 count
-IsDoubling-far first greatest count turn wait zero so_far is far small some = IsDoubling-none first greatest count turn wait 0 so_far is refl
-IsDoubling-far first greatest count turn wait (suc n) so_far is far small some =
-    IsDoubling-greatest first greatest count turn wait (suc n) so_far is
-    (rw is.next (longer_than_any first greatest turn (some (omega (arith, is.places))) small far))
+IsDoubling-far first greatest count round wait zero so_far is far small some = IsDoubling-none first greatest count round wait 0 so_far is refl
+IsDoubling-far first greatest count round wait (suc n) so_far is far small some =
+    IsDoubling-greatest first greatest count round wait (suc n) so_far is
+    (rw is.next (longer_than_any first greatest round (some (omega (arith, is.places))) small far))

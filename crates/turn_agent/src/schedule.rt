@@ -193,7 +193,7 @@ fn sum_of_doubled(first: u64, greatest: u64, count: u32) -> u128
     let mut wait = u128::from(first);
     let mut left = count;
     let mut sum = 0;
-    for _turn in 0u32..64 {
+    for _round in 0u32..64 {
         if left == 0 || wait >= greatest {
             break;
         }

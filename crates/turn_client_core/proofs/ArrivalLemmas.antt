@@ -18,7 +18,7 @@ use Rattle.turn_client_api.specs.declared.state.Stream.{Stream}
 use Rattle.turn_client_api.proofs.AddressLemmas.{same_address-true}
 use Rattle.turn_client_laws.proofs.MemoryLemmas.{behind}
 use Rattle.turn_client_core.specs.StreamSteps.{EndsBehind, PieceEnds, broken_piece_step, fed_frame_step, is_broken, others_from, piece_at, whole_piece_step}
-use Rattle.turn_client_core.proofs.TurnLemmas.{emptied-broken}
+use Rattle.turn_client_core.proofs.StepLemmas.{emptied-broken}
 
 -- the stream that is found has this local address
 pub stream_at-local : (local : SocketAddr) (s : State) (stream : Stream) → stream_at local s ≡ Some stream → stream.local ≡ local
@@ -26,16 +26,16 @@ stream_at-local local s stream e = same_address-true stream.local local (find-pa
 
 -- ---- a piece of a stream that is not broken
 
-turned-mode : (mode : Mode) (stream : Stream) (piece : List ℕ) (now : ℕ) (s : State) → is_broken mode ≡ false
+detached-mode : (mode : Mode) (stream : Stream) (piece : List ℕ) (now : ℕ) (s : State) → is_broken mode ≡ false
     → piece_step (record stream { mode = mode }) piece now s ≡ whole_piece_step (record stream { mode = mode }) piece now (with_bytes stream.local [] s)
-turned-mode Broken stream piece now s whole = cc
-turned-mode mode stream piece now s whole = refl
+detached-mode Broken stream piece now s whole = cc
+detached-mode mode stream piece now s whole = refl
 
-pub piece-turned : (to : SocketAddr) (stream : Stream) (piece : List ℕ) (now : ℕ) (s t : State) → stream_at to s ≡ Some stream → 0 < length piece
+pub piece-step : (to : SocketAddr) (stream : Stream) (piece : List ℕ) (now : ℕ) (s t : State) → stream_at to s ≡ Some stream → 0 < length piece
     → option_map_or (λ (x : Stream). is_broken x.mode) (stream_at to s) false ≡ false → t ≡ with_bytes stream.local [] s
     → whole_piece_step stream piece now t ≡ piece_at to piece now s
-piece-turned to stream [] now s t e some whole out = absurd (omega (arith, some))
-piece-turned to stream (b ∷ bs) now s t e some whole out = rw (out, e) (sym (turned-mode stream.mode stream (b ∷ bs) now s (rw e at whole)))
+piece-step to stream [] now s t e some whole out = absurd (omega (arith, some))
+piece-step to stream (b ∷ bs) now s t e some whole out = rw (out, e) (sym (detached-mode stream.mode stream (b ∷ bs) now s (rw e at whole)))
 
 -- there is no such stream
 pub piece-ignored : (to : SocketAddr) (piece : List ℕ) (now : ℕ) (s : State) → stream_at to s ≡ None → piece_at to piece now s ≡ (Ignored, s)

@@ -13,14 +13,14 @@ use Rattle.turn_client_api.specs.Streams.{detached_frame_step, frame_step, frame
 use Rattle.turn_client_api.specs.declared.state.Mode.{Mode}
 use Rattle.turn_client_api.specs.declared.state.Mode.TheVariants.{Control}
 use Rattle.turn_client_api.specs.declared.state.Stream.{Stream}
-use Rattle.turn_client_laws.proofs.TurnFrameLemmas.{bytes-twice}
+use Rattle.turn_client_laws.proofs.StepFrameLemmas.{bytes-twice}
 use Rattle.turn_client_streams.specs.Buffered.{front_frame, is_control_mode, passed}
 use Rattle.turn_client_streams.specs.Held.{control_passed, control_stream}
 use Rattle.turn_client_core.specs.ControlData.{channel_data, control_data, control_ended, data_from, stream_data}
 use Rattle.turn_client_core.specs.StreamSteps.{owned_payload}
 use Rattle.turn_client_core.specs.Wanted.{EndsInNeed, FrontWantsMemory, StepWantsMemory}
 use Rattle.turn_client_core.proofs.PieceLemmas.{front-begins, passed-local}
-use Rattle.turn_client_core.proofs.TurnLemmas.{first-Rests, framed-some, front-wants, rests-some, stays-led}
+use Rattle.turn_client_core.proofs.StepLemmas.{first-Rests, framed-some, front-wants, rests-some, stays-led}
 
 -- ---- the control stream
 

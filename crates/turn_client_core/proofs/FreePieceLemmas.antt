@@ -28,7 +28,7 @@ use Rattle.turn_client_streams.specs.Buffered.{broken, front_frame, passed, with
 use Rattle.turn_client_core.specs.StreamSteps.{EndsBehind, fed_frame_step, is_broken, piece_takes_none}
 use Rattle.turn_client_core.proofs.PieceLemmas.{front-begins, passed-local, passed-mode}
 use Rattle.turn_client_core.proofs.ResultLemmas.{none-is, none-some_not}
-use Rattle.turn_client_core.proofs.TurnLemmas.{framed-some, turns-none}
+use Rattle.turn_client_core.proofs.StepLemmas.{framed-some, steps-none}
 
 waits-none : (bytes : List ℕ) → not (nat_lt 0 (length bytes)) ≡ true → bytes ≡ []
 waits-none [] e = refl
@@ -149,7 +149,7 @@ free-out piece s stream local free =
 
 pub rests-end : (now : ℕ) (s t : State) → find is_ready s.streams ≡ None → EndsAfterSteps now s t → ⊥
 rests-end now s t rest (u, (n, led), broken) =
-    let same : s ≡ u = ap (λ p. p.1) (sym (turns-none n now s rest) ∙ led) in
+    let same : s ≡ u = ap (λ p. p.1) (sym (steps-none n now s rest) ∙ led) in
     let none : find is_ready u.streams ≡ None = rw (sym same) rest in
     rw none at broken
 

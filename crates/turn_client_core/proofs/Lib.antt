@@ -26,7 +26,7 @@ pub mod RetryLemmas
 pub mod SeenLemmas
 pub mod SignLemmas
 pub mod SocketLemmas
+pub mod StepLemmas
 pub mod TransmitLemmas
-pub mod TurnLemmas
 pub mod UngrantedLemmas
 pub mod UnreadLemmas

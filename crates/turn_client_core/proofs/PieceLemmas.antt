@@ -21,7 +21,7 @@ use Rattle.turn_client_core.specs.ProtocolRecv.{IsPart, IsRangeWithin, outcome_i
 use Rattle.turn_client_core.specs.declared.protocol_recv.TurnProtocolRecv.{TurnProtocolRecv}
 use Rattle.turn_client_core.specs.declared.protocol_recv.TurnProtocolRecv.TheVariants as T
 use Rattle.turn_client_core.specs.StreamSteps.{IsFront, came_with, given_as, left_by, bytes_in_range, put_or_broken}
-use Rattle.turn_client_core.proofs.TurnLemmas.{framed-none, framed-some}
+use Rattle.turn_client_core.proofs.StepLemmas.{framed-none, framed-some}
 
 -- ---- a part of a part
 

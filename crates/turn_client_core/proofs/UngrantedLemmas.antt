@@ -20,7 +20,7 @@ use Rattle.turn_types.specs.Frames.{begins_no_frame, frame_len}
 use Rattle.turn_client_laws.proofs.Edits.{KeepsAllEdits, KeepsEdits, aged-outlines, outline}
 use Rattle.turn_client_laws.proofs.EditsOfMessages.{edits-IsKept, granted-with}
 use Rattle.turn_client_laws.proofs.PhasesGoOn.{Keeps, Keeps-KeepsAllEdits, Keeps-KeepsEdits, keeps-same, keeps-trans}
-use Rattle.turn_client_laws.proofs.RunKeepLemmas.{IsKept, frame-kept, turns-kept}
+use Rattle.turn_client_laws.proofs.RunKeepLemmas.{IsKept, frame-kept, steps-kept}
 
 abbrev pub HasNoneBefore : State → Type 0
 HasNoneBefore s = IsUngranted s.phase → s.grants ≡ []
@@ -99,7 +99,7 @@ Stays-IsKept = edits-IsKept Stays Stays-KeepsAllEdits (λ s streams. (λ h. h, k
 -- steps of the streams grant nothing before that
 pub led-none : (now : ℕ) (was s : State) → LeadsTo now was s → HasNoneBefore was → HasNoneBefore s
 led-none now was s (n, led) h =
-    (subst (λ (p : Option Payload × State). Stays was p.1) led (turns-kept Stays Stays-IsKept n now was)).0 h
+    (subst (λ (p : Option Payload × State). Stays was p.1) led (steps-kept Stays Stays-IsKept n now was)).0 h
 
 -- nor does a step of a stream of frames
 pub framed-none-before : (stream : Stream) (now : ℕ) (t : State) → HasNoneBefore t → HasNoneBefore (framed_stream_step stream now t).1

@@ -55,12 +55,12 @@ key-self (By.Ip a) = same_ips a a ∙ same_ip-self a
 key-symm : (a b : Key) → key_eq a b ≡ key_eq b a
 key-symm a b = by (key_eq a b) (key_eq b a) refl refl
   where
-    turned : (a b : Key) → key_eq a b ≡ true → key_eq b a ≡ true
-    turned a b e = ap (λ (k : Key). key_eq b k) (key-true a b e) ∙ key-self b
+    swapped : (a b : Key) → key_eq a b ≡ true → key_eq b a ≡ true
+    swapped a b e = ap (λ (k : Key). key_eq b k) (key-true a b e) ∙ key-self b
 
     by : (x y : Bool) → key_eq a b ≡ x → key_eq b a ≡ y → key_eq a b ≡ key_eq b a
-    by true y e f = e ∙ sym (turned a b e)
-    by false true e f = turned b a f ∙ sym f
+    by true y e f = e ∙ sym (swapped a b e)
+    by false true e f = swapped b a f ∙ sym f
     by false false e f = e ∙ sym f
 
 pub key-laws : IsEquivalence key_eq

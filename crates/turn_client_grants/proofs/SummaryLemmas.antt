@@ -33,7 +33,7 @@ fold-min-le n (x ∷ xs) = let rest : fold min (min n x) xs ≤ min n x = fold-m
 
 fold-min-acc : (n x : ℕ) (xs : List ℕ) → fold min (min n x) xs ≡ min x (fold min n xs)
 fold-min-acc n x [] = omega arith
-fold-min-acc n x (y ∷ ys) = let turned : min (min n x) y ≡ min (min n y) x = omega arith in rw turned (fold-min-acc (min n y) x ys)
+fold-min-acc n x (y ∷ ys) = let swapped : min (min n x) y ≡ min (min n y) x = omega arith in rw swapped (fold-min-acc (min n y) x ys)
 
 pub fold-min-append : (n : ℕ) (xs ys : List ℕ) → fold min n (xs ++ ys) ≡ min (fold min n xs) (fold min n ys)
 fold-min-append n [] ys = omega (arith, fold-min-le n ys)

@@ -231,9 +231,9 @@ reserved-outlives now (Channel number peer (Reserved until)) is = tt
 reserved-outlives now g is = absurd is
 
 -- what remains of one allocation after it was processed
-after-turn : (given : Option ℕ) (purposes : List Purpose) (now : ℕ) (s : State) (a : Relay) (g : Grant) → (expired_allocation given purposes now s a).events ≡ []
+after-step : (given : Option ℕ) (purposes : List Purpose) (now : ℕ) (s : State) (a : Relay) (g : Grant) → (expired_allocation given purposes now s a).events ≡ []
     → Has g (expired_allocation given purposes now s a).grants → is_of (family_of a.relayed) g ≡ true → Outlives now g
-after-turn given purposes now s a g none h here = elim (cases_Bool (allocation_expires purposes now s a)) [
+after-step given purposes now s a g none h here = elim (cases_Bool (allocation_expires purposes now s a)) [
   | inl e ↦
       let stayed : Has g (without_grants (is_of (family_of a.relayed)) s).grants = rw e at h in
       let no : false ≡ true = sym (not-passed (is_of (family_of a.relayed)) g s.grants stayed) ∙ here in
@@ -248,7 +248,7 @@ outlives given purposes now (b ∷ bs) s none a (inr inside) g h here = outlives
 outlives given purposes now (b ∷ bs) s none a (inl e) g h here =
     let later = each-shrinks given purposes now bs (expired_allocation given purposes now s b) in
     elim (later.grants g h) [
-      | inl there ↦ after-turn given purposes now s b g (later.events none) there (rw e at here)
+      | inl there ↦ after-step given purposes now s b g (later.events none) there (rw e at here)
       | inr is ↦ reserved-outlives now g is
     ]
 
@@ -289,8 +289,8 @@ expired_at-alive given now s stand none g h = by g h ((each-shrinks given purpos
     t = expired_at given now s
 
     -- its allocation was processed
-    turn : (g : Grant) → Has g t.grants → Has g s.grants → Outlives now g
-    turn g h there = elim (cases_Option (find_allocation (family_of_grant g) s)) [
+    stays : (g : Grant) → Has g t.grants → Has g s.grants → Outlives now g
+    stays g h there = elim (cases_Option (find_allocation (family_of_grant g) s)) [
       | inl e ↦ let no : false ≡ true = rw e at (has-all (HasAllocation s) g s.grants stand there) in cc
       | inr (a, e) ↦
           let (listed, is) = has-found (λ a. same_family (family_of a.relayed) (family_of_grant g)) a (allocations s) e in
@@ -303,7 +303,7 @@ expired_at-alive given now s stand none g h = by g h ((each-shrinks given purpos
     by (Allocation a) h (inr is) = absurd is
     by (Connect peer) h o = tt
     by (Offer offer) h o = tt
-    by g h (inl there) = turn g h there
+    by g h (inl there) = stays g h there
     by g h (inr is) = reserved-outlives now g is
 
 -- no offer is added

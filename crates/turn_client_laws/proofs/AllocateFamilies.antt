@@ -36,7 +36,7 @@ use Rattle.turn_client_laws.proofs.GrantOriginLemmas.{has-mapped}
 use Rattle.turn_client_api.proofs.HasLemmas.{Has, filter-has, has-append, has-filter, has-left, has-right, map-has}
 use Rattle.turn_client_laws.proofs.InAllocationLemmas.{any-has, has-any}
 use Rattle.turn_client_laws.proofs.StandLemmas.{contains-has, has-contains}
-use Rattle.turn_client_laws.proofs.TurnKeepLemmas.{before-kept}
+use Rattle.turn_client_laws.proofs.InputKeepLemmas.{before-kept}
 use Rattle.turn_client_laws.proofs.TwoPurposes.{purpose-with}
 
 -- ---- what is kept
@@ -314,17 +314,17 @@ pub leaves-allocations : (call : Call) (s t : State) → Leaves call s t → All
 leaves-allocations call s t leaves h a there = elim (leaves-grants call s t (Allocation a) leaves there tt) [
   | inl stood ↦ inl stood
   | inr (inl ended) ↦ inr (inl ended)
-  | inr (inr (one, among, turn)) ↦ inr (inr (one, among, turned one among turn))
+  | inr (inr (one, among, by_input)) ↦ inr (inr (one, among, of_grant one among by_input))
 ]
   where
-    turned : (one : Input) → Contains (handled call s) one → IsGrantInput (Allocation a) one → IsAllocationInput a one
-    turned one among turn = (turn, request_started)
+    of_grant : (one : Input) → Contains (handled call s) one → IsGrantInput (Allocation a) one → IsAllocationInput a one
+    of_grant one among by_input = (by_input, request_started)
       where
         order : AllocatesInOrder one.before
         order = in_order-stated one.before (before-kept StayInOrder (edits-IsKept StayInOrder StayInOrder-KeepsAllEdits (λ s streams h. h)) call s one among (stated-in_order s h))
 
-        request_started : turn.grant.1.purpose ≡ ForAllocation → IsAskedForFamilies (id_of one.bytes) one.before
+        request_started : by_input.grant.1.purpose ≡ ForAllocation → IsAskedForFamilies (id_of one.bytes) one.before
         request_started e =
-            let answers = subst (λ (p : Purpose). Contains (purposes_of (id_of one.bytes) one.before) p) e turn.grant.1.listed in
+            let answers = subst (λ (p : Purpose). Contains (purposes_of (id_of one.bytes) one.before) p) e by_input.grant.1.listed in
             let listed = purpose-with (id_of one.bytes) ForAllocation one.before (contains-has ForAllocation (purposes_of (id_of one.bytes) one.before) answers) in
-            order.1 (id_of one.bytes) (has-contains (listing (id_of one.bytes) ForAllocation) one.before.listed listed) turn.grant.1.outstanding
+            order.1 (id_of one.bytes) (has-contains (listing (id_of one.bytes) ForAllocation) one.before.listed listed) by_input.grant.1.outstanding

@@ -45,9 +45,9 @@ pub found-local : (local : SocketAddr) (c : DataConnection) (cs : List DataConne
 found-local local c cs e = same_address-true c.local local (has-found (λ (d : DataConnection). same_address d.local local) c cs e).1
 
 -- the input of a message that binds the connection
-pub binds-turn : (one : Input) (stream : Stream) (t : State) → one.stream ≡ Some stream → stream.mode ≡ Waiting → is_message one.bytes ≡ true → (b : Binds stream.local one.bytes one.before t)
+pub binds-input : (one : Input) (stream : Stream) (t : State) → one.stream ≡ Some stream → stream.mode ≡ Waiting → is_message one.bytes ≡ true → (b : Binds stream.local one.bytes one.before t)
     → IsBindInput stream.local b.c.peer one
-binds-turn one stream t of waits whole b = record {
+binds-input one stream t of waits whole b = record {
   over = rw of (waits, refl);
   whole = whole;
   method = b.method;

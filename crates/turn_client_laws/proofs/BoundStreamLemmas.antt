@@ -28,10 +28,10 @@ use Rattle.turn_client_laws.proofs.StandLemmas.{contains-has, has-contains}
 use Rattle.turn_client_laws.proofs.GrantOriginLemmas.{has-mapped}
 use Rattle.turn_client_laws.proofs.GrantOriginCallLemmas.{Binds, BindsOrLeaves, bind-leaves}
 use Rattle.turn_client_laws.proofs.GrantedLemmas.{leaves-grants}
-use Rattle.turn_client_laws.proofs.BoundLemmas.{binds-turn, found-local}
+use Rattle.turn_client_laws.proofs.BoundLemmas.{binds-input, found-local}
 use Rattle.turn_client_laws.proofs.StreamCallLemmas.{IsOpened, others-opened}
 use Rattle.turn_client_laws.proofs.StreamMessageLemmas.{message-same, same-cond}
-use Rattle.turn_client_laws.proofs.TurnBringLemmas.{IsBrought, leaves-bring}
+use Rattle.turn_client_laws.proofs.InputBringLemmas.{IsBrought, leaves-bring}
 
 -- ---- streams
 
@@ -61,7 +61,7 @@ module _ (local peer : SocketAddr) where
           let place : stream.local ≡ local = sym (found-local stream.local b.c _ b.found) ∙ (sym ends ∙ at) in
           let to : b.c.peer ≡ peer = same_peer (sym is ∙ mode) in
           subst (λ (p : SocketAddr). IsBindInput local p one) to
-          (subst (λ (l : SocketAddr). IsBindInput l b.c.peer one) place (binds-turn one stream t of waits whole b))
+          (subst (λ (l : SocketAddr). IsBindInput l b.c.peer one) place (binds-input one stream t of waits whole b))
 
       by : (z : Stream) × Has z one.before.streams × (x ≡ f z) → IsBoundAt local peer one.before ⊎ IsBindInput local peer one
       by (z, before, e) = elim (mode-was b.c.local (Bound b.c.peer) x z e) [

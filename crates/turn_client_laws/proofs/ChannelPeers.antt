@@ -31,7 +31,7 @@ use Rattle.turn_client_laws.proofs.InAllocationLemmas.{any-has}
 use Rattle.turn_client_laws.proofs.ListedGrants.{AllHaveGrant, StayFounded, StayFounded-KeepsAllEdits, HasGrant}
 use Rattle.turn_client_laws.proofs.NumberLemmas.{AreApart, numbers}
 use Rattle.turn_client_laws.proofs.StandLemmas.{contains-has, has-contains}
-use Rattle.turn_client_laws.proofs.TurnKeepLemmas.{before-kept}
+use Rattle.turn_client_laws.proofs.InputKeepLemmas.{before-kept}
 use Rattle.turn_client_api.specs.declared.grant.Lease.{Lease}
 
 -- ---- channels of one number
@@ -112,17 +112,17 @@ pub leaves-channels : (call : Call) (s t : State) → Leaves call s t → HasGra
 leaves-channels call s t leaves asked distinct number peer expiry there = elim (leaves-grants call s t channel leaves there tt) [
   | inl was ↦ inl was
   | inr (inl ended) ↦ absurd (never call ended)
-  | inr (inr (one, among, turn)) ↦ inr (one, among, turned one among turn)
+  | inr (inr (one, among, by_input)) ↦ inr (one, among, of_grant one among by_input)
 ]
   where
     channel : Grant
     channel = Channel number peer (Active expiry)
 
-    turned : (one : Input) → Contains (handled call s) one → IsGrantInput channel one → IsChannelInput number peer expiry one
-    turned one among turn =
+    of_grant : (one : Input) → Contains (handled call s) one → IsGrantInput channel one → IsChannelInput number peer expiry one
+    of_grant one among by_input =
         let founded = before-kept StayFounded (edits-IsKept StayFounded StayFounded-KeepsAllEdits (λ s streams h. h)) call s one among (λ l here. has-all (HasItsGrant s) l s.listed asked here) in
         let apart = before-kept _ (edits-IsKept _ (grants-KeepsAllEdits AreApart AreApart-KeepsGrants) (λ s streams h. h)) call s one among distinct in
-        (turn, by-grant number peer expiry one.bytes one.time one.before founded apart turn.grant.0 turn.grant.1 turn.grant.2)
+        (by_input, by-grant number peer expiry one.bytes one.time one.before founded apart by_input.grant.0 by_input.grant.1 by_input.grant.2)
 
     never : (call : Call) → IsEndedNow call s channel → ⊥
     never (Delete now) e = e

@@ -10,7 +10,7 @@ use Rattle.turn_client_api.specs.declared.call.Call.TheVariants.{Delete, Allocat
 use Rattle.turn_client_laws.specs.LawsHandled.{TakesInput}
 use Rattle.turn_client_laws.specs.LawsReplies.{IsReplyAccepted}
 use Rattle.turn_client_laws.specs.LawsInputs.{IsBroughtBy}
-use Rattle.turn_client_laws.proofs.TurnLemmas.{IsBringing, message-brings}
+use Rattle.turn_client_laws.proofs.InputLemmas.{IsBringing, message-brings}
 use Rattle.turn_client_laws.proofs.Edits.{IgnoresAll, KeepsEdits, KeepsAccepted}
 use Rattle.turn_client_laws.proofs.PhaseEdits.{KeepsPhaseEdits, all-phase-edits, phase-edits}
 use Rattle.turn_client_laws.proofs.EditsOfReplies.{gone-walk}

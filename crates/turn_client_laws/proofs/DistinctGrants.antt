@@ -27,7 +27,7 @@ use Rattle.turn_client_api.specs.declared.call.Call.{Call}
 use Rattle.std.specs.List.{Contains}
 use Rattle.turn_client_laws.specs.Handled.{Input, handled}
 use Rattle.turn_client_laws.proofs.EditsOfMessages.{edits-IsKept}
-use Rattle.turn_client_laws.proofs.TurnKeepLemmas.{before-kept}
+use Rattle.turn_client_laws.proofs.InputKeepLemmas.{before-kept}
 use Rattle.turn_client_laws.specs.LawsDoubles.{HasNoDoubles, is_double}
 use Rattle.turn_client_laws.specs.LawsOrder.{FitsPhase, IsUngranted}
 use Rattle.turn_client_api.proofs.HasLemmas.{Has}

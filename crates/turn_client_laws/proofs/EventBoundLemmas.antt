@@ -114,8 +114,8 @@ unfolding count told_of
 failed-tells which s spares =
     let as_reported = told-count s.config.allocation_transport which s.grants spares in
     let front = length-append (reverse (failures_among which s)) s.events in
-    let turned = length-reverse (failures_among which s) in
-    omega (arith, as_reported, front, turned)
+    let reversed = length-reverse (failures_among which s) in
+    omega (arith, as_reported, front, reversed)
 
 unbound-tells : (which : Grant → Bool) (s : State) → Spares which → TellsOfFailed s (unbound which s)
 unbound-tells which s spares = failed-tells which s spares

@@ -35,8 +35,8 @@ use Rattle.turn_client_laws.proofs.GrantOriginMessageLemmas.{message-brings}
 use Rattle.turn_client_laws.proofs.GrantOriginCallLemmas.{Binds, BindsOrLeaves, Leaves-KeepsEdits, bind-leaves, gone-leaves}
 use Rattle.turn_client_laws.proofs.EditsOfCalls.{quiet-walk, tcp_socket-walk}
 use Rattle.turn_client_api.proofs.AddressLemmas.{same_address-true}
-use Rattle.turn_client_laws.proofs.BoundLemmas.{binds-turn, found-local}
-use Rattle.turn_client_laws.proofs.TurnBringLemmas.{IsBrought, leaves-bring}
+use Rattle.turn_client_laws.proofs.BoundLemmas.{binds-input, found-local}
+use Rattle.turn_client_laws.proofs.InputBringLemmas.{IsBrought, leaves-bring}
 
 -- ---- all of them
 
@@ -69,8 +69,8 @@ control-grants g one over whole covers = by g (message-brings g one.bytes one.ti
     Grants : Grant → Type 0
     Grants g = IsGrant g one.bytes one.time one.before
 
-    turn : (g : Grant) → Grants g → IsGrantInput g one
-    turn g grant = record { over = over; whole = whole; grant = grant }
+    of_input : (g : Grant) → Grants g → IsGrantInput g one
+    of_input g grant = record { over = over; whole = whole; grant = grant }
 
     -- a connection is not
     connection : (c : DataConnection) (was : Grant) → IsGrantedBy one.bytes one.time one.before was → IsSameGrant was (Connection c) → ⊥
@@ -86,7 +86,7 @@ control-grants g one over whole covers = by g (message-brings g one.bytes one.ti
     by : (g : Grant) → Covers one.before.grants g ⊎ Grants g → Covers one.before.grants g ⊎ IsGrantedIn g one
     by g (inl there) = inl there
     by (Connection c) (inr (was, is, kept)) = absurd (connection c was is kept)
-    by g (inr grant) = inr (turn g grant)
+    by g (inr grant) = inr (of_input g grant)
 
 -- a grant that a map leaves existed before, or is a connection at this local address
 pub deadline-has : (local : SocketAddr) (g x : Grant) → g ≡ deadline_set local None x → (g ≡ x) ⊎ ((c : DataConnection) × (g ≡ Connection c) × (c.local ≡ local))
@@ -103,7 +103,7 @@ bind-covers one stream g t of waits whole b (is, there, kept) = by (has-mapped (
     bound : (c : DataConnection) (h : Grant) → c.local ≡ b.c.local → IsSameGrant (Connection c) h → IsGrantedIn h one
     bound c (Connection d) at (same, none) =
         let ends : stream.local ≡ d.local = sym (found-local stream.local b.c _ b.found) ∙ (sym at ∙ ap (λ (x : DataConnection). x.local) same) in
-        (b.c.peer, subst (λ (local : SocketAddr). IsBindInput local b.c.peer one) ends (binds-turn one stream t of waits whole b))
+        (b.c.peer, subst (λ (local : SocketAddr). IsBindInput local b.c.peer one) ends (binds-input one stream t of waits whole b))
     bound c h at k = absurd k
 
     by : (x : Grant) × Has x one.before.grants × (is ≡ deadline_set b.c.local None x) → Covers one.before.grants g ⊎ IsGrantedIn g one

@@ -29,7 +29,7 @@ use Rattle.turn_client_laws.proofs.PacketLemmas.{packet-by}
 
 -- these inputs return what the outcome has, and no more
 abbrev AreOf : List Input → Outcome → Type 0
-AreOf turns o = payloads turns ≡ option_to_list (payload_in o)
+AreOf inputs o = payloads inputs ≡ option_to_list (payload_in o)
 
 one-AreOf : (t : Input) → payloads (t ∷ []) ≡ option_to_list (input_payload t)
 one-AreOf t = elim (cases_Option (input_payload t)) [ inl e ↦ rw e refl | inr (payload, e) ↦ rw e refl ]
@@ -58,37 +58,37 @@ framed-AreOf is_lent stream now t = by (begins_no_frame stream.bytes) (frame_len
     by true o = handled-AreOf is_lent
     by false o = frame-AreOf is_lent stream now t o
 
-turned_in_mode : (m : Mode) (stream : Stream) (now : ℕ) (t : State) → AreOf (taken_in false (record stream { mode = m }) now t) (owned (detached_frame_step (record stream { mode = m }) now t).0)
-turned_in_mode (Bound peer) stream now t = refl
-turned_in_mode Broken stream now t = refl
-turned_in_mode m stream now t = framed-AreOf false (record stream { mode = m }) now t
+detached_in_mode : (m : Mode) (stream : Stream) (now : ℕ) (t : State) → AreOf (taken_in false (record stream { mode = m }) now t) (owned (detached_frame_step (record stream { mode = m }) now t).0)
+detached_in_mode (Bound peer) stream now t = refl
+detached_in_mode Broken stream now t = refl
+detached_in_mode m stream now t = framed-AreOf false (record stream { mode = m }) now t
 
-turn-AreOf : (stream : Stream) (now : ℕ) (s : State) → AreOf (stream_inputs_taken false stream now s) (owned (next_frame_step stream now s).0)
-turn-AreOf stream now s = turned_in_mode stream.mode stream now (with_bytes stream.local [] s)
+step-AreOf : (stream : Stream) (now : ℕ) (s : State) → AreOf (stream_inputs_taken false stream now s) (owned (next_frame_step stream now s).0)
+step-AreOf stream now s = detached_in_mode stream.mode stream now (with_bytes stream.local [] s)
 
 -- ---- all streams
 
 -- what inputs return, until a payload
 abbrev Gives : List Input → Option Payload × State → Type 0
-Gives turns p = payloads turns ≡ option_to_list p.0
+Gives inputs p = payloads inputs ≡ option_to_list p.0
 
 go_on-Gives : (next : State → Option Payload × State) (later : State → List Input) (front : List Input) (p : Outcome × State) → AreOf front (owned p.0) → ((t : State) → Gives (later t) (next t))
     → Gives (front ++ unless_given (payload_in p.0) (later p.1)) (go_on next p)
 go_on-Gives next later front (PeerData payload, t) first more = payloads-append front [] ∙ ap (λ ps. ps ++ []) first
 go_on-Gives next later front (_, t) first more = payloads-append front (later t) ∙ (ap (λ ps. ps ++ payloads (later t)) first ∙ more t)
 
-turns-Gives : (n now : ℕ) (s : State) → Gives (inputs_taken n now s) (steps_until_payload n now s)
+steps-Gives : (n now : ℕ) (s : State) → Gives (inputs_taken n now s) (steps_until_payload n now s)
 unfolding steps_until_payload inputs_taken
-turns-Gives zero now s = refl
-turns-Gives (suc n) now s = elim (cases_Option (find is_ready s.streams)) [
+steps-Gives zero now s = refl
+steps-Gives (suc n) now s = elim (cases_Option (find is_ready s.streams)) [
   | inl e ↦ rw e refl
   | inr (stream, e) ↦
       rw e
-      (go_on-Gives (steps_until_payload n now) (inputs_taken n now) (stream_inputs_taken false stream now s) (next_frame_step stream now s) (turn-AreOf stream now s) (turns-Gives n now))
+      (go_on-Gives (steps_until_payload n now) (inputs_taken n now) (stream_inputs_taken false stream now s) (next_frame_step stream now s) (step-AreOf stream now s) (steps-Gives n now))
 ]
 
 pub poll_recv-Gives : (now : ℕ) (s : State) → payloads (poll_recv_inputs now s) ≡ option_to_list (poll_recv_step now s).0
-poll_recv-Gives now s = turns-Gives (max_steps s) now s
+poll_recv-Gives now s = steps-Gives (max_steps s) now s
 
 -- ---- a piece of a stream
 
@@ -143,8 +143,8 @@ recv-AreOf packet now =
 
 -- ---- its sender
 
-pub turn-IsFromPermitted : (t : Input) → IsPermittedInput t
-turn-IsFromPermitted t = by t.stream t
+pub input-IsFromPermitted : (t : Input) → IsPermittedInput t
+input-IsFromPermitted t = by t.stream t
   where
     by : (o : Option Stream) (t : Input) → IsPermittedInput (record t { stream = o })
     by None t = datagram-IsMessageFromPermitted t.bytes t.time t.before
@@ -156,7 +156,7 @@ given-by : (call : Call) (s : State) (o : Option Payload) → payloads (handled 
 given-by call s None e = tt
 given-by call s (Some payload) e =
     let (one, there, gives) = has-filter_map input_payload payload (handled call s) (subst (Has payload) (sym e) (inl refl)) in
-    (one, has-contains one (handled call s) there, (gives, turn-IsFromPermitted one))
+    (one, has-contains one (handled call s) there, (gives, input-IsFromPermitted one))
 
 pub recv-IsGivenBy : (packet : Transmit (List ℕ)) (now : ℕ) (s : State) → IsDeliveredByInput (payload_in (packet_step packet now s).0) (Recv packet now) s
 recv-IsGivenBy packet now s = given-by (Recv packet now) s (payload_in (packet_step packet now s).0) (recv-AreOf packet now s)
@@ -172,12 +172,12 @@ IsIcmp _ = ⊥
 
 -- if the outcome is an ICMP report, one of these inputs returns it
 abbrev Tells : List Input → Outcome → Type 0
-Tells turns o = IsIcmp o → (one : Input) × Has one turns × ((processed one).0 ≡ o)
+Tells inputs o = IsIcmp o → (one : Input) × Has one inputs × ((processed one).0 ≡ o)
 
-tells-kept : (waited : List ℕ) (turns : List Input) (o : Outcome) → Tells turns o → Tells turns (place_kept waited o)
-tells-kept [] turns o tells = tells
-tells-kept (b ∷ bs) turns (PeerIcmp transport peer icmp) tells = tells
-tells-kept (b ∷ bs) turns o tells = λ h. absurd h
+tells-kept : (waited : List ℕ) (inputs : List Input) (o : Outcome) → Tells inputs o → Tells inputs (place_kept waited o)
+tells-kept [] inputs o tells = tells
+tells-kept (b ∷ bs) inputs (PeerIcmp transport peer icmp) tells = tells
+tells-kept (b ∷ bs) inputs o tells = λ h. absurd h
 
 framed-tells : (is_lent : Bool) (stream : Stream) (now : ℕ) (t : State) → Tells (frame_taken is_lent stream now t) (framed_stream_step stream now t).0
 framed-tells is_lent stream now t = by (begins_no_frame stream.bytes) (frame_len stream.bytes)
@@ -218,7 +218,7 @@ stream-tells stream [] now s h = absurd h
 stream-tells stream (b ∷ bs) now s h = piece-tells stream.mode stream (b ∷ bs) now s h
 
 told : (call : Call) (s : State) (o : Outcome) → Tells (handled call s) o → IsToldBy o call s
-told call s (PeerIcmp transport peer icmp) tells = let (one, there, is) = tells tt in (one, has-contains one (handled call s) there, (is, turn-IsFromPermitted one))
+told call s (PeerIcmp transport peer icmp) tells = let (one, there, is) = tells tt in (one, has-contains one (handled call s) there, (is, input-IsFromPermitted one))
 told call s o tells = tt
 
 pub recv-IsToldBy : (packet : Transmit (List ℕ)) (now : ℕ) (s : State) → IsToldBy (packet_step packet now s).0 (Recv packet now) s

@@ -18,7 +18,7 @@ use Rattle.turn_client_api.specs.declared.call.Call.{Call}
 use Rattle.turn_client_api.specs.declared.call.Call.TheVariants.{SendTo, Recv, PollRecv, Poll, PollTransmit, PollEvent, RelayedAddresses, Permissions}
 use Rattle.turn_client_api.specs.declared.call.Call.TheVariants.{HavePermission, ProtocolError, SetPermissionKept, SetChannelKept, TcpClosed}
 use Rattle.turn_client_laws.specs.LawsHandled.{TakesInput}
-use Rattle.turn_client_laws.proofs.RunKeepLemmas.{IsKept, first_frame_step-kept, turns-kept}
+use Rattle.turn_client_laws.proofs.RunKeepLemmas.{IsKept, first_frame_step-kept, steps-kept}
 
 -- ---- before all streams are processed
 
@@ -79,11 +79,11 @@ module _ (R : State → State → Type 0) (k : IsKept R) (ends : (s : State) →
   closed-kept : (s t u : State) → R s t → u ≡ closed t → R s u
   closed-kept s t u kept e = subst (λ (x : State). R s x) (sym e) (k.trans s t (closed t) kept (ends t))
 
-  turns_end-kept : (now : ℕ) (s u : State) → EndsAfterSteps now s u → R s u
-  turns_end-kept now s u (t, (n, led), broken) = by (find is_ready t.streams) broken
+  steps_end-kept : (now : ℕ) (s u : State) → EndsAfterSteps now s u → R s u
+  steps_end-kept now s u (t, (n, led), broken) = by (find is_ready t.streams) broken
     where
       there : R s t
-      there = subst (λ (p : Option Payload × State). R s p.1) led (turns-kept R k n now s)
+      there = subst (λ (p : Option Payload × State). R s p.1) led (steps-kept R k n now s)
 
       by : (o : Option Stream) → IsSomeAnd o (λ stream. u ≡ closed (broken_at stream.local t)) → R s u
       by None none = absurd none
@@ -101,11 +101,11 @@ module _ (R : State → State → Type 0) (k : IsKept R) (ends : (s : State) →
     where
       by : (o : Option State) → before_others to piece now s ≡ o → IsSomeAnd o (λ u. EndsAfterSteps now u t) → R s t
       by None e none = absurd none
-      by (Some u) e h = k.trans s u t (before-kept to piece now s u (before-IsBehind to piece now s u e)) (turns_end-kept now u t h)
+      by (Some u) e h = k.trans s u t (before-kept to piece now s u (before-IsBehind to piece now s u e)) (steps_end-kept now u t h)
 
   amid-kept : (call : Call) (s t : State) → TakesInput call → EndsWithoutMemory call s t → R s t
   amid-kept (Recv packet now) s t takes (asks, end) = recv_end-kept packet.to packet.payload now s t end
-  amid-kept (PollRecv now) s t takes end = turns_end-kept now s t end
+  amid-kept (PollRecv now) s t takes end = steps_end-kept now s t end
   amid-kept call s t takes end = absurd takes
 
   memory-kept : (call : Call) (s t : State) → EndsWithoutMemory call s t → R s t

@@ -47,14 +47,14 @@ use Rattle.turn_client_laws.proofs.GrantOriginLemmas.{has-mapped}
 use Rattle.turn_client_laws.proofs.StandLemmas.{has-contains}
 
 -- the message requests this, and removes grants so
-abbrev pub Turns : (Grant → Type 0) → List ℕ → ℕ → State → State → Type 0
-Turns Taken message now s t = Moves (IsMadeAgain message now s t) (IsListedAgain message now s t) Taken s t
+abbrev pub MovesByMessage : (Grant → Type 0) → List ℕ → ℕ → State → State → Type 0
+MovesByMessage Taken message now s t = Moves (IsMadeAgain message now s t) (IsListedAgain message now s t) Taken s t
 
-pub turns-settled : (Taken : Grant → Type 0) (message : List ℕ) (now : ℕ) (s t : State) → Settles Taken s t → Turns Taken message now s t
-turns-settled Taken message now s t settles = settles-moves (IsMadeAgain message now s t) (IsListedAgain message now s t) Taken s t settles
+pub moves-settled : (Taken : Grant → Type 0) (message : List ℕ) (now : ℕ) (s t : State) → Settles Taken s t → MovesByMessage Taken message now s t
+moves-settled Taken message now s t settles = settles-moves (IsMadeAgain message now s t) (IsListedAgain message now s t) Taken s t settles
 
-pub turns-same : (Taken : Grant → Type 0) (message : List ℕ) (now : ℕ) (s : State) → Turns Taken message now s s
-turns-same Taken message now s = turns-settled Taken message now s s (settles-same Taken s)
+pub moves_by_message-same : (Taken : Grant → Type 0) (message : List ℕ) (now : ℕ) (s : State) → MovesByMessage Taken message now s s
+moves_by_message-same Taken message now s = moves-settled Taken message now s s (settles-same Taken s)
 
 -- what holds of a request as it is listed for each of these purposes
 pub each-listing : (P : Listing → Type 0) (id : ℕ) (all : List Purpose) → ((p : Purpose) → Has p all → P (record { id = id; purpose = p })) → (l : Listing)
@@ -96,9 +96,9 @@ requested-made purpose now s u =
 
 -- ---- over the control connection
 
-retry-turns : (Taken : Grant → Type 0) (message : List ℕ) (purpose : Purpose) (d : Challenge) (now : ℕ) (s : State) → Has purpose (purposes_of (id_of message) s)
-    → Turns Taken message now s (state_after_retry s (id_of message) purpose d now)
-retry-turns Taken message purpose d now s answers = (
+retry-moves : (Taken : Grant → Type 0) (message : List ℕ) (purpose : Purpose) (d : Challenge) (now : ℕ) (s : State) → Has purpose (purposes_of (id_of message) s)
+    → MovesByMessage Taken message now s (state_after_retry s (id_of message) purpose d now)
+retry-moves Taken message purpose d now s answers = (
   adds-one _ s.transactions (A.without_transaction (id_of message) s.transactions) _ (adds-filter _ _ s.transactions) (made-again message now s t purpose answers made),
   adds-more _ s.listed s.listed _ (adds-same _ s.listed) (listed-again message now s t purpose answers made (purposes_of (id_of message) s) (λ p h. h)),
   loses-same Taken s.grants,
@@ -110,27 +110,27 @@ retry-turns Taken message purpose d now s answers = (
     made : IsMade purpose now s t
     made = made-of purpose now s t (request_for t purpose (fresh_id s)) (inl refl) (A.without_transaction (id_of message) s.transactions) refl
 
-challenge-turns : (Taken : Grant → Type 0) (message : List ℕ) (d : Challenge) (now : ℕ) (s : State) → Turns Taken message now s (challenge_step message d now s).1
-challenge-turns Taken message d now s = by (ltb s.challenges s.config.max_stale_nonces) refl (retried (purposes_of (id_of message) s)) refl
+challenge-moves : (Taken : Grant → Type 0) (message : List ℕ) (d : Challenge) (now : ℕ) (s : State) → MovesByMessage Taken message now s (challenge_step message d now s).1
+challenge-moves Taken message d now s = by (ltb s.challenges s.config.max_stale_nonces) refl (retried (purposes_of (id_of message) s)) refl
   where
-    by : (b : Bool) → ltb s.challenges s.config.max_stale_nonces ≡ b → (o : Option Purpose) → retried (purposes_of (id_of message) s) ≡ o → Turns Taken message now s (challenge_step message d now s).1
+    by : (b : Bool) → ltb s.challenges s.config.max_stale_nonces ≡ b → (o : Option Purpose) → retried (purposes_of (id_of message) s) ≡ o → MovesByMessage Taken message now s (challenge_step message d now s).1
     by false e o f =
-        rw e (turns-settled Taken message now s _ (adds-same Never s.transactions, adds-filter Never _ s.listed, loses-same Taken s.grants))
-    by true e None f = rw (e, f) (turns-same Taken message now s)
-    by true e (Some purpose) f = rw (e, f) (retry-turns Taken message purpose d now s (retried-has (purposes_of (id_of message) s) purpose f))
+        rw e (moves-settled Taken message now s _ (adds-same Never s.transactions, adds-filter Never _ s.listed, loses-same Taken s.grants))
+    by true e None f = rw (e, f) (moves_by_message-same Taken message now s)
+    by true e (Some purpose) f = rw (e, f) (retry-moves Taken message purpose d now s (retried-has (purposes_of (id_of message) s) purpose f))
 
-wrong-turns : (Taken : Grant → Type 0) (p : Phase) (message : List ℕ) (now : ℕ) (s : State) → Turns Taken message now (record s { phase = p }) (wrong_step message (record s { phase = p })).1
-wrong-turns Taken Requesting message now s = turns-settled Taken message now (record s { phase = Requesting }) _
+wrong-moves : (Taken : Grant → Type 0) (p : Phase) (message : List ℕ) (now : ℕ) (s : State) → MovesByMessage Taken message now (record s { phase = p }) (wrong_step message (record s { phase = p })).1
+wrong-moves Taken Requesting message now s = moves-settled Taken message now (record s { phase = Requesting }) _
     (adds-filter Never _ s.transactions, adds-filter Never _ s.listed, loses-same Taken s.grants)
-wrong-turns Taken p message now s =
-    turns-settled Taken message now (record s { phase = p }) _ (adds-same Never s.transactions, adds-filter Never _ s.listed, loses-same Taken s.grants)
+wrong-moves Taken p message now s =
+    moves-settled Taken message now (record s { phase = p }) _ (adds-same Never s.transactions, adds-filter Never _ s.listed, loses-same Taken s.grants)
 
-granted-turns : (Taken : Grant → Type 0) (message : List ℕ) (now : ℕ) (s : State) → Turns Taken message now s (allocate_granted message now (transaction_ended (id_of message) s))
-granted-turns Taken message now s = by (lifetime_in message) refl
+granted-moves : (Taken : Grant → Type 0) (message : List ℕ) (now : ℕ) (s : State) → MovesByMessage Taken message now s (allocate_granted message now (transaction_ended (id_of message) s))
+granted-moves Taken message now s = by (lifetime_in message) refl
   where
-    by : (o : Option ℕ) → lifetime_in message ≡ o → Turns Taken message now s (allocate_granted message now (transaction_ended (id_of message) s))
-    by None e = rw e (turns-settled Taken message now s _ (adds-filter Never _ s.transactions, adds-filter Never _ s.listed, loses-same Taken s.grants))
-    by (Some lifetime) e = rw e (turns-settled Taken message now s _ (
+    by : (o : Option ℕ) → lifetime_in message ≡ o → MovesByMessage Taken message now s (allocate_granted message now (transaction_ended (id_of message) s))
+    by None e = rw e (moves-settled Taken message now s _ (adds-filter Never _ s.transactions, adds-filter Never _ s.listed, loses-same Taken s.grants))
+    by (Some lifetime) e = rw e (moves-settled Taken message now s _ (
       adds-filter Never _ s.transactions,
       adds-filter Never _ s.listed,
       loses-more Taken s.grants s.grants _
@@ -138,9 +138,9 @@ granted-turns Taken message now s = by (lifetime_in message) refl
     ))
 
 -- an ALLOCATE is refused, and may be made again for IPv6 alone
-denied-turns : (Taken : Grant → Type 0) (message : List ℕ) (now : ℕ) (s : State) → Has ForAllocation (purposes_of (id_of message) s)
-    → Turns Taken message now s (allocate_denied (fresh_id s) message now (transaction_ended (id_of message) s))
-denied-turns Taken message now s answers = by (has_code family_not_supported message && leb 2 (length s.families)) refl
+denied-moves : (Taken : Grant → Type 0) (message : List ℕ) (now : ℕ) (s : State) → Has ForAllocation (purposes_of (id_of message) s)
+    → MovesByMessage Taken message now s (allocate_denied (fresh_id s) message now (transaction_ended (id_of message) s))
+denied-moves Taken message now s answers = by (has_code family_not_supported message && leb 2 (length s.families)) refl
   where
     u : State
     u = wait (AllocationCreateFailed IPV4 ∷ []) (record (in_phase s.phase (transaction_ended (id_of message) s)) { families = IPV6 ∷ [] })
@@ -153,8 +153,8 @@ denied-turns Taken message now s answers = by (has_code family_not_supported mes
     one p (inr h) = absurd h
 
     by : (b : Bool) → (has_code family_not_supported message && leb 2 (length s.families)) ≡ b
-        → Turns Taken message now s (allocate_denied (fresh_id s) message now (transaction_ended (id_of message) s))
-    by false e = rw e (turns-settled Taken message now s _ (adds-filter Never _ s.transactions, adds-filter Never _ s.listed, loses-same Taken s.grants))
+        → MovesByMessage Taken message now s (allocate_denied (fresh_id s) message now (transaction_ended (id_of message) s))
+    by false e = rw e (moves-settled Taken message now s _ (adds-filter Never _ s.transactions, adds-filter Never _ s.listed, loses-same Taken s.grants))
     by true e = rw e (
       adds-one _ s.transactions (A.without_transaction (id_of message) s.transactions) _ (adds-filter _ _ s.transactions)
           (made-again message now s (requested (fresh_id s) ForAllocation now u) ForAllocation answers made),
@@ -183,9 +183,9 @@ error-answers s message e = by (answers_allocate s message) refl
 abbrev TakesFor : Judgement → List ℕ → State → Grant → Type 0
 TakesFor j message s g = IsAccepted j × ((p : Purpose) × IsAnswer message s p × ((is_for p g ≡ true) ⊎ GivesBack p))
 
-reply-turns : (j : Judgement) → IsAccepted j → (is_granted : Bool) (message : List ℕ) (now : ℕ) (s : State) → Turns (TakesFor j message s) message now s (response_step is_granted message now s).1
-reply-turns j accepted is_granted message now s =
-    turns-settled (TakesFor j message s) message now s (response_step is_granted message now s).1
+reply-moves : (j : Judgement) → IsAccepted j → (is_granted : Bool) (message : List ℕ) (now : ℕ) (s : State) → MovesByMessage (TakesFor j message s) message now s (response_step is_granted message now s).1
+reply-moves j accepted is_granted message now s =
+    moves-settled (TakesFor j message s) message now s (response_step is_granted message now s).1
     (settles-wider (IsFor all) (TakesFor j message s) s (response_step is_granted message now s).1 wider (response-fits is_granted message now s))
   where
     all : List Purpose
@@ -194,21 +194,21 @@ reply-turns j accepted is_granted message now s =
     wider : (g : Grant) → IsFor all g → TakesFor j message s g
     wider g (p, h, is) = (accepted, (p, has-contains p all h, is))
 
-success-turns : (p : Phase) (message : List ℕ) (now : ℕ) (s : State) → Turns (TakesFor SignedSuccess message (record s { phase = p })) message now (record s { phase = p })
+success-moves : (p : Phase) (message : List ℕ) (now : ℕ) (s : State) → MovesByMessage (TakesFor SignedSuccess message (record s { phase = p })) message now (record s { phase = p })
     (signed_step true message now (record s { phase = p })).1
-success-turns Authenticating message now s = granted-turns _ message now (record s { phase = Authenticating })
-success-turns p message now s = reply-turns SignedSuccess tt true message now (record s { phase = p })
+success-moves Authenticating message now s = granted-moves _ message now (record s { phase = Authenticating })
+success-moves p message now s = reply-moves SignedSuccess tt true message now (record s { phase = p })
 
-error-turns : (p : Phase) (message : List ℕ) (now : ℕ) (s : State) → judgement_of (record s { phase = p }) message ≡ SignedError
-    → Turns (TakesFor SignedError message (record s { phase = p })) message now (record s { phase = p }) (signed_step false message now (record s { phase = p })).1
-error-turns Authenticating message now s e =
-    let u = record s { phase = Authenticating } in denied-turns _ message now u (error-answers u message e)
-error-turns p message now s e = reply-turns SignedError tt false message now (record s { phase = p })
+error-moves : (p : Phase) (message : List ℕ) (now : ℕ) (s : State) → judgement_of (record s { phase = p }) message ≡ SignedError
+    → MovesByMessage (TakesFor SignedError message (record s { phase = p })) message now (record s { phase = p }) (signed_step false message now (record s { phase = p })).1
+error-moves Authenticating message now s e =
+    let u = record s { phase = Authenticating } in denied-moves _ message now u (error-answers u message e)
+error-moves p message now s e = reply-moves SignedError tt false message now (record s { phase = p })
 
 -- ---- what the server requests
 
-requested-turns : (Taken : Grant → Type 0) (message : List ℕ) (now : ℕ) (s : State) → Turns Taken message now s (attempt_requested message s)
-requested-turns Taken message now s = turns-settled Taken message now s _ (by (connection_id_in message) refl (peer_in message) refl)
+requested-moves : (Taken : Grant → Type 0) (message : List ℕ) (now : ℕ) (s : State) → MovesByMessage Taken message now s (attempt_requested message s)
+requested-moves Taken message now s = moves-settled Taken message now s _ (by (connection_id_in message) refl (peer_in message) refl)
   where
     same : Settles Taken s s
     same = settles-same Taken s
@@ -237,40 +237,40 @@ indicated-settles Taken message s = by (connection_id_in message) refl (peer_in 
 
 -- ---- a whole message
 
-pub message-turns : (message : List ℕ) (now : ℕ) (s : State) → Turns (IsTakenByReply message s) message now s (message_step message now s).1
-message-turns message now s = by (judgement_of s message) refl
+pub message-moves : (message : List ℕ) (now : ℕ) (s : State) → MovesByMessage (IsTakenByReply message s) message now s (message_step message now s).1
+message-moves message now s = by (judgement_of s message) refl
   where
     indicated : (Taken : Grant → Type 0) (o : Option State) → IfSome o (Settles Taken s)
-        → Turns Taken message now s (option_map_or {T = State} {U = Outcome × State} (λ t. (Handled, t)) o (Ignored, s)).1
-    indicated Taken None k = turns-same Taken message now s
-    indicated Taken (Some t) k = turns-settled Taken message now s t k
+        → MovesByMessage Taken message now s (option_map_or {T = State} {U = Outcome × State} (λ t. (Handled, t)) o (Ignored, s)).1
+    indicated Taken None k = moves_by_message-same Taken message now s
+    indicated Taken (Some t) k = moves-settled Taken message now s t k
 
-    asked : (Taken : Grant → Type 0) (b : Bool) → Turns Taken message now s (cond {A = Outcome × State} b (Handled, attempt_requested message s) (Ignored, s)).1
-    asked Taken true = requested-turns Taken message now s
-    asked Taken false = turns-same Taken message now s
+    asked : (Taken : Grant → Type 0) (b : Bool) → MovesByMessage Taken message now s (cond {A = Outcome × State} b (Handled, attempt_requested message s) (Ignored, s)).1
+    asked Taken true = requested-moves Taken message now s
+    asked Taken false = moves_by_message-same Taken message now s
 
-    by : (j : Judgement) → judgement_of s message ≡ j → Turns (TakesFor j message s) message now s (message_step message now s).1
-    by (Challenged d) e = rw e (challenge-turns _ message d now s)
-    by Fatal e = rw e (wrong-turns _ s.phase message now s)
+    by : (j : Judgement) → judgement_of s message ≡ j → MovesByMessage (TakesFor j message s) message now s (message_step message now s).1
+    by (Challenged d) e = rw e (challenge-moves _ message d now s)
+    by Fatal e = rw e (wrong-moves _ s.phase message now s)
     by ConnectionAttempt e = rw e (indicated _ (attempt_indicated message s) (indicated-settles _ message s))
     by SignedRequest e = rw e (asked _ (eqb (method_in message) connection_attempt_method))
-    by SignedSuccess e = rw e (success-turns s.phase message now s)
-    by SignedError e = rw e (error-turns s.phase message now s e)
-    by j e = rw e (turns-same _ message now s)
+    by SignedSuccess e = rw e (success-moves s.phase message now s)
+    by SignedError e = rw e (error-moves s.phase message now s e)
+    by j e = rw e (moves_by_message-same _ message now s)
 
 -- ---- connections that wait to be bound
 
 deadline-grant_identity : (local : SocketAddr) (deadline : Option ℕ) (g : Grant) → grant_identity g ≡ grant_identity (deadline_set local deadline g)
 deadline-grant_identity local deadline g = grind arith
 
-again-turns : (c : DataConnection) (message : List ℕ) (d : Challenge) (now : ℕ) (s : State) → Turns (λ g. is_connection_from c.local g ≡ true) message now s (bind_again c (id_of message) d now s)
-again-turns c message d now s = by (find (is_bind_of c.local) (purposes_of (id_of message) s)) refl
+again-moves : (c : DataConnection) (message : List ℕ) (d : Challenge) (now : ℕ) (s : State) → MovesByMessage (λ g. is_connection_from c.local g ≡ true) message now s (bind_again c (id_of message) d now s)
+again-moves c message d now s = by (find (is_bind_of c.local) (purposes_of (id_of message) s)) refl
   where
     u : State
     u = unlisted (is_connection_from c.local) (with_held d s)
 
-    by : (o : Option Purpose) → find (is_bind_of c.local) (purposes_of (id_of message) s) ≡ o → Turns (λ g. is_connection_from c.local g ≡ true) message now s (bind_again c (id_of message) d now s)
-    by None e = rw e (turns-same _ message now s)
+    by : (o : Option Purpose) → find (is_bind_of c.local) (purposes_of (id_of message) s) ≡ o → MovesByMessage (λ g. is_connection_from c.local g ≡ true) message now s (bind_again c (id_of message) d now s)
+    by None e = rw e (moves_by_message-same _ message now s)
     by (Some purpose) e =
         let answers = found-has (is_bind_of c.local) (purposes_of (id_of message) s) purpose e in
         let t = with_deadline c.local (Some (later_by bind_time now)) (requested (fresh_id s) purpose now u) in
@@ -285,45 +285,45 @@ again-turns c message d now s = by (find (is_bind_of c.local) (purposes_of (id_o
         only purpose answers p (inl e) = rw e answers
         only purpose answers p (inr h) = absurd h
 
-answered-turns : (c : DataConnection) (message : List ℕ) (now : ℕ) (s : State) → Turns (λ g. is_connection_from c.local g ≡ true) message now s (bind_answered c message now s)
-answered-turns c message now s = by (bind_judgement s c.local message) refl
+answered-moves : (c : DataConnection) (message : List ℕ) (now : ℕ) (s : State) → MovesByMessage (λ g. is_connection_from c.local g ≡ true) message now s (bind_answered c message now s)
+answered-moves c message now s = by (bind_judgement s c.local message) refl
   where
     Taken : Grant → Type 0
     Taken g = is_connection_from c.local g ≡ true
 
-    unbound : Turns Taken message now s (not_bound c s)
-    unbound = turns-settled Taken message now s (not_bound c s)
+    unbound : MovesByMessage Taken message now s (not_bound c s)
+    unbound = moves-settled Taken message now s (not_bound c s)
         (adds-same Never s.transactions, adds-filter Never _ s.listed, loses-filter Taken (is_connection_from c.local) s.grants (λ g e. e))
 
-    by : (j : Judgement) → bind_judgement s c.local message ≡ j → Turns Taken message now s (bind_answered c message now s)
-    by (Challenged d) e = rw e (again-turns c message d now s)
-    by SignedSuccess e = rw e (turns-settled Taken message now s (bound c (transaction_ended (id_of message) s))
+    by : (j : Judgement) → bind_judgement s c.local message ≡ j → MovesByMessage Taken message now s (bind_answered c message now s)
+    by (Challenged d) e = rw e (again-moves c message d now s)
+    by SignedSuccess e = rw e (moves-settled Taken message now s (bound c (transaction_ended (id_of message) s))
         (adds-filter Never _ s.transactions, adds-filter Never _ s.listed, loses-map Taken (deadline_set c.local None) s.grants (deadline-grant_identity c.local None)))
-    by SignedError e = rw e (turns-settled Taken message now s (not_bound c (transaction_ended (id_of message) s))
+    by SignedError e = rw e (moves-settled Taken message now s (not_bound c (transaction_ended (id_of message) s))
         (adds-filter Never _ s.transactions, adds-filter Never _ s.listed, loses-filter Taken (is_connection_from c.local) s.grants (λ g e. e)))
     by j e = rw e unbound
 
-pub bind-turns : (local : SocketAddr) (message : List ℕ) (now : ℕ) (s : State)
-    → Turns (λ g. is_connection_from local g ≡ true) message now s (bind_step local message now s)
-bind-turns local message now s =
+pub bind-moves : (local : SocketAddr) (message : List ℕ) (now : ℕ) (s : State)
+    → MovesByMessage (λ g. is_connection_from local g ≡ true) message now s (bind_step local message now s)
+bind-moves local message now s =
     let Taken = λ (a : SocketAddr) (g : Grant). is_connection_from a g ≡ true in
-    bind-by (Turns (Taken local) message now s) local message now s (turns-same (Taken local) message now s)
-    (λ c e. subst (λ a. Turns (Taken a) message now s (bind_answered c message now s)) e (answered-turns c message now s))
+    bind-by (MovesByMessage (Taken local) message now s) local message now s (moves_by_message-same (Taken local) message now s)
+    (λ c e. subst (λ a. MovesByMessage (Taken a) message now s (bind_answered c message now s)) e (answered-moves c message now s))
 
 -- ---- datagrams and frames
 
-turns-wider : (Taken Other : Grant → Type 0) (message : List ℕ) (now : ℕ) (s t : State) → ((g : Grant) → Taken g → Other g) → Turns Taken message now s t → Turns Other message now s t
-turns-wider Taken Other message now s t wider (made, listed, lost) = (made, listed, loses-wider Taken Other s.grants t.grants wider lost)
+moves-wider : (Taken Other : Grant → Type 0) (message : List ℕ) (now : ℕ) (s t : State) → ((g : Grant) → Taken g → Other g) → MovesByMessage Taken message now s t → MovesByMessage Other message now s t
+moves-wider Taken Other message now s t wider (made, listed, lost) = (made, listed, loses-wider Taken Other s.grants t.grants wider lost)
 
 -- an input that is processed requests this, and removes grants by its message, or since it was received over
 -- the connection itself
-pub turn-turns : (one : Input) → Turns (λ g. IsRemovedByInput g one) one.bytes one.time one.before (processed one).1
-turn-turns one =
+pub input-moves : (one : Input) → MovesByMessage (λ g. IsRemovedByInput g one) one.bytes one.time one.before (processed one).1
+input-moves one =
     let bytes = one.bytes in
     let now = one.time in
     let s = one.before in
     let Taken = λ (g : Grant). IsRemovedByInput g one in
     let Over = λ (local : SocketAddr) (g : Grant). is_connection_from local g ≡ true in
-    input-by (Turns Taken bytes now s) one (turns-same Taken bytes now s)
-    (λ over whole. turns-wider (IsTakenByReply bytes s) Taken bytes now s _ (λ g h. inl h) (message-turns bytes now s))
-    (λ stream of waits whole. turns-wider (Over stream.local) Taken bytes now s _ (λ g h. inr (rw of (waits, h))) (bind-turns stream.local bytes now s))
+    input-by (MovesByMessage Taken bytes now s) one (moves_by_message-same Taken bytes now s)
+    (λ over whole. moves-wider (IsTakenByReply bytes s) Taken bytes now s _ (λ g h. inl h) (message-moves bytes now s))
+    (λ stream of waits whole. moves-wider (Over stream.local) Taken bytes now s _ (λ g h. inr (rw of (waits, h))) (bind-moves stream.local bytes now s))

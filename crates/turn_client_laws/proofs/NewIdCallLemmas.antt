@@ -17,11 +17,11 @@ use Rattle.turn_client_laws.specs.LawsHandled.{TakesInput}
 use Rattle.turn_client_laws.specs.LawsInputs.{IsBroughtBy}
 use Rattle.turn_client_api.proofs.HasLemmas.{Has}
 use Rattle.turn_client_laws.proofs.MoveLemmas.{Adds}
-use Rattle.turn_client_laws.proofs.MoveMessageLemmas.{bind-turns, message-turns}
-use Rattle.turn_client_laws.proofs.MoveTurnLemmas.{all-obey}
+use Rattle.turn_client_laws.proofs.MoveMessageLemmas.{bind-moves, message-moves}
+use Rattle.turn_client_laws.proofs.MoveInputLemmas.{all-obey}
 use Rattle.turn_client_laws.proofs.NewIdMessageLemmas.{AsksNothing, IsOneOf, asks-cond, has-IsOneOf, outstanding-IsOneOf}
 use Rattle.turn_client_laws.proofs.StandLemmas.{contains-has}
-use Rattle.turn_client_laws.proofs.TurnLemmas.{IsBringing, message-brings}
+use Rattle.turn_client_laws.proofs.InputLemmas.{IsBringing, message-brings}
 
 -- a call that processes no input makes its request under the next ID, or sends one again
 request-IsOneOf : (call : Call) (s : State) → (TakesInput call → ⊥) → (x : Transaction) → IsRequestOf call s x → IsOneOf x.id s.transactions s
@@ -51,8 +51,8 @@ module _ (id : ℕ) where
   pub draws-IsBringing : IsBringing (λ t. is_outstanding id t.transactions ≡ true) (λ message now t. id ≡ fresh_id t)
   draws-IsBringing = record {
     streams = λ s streams h. h;
-    message = λ message now s is. drawn _ s _ (message-turns message now s).0 (again-IsOneOf message now s _);
-    binds = λ local message now s is. drawn _ s _ (bind-turns local message now s).0 (again-IsOneOf message now s _);
+    message = λ message now s is. drawn _ s _ (message-moves message now s).0 (again-IsOneOf message now s _);
+    binds = λ local message now s is. drawn _ s _ (bind-moves local message now s).0 (again-IsOneOf message now s _);
     gone = λ local s h. rw (gone-asks local s) at h;
     ended = λ u there. there;
   }

@@ -67,12 +67,12 @@ framed-aside stream now t = by (begins_no_frame stream.bytes) (frame_len stream.
         let u = (frame_step stream (take len stream.bytes) now t).1 in
         aside-then stream.local t u _ (frame-aside stream (take len stream.bytes) now t) (bytes-aside stream.local (drop len stream.bytes) u)
 
-turned_in_mode : (m : Mode) (stream : Stream) (now : ℕ) (t : State) → IsAsideFrom stream.local t (detached_frame_step (record stream { mode = m }) now t).1
-turned_in_mode (Bound peer) stream now t = same-aside stream.local t t refl
-turned_in_mode Broken stream now t = same-aside stream.local t t refl
-turned_in_mode m stream now t = framed-aside (record stream { mode = m }) now t
+detached_in_mode : (m : Mode) (stream : Stream) (now : ℕ) (t : State) → IsAsideFrom stream.local t (detached_frame_step (record stream { mode = m }) now t).1
+detached_in_mode (Bound peer) stream now t = same-aside stream.local t t refl
+detached_in_mode Broken stream now t = same-aside stream.local t t refl
+detached_in_mode m stream now t = framed-aside (record stream { mode = m }) now t
 
-pub turn-aside : (stream : Stream) (now : ℕ) (s : State) → IsAsideFrom stream.local s (next_frame_step stream now s).1
-turn-aside stream now s =
+pub step-aside : (stream : Stream) (now : ℕ) (s : State) → IsAsideFrom stream.local s (next_frame_step stream now s).1
+step-aside stream now s =
     aside-then stream.local s (with_bytes stream.local [] s) _ (bytes-aside stream.local [] s)
-    (turned_in_mode stream.mode stream now (with_bytes stream.local [] s))
+    (detached_in_mode stream.mode stream now (with_bytes stream.local [] s))

@@ -29,10 +29,10 @@ drained-waits stream h = rw (waits-in stream.mode stream h) refl
 none-ready : (s : State) → All NeedsMoreBytes s.streams → find is_ready s.streams ≡ None
 none-ready s all = find-none is_ready s.streams (λ stream h. drained-waits stream (has-all NeedsMoreBytes stream s.streams all h))
 
-pub turns-rest : (n now : ℕ) (s : State) → find is_ready s.streams ≡ None → steps_until_payload n now s ≡ (None, s)
+pub steps-rest : (n now : ℕ) (s : State) → find is_ready s.streams ≡ None → steps_until_payload n now s ≡ (None, s)
 unfolding steps_until_payload
-turns-rest zero now s e = refl
-turns-rest (suc n) now s e = rw e refl
+steps-rest zero now s e = refl
+steps-rest (suc n) now s e = rw e refl
 
 taken-rest : (n now : ℕ) (s : State) → find is_ready s.streams ≡ None → inputs_taken n now s ≡ []
 unfolding inputs_taken
@@ -40,7 +40,7 @@ taken-rest zero now s e = refl
 taken-rest (suc n) now s e = rw e refl
 
 pub poll_recv-rests : (now : ℕ) (s : State) → All NeedsMoreBytes s.streams → poll_recv_step now s ≡ (None, s)
-poll_recv-rests now s all = turns-rest (max_steps s) now s (none-ready s all)
+poll_recv-rests now s all = steps-rest (max_steps s) now s (none-ready s all)
 
 pub poll_recv-handles_nothing : (now : ℕ) (s : State) → All NeedsMoreBytes s.streams → poll_recv_inputs now s ≡ []
 poll_recv-handles_nothing now s all = taken-rest (max_steps s) now s (none-ready s all)

@@ -14,7 +14,7 @@ use Rattle.turn_client_api.specs.declared.call.Call.TheVariants.{Recv}
 use Rattle.turn_client_laws.specs.Handled.{Input, fed_taken, handled, inputs_taken, processed}
 use Rattle.turn_client_laws.specs.LawsHandled.{DiffersInStreams, ProcessesInputs, InputsLead}
 use Rattle.turn_client_laws.proofs.OneInputLemmas.{datagram-by, frame-by, input-by}
-use Rattle.turn_client_laws.proofs.TurnChainLemmas.{calls-do, fed-leads, turns-lead}
+use Rattle.turn_client_laws.proofs.InputChainLemmas.{calls-do, fed-leads, steps-lead}
 
 -- Of a relation between a state and a later one: each state is as itself, later is later again, streams
 -- do not count, and messages and the ends of connections keep it.
@@ -42,16 +42,16 @@ module _ (R : State → State → Type 0) (k : IsKept R) where
   pub differs-kept : (s t : State) → DiffersInStreams s t → R s t
   differs-kept s t differs = subst (R s) (sym differs.others) (k.streams s t.streams)
 
-  lead-kept : (turns : List Input) (s t : State) → InputsLead turns s t → R s t
+  lead-kept : (inputs : List Input) (s t : State) → InputsLead inputs s t → R s t
   lead-kept [] s t lead = differs-kept s t lead
   lead-kept (x ∷ later) s t (first, lead) =
       k.trans s x.before t (differs-kept s x.before first) (k.trans x.before (processed x).1 t (input-kept x) (lead-kept later (processed x).1 t lead))
 
-  pub turns-kept : (n now : ℕ) (s : State) → R s (steps_until_payload n now s).1
-  turns-kept n now s = lead-kept (inputs_taken n now s) s _ (turns-lead n now s)
+  pub steps-kept : (n now : ℕ) (s : State) → R s (steps_until_payload n now s).1
+  steps-kept n now s = lead-kept (inputs_taken n now s) s _ (steps-lead n now s)
 
   pub poll_recv-kept : (now : ℕ) (s : State) → R s (poll_recv_step now s).1
-  poll_recv-kept now s = turns-kept (max_steps s) now s
+  poll_recv-kept now s = steps-kept (max_steps s) now s
 
   pub first_frame_step-kept : (stream : Stream) (piece : List ℕ) (now : ℕ) (s : State) → R s (first_frame_step stream piece now s).1
   first_frame_step-kept stream piece now s = lead-kept (fed_taken stream piece now s) s _ (fed-leads stream piece now s)

@@ -134,15 +134,15 @@ framed-lighter stream now s found = by (begins_no_frame stream.bytes) (frame_len
         put_back-lighter stream s found (drop len stream.bytes) u (rw length-drop (omega (arith, is.least, some)))
         (frame-rebound stream (take len stream.bytes) now t)
 
-turned-lighter : (m : Mode) (stream : Stream) (now : ℕ) (s : State) → find is_ready s.streams ≡ Some (record stream { mode = m })
+detached-lighter : (m : Mode) (stream : Stream) (now : ℕ) (s : State) → find is_ready s.streams ≡ Some (record stream { mode = m })
     → weight (next_frame_step (record stream { mode = m }) now s).1.streams < weight s.streams
 unfolding framed
-turned-lighter (Bound peer) stream now s found = emptied-lighter (record stream { mode = Bound peer }) s found
-turned-lighter Broken stream now s found = emptied-lighter (record stream { mode = Broken }) s found
-turned-lighter m stream now s found = let u = record stream { mode = m } in framed-lighter u now s found (found-ready s.streams u found)
+detached-lighter (Bound peer) stream now s found = emptied-lighter (record stream { mode = Bound peer }) s found
+detached-lighter Broken stream now s found = emptied-lighter (record stream { mode = Broken }) s found
+detached-lighter m stream now s found = let u = record stream { mode = m } in framed-lighter u now s found (found-ready s.streams u found)
 
-pub turn-lighter : (stream : Stream) (now : ℕ) (s : State) → find is_ready s.streams ≡ Some stream → weight (next_frame_step stream now s).1.streams < weight s.streams
-turn-lighter stream now s found = turned-lighter stream.mode stream now s found
+pub step-lighter : (stream : Stream) (now : ℕ) (s : State) → find is_ready s.streams ≡ Some stream → weight (next_frame_step stream now s).1.streams < weight s.streams
+step-lighter stream now s found = detached-lighter stream.mode stream now s found
 
 -- ---- as many steps as there are bytes
 
@@ -152,15 +152,15 @@ go_on-same next other p same = grind arith
 
 pub none-ready : (now : ℕ) (s : State) → weight s.streams ≤ 0 → (o : Option Stream) → find is_ready s.streams ≡ o → o ≡ None
 none-ready now s empty None e = refl
-none-ready now s empty (Some stream) e = let less = turn-lighter stream now s e in absurd (omega (arith, empty, less))
+none-ready now s empty (Some stream) e = let less = step-lighter stream now s e in absurd (omega (arith, empty, less))
 
 -- more steps than the streams' weight give the same
-pub turns-enough : (n m now : ℕ) (s : State) → weight s.streams ≤ n → weight s.streams ≤ m → steps_until_payload n now s ≡ steps_until_payload m now s
+pub steps-enough : (n m now : ℕ) (s : State) → weight s.streams ≤ n → weight s.streams ≤ m → steps_until_payload n now s ≡ steps_until_payload m now s
 unfolding steps_until_payload
-turns-enough zero zero now s hn hm = refl
-turns-enough zero (suc m) now s hn hm = rw (none-ready now s hn _ refl) refl
-turns-enough (suc n) zero now s hn hm = rw (none-ready now s hm _ refl) refl
-turns-enough (suc n) (suc m) now s hn hm = by (find is_ready s.streams) refl (λ t p q. turns-enough n m now t p q)
+steps-enough zero zero now s hn hm = refl
+steps-enough zero (suc m) now s hn hm = rw (none-ready now s hn _ refl) refl
+steps-enough (suc n) zero now s hn hm = rw (none-ready now s hm _ refl) refl
+steps-enough (suc n) (suc m) now s hn hm = by (find is_ready s.streams) refl (λ t p q. steps-enough n m now t p q)
   where
     Later : Type 0
     Later = (t : State) → weight t.streams ≤ n → weight t.streams ≤ m → steps_until_payload n now t ≡ steps_until_payload m now t
@@ -168,13 +168,13 @@ turns-enough (suc n) (suc m) now s hn hm = by (find is_ready s.streams) refl (λ
     by : (o : Option Stream) → find is_ready s.streams ≡ o → Later → first_ready_step (steps_until_payload n now) now s o ≡ first_ready_step (steps_until_payload m now) now s o
     by None e more = refl
     by (Some stream) e more =
-        let less = turn-lighter stream now s e in
+        let less = step-lighter stream now s e in
         go_on-same (steps_until_payload n now) (steps_until_payload m now) (next_frame_step stream now s) (more (next_frame_step stream now s).1 (omega (arith, less)) (omega (arith, less)))
 
 pub poll_recv-enough : (n now : ℕ) (s : State) → max_steps s ≤ n → steps_until_payload n now s ≡ poll_recv_step now s
 poll_recv-enough n now s h =
     let most = weight-le s.streams in
-    turns-enough n (max_steps s) now s (omega (arith, most, h)) most
+    steps-enough n (max_steps s) now s (omega (arith, most, h)) most
 
 -- no stream is ready if no payload was returned
 abbrev pub IsDone : Option Payload × State → Type 0
@@ -183,15 +183,15 @@ IsDone p = p.0 ≡ None → find is_ready p.1.streams ≡ None
 go_on-done : (next : State → Option Payload × State) (p : Outcome × State) → IsDone (next p.1) → IsDone (go_on next p)
 go_on-done next p done = grind arith
 
-pub turns-done : (n now : ℕ) (s : State) → weight s.streams ≤ n → IsDone (steps_until_payload n now s)
+pub steps-done : (n now : ℕ) (s : State) → weight s.streams ≤ n → IsDone (steps_until_payload n now s)
 unfolding steps_until_payload
-turns-done zero now s h = λ none. none-ready now s h _ refl
-turns-done (suc n) now s h = by (find is_ready s.streams) refl (λ t p. turns-done n now t p)
+steps-done zero now s h = λ none. none-ready now s h _ refl
+steps-done (suc n) now s h = by (find is_ready s.streams) refl (λ t p. steps-done n now t p)
   where
     by : (o : Option Stream) → find is_ready s.streams ≡ o → ((t : State) → weight t.streams ≤ n → IsDone (steps_until_payload n now t)) → IsDone (first_ready_step (steps_until_payload n now) now s o)
     by None e more = λ none. e
     by (Some stream) e more =
-        let less = turn-lighter stream now s e in
+        let less = step-lighter stream now s e in
         go_on-done (steps_until_payload n now) (next_frame_step stream now s) (more (next_frame_step stream now s).1 (omega (arith, less)))
 
 -- ---- what is not ready
@@ -227,7 +227,7 @@ all-drained xs e = all-has NeedsMoreBytes xs (λ x there. drained-in x.mode x (n
 
 pub poll_recv-drained : (now : ℕ) (s : State) → (poll_recv_step now s).0 ≡ None → All NeedsMoreBytes (poll_recv_step now s).1.streams
 poll_recv-drained now s none =
-    all-drained (poll_recv_step now s).1.streams (turns-done (max_steps s) now s (weight-le s.streams) none)
+    all-drained (poll_recv_step now s).1.streams (steps-done (max_steps s) now s (weight-le s.streams) none)
 
 -- ---- a piece of the control stream
 

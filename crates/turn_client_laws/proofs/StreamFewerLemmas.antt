@@ -12,7 +12,7 @@ use Rattle.turn_client_api.specs.Streams.{go_on, is_ready, max_steps, poll_recv_
 use Rattle.turn_client_laws.specs.LawsStreams.{AreApart}
 use Rattle.turn_client_api.proofs.StreamEnds.{IsNoneOf, ends}
 use Rattle.turn_client_api.proofs.AddressLemmas.{differ-sym}
-use Rattle.turn_client_laws.proofs.StreamDrainLemmas.{turn-lighter}
+use Rattle.turn_client_laws.proofs.StreamDrainLemmas.{step-lighter}
 use Rattle.turn_client_laws.proofs.StreamStepLemmas.{poll_recv-apart}
 use Rattle.turn_client_laws.proofs.StreamWeightLemmas.{top, weight}
 
@@ -38,19 +38,19 @@ IsLessThan n p = IsSome p.0 → weight p.1.streams < n
 go_on-less : (next : State → Option Payload × State) (n : ℕ) (p : Outcome × State) → weight p.1.streams < n → IsLessThan (weight p.1.streams) (next p.1) → IsLessThan n (go_on next p)
 go_on-less next n p first more = grind arith
 
-pub turns-less : (n now : ℕ) (s : State) → IsLessThan (weight s.streams) (steps_until_payload n now s)
+pub steps-less : (n now : ℕ) (s : State) → IsLessThan (weight s.streams) (steps_until_payload n now s)
 unfolding steps_until_payload
-turns-less zero now s = λ h. cc
-turns-less (suc n) now s = by (find is_ready s.streams) refl (λ t. turns-less n now t)
+steps-less zero now s = λ h. cc
+steps-less (suc n) now s = by (find is_ready s.streams) refl (λ t. steps-less n now t)
   where
     by : (o : Option Stream) → find is_ready s.streams ≡ o → ((t : State) → IsLessThan (weight t.streams) (steps_until_payload n now t))
         → IsLessThan (weight s.streams) (first_ready_step (steps_until_payload n now) now s o)
     by None e more = λ h. cc
     by (Some stream) e more =
-        go_on-less (steps_until_payload n now) (weight s.streams) (next_frame_step stream now s) (turn-lighter stream now s e) (more (next_frame_step stream now s).1)
+        go_on-less (steps_until_payload n now) (weight s.streams) (next_frame_step stream now s) (step-lighter stream now s e) (more (next_frame_step stream now s).1)
 
 pub poll_recv-fewer : (now : ℕ) (s : State) → AreApart s → IsSome (poll_recv_step now s).0 → max_steps (poll_recv_step now s).1 < max_steps s
 poll_recv-fewer now s apart some =
     let t = (poll_recv_step now s).1 in
     let later = poll_recv-apart now s apart in
-    omega (arith, weight-all s.streams apart.0, weight-all t.streams later.0, turns-less (max_steps s) now s some)
+    omega (arith, weight-all s.streams apart.0, weight-all t.streams later.0, steps-less (max_steps s) now s some)

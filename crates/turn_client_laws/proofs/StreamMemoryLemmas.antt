@@ -20,7 +20,7 @@ use Rattle.turn_client_laws.proofs.MemoryLemmas.{IsBehind, before-IsBehind, memo
 use Rattle.turn_client_laws.proofs.StreamApartLemmas.{broken-apart, found-NotBroken}
 use Rattle.turn_client_laws.proofs.StreamCallLemmas.{call-apart}
 use Rattle.turn_client_laws.proofs.StreamDrainLemmas.{broken_by}
-use Rattle.turn_client_laws.proofs.StreamStepLemmas.{StayApart, first_frame_step-apart, turns-apart}
+use Rattle.turn_client_laws.proofs.StreamStepLemmas.{StayApart, first_frame_step-apart, steps-apart}
 
 -- what a state is equal to that keeps them distinct
 equal-apart : (s t u : State) → u ≡ t → StayApart s t → StayApart s u
@@ -30,14 +30,14 @@ broken_at-apart : (local : SocketAddr) (s : State) → StayApart s (broken_at lo
 unfolding broken_by
 broken_at-apart local s h = broken-apart local s.streams h
 
-turns_end-apart : (now : ℕ) (s u : State) → EndsAfterSteps now s u → StayApart s u
-turns_end-apart now s u (t, (n, led), broken) h = by (find is_ready t.streams) broken
+steps_end-apart : (now : ℕ) (s u : State) → EndsAfterSteps now s u → StayApart s u
+steps_end-apart now s u (t, (n, led), broken) h = by (find is_ready t.streams) broken
   where
     by : (o : Option Stream) → IsSomeAnd o (λ stream. u ≡ closed (broken_at stream.local t)) → AreApart u
     by None none = absurd none
     by (Some stream) e =
         equal-apart t (closed (broken_at stream.local t)) u e (broken_at-apart stream.local t)
-        (subst (λ (p : Option Payload × State). AreApart p.1) led (turns-apart n now s h))
+        (subst (λ (p : Option Payload × State). AreApart p.1) led (steps-apart n now s h))
 
 control-whole : (mode : Mode) → mode ≡ Control → mode ≢ Broken
 control-whole mode e f = grind arith
@@ -54,11 +54,11 @@ recv_end-apart to piece now s t (inr (over, some, later)) h = by (before_others 
   where
     by : (o : Option State) → before_others to piece now s ≡ o → IsSomeAnd o (λ u. EndsAfterSteps now u t) → AreApart t
     by None e none = absurd none
-    by (Some u) e end = turns_end-apart now u t end (before-apart to piece now s u (before-IsBehind to piece now s u e) h)
+    by (Some u) e end = steps_end-apart now u t end (before-apart to piece now s u (before-IsBehind to piece now s u e) h)
 
 amid-apart : (call : Call) (s t : State) → TakesInput call → EndsWithoutMemory call s t → StayApart s t
 amid-apart (Recv packet now) s t takes (asks, end) = recv_end-apart packet.to packet.payload now s t end
-amid-apart (PollRecv now) s t takes end = turns_end-apart now s t end
+amid-apart (PollRecv now) s t takes end = steps_end-apart now s t end
 amid-apart call s t takes end = absurd takes
 
 memory-apart : (call : Call) (s t : State) → EndsWithoutMemory call s t → StayApart s t

@@ -55,16 +55,16 @@ framed_stream_step-apart stream now t whole h = by (begins_no_frame stream.bytes
         let rebound = frame-rebound stream (take len stream.bytes) now t in
         bytes-apart stream.local (drop len stream.bytes) u.streams (rebound-NotBroken stream.local t u rebound whole) (rebound-apart t u rebound h)
 
-turned_in_mode : (m : Mode) (stream : Stream) (now : ℕ) (t : State) → NotBroken stream.local t.streams → StayApart t (detached_frame_step (record stream { mode = m }) now t).1
-turned_in_mode (Bound peer) stream now t whole h = h
-turned_in_mode Broken stream now t whole h = h
-turned_in_mode m stream now t whole h = framed_stream_step-apart (record stream { mode = m }) now t whole h
+detached_in_mode : (m : Mode) (stream : Stream) (now : ℕ) (t : State) → NotBroken stream.local t.streams → StayApart t (detached_frame_step (record stream { mode = m }) now t).1
+detached_in_mode (Bound peer) stream now t whole h = h
+detached_in_mode Broken stream now t whole h = h
+detached_in_mode m stream now t whole h = framed_stream_step-apart (record stream { mode = m }) now t whole h
 
-turn-apart : (stream : Stream) (now : ℕ) (s : State) → NotBroken stream.local s.streams → StayApart s (next_frame_step stream now s).1
+step-apart : (stream : Stream) (now : ℕ) (s : State) → NotBroken stream.local s.streams → StayApart s (next_frame_step stream now s).1
 unfolding bytes_by
-turn-apart stream now s whole h =
+step-apart stream now s whole h =
     let out = with_bytes stream.local [] s in
-    turned_in_mode stream.mode stream now out (bytes-NotBroken stream.local [] s.streams whole) (emptied-apart stream.local s.streams h)
+    detached_in_mode stream.mode stream now out (bytes-NotBroken stream.local [] s.streams whole) (emptied-apart stream.local s.streams h)
 
 go_on-apart : (next : State → Option Payload × State) (s : State) (p : Outcome × State) → AreApart p.1 → ((t : State) → StayApart t (next t).1) → AreApart (go_on next p).1
 go_on-apart next s (PeerData payload, t) first more = first
@@ -74,19 +74,19 @@ go_on-apart next s (_, t) first more = more t first
 ready-whole : (mode : Mode) (stream : Stream) → is_ready (record stream { mode = mode }) ≡ true → mode ≢ Broken
 ready-whole mode stream e f = grind arith
 
-pub turns-apart : (n now : ℕ) (s : State) → StayApart s (steps_until_payload n now s).1
+pub steps-apart : (n now : ℕ) (s : State) → StayApart s (steps_until_payload n now s).1
 unfolding steps_until_payload
-turns-apart zero now s h = h
-turns-apart (suc n) now s h = by (find is_ready s.streams) refl (λ t. turns-apart n now t)
+steps-apart zero now s h = h
+steps-apart (suc n) now s h = by (find is_ready s.streams) refl (λ t. steps-apart n now t)
   where
     by : (o : Option Stream) → find is_ready s.streams ≡ o → ((t : State) → StayApart t (steps_until_payload n now t).1) → AreApart (first_ready_step (steps_until_payload n now) now s o).1
     by None e more = h
     by (Some stream) e more =
         let whole = found-NotBroken is_ready s.streams stream e (ready-whole stream.mode stream (found-ready s.streams stream e)) h.0 in
-        go_on-apart (steps_until_payload n now) s (next_frame_step stream now s) (turn-apart stream now s whole h) more
+        go_on-apart (steps_until_payload n now) s (next_frame_step stream now s) (step-apart stream now s whole h) more
 
 pub poll_recv-apart : (now : ℕ) (s : State) → StayApart s (poll_recv_step now s).1
-poll_recv-apart now s = turns-apart (max_steps s) now s
+poll_recv-apart now s = steps-apart (max_steps s) now s
 
 -- ---- input
 
@@ -96,7 +96,7 @@ then_all-apart now (Ignored, t) h = poll_recv-apart now t h
 then_all-apart now (_, t) h = h
 
 pub first_frame_step-apart : (stream : Stream) (piece : List ℕ) (now : ℕ) (s : State) → NotBroken stream.local s.streams → StayApart s (first_frame_step stream piece now s).1
-first_frame_step-apart stream piece now s whole h = turn-apart (record stream { bytes = stream.bytes ++ piece }) now s whole h
+first_frame_step-apart stream piece now s whole h = step-apart (record stream { bytes = stream.bytes ++ piece }) now s whole h
 
 piece_in_mode : (to : SocketAddr) (m : Mode) (stream : Stream) (piece : List ℕ) (now : ℕ) (s : State) → stream_at to s ≡ Some (record stream { mode = m })
     → StayApart s (piece_step (record stream { mode = m }) piece now s).1

@@ -36,9 +36,9 @@ use Rattle.turn_client_laws.proofs.MemoryLemmas.{leaves-kept}
 use Rattle.turn_client_laws.proofs.MoveLemmas.{Adds}
 use Rattle.turn_client_laws.proofs.RunKeepLemmas.{IsKept, poll_recv-kept, recv-kept}
 use Rattle.turn_client_laws.proofs.GrantOriginLemmas.{has-mapped}
-use Rattle.turn_client_laws.proofs.MoveMessageLemmas.{bind-turns, message-turns}
+use Rattle.turn_client_laws.proofs.MoveMessageLemmas.{bind-moves, message-moves}
 use Rattle.turn_client_laws.proofs.MoveSocketLemmas.{gone-settles}
-use Rattle.turn_client_laws.proofs.MoveTurnLemmas.{listings-made}
+use Rattle.turn_client_laws.proofs.MoveInputLemmas.{listings-made}
 use Rattle.turn_client_laws.proofs.NewIdLemmas.{fresh-free}
 use Rattle.turn_client_laws.proofs.StandLemmas.{contains-has, has-contains}
 
@@ -196,8 +196,8 @@ StayTwo-IsKept = record {
   same = λ s h. h;
   trans = λ s t u first later h. later (first h);
   streams = λ s streams h. h;
-  message = λ message now s. again-two message now s _ (message-turns message now s).1;
-  binds = λ local message now s. again-two message now s _ (bind-turns local message now s).1;
+  message = λ message now s. again-two message now s _ (message-moves message now s).1;
+  binds = λ local message now s. again-two message now s _ (bind-moves local message now s).1;
   gone = λ local s. two-less s (connection_gone local s) (λ l there. elim ((gone-settles local s).1 l there) [ inl old ↦ old | inr none ↦ absurd none ]);
 }
 

@@ -17,7 +17,7 @@ use Rattle.turn_client_laws.proofs.HandledLemmas.{recv-IsToldBy}
 use Rattle.turn_client_laws.specs.Handled.{Input, handled, processed}
 use Rattle.turn_client_laws.specs.LawsPeers.{IsToldBy}
 use Rattle.turn_client_runs.specs.Peers.{TellsOfPermitted}
-use Rattle.turn_client_runs.proofs.TurnsOfRuns.{among-left, among-right}
+use Rattle.turn_client_runs.proofs.InputsOfRuns.{among-left, among-right}
 use Rattle.std.specs.declared.net.socket_addr.SocketAddr.{SocketAddr}
 use Rattle.turn_stun.specs.declared.transport.Transmit.{Transmit}
 use Rattle.turn_stun.specs.declared.transport.TransportType.{TransportType}

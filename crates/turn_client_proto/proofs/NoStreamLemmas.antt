@@ -23,20 +23,20 @@ use Rattle.turn_client_api.specs.declared.call.Call.TheVariants.{SetPermissionKe
 
 -- ---- nothing is read
 
-no-turns : (n now : ℕ) (s : State) → s.streams ≡ [] → steps_until_payload n now s ≡ (None, s)
+no-steps : (n now : ℕ) (s : State) → s.streams ≡ [] → steps_until_payload n now s ≡ (None, s)
 unfolding steps_until_payload
-no-turns zero now s none = refl
-no-turns (suc n) now s none = rw none refl
+no-steps zero now s none = refl
+no-steps (suc n) now s none = rw none refl
 
 pub no-poll_recv : (now : ℕ) (s : State) → s.streams ≡ [] → poll_recv_step now s ≡ (None, s)
-no-poll_recv now s none = no-turns (max_steps s) now s none
+no-poll_recv now s none = no-steps (max_steps s) now s none
 
 pub none-read : {R : Type 0} (returns : Returns R) (now : ℕ) (s : State) → s.streams ≡ [] → IsReadIfAny returns (poll_recv_step now s).0 None
 none-read returns now s none = rw (ap (λ (p : Option Payload × State). p.0) (no-poll_recv now s none)) tt
 
 never-ends : (now : ℕ) (s t : State) → s.streams ≡ [] → EndsAfterSteps now s t → ⊥
 never-ends now s t none (u, (n, led), broken) =
-    let same : u ≡ s = ap (λ (p : Option Payload × State). p.1) (sym led ∙ no-turns n now s none) in
+    let same : u ≡ s = ap (λ (p : Option Payload × State). p.1) (sym led ∙ no-steps n now s none) in
     let empty : u.streams ≡ [] = ap (λ (x : State). x.streams) same ∙ none in
     rw empty at broken
 

@@ -17,14 +17,14 @@ use Rattle.turn_client_laws.specs.LawsAllocates.{AllocatesInOrder, IsAllocate}
 use Rattle.turn_client_laws.specs.LawsReplies.{IsAwaited}
 use Rattle.turn_client_laws.proofs.Edits.{listing}
 use Rattle.turn_client_laws.proofs.StandLemmas.{contains-has, has-contains}
-use Rattle.turn_client_laws.proofs.TurnKeepLemmas.{before-kept}
+use Rattle.turn_client_laws.proofs.InputKeepLemmas.{before-kept}
 use Rattle.turn_client_laws.proofs.TwoPurposes.{purpose-with}
 use Rattle.turn_client_runs.specs.Granted.{AsksForItsFamily}
 use Rattle.turn_client_runs.proofs.SignedLemmas.{AreSigned, Signs, SignsIn, StaySigned, StaySigned-IsKept}
 
 -- what calls keep, each input of a call finds
-pub turns-signed : (call : Call) (s : State) → AllocatesInOrder s × Signs s → (one : Input) → Contains (handled call s) one → AllocatesInOrder one.before × Signs one.before
-turns-signed call s order one among = before-kept StaySigned StaySigned-IsKept call s one among order
+pub inputs-signed : (call : Call) (s : State) → AllocatesInOrder s × Signs s → (one : Input) → Contains (handled call s) one → AllocatesInOrder one.before × Signs one.before
+inputs-signed call s order one among = before-kept StaySigned StaySigned-IsKept call s one among order
 
 -- if a reply may grant, and answers an ALLOCATE, the first challenge was answered
 module _ (one : Input) (order : AllocatesInOrder one.before) (signs : Signs one.before) (heard : one.before.phase ≡ Requesting → ⊥) (awaited : IsAwaited one.bytes one.before)

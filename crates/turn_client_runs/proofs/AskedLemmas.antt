@@ -21,15 +21,15 @@ use Rattle.turn_client_laws.proofs.Edits.{listing}
 use Rattle.turn_client_laws.proofs.EditsOfMessages.{retried-has}
 use Rattle.turn_client_api.proofs.HasLemmas.{Has, has-found}
 use Rattle.turn_client_laws.proofs.MoveSocketLemmas.{gone-settles}
-use Rattle.turn_client_laws.proofs.MoveTurnLemmas.{listings-made}
+use Rattle.turn_client_laws.proofs.MoveInputLemmas.{listings-made}
 use Rattle.turn_client_laws.proofs.StandLemmas.{contains-has, has-contains}
-use Rattle.turn_client_laws.proofs.TurnChainLemmas.{calls-do}
+use Rattle.turn_client_laws.proofs.InputChainLemmas.{calls-do}
 use Rattle.turn_client_laws.proofs.TwoPurposes.{purpose-with}
 use Rattle.turn_client_runs.specs.Granted.{IsAskedInCall, IsRequestedByInput, WasAsked, WasAskedBefore}
 use Rattle.turn_client_runs.proofs.QuietLemmas.{calls-keep}
-use Rattle.turn_client_runs.proofs.RelistLemmas.{IsRetriedFor, turn-relists}
+use Rattle.turn_client_runs.proofs.RelistLemmas.{IsRetriedFor, input-relists}
 use Rattle.turn_client_runs.proofs.TogetherLemmas.{AreTogether, Together, call-together, differs-together, first-together, listing-here}
-use Rattle.turn_client_runs.proofs.TurnsOfRuns.{handled-leads}
+use Rattle.turn_client_runs.proofs.InputsOfRuns.{handled-leads}
 
 -- ---- the first in order
 
@@ -82,39 +82,39 @@ listed-for message s purpose p together wanted (inr (first, there)) =
 
 -- for a listing that deletes no allocation
 module _ (l : Listing) (wanted : GivesBack l.purpose → ⊥) where
-  turn-asks : (one : Input) → AreTogether one.before → Has l (processed one).1.listed → Has l one.before.listed ⊎ IsRequestedByInput l.id l.purpose one
-  turn-asks one together there = elim (turn-relists one l there) [
+  input-asks : (one : Input) → AreTogether one.before → Has l (processed one).1.listed → Has l one.before.listed ⊎ IsRequestedByInput l.id l.purpose one
+  input-asks one together there = elim (input-relists one l there) [
     | inl old ↦ inl old
     | inr (purpose, made, is, for) ↦ inr (purpose, listed-for one.bytes one.before purpose l.purpose together wanted for, made, is)
   ]
 
   -- one of these inputs made it
-  abbrev AmongTurns : List Input → Type 0
-  AmongTurns turns = (one : Input) × Has one turns × IsRequestedByInput l.id l.purpose one
+  abbrev AmongInputs : List Input → Type 0
+  AmongInputs inputs = (one : Input) × Has one inputs × IsRequestedByInput l.id l.purpose one
 
-  later-among : (one : Input) (turns : List Input) → AmongTurns turns → AmongTurns (one ∷ turns)
-  later-among one turns (x, there, asked) = (x, inr there, asked)
+  later-among : (one : Input) (inputs : List Input) → AmongInputs inputs → AmongInputs (one ∷ inputs)
+  later-among one inputs (x, there, asked) = (x, inr there, asked)
 
   differs-listed : (s t : State) → DiffersInStreams s t → Has l t.listed → Has l s.listed
   differs-listed s t differs there = subst (λ (u : State). Has l u.listed) differs.others there
 
   -- the first input made it, or a later one, or it was listed before
-  step-asks : (one : Input) (later : List Input) (s : State) → DiffersInStreams s one.before → AreTogether s → Has l (processed one).1.listed ⊎ AmongTurns later → Has l s.listed
-      ⊎ AmongTurns (one ∷ later)
+  step-asks : (one : Input) (later : List Input) (s : State) → DiffersInStreams s one.before → AreTogether s → Has l (processed one).1.listed ⊎ AmongInputs later → Has l s.listed
+      ⊎ AmongInputs (one ∷ later)
   step-asks one later s differs together (inr among) = inr (later-among one later among)
-  step-asks one later s differs together (inl there) = elim (turn-asks one (differs-together s one.before differs together) there) [
+  step-asks one later s differs together (inl there) = elim (input-asks one (differs-together s one.before differs together) there) [
     | inl old ↦ inl (differs-listed s one.before differs old)
     | inr asked ↦ inr (one, inl refl, asked)
   ]
 
-  lead-asks : (turns : List Input) (s t : State) → InputsLead turns s t → AreTogether s → Has l t.listed → Has l s.listed ⊎ AmongTurns turns
+  lead-asks : (inputs : List Input) (s t : State) → InputsLead inputs s t → AreTogether s → Has l t.listed → Has l s.listed ⊎ AmongInputs inputs
   lead-asks [] s t lead together there = inl (differs-listed s t lead there)
   lead-asks (one ∷ later) s t (first, lead) together there =
       step-asks one later s first together
       (lead-asks later (processed one).1 t lead (first-together one later s first together) there)
 
   -- up to one of the inputs
-  front-asks : (front : List Input) (one : Input) (back : List Input) (s t : State) → InputsLead (front ++ one ∷ back) s t → AreTogether s → Has l one.before.listed → Has l s.listed ⊎ AmongTurns front
+  front-asks : (front : List Input) (one : Input) (back : List Input) (s t : State) → InputsLead (front ++ one ∷ back) s t → AreTogether s → Has l one.before.listed → Has l s.listed ⊎ AmongInputs front
   front-asks [] one back s t (first, lead) together there = inl (differs-listed s one.before first there)
   front-asks (x ∷ front) one back s t (first, lead) together there =
       step-asks x front s first together
@@ -123,7 +123,7 @@ module _ (l : Listing) (wanted : GivesBack l.purpose → ⊥) where
   -- ---- a call
 
   module _ (call : Call) (s : State) (together : AreTogether s) where
-    gone-listed : ProcessesInputs call s → Has l (state_after call s).listed → Has l s.listed ⊎ AmongTurns (handled call s)
+    gone-listed : ProcessesInputs call s → Has l (state_after call s).listed → Has l s.listed ⊎ AmongInputs (handled call s)
     gone-listed (inl lead) there = lead-asks (handled call s) s (state_after call s) lead together there
     gone-listed (inr end) there = elim ((gone-settles end.local s).1 l (subst (λ (t : State). Has l t.listed) end.gone there)) [
       | inl h ↦ inl h

@@ -25,7 +25,7 @@ use Rattle.turn_client_api.proofs.HasLemmas.{Has, has-all}
 use Rattle.turn_client_laws.proofs.ListedGrants.{StayFounded, StayFounded-KeepsAllEdits}
 use Rattle.turn_client_laws.proofs.NumberLemmas.{AreApart}
 use Rattle.turn_client_laws.proofs.StandLemmas.{contains-has}
-use Rattle.turn_client_laws.proofs.TurnKeepLemmas.{before-kept}
+use Rattle.turn_client_laws.proofs.InputKeepLemmas.{before-kept}
 
 -- a channel has the peer with which it was requested
 abbrev pub HasAskedPeers : Input → Type 0
@@ -38,15 +38,15 @@ HasAskedConnections one =
     (local peer : SocketAddr) (id : ℕ) (c : DataConnection) → Contains (purposes_of (id_of one.bytes) one.before) (ForBind local peer id)
     → Has (Connection c) one.before.grants → c.local ≡ local → c.peer ≡ peer
 
-pub turns-ask-connections : (call : Call) (s : State) → HasGrantsAsked s → FitsPhase s → HasNoDoubles s → (one : Input) → Contains (handled call s) one → HasAskedConnections one
-turns-ask-connections call s asked steady single one among local peer id c listed there at =
+pub inputs-ask-connections : (call : Call) (s : State) → HasGrantsAsked s → FitsPhase s → HasNoDoubles s → (one : Input) → Contains (handled call s) one → HasAskedConnections one
+inputs-ask-connections call s asked steady single one among local peer id c listed there at =
     let founded = before-kept StayFounded (edits-IsKept StayFounded StayFounded-KeepsAllEdits (λ s streams h. h)) call s one among (λ l here. has-all (HasItsGrant s) l s.listed asked here) in
     let alone = before-single call s one steady single among in
     let (l, here, asks) = purposes-listed (id_of one.bytes) one.before (ForBind local peer id) (contains-has (ForBind local peer id) (purposes_of (id_of one.bytes) one.before) listed) in
     asked-connection local peer id c one.before founded alone l here asks there at
 
-pub turns-ask-peers : (call : Call) (s : State) → HasGrantsAsked s → HasDistinctNumbers s → (one : Input) → Contains (handled call s) one → HasAskedPeers one
-turns-ask-peers call s asked distinct one among number peer to listed there =
+pub inputs-ask-peers : (call : Call) (s : State) → HasGrantsAsked s → HasDistinctNumbers s → (one : Input) → Contains (handled call s) one → HasAskedPeers one
+inputs-ask-peers call s asked distinct one among number peer to listed there =
     let founded = before-kept StayFounded (edits-IsKept StayFounded StayFounded-KeepsAllEdits (λ s streams h. h)) call s one among (λ l here. has-all (HasItsGrant s) l s.listed asked here) in
     let apart = before-kept _ (edits-IsKept _ (grants-KeepsAllEdits AreApart AreApart-KeepsGrants) (λ s streams h. h)) call s one among distinct in
     let (l, here, asks) = purposes-listed (id_of one.bytes) one.before (ForChannel number peer) (contains-has (ForChannel number peer) (purposes_of (id_of one.bytes) one.before) listed) in

@@ -32,7 +32,7 @@ use Rattle.turn_client_laws.proofs.DistinctGrants.{initial-single, leaves-single
 use Rattle.turn_client_laws.proofs.EditsOfMessages.{connection-there}
 use Rattle.turn_client_laws.proofs.ListedGrants.{initial-HasGrantsAsked, leaves-HasGrantsAsked}
 use Rattle.turn_client_laws.proofs.SendOrderLemmas.{initial-steady, leaves-steadies}
-use Rattle.turn_client_runs.proofs.AskedPeers.{turns-ask-connections}
+use Rattle.turn_client_runs.proofs.AskedPeers.{inputs-ask-connections}
 use Rattle.turn_client_runs.proofs.QuietLemmas.{calls-keep}
 use Rattle.std.proofs.lemmas.List.Elements.{Contains-append_left}
 use Rattle.turn_client_laws.proofs.AcceptedReplyLemmas.{bind-ended}
@@ -41,14 +41,14 @@ use Rattle.turn_client_laws.proofs.GrantOriginCallLemmas.{Binds, bind-leaves}
 use Rattle.turn_client_laws.proofs.GrantedLemmas as Grants
 use Rattle.turn_client_laws.proofs.StandLemmas as Stand
 use Rattle.turn_client_laws.proofs.StandLemmas.{Covers, contains-has, covers-has, covers-left, covers-stood}
-use Rattle.turn_client_laws.proofs.TurnBringLemmas.{IsBrought, leaves-bring}
+use Rattle.turn_client_laws.proofs.InputBringLemmas.{IsBrought, leaves-bring}
 use Rattle.turn_client_runs.specs.Bound.{BindsToPeer, BoundConnectionsHaveSuccess, BoundStreamsHaveSuccess, HasConnectionSuccess, HasSuccess, HasTransactionEnded, IsBoundSince, StreamsAreBoundBefore}
 use Rattle.turn_client_runs.specs.Inputs.{IsAmong, handled_in}
 use Rattle.turn_client_runs.proofs.CallGrants.{quiet}
-use Rattle.turn_client_runs.proofs.GrantTurns.{Granting, IsConnectionTo, IsGivenAt, granting-brought, kept-alike}
+use Rattle.turn_client_runs.proofs.GrantInputs.{Granting, IsConnectionTo, IsGivenAt, granting-brought, kept-alike}
 use Rattle.turn_client_runs.proofs.MadeLemmas.{waiting-made}
 use Rattle.turn_client_runs.proofs.RunLemmas.{run-did}
-use Rattle.turn_client_runs.proofs.TurnsOfRuns.{among-left, among-none, among-right, in_call, takes-or}
+use Rattle.turn_client_runs.proofs.InputsOfRuns.{among-left, among-none, among-right, in_call, takes-or}
 
 -- ---- an input that binds ends its request
 
@@ -136,8 +136,8 @@ module _ (P : State → Type 0) (Did : Input → Type 0) (k : IsBrought P Did) (
     ]
       where
         other : (call : Call) (s : State) → (TakesInput call → ⊥) → P (state_after call s) → P s ⊎ ⊥
-        other call s no_turns there = elim (takes-or call) [
-          | inl takes ↦ absurd (no_turns takes)
+        other call s no_inputs there = elim (takes-or call) [
+          | inl takes ↦ absurd (no_inputs takes)
           | inr nothing ↦ elim (others call s there) [
             | inl before ↦ inl before
             | inr did ↦ absurd (among-none Did (subst (IsAmong Did) (nothing s) did))
@@ -189,7 +189,7 @@ module _ (local peer : SocketAddr) where
   binds-to-peer call s (asked, steady, single) one among (bind, ended) =
       let there = connection-there local bind.connection one.before bind.found in
       let at = found-local local bind.connection _ bind.found in
-      let for = turns-ask-connections call s asked steady single one among local bind.asked bind.number bind.connection bind.listed there at in
+      let for = inputs-ask-connections call s asked steady single one among local bind.asked bind.number bind.connection bind.listed there at in
       (bind, sym for ∙ bind.to, ended)
 
   streams-bound : (call : Call) (s : State) → Founded s → IsBoundTo (state_after call s) → IsBoundTo s ⊎ HasSuccess local peer (handled call s)
@@ -288,7 +288,7 @@ module _ (c : DataConnection) where
       let (asked, steady, single) = founded in
       let to : BindsToPeer c.local peer one = binds-to-peer c.local peer call s founded one among (bind, ended) in
       let (was, there, at, same) = from-granted one granting.purpose granting.given in
-      let for = turns-ask-connections call s asked steady single one among c.local to.0.asked to.0.number was to.0.listed there at in
+      let for = inputs-ask-connections call s asked steady single one among c.local to.0.asked to.0.number was to.0.listed there at in
       subst (λ (x : SocketAddr). BindsToPeer c.local x one) (sym to.1 ∙ (sym for ∙ same)) to
 
   call-joins : (call : Call) (s : State) → Founded s → IsOpen (state_after call s) → IsOpen s ⊎ HasConnectionSuccess c (handled call s)

@@ -15,11 +15,11 @@ use Rattle.turn_client_laws.specs.LawsHandled.{IsDoneBy, TakesInput}
 use Rattle.turn_client_api.specs.Steps.{state_after}
 use Rattle.turn_client_laws.proofs.GrantedLemmas.{leaves-grants}
 use Rattle.turn_client_laws.proofs.StandLemmas.{Covers, contains-has, covers-stood, has-contains, kept-stood, kept-trans}
-use Rattle.turn_client_laws.proofs.TurnBringLemmas.{leaves-bring}
+use Rattle.turn_client_laws.proofs.InputBringLemmas.{leaves-bring}
 use Rattle.turn_client_runs.specs.Granted.{IsRelayed}
 use Rattle.turn_client_runs.specs.Inputs.{IsAmong}
-use Rattle.turn_client_runs.proofs.TurnsOfRuns.{among-none, takes-or}
-use Rattle.turn_client_runs.proofs.GrantTurns.{Granting, IsLeased, granting-brought, kept-alike}
+use Rattle.turn_client_runs.proofs.InputsOfRuns.{among-none, takes-or}
+use Rattle.turn_client_runs.proofs.GrantInputs.{Granting, IsLeased, granting-brought, kept-alike}
 
 -- ---- a `delete`
 

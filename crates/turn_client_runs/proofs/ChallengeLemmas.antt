@@ -16,15 +16,15 @@ use Rattle.turn_client_api.specs.declared.call.Call.{Call}
 use Rattle.turn_client_laws.proofs.ConfiguredLemmas.{leaves-configured}
 use Rattle.turn_client_laws.proofs.CountLemmas.{bringing, leaves-accepted}
 use Rattle.turn_client_laws.proofs.PhasesGoOn.{challenge-IsCounted, leaves-keeps}
-use Rattle.turn_client_laws.proofs.TurnBringLemmas.{turn-brings}
-use Rattle.turn_client_laws.proofs.TurnLemmas.{brought}
+use Rattle.turn_client_laws.proofs.InputBringLemmas.{processed-brings}
+use Rattle.turn_client_laws.proofs.InputLemmas.{brought}
 use Rattle.turn_client_runs.specs.Challenges.{CountsIt, FallsByReplies, IsChallengeInput, IsReplyAcceptedAmong, IsWithinChallengeLimit, answers_in, is_answer}
 use Rattle.turn_client_runs.specs.Holds.{Reaches}
 use Rattle.turn_client_runs.specs.Inputs.{IsAmong, handled_in}
 use Rattle.turn_client_runs.proofs.HoldLemmas.{kept-behind}
 use Rattle.turn_client_runs.proofs.MadeLemmas.{control-made}
 use Rattle.turn_client_runs.proofs.RealmLemmas.{then-realm}
-use Rattle.turn_client_runs.proofs.TurnsOfRuns.{among-first, among-later, among-left, among-none, among-right, leads-or}
+use Rattle.turn_client_runs.proofs.InputsOfRuns.{among-first, among-later, among-left, among-none, among-right, leads-or}
 
 -- ---- what is held
 
@@ -54,11 +54,11 @@ abbrev IsWellAccepted : Input → Type 0
 IsWellAccepted one = (is_message one.bytes ≡ true) × IsReplyAccepted one.bytes one.time one.before
 
 -- an input makes the count no less, or is accepted
-turn-grows : (one : Input) → (one.before.challenges ≤ (processed one).1.challenges) ⊎ IsAcceptedIn one
-turn-grows one =
+input-grows : (one : Input) → (one.before.challenges ≤ (processed one).1.challenges) ⊎ IsAcceptedIn one
+input-grows one =
     let n = one.before.challenges in
     elim (cases_lt (processed one).1.challenges n) [
-      | inl fewer ↦ elim (turn-brings (λ s. s.challenges < n) IsWellAccepted (brought (λ s. s.challenges < n) IsReplyAccepted (bringing n)) one fewer) [
+      | inl fewer ↦ elim (processed-brings (λ s. s.challenges < n) IsWellAccepted (brought (λ s. s.challenges < n) IsReplyAccepted (bringing n)) one fewer) [
         | inl less ↦ absurd (omega (arith, less))
         | inr accepted ↦ inr (fewer, accepted.0, accepted.1)
       ]
@@ -67,11 +67,11 @@ turn-grows one =
 
 -- the count grows by each answer, or one of these inputs is accepted
 abbrev Counts : State → State → List Input → Type 0
-Counts s t turns = (s.challenges + answers_in turns ≤ t.challenges) ⊎ IsReplyAcceptedAmong turns
+Counts s t inputs = (s.challenges + answers_in inputs ≤ t.challenges) ⊎ IsReplyAcceptedAmong inputs
 
-lead-counts : (turns : List Input) (s t : State) → InputsLead turns s t → Counts s t turns
+lead-counts : (inputs : List Input) (s t : State) → InputsLead inputs s t → Counts s t inputs
 lead-counts [] s t lead = let same : t.challenges ≡ s.challenges = ap (λ (x : State). x.challenges) lead.others in inl (omega (arith, same))
-lead-counts (one ∷ later) s t (first, lead) = by (lead-counts later (processed one).1 t lead) (turn-grows one)
+lead-counts (one ∷ later) s t (first, lead) = by (lead-counts later (processed one).1 t lead) (input-grows one)
   where
     same : one.before.challenges ≡ s.challenges
     same = ap (λ (x : State). x.challenges) first.others
@@ -99,26 +99,26 @@ call-counts call s = elim (leads-or call s) [
   | inr nothing ↦ idle-counts call s nothing
 ]
 
-answers-append : (turns more : List Input) → answers_in (turns ++ more) ≡ answers_in turns + answers_in more
-answers-append turns more = simp (filter-append, length-append) refl
+answers-append : (inputs more : List Input) → answers_in (inputs ++ more) ≡ answers_in inputs + answers_in more
+answers-append inputs more = simp (filter-append, length-append) refl
 
 run-counts : (s : State) (calls : List Call) → Counts s (state_after_all s calls) (handled_in s calls)
 run-counts s [] = inl (omega arith)
 run-counts s (call ∷ calls) =
-    let turns = handled call s in
+    let inputs = handled call s in
     let more = handled_in (state_after call s) calls in
     elim (call-counts call s) [
       | inl first ↦ elim (run-counts (state_after call s) calls) [
-        | inl rest ↦ inl (let sum = answers-append turns more in omega (arith, first, rest, sum))
-        | inr among ↦ inr (among-right IsAcceptedIn turns more among)
+        | inl rest ↦ inl (let sum = answers-append inputs more in omega (arith, first, rest, sum))
+        | inr among ↦ inr (among-right IsAcceptedIn inputs more among)
       ]
-      | inr among ↦ inr (among-left IsAcceptedIn turns more among)
+      | inr among ↦ inr (among-left IsAcceptedIn inputs more among)
     ]
 
 -- only a signed reply lowers the count
 pub falls-by-replies : (s : State) (calls : List Call) → FallsByReplies s calls
 falls-by-replies s calls = (
-  λ one there fewer. elim (turn-grows one) [ inl more ↦ absurd (omega (arith, fewer, more)) | inr accepted ↦ (accepted.1, accepted.2) ],
+  λ one there fewer. elim (input-grows one) [ inl more ↦ absurd (omega (arith, fewer, more)) | inr accepted ↦ (accepted.1, accepted.2) ],
   λ fewer. elim (run-counts s calls) [ inl counts ↦ absurd (omega (arith, fewer, counts)) | inr among ↦ among ],
 )
 

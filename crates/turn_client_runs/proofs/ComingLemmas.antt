@@ -55,7 +55,7 @@ record IsFrame (now : ℕ) (one : Input) : Type 0 where
 
 module _ (now : ℕ) where
   abbrev AllFrames : List Input → Type 0
-  AllFrames turns = (one : Input) → Has one turns → IsFrame now one
+  AllFrames inputs = (one : Input) → Has one inputs → IsFrame now one
 
   no-frames : AllFrames []
   no-frames one none = absurd none
@@ -93,10 +93,10 @@ module _ (now : ℕ) where
   unless-frames (Some payload) later k = no-frames
   unless-frames None later k = k
 
-  turns-frames : (n : ℕ) (s : State) → AllFrames (inputs_taken n now s)
+  steps-frames : (n : ℕ) (s : State) → AllFrames (inputs_taken n now s)
   unfolding inputs_taken
-  turns-frames zero s = no-frames
-  turns-frames (suc n) s = by (find is_ready s.streams) refl (λ t. turns-frames n t)
+  steps-frames zero s = no-frames
+  steps-frames (suc n) s = by (find is_ready s.streams) refl (λ t. steps-frames n t)
     where
       by : (o : Option Stream) → find is_ready s.streams ≡ o → ((t : State) → AllFrames (inputs_taken n now t))
           → AllFrames (taken_first (inputs_taken n now) now s o)
@@ -106,7 +106,7 @@ module _ (now : ℕ) where
           (unless-frames (payload_in (next_frame_step stream now s).0) _ (more (next_frame_step stream now s).1))
 
   poll-frames : (s : State) → AllFrames (poll_recv_inputs now s)
-  poll-frames s = turns-frames (max_steps s) s
+  poll-frames s = steps-frames (max_steps s) s
 
   then-frames : (p : Outcome × State) → AllFrames (then_taken now p)
   then-frames (Handled, s) = poll-frames s
@@ -147,18 +147,18 @@ recv-frames packet now s =
     (λ stream s e one there. inr (stream-frames now stream packet.payload s (found-stands (λ x. same_address x.local packet.to) stream s e) one there))
     (λ s one none. absurd none) s
 
-pub turns-come : (call : Call) (s : State) (one : Input) → Has one (handled call s) → ComesIn call one
-turns-come (Recv packet now) s one there = elim (recv-frames packet now s one there) [
+pub inputs-come : (call : Call) (s : State) (one : Input) → Has one (handled call s) → ComesIn call one
+inputs-come (Recv packet now) s one there = elim (recv-frames packet now s one there) [
   | inl (at, none, whole) ↦ (at, rw none whole)
   | inr frame ↦ (frame.at, rw frame.of frame.front)
 ]
-turns-come (PollRecv now) s one there = let frame = poll-frames now s one there in (frame.at, rw frame.of frame.front)
-turns-come call s one none = absurd none
+inputs-come (PollRecv now) s one there = let frame = poll-frames now s one there in (frame.at, rw frame.of frame.front)
+inputs-come call s one none = absurd none
 
-pub turns-stand : (call : Call) (s : State) (one : Input) → Has one (handled call s) → (stream : Stream) → one.stream ≡ Some stream → Stands stream one.before
-turns-stand (Recv packet now) s one there stream is = elim (recv-frames packet now s one there) [
+pub inputs-stand : (call : Call) (s : State) (one : Input) → Has one (handled call s) → (stream : Stream) → one.stream ≡ Some stream → Stands stream one.before
+inputs-stand (Recv packet now) s one there stream is = elim (recv-frames packet now s one there) [
   | inl (at, none, whole) ↦ cc (sym none ∙ is)
   | inr frame ↦ frame-stands now one frame stream is
 ]
-turns-stand (PollRecv now) s one there stream is = frame-stands now one (poll-frames now s one there) stream is
-turns-stand call s one none stream is = absurd none
+inputs-stand (PollRecv now) s one there stream is = frame-stands now one (poll-frames now s one there) stream is
+inputs-stand call s one none stream is = absurd none

@@ -36,7 +36,7 @@ use Rattle.turn_client_laws.specs.LawsGranted.{HasChannelTo, IsGivenFor, IsGrant
 use Rattle.turn_client_laws.specs.LawsHandled.{IsOverControl}
 use Rattle.turn_client_laws.specs.LawsReplies.{IsAccepted, IsAwaited, IsNotAwaited}
 use Rattle.turn_client_laws.proofs.AcceptedReplyLemmas.{accepted-gone}
-use Rattle.turn_client_laws.proofs.BoundLemmas.{binds-turn, found-local}
+use Rattle.turn_client_laws.proofs.BoundLemmas.{binds-input, found-local}
 use Rattle.turn_client_laws.proofs.CaseLemmas.{bind-by, by_found, by_accepted, by_test, indicated-by, requested-by}
 use Rattle.turn_client_laws.proofs.ChallengeJudgement.{AnswersAllocate, IsSignedReply, Says, judgement-says}
 use Rattle.turn_client_laws.proofs.EditsOfMessages.{connection-there}
@@ -46,11 +46,11 @@ use Rattle.turn_client_laws.proofs.GrantOriginMessageLemmas.{SignedSuccess-is, a
 use Rattle.turn_client_api.proofs.HasLemmas.{Has, has-append}
 use Rattle.turn_client_laws.proofs.InAllocationLemmas.{any-has}
 use Rattle.turn_client_laws.proofs.StandLemmas.{has-contains}
-use Rattle.turn_client_laws.proofs.TurnBringLemmas.{IsBrought}
+use Rattle.turn_client_laws.proofs.InputBringLemmas.{IsBrought}
 use Rattle.turn_client_runs.specs.Events.{FailsIn, IsNoRefresh, IsRefusedIn, LacksFamily, IsStillAsked, Reports, relayed_over}
 use Rattle.turn_client_runs.specs.Granted.{IsOverIts}
 use Rattle.turn_client_runs.proofs.EventReplies.{Lacks, RefusesFor, Replied, StillAsks, signed-says}
-use Rattle.turn_client_runs.proofs.GrantTurns.{IsAccepting, IsGivenAt, accepting, bind-accepting}
+use Rattle.turn_client_runs.proofs.GrantInputs.{IsAccepting, IsGivenAt, accepting, bind-accepting}
 use Rattle.turn_client_runs.proofs.MadeLemmas.{control-made}
 
 -- ---- what an input does
@@ -274,8 +274,8 @@ module _ (one : Input) (stream : Stream) (of : one.stream ≡ Some stream) (wait
   bound-causes e b phase named = subst (λ (x : TurnEvent). Creating x one) (sym named) (record {
     g = Connection (record b.c { deadline = None });
     reports = refl;
-    purpose = ForBind stream.local turn.asked turn.number;
-    accepting = bind-accepting one stream of waits whole b phase turn;
+    purpose = ForBind stream.local bind_input.asked bind_input.number;
+    accepting = bind-accepting one stream of waits whole b phase bind_input;
     over = rw of (waits, sym here);
     given = (here, (b.c, connection-there stream.local b.c one.before b.found, here, refl), refl);
     new = tt;
@@ -284,8 +284,8 @@ module _ (one : Input) (stream : Stream) (of : one.stream ≡ Some stream) (wait
       here : b.c.local ≡ stream.local
       here = found-local stream.local b.c _ b.found
 
-      turn : IsBindInput stream.local b.c.peer one
-      turn = binds-turn one stream t of waits whole b
+      bind_input : IsBindInput stream.local b.c.peer one
+      bind_input = binds-input one stream t of waits whole b
 
   pub waiting-adds : (e : TurnEvent) → Has e t.events → Has e one.before.events ⊎ Causing e one
   waiting-adds e there = elim (bind-tells stream.local one.bytes one.time one.before e there) [

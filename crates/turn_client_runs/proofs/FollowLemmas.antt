@@ -43,7 +43,7 @@ pub record IsFramed (c : Bool) (m : Mode) : Type 0 where
   pub suits : SuitsMode c m
   pub means : meant m ≡ T.Framed
   pub ready : (stream : Stream) (bytes : List ℕ) → ready_len (record stream { mode = m; bytes = bytes }) ≡ cond (begins_no_frame bytes) (Some (length bytes)) (frame_len bytes)
-  pub turns : (stream : Stream) (now : ℕ) (t : State) → detached_frame_step (record stream { mode = m }) now t ≡ framed_stream_step (record stream { mode = m }) now t
+  pub steps : (stream : Stream) (now : ℕ) (t : State) → detached_frame_step (record stream { mode = m }) now t ≡ framed_stream_step (record stream { mode = m }) now t
   pub part : (stream : Stream) (part : List ℕ) (now : ℕ) (t : State) → part_step (record stream { mode = m }) part now t ≡ framed_step (record stream { mode = m }) part now t
   pub same : (stream : Stream) (bytes frame : List ℕ) (now : ℕ) (t : State) → frame_step (record stream { mode = m; bytes = bytes }) frame now t ≡ frame_step (record stream { mode = m }) frame now t
   pub counts : (stream : Stream) (frame : List ℕ) (now : ℕ) (t : State) → flat_map (one_by_one c) (outcome_payloads (frame_step (record stream { mode = m }) frame now t).0) ≡ outcome_payloads
@@ -68,7 +68,7 @@ control-framed = record {
   suits = tt;
   means = refl;
   ready = λ stream bytes. refl;
-  turns = λ stream now t. refl;
+  steps = λ stream now t. refl;
   part = λ stream part now t. refl;
   same = λ stream bytes frame now t. refl;
   counts = λ stream frame now t. counted-whole (control_frame_step frame now t).0;
@@ -126,7 +126,7 @@ waiting-framed = record {
   suits = tt;
   means = refl;
   ready = λ stream bytes. refl;
-  turns = λ stream now t. refl;
+  steps = λ stream now t. refl;
   part = λ stream part now t. refl;
   same = λ stream bytes frame now t. refl;
   counts = waiting-counts;

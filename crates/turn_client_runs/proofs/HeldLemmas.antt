@@ -29,11 +29,11 @@ use Rattle.turn_client_laws.proofs.Edits.{KeepsEdits}
 use Rattle.turn_client_laws.proofs.MoveLemmas.{on_test}
 use Rattle.turn_client_laws.proofs.PhaseEdits.{phase-edits}
 use Rattle.turn_client_laws.proofs.EditsOfCalls.{delete-walk, quiet-walk, tcp_socket-walk}
-use Rattle.turn_client_laws.proofs.TurnBringLemmas.{IsBrought, leaves-bring}
+use Rattle.turn_client_laws.proofs.InputBringLemmas.{IsBrought, leaves-bring}
 use Rattle.turn_client_runs.specs.Held.{HeldFromChallenge, IsFirstAnswer}
 use Rattle.turn_client_runs.proofs.MadeLemmas.{control-made}
-use Rattle.turn_client_runs.proofs.RealmLemmas.{turns-after}
-use Rattle.turn_client_runs.proofs.TurnsOfRuns.{run-brings}
+use Rattle.turn_client_runs.proofs.RealmLemmas.{inputs-after}
+use Rattle.turn_client_runs.proofs.InputsOfRuns.{run-brings}
 
 -- ---- if something is held, or the client is past its first request
 
@@ -204,7 +204,7 @@ held-from transport local remote config seed calls c e =
     elim (run-brings IsLate IsFirst each first calls (inl (rw e refl))) [
       | inl late ↦ absurd (initial-early transport local remote config seed late)
       | inr (one, among, (d, is)) ↦
-          let (x, f, realm, algorithm) = turns-after first calls one among d is.held in
+          let (x, f, realm, algorithm) = inputs-after first calls one among d is.held in
           let same : c ≡ x = same_Some c x (sym e ∙ f) in
           let alike : (c.realm ≡ d.realm) × (c.algorithm ≡ d.algorithm) = rw same (realm, algorithm) in
           (one, among, (d, is, alike.0, alike.1))

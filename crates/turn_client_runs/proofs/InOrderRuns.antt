@@ -78,13 +78,13 @@ some-opened id tuple peer local now s =
 
 module _ (a : SocketAddr) where
   -- nothing more arrives
-  with-nothing : (all taken nothing : List ℕ) (turns : List Input) (t : State) → nothing ≡ [] → Goes a all taken turns t → Goes a (all ++ nothing) taken turns t
-  with-nothing all taken nothing turns t none goes = rw (none, append-nil all) goes
+  with-nothing : (all taken nothing : List ℕ) (inputs : List Input) (t : State) → nothing ≡ [] → Goes a all taken inputs t → Goes a (all ++ nothing) taken inputs t
+  with-nothing all taken nothing inputs t none goes = rw (none, append-nil all) goes
 
   -- and nothing is taken, if the streams are as they were
-  still-goes : (all taken nothing : List ℕ) (turns : List Input) (s t : State) → nothing ≡ [] → turns ≡ [] → Same s t → Flows a all taken s.streams → Goes a (all ++ nothing) taken turns t
-  still-goes all taken nothing turns s t none quiets same flows =
-      with-nothing all taken nothing turns t none (rw quiets (no-more a all taken t (subst (Flows a all taken) (sym same) flows)))
+  still-goes : (all taken nothing : List ℕ) (inputs : List Input) (s t : State) → nothing ≡ [] → inputs ≡ [] → Same s t → Flows a all taken s.streams → Goes a (all ++ nothing) taken inputs t
+  still-goes all taken nothing inputs s t none quiets same flows =
+      with-nothing all taken nothing inputs t none (rw quiets (no-more a all taken t (subst (Flows a all taken) (sym same) flows)))
 
   -- ---- a piece that is received for a stream
 

@@ -20,7 +20,7 @@ use Rattle.turn_client_laws.specs.Handled.{unless_given}
 use Rattle.turn_client_api.proofs.AddressLemmas.{same_address-self, same_address-true, differ-sym}
 use Rattle.turn_client_laws.proofs.GrantOriginLemmas.{has-mapped}
 use Rattle.turn_client_api.proofs.HasLemmas.{Has, has-filter, has-found}
-use Rattle.turn_client_laws.proofs.OtherStreamLemmas.{turn-aside}
+use Rattle.turn_client_laws.proofs.OtherStreamLemmas.{step-aside}
 use Rattle.turn_client_laws.proofs.StreamDrainLemmas.{broken_by, bytes_by}
 use Rattle.turn_client_runs.specs.InOrder.{bytes_out_of, is_out_of}
 
@@ -114,10 +114,10 @@ module _ (a : SocketAddr) where
       by Broken = refl
       by m = framed m (begins_no_frame stream.bytes) (frame_len stream.bytes)
 
-  pub turn-flows : (is_lent : Bool) (stream : Stream) (now : ℕ) (s : State) (all taken : List ℕ) → stream.mode ≢ Broken → (stream.local ≡ a → all ≡ taken ++ stream.bytes)
+  pub step-flows : (is_lent : Bool) (stream : Stream) (now : ℕ) (s : State) (all taken : List ℕ) → stream.mode ≢ Broken → (stream.local ≡ a → all ≡ taken ++ stream.bytes)
       → (same_address stream.local a ≡ false → Flows all taken s.streams)
       → Flows all (taken ++ bytes_out_of a (stream_inputs_taken is_lent stream now s)) (next_frame_step stream now s).1.streams
-  turn-flows is_lent stream now s all taken whole own others = elim (cases_Bool (same_address stream.local a)) [
+  step-flows is_lent stream now s all taken whole own others = elim (cases_Bool (same_address stream.local a)) [
     | inl e ↦ own-flows is_lent stream.mode stream now s all taken e (own (same_address-true stream.local a e)) whole
     | inr e ↦
         subst (λ (l : List ℕ). Flows all l (next_frame_step stream now s).1.streams)
@@ -126,7 +126,7 @@ module _ (a : SocketAddr) where
     where
       aside : same_address stream.local a ≡ false → Flows all taken (next_frame_step stream now s).1.streams
       aside e x there at =
-          let is = turn-aside stream now s in
+          let is = step-aside stream now s in
           let (y, before, same) = has-mapped is.change x s.streams (subst (λ (xs : List Stream). Has x xs) is.same there) in
           let end : y.local ≡ a = sym (is.ends y) ∙ (sym (ap (λ (z : Stream). z.local) same) ∙ at) in
           let apart : same_address y.local stream.local ≡ false = rw end (differ-sym stream.local a e) in
@@ -136,7 +136,7 @@ module _ (a : SocketAddr) where
 
   -- what the call processes is taken
   abbrev pub Goes : List ℕ → List ℕ → List Input → State → Type 0
-  Goes all taken turns t = Flows all (taken ++ bytes_out_of a turns) t.streams
+  Goes all taken inputs t = Flows all (taken ++ bytes_out_of a inputs) t.streams
 
   then-goes : (all taken : List ℕ) (front later : List Input) (t : State) → Goes all (taken ++ bytes_out_of a front) later t → Goes all taken (front ++ later) t
   then-goes all taken front later t =
@@ -160,10 +160,10 @@ module _ (a : SocketAddr) where
   pub holds-rest : (all taken : List ℕ) (xs : List Stream) (stream : Stream) → Flows all taken xs → Has stream xs → stream.mode ≢ Broken → stream.local ≡ a → all ≡ taken ++ stream.bytes
   holds-rest all taken xs stream flows there whole at = let (rest, is, held) = flows stream there at in is ∙ ap (λ (l : List ℕ). taken ++ l) (held whole)
 
-  turns-go : (n now : ℕ) (s : State) (all taken : List ℕ) → Flows all taken s.streams → Goes all taken (inputs_taken n now s) (steps_until_payload n now s).1
+  steps-go : (n now : ℕ) (s : State) (all taken : List ℕ) → Flows all taken s.streams → Goes all taken (inputs_taken n now s) (steps_until_payload n now s).1
   unfolding inputs_taken steps_until_payload
-  turns-go zero now s all taken flows = no-more all taken s flows
-  turns-go (suc n) now s all taken flows = by (find is_ready s.streams) refl (λ t more known. turns-go n now t all more known)
+  steps-go zero now s all taken flows = no-more all taken s flows
+  steps-go (suc n) now s all taken flows = by (find is_ready s.streams) refl (λ t more known. steps-go n now t all more known)
     where
       by : (o : Option Stream) → find is_ready s.streams ≡ o → ((t : State) (more : List ℕ) → Flows all more t.streams → Goes all more (inputs_taken n now t) (steps_until_payload n now t).1)
           → Goes all taken (taken_first (inputs_taken n now) now s o) (first_ready_step (steps_until_payload n now) now s o).1
@@ -172,10 +172,10 @@ module _ (a : SocketAddr) where
           let (there, ready) = has-found is_ready stream s.streams e in
           let whole = ready-whole stream.mode stream ready in
           go_on-goes (steps_until_payload n now) (inputs_taken n now) all taken (stream_inputs_taken false stream now s) (next_frame_step stream now s)
-          (turn-flows false stream now s all taken whole (holds-rest all taken s.streams stream flows there whole) (λ differ. flows)) more
+          (step-flows false stream now s all taken whole (holds-rest all taken s.streams stream flows there whole) (λ differ. flows)) more
 
   pub poll-goes : (now : ℕ) (s : State) (all taken : List ℕ) → Flows all taken s.streams → Goes all taken (poll_recv_inputs now s) (poll_recv_step now s).1
-  poll-goes now s all taken = turns-go (max_steps s) now s all taken
+  poll-goes now s all taken = steps-go (max_steps s) now s all taken
 
   pub then_all-goes : (now : ℕ) (all taken : List ℕ) (front : List Input) (p : Outcome × State) → Goes all taken front p.1 → Goes all taken (front ++ then_taken now p) (then_all now p).1
   then_all-goes now all taken front (Handled, t) first = then-goes all taken front (poll_recv_inputs now t) (then_all now (Handled, t)).1 (poll-goes now t all (taken ++ bytes_out_of a front) first)
@@ -187,4 +187,4 @@ module _ (a : SocketAddr) where
   -- for a stream that is not broken
   pub fed-goes : (stream : Stream) (piece : List ℕ) (now : ℕ) (s : State) (all taken : List ℕ) → stream.mode ≢ Broken → (stream.local ≡ a → all ≡ taken ++ (stream.bytes ++ piece))
       → (same_address stream.local a ≡ false → Flows all taken s.streams) → Goes all taken (fed_taken stream piece now s) (first_frame_step stream piece now s).1
-  fed-goes stream piece now s all taken whole own others = turn-flows (is_front stream.bytes) (stream_with_piece stream piece) now s all taken whole own others
+  fed-goes stream piece now s all taken whole own others = step-flows (is_front stream.bytes) (stream_with_piece stream piece) now s all taken whole own others

@@ -1,6 +1,6 @@
 pub mod AddressEdits
-pub mod AddressTurns
-pub mod AllTurnsLemmas
+pub mod AddressInputs
+pub mod AllStepsLemmas
 pub mod AskedFamilies
 pub mod AskedLemmas
 pub mod AskedPeers
@@ -15,15 +15,16 @@ pub mod EventLemmas
 pub mod EventReplies
 pub mod EventTime
 pub mod ExpiryLemmas
-pub mod FedTurnLemmas
+pub mod FedStepLemmas
 pub mod FollowLemmas
-pub mod GrantTurns
+pub mod GrantInputs
 pub mod HandshakeLemmas
 pub mod HandshakeRowLemmas
 pub mod HeldLemmas
 pub mod HoldLemmas
 pub mod InOrderRuns
 pub mod InOrderSteps
+pub mod InputsOfRuns
 pub mod LastingAgain
 pub mod LastingCalls
 pub mod LastingCounts
@@ -90,6 +91,5 @@ pub mod ToldReplies
 pub mod ToldRequests
 pub mod ToldRuns
 pub mod ToldTime
-pub mod TurnsOfRuns
 pub mod UnboundStreams
 pub mod WholeLemmas

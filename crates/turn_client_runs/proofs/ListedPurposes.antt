@@ -34,15 +34,15 @@ use Rattle.turn_client_laws.specs.LawsRequests.{AsksFor, IsListedFor}
 use Rattle.turn_client_laws.proofs.CaseLemmas.{by_found, by_test}
 use Rattle.turn_client_laws.proofs.Edits.{listing}
 use Rattle.turn_client_api.proofs.HasLemmas.{Has}
-use Rattle.turn_client_laws.proofs.MoveMessageLemmas.{turn-turns}
+use Rattle.turn_client_laws.proofs.MoveMessageLemmas.{input-moves}
 use Rattle.turn_client_laws.proofs.MoveSocketLemmas.{gone-settles}
-use Rattle.turn_client_laws.proofs.MoveTurnLemmas.{listings-made}
+use Rattle.turn_client_laws.proofs.MoveInputLemmas.{listings-made}
 use Rattle.turn_client_laws.proofs.StandLemmas.{contains-has, has-contains}
-use Rattle.turn_client_laws.proofs.TurnChainLemmas.{calls-do}
+use Rattle.turn_client_laws.proofs.InputChainLemmas.{calls-do}
 use Rattle.turn_client_laws.proofs.TwoPurposes.{purpose-with}
 use Rattle.turn_client_runs.proofs.LastingTransmits.{next-of}
 use Rattle.turn_client_runs.proofs.TogetherLemmas.{listing-here}
-use Rattle.turn_client_runs.proofs.TurnsOfRuns.{leads-or}
+use Rattle.turn_client_runs.proofs.InputsOfRuns.{leads-or}
 
 -- ---- inputs list nothing new
 
@@ -55,8 +55,8 @@ module _ (p : Purpose) where
   answered-listed message s listed = (id_of message, purpose-with (id_of message) p s (contains-has p (purposes_of (id_of message) s) listed))
 
   -- a request that is made again is for what the old one was for
-  turn-listed : (one : Input) → IsListed p (processed one).1 → IsListed p one.before
-  turn-listed one (id, there) = elim ((turn-turns one).1 (listing id p) there) [
+  processed-listed : (one : Input) → IsListed p (processed one).1 → IsListed p one.before
+  processed-listed one (id, there) = elim ((input-moves one).1 (listing id p) there) [
     | inl old ↦ (id, old)
     | inr (purpose, answers, wanted, is) ↦ answered-listed one.bytes one.before wanted
   ]
@@ -64,21 +64,21 @@ module _ (p : Purpose) where
   differs-listed : (s t : State) → DiffersInStreams s t → IsListed p t → IsListed p s
   differs-listed s t differs (id, there) = (id, subst (λ (u : State). Has (listing id p) u.listed) differs.others there)
 
-  lead-listed : (turns : List Input) (s t : State) → InputsLead turns s t → IsListed p t → IsListed p s
+  lead-listed : (inputs : List Input) (s t : State) → InputsLead inputs s t → IsListed p t → IsListed p s
   lead-listed [] s t differs h = differs-listed s t differs h
-  lead-listed (one ∷ turns) s t (first, lead) h = differs-listed s one.before first (turn-listed one (lead-listed turns (processed one).1 t lead h))
+  lead-listed (one ∷ inputs) s t (first, lead) h = differs-listed s one.before first (processed-listed one (lead-listed inputs (processed one).1 t lead h))
 
-  each-listed : (turns : List Input) (s t : State) → InputsLead turns s t → (one : Input) → Has one turns → IsListed p one.before → IsListed p s
+  each-listed : (inputs : List Input) (s t : State) → InputsLead inputs s t → (one : Input) → Has one inputs → IsListed p one.before → IsListed p s
   each-listed [] s t lead one none h = absurd none
-  each-listed (x ∷ turns) s t (first, lead) one (inl is) h = differs-listed s x.before first (subst (λ (y : Input). IsListed p y.before) is h)
-  each-listed (x ∷ turns) s t (first, lead) one (inr there) h =
-      differs-listed s x.before first (turn-listed x (each-listed turns (processed x).1 t lead one there h))
+  each-listed (x ∷ inputs) s t (first, lead) one (inl is) h = differs-listed s x.before first (subst (λ (y : Input). IsListed p y.before) is h)
+  each-listed (x ∷ inputs) s t (first, lead) one (inr there) h =
+      differs-listed s x.before first (processed-listed x (each-listed inputs (processed x).1 t lead one there h))
 
   -- what an input answers was listed before its call
   pub input-listed : (call : Call) (s : State) (one : Input) → Contains (handled call s) one → IsListed p one.before → IsListed p s
   input-listed call s one among h = elim (leads-or call s) [
     | inl lead ↦ each-listed (handled call s) s (state_after call s) lead one (contains-has one (handled call s) among) h
-    | inr nothing ↦ absurd (contains-has one [] (subst (λ (turns : List Input). Contains turns one) nothing among))
+    | inr nothing ↦ absurd (contains-has one [] (subst (λ (inputs : List Input). Contains inputs one) nothing among))
   ]
 
   -- a call lists it only if it asks for it itself

@@ -42,7 +42,7 @@ use Rattle.turn_client_laws.proofs.GrantOriginLemmas.{has-mapped}
 use Rattle.turn_client_api.proofs.HasLemmas.{Has}
 use Rattle.turn_client_api.proofs.ExpirySteps.{expired_in-does}
 use Rattle.turn_client_laws.proofs.RunKeepLemmas.{poll_recv-kept, recv-kept}
-use Rattle.turn_client_laws.proofs.TurnKeepLemmas.{before-kept}
+use Rattle.turn_client_laws.proofs.InputKeepLemmas.{before-kept}
 use Rattle.turn_client_runs.proofs.LoneConnects.{HasLoneConnects, KeepsLone, KeepsLone-IsKept, asks-filtered, asks-lone, asks-one, fold-lone, gone-lone, lone-filter}
 
 module _ (s : State) where

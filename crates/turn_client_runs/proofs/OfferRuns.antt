@@ -43,18 +43,18 @@ use Rattle.turn_client_api.proofs.AddressLemmas.{same_ip-true}
 use Rattle.turn_client_laws.proofs.GrantOriginMessageLemmas.{SignedSuccess-is}
 use Rattle.turn_client_api.proofs.HasLemmas.{Has, first-has, has-filter, has-filter_map, has-right}
 use Rattle.turn_client_laws.proofs.StandLemmas.{contains-has, has-contains}
-use Rattle.turn_client_laws.proofs.TurnBringLemmas.{IsBrought, leaves-bring}
+use Rattle.turn_client_laws.proofs.InputBringLemmas.{IsBrought, leaves-bring}
 use Rattle.turn_client_runs.specs.Bound.{IsBoundSince}
 use Rattle.turn_client_runs.specs.Granted.{IsGivenIn, IsGranted}
 use Rattle.turn_client_runs.specs.Offers.{Attempts, AttemptsAs, BoundAreOffered, Connects, HasOfferCause, IsAttemptedIn, IsBoundForOffer, IsConnectCalled, IsConnectedIn, IsGrantedForOffer, IsOffered}
 use Rattle.turn_client_runs.specs.Offers.{IsOpened, TakesOffer, offer_to}
 use Rattle.turn_client_runs.proofs.BoundLemmas.{streams-have-success}
-use Rattle.turn_client_runs.proofs.ComingLemmas.{turns-come}
+use Rattle.turn_client_runs.proofs.ComingLemmas.{inputs-come}
 use Rattle.turn_client_runs.proofs.ListedPurposes.{IsConnectTo, IsListed, IsOpening, answered-listed, bind-listed, connect-listed, input-listed}
 use Rattle.turn_client_runs.proofs.MadeLemmas.{control-made, success-ends}
 use Rattle.turn_client_runs.proofs.OfferCalls.{HasOffer, gone-offers, opened-takes, quiet-offers}
 use Rattle.turn_client_runs.proofs.OfferMessages.{IsMadeFor, bind-back, judgement-tells, message-offers}
-use Rattle.turn_client_runs.proofs.ReceivedRuns.{HoldNothing, turns-received}
+use Rattle.turn_client_runs.proofs.ReceivedRuns.{HoldNothing, inputs-received}
 use Rattle.turn_client_runs.proofs.RunGrants.{AnswersFor, answered-in, first-hold, grants-have-replies}
 use Rattle.turn_client_runs.proofs.RunLemmas.{IsDoneLast, run-did}
 
@@ -191,8 +191,8 @@ module _ (first : State) (empty : first.grants ≡ []) (unlisted : first.listed 
           split = is.split;
           input = one;
           among = among;
-          comes = turns-come is.call (state_after_all first is.earlier) one here;
-          received = turns-received is.earlier is.call first hold one here;
+          comes = inputs-come is.call (state_after_all first is.earlier) one here;
+          received = inputs-received is.earlier is.call first hold one here;
           attempts = attempts;
           stands = is.holds;
         }

@@ -16,13 +16,13 @@ use Rattle.turn_client_api.specs.declared.call.Call.TheVariants.{Recv, PollRecv}
 use Rattle.turn_client_api.specs.declared.state.Mode.{Mode}
 use Rattle.turn_client_api.specs.declared.state.Mode.TheVariants.{Control, Waiting, Bound}
 use Rattle.turn_client_api.specs.declared.state.Stream.{Stream}
-use Rattle.turn_client_laws.proofs.HandledLemmas.{poll_recv-Gives, recv-AreOf, turn-IsFromPermitted}
+use Rattle.turn_client_laws.proofs.HandledLemmas.{poll_recv-Gives, recv-AreOf, input-IsFromPermitted}
 use Rattle.turn_client_api.proofs.HasLemmas.{has-filter_map}
 use Rattle.turn_client_laws.proofs.StandLemmas.{contains-has}
 use Rattle.turn_client_runs.specs.Peers.{InputDelivers, IsPeerPermitted, IsDeliveredIn, TellsOfPermitted}
 use Rattle.turn_client_runs.specs.Inputs.{IsAmong, delivered_by, answered_in, handled_in, payloads_in}
-use Rattle.turn_client_runs.proofs.ComingLemmas.{Stands, turns-stand}
-use Rattle.turn_client_runs.proofs.TurnsOfRuns.{among-left, among-right, has-among}
+use Rattle.turn_client_runs.proofs.ComingLemmas.{Stands, inputs-stand}
+use Rattle.turn_client_runs.proofs.InputsOfRuns.{among-left, among-right, has-among}
 
 -- ---- the stream of an input is in the state just before it
 
@@ -87,9 +87,9 @@ module _ (payload : Payload) where
   by-call : (call : Call) (s : State) → Contains (payloads_by call s) payload → IsAmong (InputDelivers payload) (handled call s)
   by-call call s there =
       let (one, among, gives) = has-filter_map input_payload payload (handled call s) (contains-has payload (payloads_by call s) there) in
-      let exact = turn-IsFromPermitted one in
+      let exact = input-IsFromPermitted one in
       has-among (InputDelivers payload) (handled call s)
-      (one, among, record { given = gives; exact = exact; let_in = let-in one gives exact (turns-stand call s one among) })
+      (one, among, record { given = gives; exact = exact; let_in = let-in one gives exact (inputs-stand call s one among) })
 
   pub received : (s : State) (calls : List Call) → Contains (payloads_in s calls) payload → IsDeliveredIn payload s calls
   received s [] there = absurd (contains-has payload [] there)
@@ -129,7 +129,7 @@ tells_in_mode Waiting stream t exact = let one = record t { stream = Some (recor
 tells_in_mode m stream t exact = tt
 
 pub tells-permitted : (one : Input) → TellsOfPermitted one
-tells-permitted one = by one.stream one (turn-IsFromPermitted one)
+tells-permitted one = by one.stream one (input-IsFromPermitted one)
   where
     by : (o : Option Stream) (t : Input) → IsPermittedInput (record t { stream = o }) → TellsOfPermitted (record t { stream = o })
     by None t exact = let u = record t { stream = None } in tells-through u (processed u).0 refl exact

@@ -18,10 +18,10 @@ use Rattle.turn_client_laws.specs.LawsStreams.{IsEmptyIfBroken}
 use Rattle.turn_client_api.proofs.AddressLemmas.{same_address-self}
 use Rattle.turn_client_api.proofs.HasLemmas.{has-all, has-found}
 use Rattle.turn_client_laws.proofs.StreamWeightLemmas.{weight}
-use Rattle.turn_client_laws.proofs.TurnFrameLemmas.{bytes-twice}
+use Rattle.turn_client_laws.proofs.StepFrameLemmas.{bytes-twice}
 use Rattle.turn_client_runs.specs.Cut.{IsQuiet, bytes_at, fed_piece, outcome_payloads, left, meant, mode_at, whole, whole_of}
-use Rattle.turn_client_runs.proofs.AllTurnsLemmas.{all-rest, all_turns, gives_then, polled_out, polled_out-all, then_all-all}
-use Rattle.turn_client_runs.proofs.FedTurnLemmas.{Agrees, empty-left, framed-first, none-left, ready-fed, turns-whole}
+use Rattle.turn_client_runs.proofs.AllStepsLemmas.{all-rest, all_steps, gives_then, polled_out, polled_out-all, then_all-all}
+use Rattle.turn_client_runs.proofs.FedStepLemmas.{Agrees, empty-left, framed-first, none-left, ready-fed, steps-whole}
 use Rattle.turn_client_runs.proofs.FollowLemmas.{IsFramed, IsThere, Suits, SuitsMode, control-framed, waiting-framed}
 use Rattle.turn_client_runs.proofs.StreamAtLemmas.{IsAlone, OthersWait, aside-alone, bytes-aside, bytes-found, found-local, none-bytes, none-false, self-bytes}
 use Rattle.turn_client_runs.proofs.WholeLemmas.{broken-whole, none-whole, whole-waits}
@@ -64,7 +64,7 @@ module _ (a : SocketAddr) (now : ℕ) (s : State) (quiet : IsQuiet s) where
   out-found stream e = bytes-found a [] s stream e
 
   -- no step follows before more is received
-  rests : (n : ℕ) → all_turns n now s ≡ ([], s)
+  rests : (n : ℕ) → all_steps n now s ≡ ([], s)
   rests n = all-rest n now s quiet.none_ready
 
   -- ---- no stream, and a broken one
@@ -101,45 +101,45 @@ module _ (a : SocketAddr) (now : ℕ) (s : State) (quiet : IsQuiet s) where
   fed_with stream piece = record stream { bytes = stream.bytes ++ piece }
 
   -- The result of the piece is one step of this stream, and then all that follow.
-  abbrev GivesTurn : Stream → List ℕ → ℕ → Type 0
-  GivesTurn stream piece n = fed_piece a piece now s ≡ gives_then (all_turns n now) (detached_frame_step (fed_with stream piece) now out)
+  abbrev GivesStep : Stream → List ℕ → ℕ → Type 0
+  GivesStep stream piece n = fed_piece a piece now s ≡ gives_then (all_steps n now) (detached_frame_step (fed_with stream piece) now out)
 
-  turn-out : (stream : Stream) (piece : List ℕ) → stream_at a s ≡ Some stream → next_frame_step (fed_with stream piece) now s ≡ detached_frame_step (fed_with stream piece) now out
-  turn-out stream piece e = ap (λ (l : SocketAddr). detached_frame_step (fed_with stream piece) now (with_bytes l [] s)) (found-local a s stream e)
+  step-out : (stream : Stream) (piece : List ℕ) → stream_at a s ≡ Some stream → next_frame_step (fed_with stream piece) now s ≡ detached_frame_step (fed_with stream piece) now out
+  step-out stream piece e = ap (λ (l : SocketAddr). detached_frame_step (fed_with stream piece) now (with_bytes l [] s)) (found-local a s stream e)
 
   -- enough steps for what the first of them leaves
   abbrev enough : Stream → List ℕ → ℕ
   enough stream piece = weight (detached_frame_step (fed_with stream piece) now out).1.streams + length (stream.bytes ++ piece)
 
   first-given : (stream : Stream) (piece : List ℕ) (n : ℕ) → stream_at a s ≡ Some stream
-      → gives_then (all_turns n now) (first_frame_step stream piece now s) ≡ gives_then (all_turns n now) (detached_frame_step (fed_with stream piece) now out)
+      → gives_then (all_steps n now) (first_frame_step stream piece now s) ≡ gives_then (all_steps n now) (detached_frame_step (fed_with stream piece) now out)
   first-given stream piece n e =
       let p = next_frame_step (fed_with stream piece) now s in
-      ap (λ (l : List Payload). (l ++ (all_turns n now p.1).0, (all_turns n now p.1).1)) (placed stream.bytes p.0)
-      ∙ ap (gives_then (all_turns n now)) (turn-out stream piece e)
+      ap (λ (l : List Payload). (l ++ (all_steps n now p.1).0, (all_steps n now p.1).1)) (placed stream.bytes p.0)
+      ∙ ap (gives_then (all_steps n now)) (step-out stream piece e)
 
   first-weight : (stream : Stream) (piece : List ℕ) → stream_at a s ≡ Some stream → weight (first_frame_step stream piece now s).1.streams ≤ enough stream piece
-  first-weight stream piece e = rw (turn-out stream piece e) (omega arith)
+  first-weight stream piece e = rw (step-out stream piece e) (omega arith)
 
-  control-turn : (b : ℕ) (piece : List ℕ) (stream : Stream) → stream_at a s ≡ Some (record stream { mode = Control })
-      → GivesTurn (record stream { mode = Control }) (b ∷ piece) (enough (record stream { mode = Control }) (b ∷ piece))
-  control-turn b piece stream e =
+  control-step : (b : ℕ) (piece : List ℕ) (stream : Stream) → stream_at a s ≡ Some (record stream { mode = Control })
+      → GivesStep (record stream { mode = Control }) (b ∷ piece) (enough (record stream { mode = Control }) (b ∷ piece))
+  control-step b piece stream e =
       let u = record stream { mode = Control } in
       let n = enough u (b ∷ piece) in
       ap (polled_out now) (recv-found a (b ∷ piece) now s u quiet.transport e)
       ∙ (then_all-all n now (first_frame_step u (b ∷ piece) now s) (first-weight u (b ∷ piece) e) ∙ first-given u (b ∷ piece) n e)
 
-  waiting-turn : (b : ℕ) (piece : List ℕ) (stream : Stream) → stream_at a s ≡ Some (record stream { mode = Waiting })
-      → GivesTurn (record stream { mode = Waiting }) (b ∷ piece) (enough (record stream { mode = Waiting }) (b ∷ piece))
-  waiting-turn b piece stream e =
+  waiting-step : (b : ℕ) (piece : List ℕ) (stream : Stream) → stream_at a s ≡ Some (record stream { mode = Waiting })
+      → GivesStep (record stream { mode = Waiting }) (b ∷ piece) (enough (record stream { mode = Waiting }) (b ∷ piece))
+  waiting-step b piece stream e =
       let u = record stream { mode = Waiting } in
       let n = enough u (b ∷ piece) in
       ap (polled_out now) (recv-found a (b ∷ piece) now s u quiet.transport e)
       ∙ (polled_out-all n now (first_frame_step u (b ∷ piece) now s) (first-weight u (b ∷ piece) e) ∙ first-given u (b ∷ piece) n e)
 
-  bound-turn : (b : ℕ) (piece : List ℕ) (stream : Stream) (peer : SocketAddr) → stream_at a s ≡ Some (record stream { mode = Bound peer })
-      → GivesTurn (record stream { mode = Bound peer }) (b ∷ piece) (enough (record stream { mode = Bound peer }) (b ∷ piece))
-  bound-turn b piece stream peer e =
+  bound-step : (b : ℕ) (piece : List ℕ) (stream : Stream) (peer : SocketAddr) → stream_at a s ≡ Some (record stream { mode = Bound peer })
+      → GivesStep (record stream { mode = Bound peer }) (b ∷ piece) (enough (record stream { mode = Bound peer }) (b ∷ piece))
+  bound-step b piece stream peer e =
       let u = record stream { mode = Bound peer } in
       let n = enough u (b ∷ piece) in
       let given = sent_by peer (stream.bytes ++ b ∷ piece) None in
@@ -154,16 +154,16 @@ module _ (a : SocketAddr) (now : ℕ) (s : State) (quiet : IsQuiet s) where
   there-out c stream e unbroken suits = record { stream = record stream { bytes = [] }; found = out-found stream e; unbroken = unbroken; suits = suits }
 
   whole-agrees : (c : Bool) (stream : Stream) (piece : List ℕ) (n : ℕ) → stream_at a s ≡ Some stream → (stream.mode ≡ Broken → ⊥) → SuitsMode c stream.mode → length (stream.bytes ++ piece) < suc n
-      → GivesTurn stream piece n
-      → gives_then (all_turns n now) (detached_frame_step (fed_with stream piece) now out) ≡ all_turns (suc n) now (with_bytes a (stream.bytes ++ piece) out)
+      → GivesStep stream piece n
+      → gives_then (all_steps n now) (detached_frame_step (fed_with stream piece) now out) ≡ all_steps (suc n) now (with_bytes a (stream.bytes ++ piece) out)
       → Agrees a c (fed_piece a piece now s) (whole a now out (bytes_at a s ++ piece))
   whole-agrees c stream piece n e unbroken suits few gives first =
-      let all = turns-whole a now c (suc n) out (stream.bytes ++ piece) few out-is-alone (there-out c stream e unbroken suits) in
-      let same : fed_piece a piece now s ≡ all_turns (suc n) now (with_bytes a (stream.bytes ++ piece) out) = gives ∙ first in
+      let all = steps-whole a now c (suc n) out (stream.bytes ++ piece) few out-is-alone (there-out c stream e unbroken suits) in
+      let same : fed_piece a piece now s ≡ all_steps (suc n) now (with_bytes a (stream.bytes ++ piece) out) = gives ∙ first in
       rw (held-is stream e, same) all
 
   framed-agrees : (c : Bool) (m : Mode) (is : IsFramed c m) (stream : Stream) (piece : List ℕ) → stream_at a s ≡ Some (record stream { mode = m })
-      → GivesTurn (record stream { mode = m }) piece (enough (record stream { mode = m }) piece) → Agrees a c (fed_piece a piece now s) (whole a now out (bytes_at a s ++ piece))
+      → GivesStep (record stream { mode = m }) piece (enough (record stream { mode = m }) piece) → Agrees a c (fed_piece a piece now s) (whole a now out (bytes_at a s ++ piece))
   framed-agrees c m is stream piece e gives =
       let u = record stream { mode = m } in
       let n = enough u piece in
@@ -180,13 +180,13 @@ module _ (a : SocketAddr) (now : ℕ) (s : State) (quiet : IsQuiet s) where
       let u = record stream { mode = Bound peer } in
       let n = enough u (b ∷ piece) in
       let bytes = stream.bytes ++ b ∷ piece in
-      whole-agrees false u (b ∷ piece) n e (λ f. cc) tt (omega arith) (bound-turn b piece stream peer e)
+      whole-agrees false u (b ∷ piece) n e (λ f. cc) tt (omega arith) (bound-step b piece stream peer e)
       (sym (ready-fed a now n (record u { bytes = [] }) bytes out out-is-alone (out-found u e) (bound-ready stream peer b piece stream.bytes)))
 
   agrees-in : (c : Bool) (m : Mode) (b : ℕ) (piece : List ℕ) (stream : Stream) → SuitsMode c m → stream_at a s ≡ Some (record stream { mode = m })
       → Agrees a c (fed_piece a (b ∷ piece) now s) (whole a now out (bytes_at a s ++ b ∷ piece))
-  agrees-in true Control b piece stream suits e = framed-agrees true Control control-framed stream (b ∷ piece) e (control-turn b piece stream e)
-  agrees-in false Waiting b piece stream suits e = framed-agrees false Waiting waiting-framed stream (b ∷ piece) e (waiting-turn b piece stream e)
+  agrees-in true Control b piece stream suits e = framed-agrees true Control control-framed stream (b ∷ piece) e (control-step b piece stream e)
+  agrees-in false Waiting b piece stream suits e = framed-agrees false Waiting waiting-framed stream (b ∷ piece) e (waiting-step b piece stream e)
   agrees-in false (Bound peer) b piece stream suits e = bound-agrees b piece stream peer e
   agrees-in true Broken b piece stream suits e = broken-agrees true b piece (bytes_at a s ++ b ∷ piece) stream e tt
   agrees-in false Broken b piece stream suits e = broken-agrees false b piece (bytes_at a s ++ b ∷ piece) stream e tt

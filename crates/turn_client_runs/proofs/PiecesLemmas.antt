@@ -14,9 +14,9 @@ use Rattle.turn_client_api.specs.declared.state.Mode.TheVariants.{Control}
 use Rattle.turn_client_api.specs.declared.state.Stream.{Stream}
 use Rattle.turn_client_api.specs.Payloads.{Payload}
 use Rattle.turn_client_api.specs.Streams.{stream_at, with_bytes}
-use Rattle.turn_client_laws.proofs.TurnFrameLemmas.{bytes-twice}
+use Rattle.turn_client_laws.proofs.StepFrameLemmas.{bytes-twice}
 use Rattle.turn_client_runs.specs.Cut.{AreNonempty, IsQuiet, IsSameForAnyCut, bytes_at, fed_piece, fed_pieces, is_control_stream, left, mode_at, one_by_one, part_at_step, whole, whole_of}
-use Rattle.turn_client_runs.proofs.FedTurnLemmas.{Agrees}
+use Rattle.turn_client_runs.proofs.FedStepLemmas.{Agrees}
 use Rattle.turn_client_runs.proofs.FollowLemmas.{Suits, SuitsMode}
 use Rattle.turn_client_runs.proofs.PieceLemmas.{piece-agrees, waits-same, waits-whole}
 use Rattle.turn_client_runs.proofs.QuietLemmas.{fed-quiet}

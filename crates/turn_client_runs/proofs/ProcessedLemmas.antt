@@ -7,12 +7,12 @@ use Rattle.turn_client_laws.specs.Handled.{Input}
 use Rattle.turn_client_laws.specs.LawsGranted.{IsGrantedIn}
 use Rattle.turn_client_laws.specs.LawsHandled.{TakesInput}
 use Rattle.turn_client_laws.proofs.GrantedLemmas.{leaves-grants}
-use Rattle.turn_client_laws.proofs.TurnChainLemmas.{calls-do}
+use Rattle.turn_client_laws.proofs.InputChainLemmas.{calls-do}
 use Rattle.turn_client_runs.specs.Inputs.{IsAmong}
 use Rattle.turn_client_runs.specs.Processed.{ActivatesNothing, CallsProcessInputs, ProcessesAll}
 use Rattle.turn_client_runs.proofs.CallGrants.{quiet}
 use Rattle.turn_client_runs.proofs.PeerLemmas.{call-answered}
-use Rattle.turn_client_runs.proofs.TurnsOfRuns.{among-none}
+use Rattle.turn_client_runs.proofs.InputsOfRuns.{among-none}
 
 activates-nothing : (call : Call) (s : State) → (TakesInput call → ⊥) → ActivatesNothing call s
 activates-nothing call s other g stands there = elim (leaves-grants call s (state_after call s) g (inl refl) there stands) [

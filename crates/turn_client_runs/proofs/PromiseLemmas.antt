@@ -37,14 +37,14 @@ use Rattle.turn_client_runs.proofs.OfferRuns.{bound-are-offered}
 use Rattle.turn_client_runs.proofs.InOrderRuns.{inputs-follow}
 use Rattle.turn_client_runs.proofs.PeerLemmas.{received, tells-permitted}
 use Rattle.turn_client_runs.proofs.ProcessedLemmas.{calls-process}
-use Rattle.turn_client_runs.proofs.RealmLemmas.{turns-realm}
+use Rattle.turn_client_runs.proofs.RealmLemmas.{inputs-realm}
 use Rattle.turn_client_runs.proofs.ReplyLemmas.{made-between, made-in, made-until, reply-again, reply-ends}
 use Rattle.turn_client_runs.proofs.RunCutLemmas.{run-cut}
 use Rattle.turn_client_runs.proofs.RunEvents.{events-have-causes}
 use Rattle.turn_client_runs.proofs.RunGrants.{first-hold, grants-have-replies}
 use Rattle.turn_client_runs.proofs.SentRuns.{run-goes_out}
-use Rattle.turn_client_runs.proofs.ComingLemmas.{turns-come}
-use Rattle.turn_client_runs.proofs.ReceivedRuns.{turns-received}
+use Rattle.turn_client_runs.proofs.ComingLemmas.{inputs-come}
+use Rattle.turn_client_runs.proofs.ReceivedRuns.{inputs-received}
 use Rattle.turn_client_laws.proofs.StandLemmas.{contains-has}
 use Rattle.turn_client_laws.specs.Handled.{handled}
 use Rattle.turn_client_api.specs.Steps.{state_after_all}
@@ -82,7 +82,7 @@ module _ (transport : TransportType) (local remote : SocketAddr) (config : Confi
     λ earlier middle later e. (λ payload. received payload (state_after_all first earlier) middle, λ one there. tells-permitted one),
     λ earlier call later one e there.
         let has = contains-has one (handled call (state_after_all first earlier)) there in
-        (turns-come call (state_after_all first earlier) one has, turns-received earlier call first (first-hold transport local remote config seed) one has),
+        (inputs-come call (state_after_all first earlier) one has, inputs-received earlier call first (first-hold transport local remote config seed) one has),
   )
 
   pub run-replies : RepliesCountOnce first calls
@@ -96,7 +96,7 @@ module _ (transport : TransportType) (local remote : SocketAddr) (config : Confi
   pub run-realm : RealmStays first calls
   run-realm earlier middle later e = (
     realm-stays (state_after_all first earlier) middle (state_after_all (state_after_all first earlier) middle) (reaches-behind (state_after_all first earlier) middle),
-    turns-realm (state_after_all first earlier) middle,
+    inputs-realm (state_after_all first earlier) middle,
   )
 
   pub run-held : RealmIsAnswered first calls

@@ -16,11 +16,11 @@ use Rattle.turn_client_laws.proofs.EditsOfMessages.{edits-IsKept}
 use Rattle.turn_client_laws.proofs.FixedFields.{fixed-all-edits}
 use Rattle.turn_client_laws.proofs.RunKeepLemmas.{IsKept, poll_recv-kept, recv-kept}
 use Rattle.turn_client_laws.proofs.StreamCallLemmas.{call-apart, initial-apart}
-use Rattle.turn_client_laws.proofs.StreamDrainLemmas.{turns-done}
+use Rattle.turn_client_laws.proofs.StreamDrainLemmas.{steps-done}
 use Rattle.turn_client_laws.proofs.StreamStepLemmas.{poll_recv-apart, recv-apart}
 use Rattle.turn_client_laws.proofs.StreamWeightLemmas.{weight, weight-le}
 use Rattle.turn_client_runs.specs.Cut.{GetsQuiet, IsQuiet, and_then, fed_piece, polled_until_none}
-use Rattle.turn_client_runs.proofs.AllTurnsLemmas.{all-done, polled_out, polled_out-all}
+use Rattle.turn_client_runs.proofs.AllStepsLemmas.{all-done, polled_out, polled_out-all}
 
 -- ---- the transport of its packets
 
@@ -69,7 +69,7 @@ pub poll-quiet : (s : State) → s.transport ≡ Tcp → AreApart s → GetsQuie
 poll-quiet s tcp apart now none = record {
   transport = poll_recv-kept SameTransport transport-kept now s ∙ tcp;
   apart = poll_recv-apart now s apart;
-  none_ready = turns-done (max_steps s) now s (weight-le s.streams) none;
+  none_ready = steps-done (max_steps s) now s (weight-le s.streams) none;
 }
 
 pub initial-quiet : (local remote : SocketAddr) (config : Config) (seed : List ℕ) → IsQuiet (initial Tcp local remote config seed)

@@ -85,94 +85,94 @@ module _ (Known : SocketAddr → List ℕ → Type 0) (none : (a : SocketAddr) �
       by_test (λ u. AllKnown u.streams) (begins_no_frame stream.bytes) (Handled, broken_at stream.local t) _ (broken-known stream.local t all)
       (framed-known stream now t is all (frame_len stream.bytes))
 
-  turned-known : (m : Mode) (stream : Stream) (now : ℕ) (t : State) → Known stream.local stream.bytes → AllKnown t.streams → AllKnown (detached_frame_step (record stream { mode = m }) now t).1.streams
-  turned-known (Bound peer) stream now t is all = all
-  turned-known Broken stream now t is all = all
-  turned-known m stream now t is all = front-known (record stream { mode = m }) now t is all
+  detached-known : (m : Mode) (stream : Stream) (now : ℕ) (t : State) → Known stream.local stream.bytes → AllKnown t.streams → AllKnown (detached_frame_step (record stream { mode = m }) now t).1.streams
+  detached-known (Bound peer) stream now t is all = all
+  detached-known Broken stream now t is all = all
+  detached-known m stream now t is all = front-known (record stream { mode = m }) now t is all
 
-  turn-known : (stream : Stream) (now : ℕ) (s : State) → Known stream.local stream.bytes → OthersKnown stream.local s.streams → AllKnown (next_frame_step stream now s).1.streams
-  turn-known stream now s is others = turned-known stream.mode stream now (with_bytes stream.local [] s) is (bytes-known stream.local [] s (none stream.local) others)
+  step-known : (stream : Stream) (now : ℕ) (s : State) → Known stream.local stream.bytes → OthersKnown stream.local s.streams → AllKnown (next_frame_step stream now s).1.streams
+  step-known stream now s is others = detached-known stream.mode stream now (with_bytes stream.local [] s) is (bytes-known stream.local [] s (none stream.local) others)
 
   -- ---- the inputs of a call
 
   -- for what its stream holds
-  abbrev pub KnownTurn : Input → Type 0
-  KnownTurn one = (stream : Stream) → one.stream ≡ Some stream → Known stream.local stream.bytes
+  abbrev pub KnownInput : Input → Type 0
+  KnownInput one = (stream : Stream) → one.stream ≡ Some stream → Known stream.local stream.bytes
 
-  abbrev pub KnownTurns : List Input → Type 0
-  KnownTurns turns = (one : Input) → Has one turns → KnownTurn one
+  abbrev pub KnownInputs : List Input → Type 0
+  KnownInputs inputs = (one : Input) → Has one inputs → KnownInput one
 
-  no-turns : KnownTurns []
-  no-turns one there = absurd there
+  no-inputs : KnownInputs []
+  no-inputs one there = absurd there
 
-  one-turn : (one : Input) (stream : Stream) → one.stream ≡ Some stream → Known stream.local stream.bytes → KnownTurns (one ∷ [])
-  one-turn one stream of is x (inl same) other e =
+  one-input : (one : Input) (stream : Stream) → one.stream ≡ Some stream → Known stream.local stream.bytes → KnownInputs (one ∷ [])
+  one-input one stream of is x (inl same) other e =
       let here : stream ≡ other = cc (sym of ∙ (sym (ap (λ (y : Input). y.stream) same) ∙ e)) in
       subst (λ (z : Stream). Known z.local z.bytes) here is
-  one-turn one stream of is x (inr absent) other e = absurd absent
+  one-input one stream of is x (inr absent) other e = absurd absent
 
-  joined-turns : (xs ys : List Input) → KnownTurns xs → KnownTurns ys → KnownTurns (xs ++ ys)
-  joined-turns xs ys k l one there = elim (has-append one xs ys there) [ inl h ↦ k one h | inr h ↦ l one h ]
+  joined-inputs : (xs ys : List Input) → KnownInputs xs → KnownInputs ys → KnownInputs (xs ++ ys)
+  joined-inputs xs ys k l one there = elim (has-append one xs ys there) [ inl h ↦ k one h | inr h ↦ l one h ]
 
-  len-turns : (is_lent : Bool) (stream : Stream) (now : ℕ) (t : State) → Known stream.local stream.bytes → (o : Option ℕ) → KnownTurns (taken_of_len is_lent stream now t o)
-  len-turns is_lent stream now t is None = no-turns
-  len-turns is_lent stream now t is (Some len) = one-turn _ stream refl is
+  len-inputs : (is_lent : Bool) (stream : Stream) (now : ℕ) (t : State) → Known stream.local stream.bytes → (o : Option ℕ) → KnownInputs (taken_of_len is_lent stream now t o)
+  len-inputs is_lent stream now t is None = no-inputs
+  len-inputs is_lent stream now t is (Some len) = one-input _ stream refl is
 
-  frame-turns : (is_lent : Bool) (stream : Stream) (now : ℕ) (t : State) → Known stream.local stream.bytes → KnownTurns (frame_taken is_lent stream now t)
-  frame-turns is_lent stream now t is =
-      elim (begins_no_frame stream.bytes) as (λ b. KnownTurns (cond b [] (taken_of_len is_lent stream now t (frame_len stream.bytes)))) [
-        | true ↦ no-turns
-        | false ↦ len-turns is_lent stream now t is (frame_len stream.bytes)
+  frame-inputs : (is_lent : Bool) (stream : Stream) (now : ℕ) (t : State) → Known stream.local stream.bytes → KnownInputs (frame_taken is_lent stream now t)
+  frame-inputs is_lent stream now t is =
+      elim (begins_no_frame stream.bytes) as (λ b. KnownInputs (cond b [] (taken_of_len is_lent stream now t (frame_len stream.bytes)))) [
+        | true ↦ no-inputs
+        | false ↦ len-inputs is_lent stream now t is (frame_len stream.bytes)
       ]
 
-  mode-turns : (m : Mode) (is_lent : Bool) (stream : Stream) (now : ℕ) (t : State) → Known stream.local stream.bytes → KnownTurns (taken_in is_lent (record stream { mode = m }) now t)
-  mode-turns (Bound peer) is_lent stream now t is = one-turn _ (record stream { mode = Bound peer }) refl is
-  mode-turns Broken is_lent stream now t is = no-turns
-  mode-turns m is_lent stream now t is = frame-turns is_lent (record stream { mode = m }) now t is
+  mode-inputs : (m : Mode) (is_lent : Bool) (stream : Stream) (now : ℕ) (t : State) → Known stream.local stream.bytes → KnownInputs (taken_in is_lent (record stream { mode = m }) now t)
+  mode-inputs (Bound peer) is_lent stream now t is = one-input _ (record stream { mode = Bound peer }) refl is
+  mode-inputs Broken is_lent stream now t is = no-inputs
+  mode-inputs m is_lent stream now t is = frame-inputs is_lent (record stream { mode = m }) now t is
 
-  taken-turns : (is_lent : Bool) (stream : Stream) (now : ℕ) (s : State) → Known stream.local stream.bytes → KnownTurns (stream_inputs_taken is_lent stream now s)
-  taken-turns is_lent stream now s is = mode-turns stream.mode is_lent stream now (with_bytes stream.local [] s) is
+  taken-inputs : (is_lent : Bool) (stream : Stream) (now : ℕ) (s : State) → Known stream.local stream.bytes → KnownInputs (stream_inputs_taken is_lent stream now s)
+  taken-inputs is_lent stream now s is = mode-inputs stream.mode is_lent stream now (with_bytes stream.local [] s) is
 
   -- what the call processes is known, and so is what its streams hold after it
   abbrev pub Goes : List Input → State → Type 0
-  Goes turns t = KnownTurns turns × AllKnown t.streams
+  Goes inputs t = KnownInputs inputs × AllKnown t.streams
 
   go_on-known : (next : State → Option Payload × State) (later : State → List Input) (front : List Input) (p : Outcome × State) → Goes front p.1
       → ((t : State) → AllKnown t.streams → Goes (later t) (next t).1)
       → Goes (front ++ unless_given (payload_in p.0) (later p.1)) (go_on next p).1
-  go_on-known next later front (PeerData payload, t) first more = (joined-turns front [] first.0 no-turns, first.1)
-  go_on-known next later front (_, t) first more = let rest = more t first.1 in (joined-turns front (later t) first.0 rest.0, rest.1)
+  go_on-known next later front (PeerData payload, t) first more = (joined-inputs front [] first.0 no-inputs, first.1)
+  go_on-known next later front (_, t) first more = let rest = more t first.1 in (joined-inputs front (later t) first.0 rest.0, rest.1)
 
-  turns-known : (n now : ℕ) (s : State) → AllKnown s.streams → Goes (inputs_taken n now s) (steps_until_payload n now s).1
+  steps-known : (n now : ℕ) (s : State) → AllKnown s.streams → Goes (inputs_taken n now s) (steps_until_payload n now s).1
   unfolding inputs_taken steps_until_payload
-  turns-known zero now s all = (no-turns, all)
-  turns-known (suc n) now s all = by (find is_ready s.streams) refl (λ t known. turns-known n now t known)
+  steps-known zero now s all = (no-inputs, all)
+  steps-known (suc n) now s all = by (find is_ready s.streams) refl (λ t known. steps-known n now t known)
     where
       by : (o : Option Stream) → find is_ready s.streams ≡ o → ((t : State) → AllKnown t.streams → Goes (inputs_taken n now t) (steps_until_payload n now t).1)
           → Goes (taken_first (inputs_taken n now) now s o) (first_ready_step (steps_until_payload n now) now s o).1
-      by None e more = (no-turns, all)
+      by None e more = (no-inputs, all)
       by (Some stream) e more =
           let is = all stream (has-found is_ready stream s.streams e).0 in
           go_on-known (steps_until_payload n now) (inputs_taken n now) (stream_inputs_taken false stream now s) (next_frame_step stream now s)
-          (taken-turns false stream now s is, turn-known stream now s is (all-others stream.local s.streams all)) more
+          (taken-inputs false stream now s is, step-known stream now s is (all-others stream.local s.streams all)) more
 
   pub poll-known : (now : ℕ) (s : State) → AllKnown s.streams → Goes (poll_recv_inputs now s) (poll_recv_step now s).1
-  poll-known now s all = turns-known (max_steps s) now s all
+  poll-known now s all = steps-known (max_steps s) now s all
 
   -- ---- a piece
 
   then-known : (now : ℕ) (front : List Input) (p : Outcome × State) → Goes front p.1 → Goes (front ++ then_taken now p) (then_all now p).1
-  then-known now front (Handled, t) first = let rest = poll-known now t first.1 in (joined-turns front (poll_recv_inputs now t) first.0 rest.0, rest.1)
-  then-known now front (Ignored, t) first = let rest = poll-known now t first.1 in (joined-turns front (poll_recv_inputs now t) first.0 rest.0, rest.1)
-  then-known now front (_, t) first = (joined-turns front [] first.0 no-turns, first.1)
+  then-known now front (Handled, t) first = let rest = poll-known now t first.1 in (joined-inputs front (poll_recv_inputs now t) first.0 rest.0, rest.1)
+  then-known now front (Ignored, t) first = let rest = poll-known now t first.1 in (joined-inputs front (poll_recv_inputs now t) first.0 rest.0, rest.1)
+  then-known now front (_, t) first = (joined-inputs front [] first.0 no-inputs, first.1)
 
   fed-known : (stream : Stream) (piece : List ℕ) (now : ℕ) (s : State) → Known stream.local (stream.bytes ++ piece) → OthersKnown stream.local s.streams
       → Goes (fed_taken stream piece now s) (first_frame_step stream piece now s).1
-  fed-known stream piece now s is others = (taken-turns (is_front stream.bytes) (stream_with_piece stream piece) now s is, turn-known (stream_with_piece stream piece) now s is others)
+  fed-known stream piece now s is others = (taken-inputs (is_front stream.bytes) (stream_with_piece stream piece) now s is, step-known (stream_with_piece stream piece) now s is others)
 
-  broken-turns : (b : Bool) (now : ℕ) (s : State) → AllKnown s.streams → Goes (cond b (poll_recv_inputs now s) []) (cond {A = Outcome × State} b (then_all now (Handled, s)) (Handled, s)).1
-  broken-turns true now s all = then-known now [] (Handled, s) (no-turns, all)
-  broken-turns false now s all = (no-turns, all)
+  broken-steps : (b : Bool) (now : ℕ) (s : State) → AllKnown s.streams → Goes (cond b (poll_recv_inputs now s) []) (cond {A = Outcome × State} b (then_all now (Handled, s)) (Handled, s)).1
+  broken-steps true now s all = then-known now [] (Handled, s) (no-inputs, all)
+  broken-steps false now s all = (no-inputs, all)
 
   -- a broken stream stores nothing
   piece-known : (m : Mode) (stream : Stream) (piece : List ℕ) (now : ℕ) (s : State) → (m ≡ Broken → AllKnown s.streams) → Known stream.local (stream.bytes ++ unless_broken m piece)
@@ -184,8 +184,8 @@ module _ (Known : SocketAddr → List ℕ → Type 0) (none : (a : SocketAddr) �
   piece-known Waiting stream piece now s broken is others = fed-known (record stream { mode = Waiting }) piece now s is others
   piece-known (Bound peer) stream piece now s broken is others =
       let u = record stream { mode = Bound peer } in
-      (taken-turns (is_front stream.bytes) (stream_with_piece u piece) now s is, bytes-known stream.local [] s (none stream.local) others)
-  piece-known Broken stream piece now s broken is others = broken-turns (same_address stream.local s.local) now s (broken refl)
+      (taken-inputs (is_front stream.bytes) (stream_with_piece u piece) now s is, bytes-known stream.local [] s (none stream.local) others)
+  piece-known Broken stream piece now s broken is others = broken-steps (same_address stream.local s.local) now s (broken refl)
 
   gone-streams : (a : SocketAddr) (s : State) → (connection_gone a s).streams ≡ s.streams
   gone-streams a s = on_test (λ t. t.streams ≡ s.streams) (is_some (connection_at a s)) _ s refl refl
@@ -197,7 +197,7 @@ module _ (Known : SocketAddr → List ℕ → Type 0) (none : (a : SocketAddr) �
   pub stream-known : (stream : Stream) (piece : List ℕ) (now : ℕ) (s : State) → (piece ≡ [] → AllKnown s.streams) → (stream.mode ≡ Broken → AllKnown s.streams)
       → Known stream.local (stream.bytes ++ unless_broken stream.mode piece) → OthersKnown stream.local s.streams
       → Goes (stream_inputs stream piece now s) (stream_step stream piece now s).1
-  stream-known stream [] now s empty broken is others = (no-turns, end-known stream.local s (empty refl))
+  stream-known stream [] now s empty broken is others = (no-inputs, end-known stream.local s (empty refl))
   stream-known stream (b ∷ bs) now s empty broken is others = piece-known stream.mode stream (b ∷ bs) now s broken is others
 
   -- a data connection is opened

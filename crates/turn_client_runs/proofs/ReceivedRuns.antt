@@ -44,7 +44,7 @@ abbrev Held : (SocketAddr → List ℕ) → List Stream → Type 0
 Held all xs = AllKnown (Ends all) (nothing-ends all) (less-ends all) xs
 
 abbrev Steps : (SocketAddr → List ℕ) → List Input → State → Type 0
-Steps all turns t = Goes (Ends all) (nothing-ends all) (less-ends all) turns t
+Steps all inputs t = Goes (Ends all) (nothing-ends all) (less-ends all) inputs t
 
 -- ---- a call
 
@@ -195,9 +195,9 @@ pieces-then a (x ∷ calls) call s =
 abbrev pub HoldNothing : State → Type 0
 HoldNothing s = (x : Stream) → Has x s.streams → x.bytes ≡ []
 
-pub turns-received : (earlier : List Call) (call : Call) (first : State) → HoldNothing first → (one : Input) → Has one (handled call (state_after_all first earlier))
+pub inputs-received : (earlier : List Call) (call : Call) (first : State) → HoldNothing first → (one : Input) → Has one (handled call (state_after_all first earlier))
     → HasArrived (earlier ++ call ∷ []) first one
-turns-received earlier call first empty one there = by one.stream refl
+inputs-received earlier call first empty one there = by one.stream refl
   where
     s : State
     s = state_after_all first earlier

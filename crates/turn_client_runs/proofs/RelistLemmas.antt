@@ -233,8 +233,8 @@ datagram-relists bytes now s =
     by_test (Relists bytes now s) (is_message bytes) (message_step bytes now s) _ (message-relists bytes now s)
     (by_test (Relists bytes now s) (is_channel_frame bytes) (channel_sent s bytes, s) (Ignored, s) (same bytes now s s refl) (same bytes now s s refl))
 
-pub turn-relists : (one : Input) → Relists one.bytes one.time one.before (processed one).1
-turn-relists one = elim one.stream as (λ o. Relists one.bytes one.time one.before (processed (record one { stream = o })).1) [
+pub input-relists : (one : Input) → Relists one.bytes one.time one.before (processed one).1
+input-relists one = elim one.stream as (λ o. Relists one.bytes one.time one.before (processed (record one { stream = o })).1) [
   | None ↦ datagram-relists one.bytes one.time one.before
   | Some stream ↦ frame_in_mode stream.mode stream one.bytes one.time one.before
 ]

@@ -16,11 +16,11 @@ use Rattle.turn_client_api.specs.declared.call.Call.{Call}
 use Rattle.turn_client_laws.proofs.AcceptedReplyLemmas.{accepted-gone, accepted-outstanding, bind-ended, bind-outstanding}
 use Rattle.turn_client_laws.proofs.BoundLemmas.{found-local}
 use Rattle.turn_client_laws.proofs.NewIdCallLemmas.{draws-IsBringing, leaves-draws}
-use Rattle.turn_client_laws.proofs.TurnBringLemmas.{IsBrought, lead-brings}
-use Rattle.turn_client_laws.proofs.TurnLemmas.{brought}
+use Rattle.turn_client_laws.proofs.InputBringLemmas.{IsBrought, lead-brings}
+use Rattle.turn_client_laws.proofs.InputLemmas.{brought}
 use Rattle.turn_client_runs.specs.Replies.{AreReplies, EndsItsRequest, IsBindReply, IsMadeAmong, IsMadeBetween, IsMadeIn, IsMadeSince, IsMadeUntil, IsReplyInput, InputMakesRequest}
 use Rattle.turn_client_runs.proofs.MadeLemmas.{control-made, waiting-made}
-use Rattle.turn_client_runs.proofs.TurnsOfRuns.{handled-leads, has-among, leads-from, leads-to}
+use Rattle.turn_client_runs.proofs.InputsOfRuns.{handled-leads, has-among, leads-from, leads-to}
 
 -- ---- one input
 
@@ -91,10 +91,10 @@ module _ (id : ℕ) where
   Draws one = (is_message one.bytes ≡ true) × (id ≡ fresh_id one.before)
 
   -- so do the inputs of a call
-  lead-makes : (turns : List Input) (s t : State) → InputsLead turns s t → is_out t ≡ true → (is_out s ≡ true) ⊎ IsMadeAmong id turns
-  lead-makes turns s t lead h = elim (lead-brings (λ u. is_out u ≡ true) (Anew is_out Draws drawing) (bringing-anew is_out Draws drawing) turns s t lead h) [
+  lead-makes : (inputs : List Input) (s t : State) → InputsLead inputs s t → is_out t ≡ true → (is_out s ≡ true) ⊎ IsMadeAmong id inputs
+  lead-makes inputs s t lead h = elim (lead-brings (λ u. is_out u ≡ true) (Anew is_out Draws drawing) (bringing-anew is_out Draws drawing) inputs s t lead h) [
     | inl was ↦ inl was
-    | inr (one, there, did) ↦ inr (has-among (InputMakesRequest id) turns (one, there, makes one did))
+    | inr (one, there, did) ↦ inr (has-among (InputMakesRequest id) inputs (one, there, makes one did))
   ]
     where
       drawing : IsBrought (λ u. is_out u ≡ true) Draws

@@ -10,7 +10,7 @@ use Rattle.turn_client_api.specs.Payloads.{Payload}
 use Rattle.turn_client_api.specs.Streams.{max_steps, poll_recv_step}
 use Rattle.turn_client_api.specs.Receive.{recv_step}
 use Rattle.turn_client_api.specs.Steps.{state_after, state_after_all}
-use Rattle.turn_client_laws.proofs.StreamFewerLemmas.{IsLessThan, turns-less}
+use Rattle.turn_client_laws.proofs.StreamFewerLemmas.{IsLessThan, steps-less}
 use Rattle.turn_client_laws.proofs.StreamWeightLemmas.{weight, weight-le}
 use Rattle.turn_client_runs.specs.Cut.{AreNonempty, ArePieces, ArePolls, IsQuiet, IsSameInRuns, and_then, fed_pieces, outcome_payloads, given_in, given_in_run, joined, polled_until_none}
 use Rattle.turn_client_runs.proofs.PiecesLemmas.{any-cut}
@@ -27,7 +27,7 @@ polls-same [] n now s none some = absurd none
 polls-same (call ∷ calls) zero now s is some = absurd (omega (arith, some))
 polls-same (call ∷ calls) (suc n) now s (e, ends) some =
     subst (λ (c : Call). run_from s (c ∷ calls) ≡ and_then (polled_until_none n now) (poll_recv_step now s)) (sym e)
-    (by (poll_recv_step now s) ends (turns-less (max_steps s) now s) (λ t is less. polls-same calls n now t is less))
+    (by (poll_recv_step now s) ends (steps-less (max_steps s) now s) (λ t is less. polls-same calls n now t is less))
   where
     Later : Type 0
     Later = (t : State) → ArePolls now calls t → weight t.streams < n → run_from t calls ≡ polled_until_none n now t

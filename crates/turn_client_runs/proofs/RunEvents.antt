@@ -24,12 +24,12 @@ use Rattle.turn_client_laws.specs.LawsGranted.{IsActiveGrant}
 use Rattle.turn_client_laws.specs.LawsHandled.{IsDoneBy}
 use Rattle.turn_client_api.proofs.HasLemmas.{Has, first-has}
 use Rattle.turn_client_laws.proofs.StandLemmas.{contains-has, has-contains}
-use Rattle.turn_client_laws.proofs.TurnBringLemmas.{leaves-bring}
+use Rattle.turn_client_laws.proofs.InputBringLemmas.{leaves-bring}
 use Rattle.turn_client_runs.specs.Events.{Creates, EventsHaveCauses, FailsBy, FailsItself, HasEventCause, IsRefusedIn, Refuses, Reports, Waits, relayed_over}
 use Rattle.turn_client_runs.proofs.AskedPeers.{HasAskedConnections, HasAskedPeers}
 use Rattle.turn_client_runs.proofs.EventCalls.{call-adds}
 use Rattle.turn_client_runs.proofs.EventInputs.{Causing, Creating, IsRefusedAt, Refusing, event-brought}
-use Rattle.turn_client_runs.proofs.GrantTurns.{Granting, IsGivenAt}
+use Rattle.turn_client_runs.proofs.GrantInputs.{Granting, IsGivenAt}
 use Rattle.turn_client_runs.proofs.ReceivedRuns.{HoldNothing}
 use Rattle.turn_client_runs.proofs.RunGrants.{AnswersFor, IsDoneFor, Keeps, answered-in, call-keeps, first-hold, first-keeps, granting, granting-answers, keeps-peers, keeps-signed}
 use Rattle.turn_client_runs.proofs.RunLemmas.{IsDoneLast, run-did}

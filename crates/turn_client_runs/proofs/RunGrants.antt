@@ -35,14 +35,14 @@ use Rattle.turn_client_laws.proofs.ListedGrants.{initial-HasGrantsAsked, leaves-
 use Rattle.turn_client_laws.proofs.SendOrderLemmas.{initial-steady, leaves-steadies}
 use Rattle.turn_client_laws.proofs.StandLemmas.{contains-has, covers-has, covers-stood, has-contains}
 use Rattle.turn_client_runs.specs.Granted.{GrantsAddress, HasReply, IsAllocated, IsAnsweredIn, IsDeletedBy, IsGivenIn, IsGranted, IsGranting, IsRelayed, HoldsThrough}
-use Rattle.turn_client_runs.proofs.AddressTurns.{call-allocated}
-use Rattle.turn_client_runs.proofs.AskedFamilies.{asks-family, turns-signed}
+use Rattle.turn_client_runs.proofs.AddressInputs.{call-allocated}
+use Rattle.turn_client_runs.proofs.AskedFamilies.{asks-family, inputs-signed}
 use Rattle.turn_client_runs.proofs.AskedLemmas.{was-asked}
-use Rattle.turn_client_runs.proofs.AskedPeers.{HasAskedConnections, HasAskedPeers, turns-ask-connections, turns-ask-peers}
+use Rattle.turn_client_runs.proofs.AskedPeers.{HasAskedConnections, HasAskedPeers, inputs-ask-connections, inputs-ask-peers}
 use Rattle.turn_client_runs.proofs.CallGrants.{IsEndedBy, call-causes, delete-accepted, same-allocation}
-use Rattle.turn_client_runs.proofs.ComingLemmas.{turns-come}
-use Rattle.turn_client_runs.proofs.GrantTurns.{Granting, IsConnectionTo, IsGivenAt}
-use Rattle.turn_client_runs.proofs.ReceivedRuns.{HoldNothing, turns-received}
+use Rattle.turn_client_runs.proofs.ComingLemmas.{inputs-come}
+use Rattle.turn_client_runs.proofs.GrantInputs.{Granting, IsConnectionTo, IsGivenAt}
+use Rattle.turn_client_runs.proofs.ReceivedRuns.{HoldNothing, inputs-received}
 use Rattle.turn_client_runs.proofs.RunLemmas.{IsDoneLast, run-did}
 use Rattle.turn_client_runs.proofs.SignedCalls.{call-signs}
 use Rattle.turn_client_runs.proofs.SignedLemmas.{Signs, for-allocation}
@@ -112,12 +112,12 @@ call-keeps call s (asked, distinct, single, order, steady, signs) = (
 -- the requests have their peers when an input is processed
 pub keeps-peers : (call : Call) (s : State) → Keeps s → (one : Input) → Contains (handled call s) one → HasAskedPeers one × HasAskedConnections one
 keeps-peers call s (asked, distinct, single, order, steady, signs) one among = (
-  turns-ask-peers call s asked distinct one among,
-  turns-ask-connections call s asked steady single one among,
+  inputs-ask-peers call s asked distinct one among,
+  inputs-ask-connections call s asked steady single one among,
 )
 
 pub keeps-signed : (call : Call) (s : State) → Keeps s → (one : Input) → Contains (handled call s) one → AllocatesInOrder one.before × Signs one.before
-keeps-signed call s (asked, distinct, single, order, steady, signs) one among = turns-signed call s (order, signs) one among
+keeps-signed call s (asked, distinct, single, order, steady, signs) one among = inputs-signed call s (order, signs) one among
 
 -- an input of the call answered a request for a purpose, and did this for it
 abbrev pub IsDoneFor : (Purpose → Input → Type 0) → Call → State → Type 0
@@ -203,8 +203,8 @@ module _ (first : State) (unlisted : first.listed ≡ []) (hold : HoldNothing fi
         input = one;
         back = back;
         cut = e;
-        comes = turns-come is.call (state_after_all first is.earlier) one here;
-        received = turns-received is.earlier is.call first hold one here;
+        comes = inputs-come is.call (state_after_all first is.earlier) one here;
+        received = inputs-received is.earlier is.call first hold one here;
         purpose = p;
         did = did;
         asked = was-asked is.earlier is.call is.later first unlisted front one back e p (answers p one did).1 (answers p one did).0;
@@ -224,9 +224,9 @@ module _ (first : State) (empty : first.grants ≡ []) (unlisted : first.listed 
   run-caused g stands calls h = run-did (λ s. WasActive s g) (Causes g) Keeps call-keeps (call-grants g stands) calls first keeps (λ was. nothing was.0 was.1) h
 
   -- the last cause was an input, or a `delete`
-  run-turned : (g : Grant) (calls : List Call) (is : IsDoneLast (Causes g) (λ s. WasActive s g) calls first) → IsDoneFor (IsGranting g) is.call (state_after_all first is.earlier)
+  run-granting : (g : Grant) (calls : List Call) (is : IsDoneLast (Causes g) (λ s. WasActive s g) calls first) → IsDoneFor (IsGranting g) is.call (state_after_all first is.earlier)
       → IsGranted g calls first
-  run-turned g calls is done =
+  run-granting g calls is done =
       answered-in first unlisted hold calls (IsGranting g) (granting-answers g) (λ s. WasActive s g)
       (record { earlier = is.earlier; call = is.call; later = is.later; split = is.split; did = done; holds = is.holds })
 
@@ -249,18 +249,18 @@ module _ (first : State) (empty : first.grants ≡ []) (unlisted : first.listed 
   run-grants calls g stands there = by g there (run-caused g stands calls (covers-stood (state_after_all first calls) g
       (covers-has (state_after_all first calls).grants g (contains-has g (state_after_all first calls).grants there) stands)))
     where
-      turned : (h : Grant) (is : IsDoneLast (Causes h) (λ s. WasActive s h) calls first) → ((a : Relay) → h ≡ Allocation a → ⊥) → IsGranted h calls first
-      turned h is other = elim is.did [
+      granted_by : (h : Grant) (is : IsDoneLast (Causes h) (λ s. WasActive s h) calls first) → ((a : Relay) → h ≡ Allocation a → ⊥) → IsGranted h calls first
+      granted_by h is other = elim is.did [
         | inl (ended, accepted) ↦ absurd (other ended.0 ended.2)
-        | inr done ↦ run-turned h calls is done
+        | inr done ↦ run-granting h calls is done
       ]
 
       by : (h : Grant) → Contains (state_after_all first calls).grants h → IsDoneLast (Causes h) (λ s. WasActive s h) calls first → HasReply h calls first
       by (Allocation a) there is = (
-        elim is.did [ inl end ↦ inr (run-gave a calls is end) | inr done ↦ inl (run-turned (Allocation a) calls is done) ],
+        elim is.did [ inl end ↦ inr (run-gave a calls is end) | inr done ↦ inl (run-granting (Allocation a) calls is done) ],
         run-allocates a.relayed calls (a, there, refl),
       )
-      by h there is = turned h is (λ a e. cc)
+      by h there is = granted_by h is (λ a e. cc)
 
 pub first-hold : (transport : TransportType) (local remote : SocketAddr) (config : Config) (seed : List ℕ) → HoldNothing (initial transport local remote config seed)
 first-hold Udp local remote config seed x absent = absurd absent

@@ -50,7 +50,7 @@ use Rattle.turn_client_laws.proofs.CaseLemmas.{answer-by, by_found, by_test}
 use Rattle.turn_client_api.proofs.HasLemmas.{Has, first-has, has-filter_map, has-flat_map}
 use Rattle.turn_client_laws.proofs.AfterExpiryLemmas.{expired_at-shrinks}
 use Rattle.turn_client_laws.proofs.MoveLemmas.{Adds, adds-one, adds-same}
-use Rattle.turn_client_laws.proofs.MoveTurnLemmas.{listings-made}
+use Rattle.turn_client_laws.proofs.MoveInputLemmas.{listings-made}
 use Rattle.turn_client_laws.proofs.StandLemmas.{contains-has, has-contains}
 use Rattle.turn_client_runs.specs.Sent.{IsNoBind}
 use Rattle.turn_client_runs.proofs.SentQueues.{GoesOut, Queues, queues-one, queues-same}

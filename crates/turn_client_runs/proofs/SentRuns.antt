@@ -49,7 +49,7 @@ use Rattle.turn_client_laws.proofs.Edits.{KeepsAllEdits}
 use Rattle.turn_client_laws.proofs.EditsOfCalls.{calls-walk}
 use Rattle.turn_client_laws.proofs.EditsOfMessages.{edits-IsKept, purposes-listed}
 use Rattle.turn_client_api.proofs.HasLemmas.{Has, first-has, has-all, has-filter_map, has-found}
-use Rattle.turn_client_laws.proofs.MoveMessageLemmas.{bind-turns, message-turns}
+use Rattle.turn_client_laws.proofs.MoveMessageLemmas.{bind-moves, message-moves}
 use Rattle.turn_client_laws.proofs.MoveLemmas.{on_test}
 use Rattle.turn_client_laws.proofs.MoveSocketLemmas.{gone-settles}
 use Rattle.turn_client_laws.proofs.PhaseEdits.{all-phase-edits}
@@ -133,12 +133,12 @@ module _ (Opened : SocketAddr → SocketAddr → ℕ → Type 0) (first : State)
     trans = λ s t u before after well. after (before well);
     streams = λ s streams well. record { stays = well.stays; queue = well.queue; binds = well.binds };
     message = λ message now s well. goes-on (IsListedBind s) s (message_step message now s).1 well (stays-kept.message message now s) (message-queues message now s) (was-opened s well)
-        (λ l there local peer id is. elim ((message-turns message now s).1 l there) [
+        (λ l there local peer id is. elim ((message-moves message now s).1 l there) [
           | inl old ↦ well.binds l old local peer id is
           | inr (purpose, answers, also, made) ↦ answers-opened message s well l also local peer id is
         ]);
     binds = λ at message now s well. goes-on (IsListedBind s) s (bind_step at message now s) well (stays-kept.binds at message now s) (bind-queues message now s at) (was-opened s well)
-        (λ l there local peer id is. elim ((bind-turns at message now s).1 l there) [
+        (λ l there local peer id is. elim ((bind-moves at message now s).1 l there) [
           | inl old ↦ well.binds l old local peer id is
           | inr (purpose, answers, also, made) ↦ answers-opened message s well l also local peer id is
         ]);

@@ -28,7 +28,7 @@ use Rattle.turn_client_laws.proofs.PhaseEdits.{phase-edits}
 use Rattle.turn_client_laws.proofs.EditsOfCalls.{IsQuiet, quiet-walk}
 use Rattle.turn_client_laws.proofs.EditsOfReplies.{and-false}
 use Rattle.turn_client_api.proofs.HasLemmas.{Has}
-use Rattle.turn_client_laws.proofs.MoveTurnLemmas.{requests-made}
+use Rattle.turn_client_laws.proofs.MoveInputLemmas.{requests-made}
 use Rattle.turn_client_laws.proofs.PhasesGoOn.{call-keeps}
 use Rattle.turn_client_laws.proofs.RunKeepLemmas.{poll_recv-kept, recv-kept}
 use Rattle.turn_client_laws.proofs.SendOrderLemmas.{leaves-steadies}

@@ -31,7 +31,7 @@ use Rattle.turn_client_laws.proofs.EditsOfMessages.{edits-IsKept, purposes-liste
 use Rattle.turn_client_api.proofs.HasLemmas.{Has, has-append, has-filter}
 use Rattle.turn_client_laws.proofs.InAllocationLemmas.{any-has, not-both}
 use Rattle.turn_client_laws.proofs.MoveLemmas.{on_test}
-use Rattle.turn_client_laws.proofs.MoveMessageLemmas.{message-turns}
+use Rattle.turn_client_laws.proofs.MoveMessageLemmas.{message-moves}
 use Rattle.turn_client_laws.proofs.PhasesGoOn.{Keeps, bind-keeps, message-keeps}
 use Rattle.turn_client_laws.proofs.RunKeepLemmas.{IsKept}
 use Rattle.turn_client_laws.proofs.StandLemmas.{contains-has, has-contains}
@@ -160,7 +160,7 @@ module _ (message : List ℕ) (now : ℕ) (s : State) (order : AllocatesInOrder 
   authenticating-signs e =
       let t = after message now s in
       later-signs s t e h (message-keeps message now s) (message-configured message now s)
-      (λ x there phase held signed. elim ((message-turns message now s).0 x there) [
+      (λ x there phase held signed. elim ((message-moves message now s).0 x there) [
         | inl old ↦ signed x old
         | inr (purpose, answers, made) ↦
             let is = for-allocation (id_of message) s purpose order (rw e tt) (contains-has purpose (purposes_of (id_of message) s) answers) in

@@ -61,12 +61,12 @@ module _ (P : State → Type 0) (Fine : Input → Type 0) (k : KeepsStreams P Fi
 
   -- ---- the step of a stream
 
-  turned_in_mode : (m : Mode) (l : Bool) (stream : Stream) (now : ℕ) (s : State) → IsThere (record stream { mode = m }) s → P s
+  detached_in_mode : (m : Mode) (l : Bool) (stream : Stream) (now : ℕ) (s : State) → IsThere (record stream { mode = m }) s → P s
       → Goes (taken_in l (record stream { mode = m }) now (with_bytes stream.local [] s)) (detached_frame_step (record stream { mode = m }) now (with_bytes stream.local [] s)).1
-  turned_in_mode (Bound peer) l stream now s there h =
+  detached_in_mode (Bound peer) l stream now s there h =
       (k.bytes stream.local [] s h, one-fine _ (k.frame l (record stream { mode = Bound peer }) stream.bytes now s there h))
-  turned_in_mode Broken l stream now s there h = (k.bytes stream.local [] s h, none-fine)
-  turned_in_mode m l stream now s there h = by (begins_no_frame stream.bytes) (frame_len stream.bytes)
+  detached_in_mode Broken l stream now s there h = (k.bytes stream.local [] s h, none-fine)
+  detached_in_mode m l stream now s there h = by (begins_no_frame stream.bytes) (frame_len stream.bytes)
     where
       u : Stream
       u = record stream { mode = m }
@@ -82,8 +82,8 @@ module _ (P : State → Type 0) (Fine : Input → Type 0) (k : KeepsStreams P Fi
           let fine = k.frame l u (take len stream.bytes) now s there h in
           (k.bytes stream.local (drop len stream.bytes) (processed one).1 (k.input one fine (k.bytes stream.local [] s h)), one-fine one fine)
 
-  turn-goes : (l : Bool) (stream : Stream) (now : ℕ) (s : State) → IsThere stream s → P s → Goes (stream_inputs_taken l stream now s) (next_frame_step stream now s).1
-  turn-goes l stream now s there h = turned_in_mode stream.mode l stream now s there h
+  step-goes : (l : Bool) (stream : Stream) (now : ℕ) (s : State) → IsThere stream s → P s → Goes (stream_inputs_taken l stream now s) (next_frame_step stream now s).1
+  step-goes l stream now s there h = detached_in_mode stream.mode l stream now s there h
 
   -- ---- all streams
 
@@ -92,20 +92,20 @@ module _ (P : State → Type 0) (Fine : Input → Type 0) (k : KeepsStreams P Fi
   go_on-goes next later front (PeerData payload, t) first more = (first.0, append-fine front [] first.1 none-fine)
   go_on-goes next later front (_, t) first more = let second = more t first.0 in (second.0, append-fine front (later t) first.1 second.1)
 
-  turns-go : (n now : ℕ) (s : State) → P s → Goes (inputs_taken n now s) (steps_until_payload n now s).1
+  steps-go : (n now : ℕ) (s : State) → P s → Goes (inputs_taken n now s) (steps_until_payload n now s).1
   unfolding steps_until_payload inputs_taken
-  turns-go zero now s h = (h, none-fine)
-  turns-go (suc n) now s h = by (find is_ready s.streams) refl (λ t. turns-go n now t)
+  steps-go zero now s h = (h, none-fine)
+  steps-go (suc n) now s h = by (find is_ready s.streams) refl (λ t. steps-go n now t)
     where
       by : (o : Option Stream) → find is_ready s.streams ≡ o → ((t : State) → P t → Goes (inputs_taken n now t) (steps_until_payload n now t).1)
           → Goes (taken_first (inputs_taken n now) now s o) (first_ready_step (steps_until_payload n now) now s o).1
       by None e more = (h, none-fine)
       by (Some stream) e more =
           go_on-goes (steps_until_payload n now) (inputs_taken n now) (stream_inputs_taken false stream now s) (next_frame_step stream now s)
-          (turn-goes false stream now s (found-there is_ready stream s e) h) more
+          (step-goes false stream now s (found-there is_ready stream s e) h) more
 
   poll_recv-goes : (now : ℕ) (s : State) → P s → Goes (poll_recv_inputs now s) (poll_recv_step now s).1
-  poll_recv-goes now s h = turns-go (max_steps s) now s h
+  poll_recv-goes now s h = steps-go (max_steps s) now s h
 
   -- ---- a piece of a stream
 
@@ -115,7 +115,7 @@ module _ (P : State → Type 0) (Fine : Input → Type 0) (k : KeepsStreams P Fi
   then_all-goes now front (_, t) first = (first.0, append-fine front [] first.1 none-fine)
 
   fed-goes : (stream : Stream) (piece : List ℕ) (now : ℕ) (s : State) → IsThere stream s → P s → Goes (fed_taken stream piece now s) (first_frame_step stream piece now s).1
-  fed-goes stream piece now s there h = turn-goes (is_front stream.bytes) (stream_with_piece stream piece) now s there h
+  fed-goes stream piece now s there h = step-goes (is_front stream.bytes) (stream_with_piece stream piece) now s there h
 
   piece_in_mode : (m : Mode) (stream : Stream) (piece : List ℕ) (now : ℕ) (s : State) → IsThere (record stream { mode = m }) s → P s
       → Goes (piece_inputs (record stream { mode = m }) piece now s) (piece_step (record stream { mode = m }) piece now s).1

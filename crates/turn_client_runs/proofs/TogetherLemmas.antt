@@ -21,12 +21,12 @@ use Rattle.turn_client_api.specs.Steps.{state_after}
 use Rattle.turn_client_laws.proofs.Edits.{listing}
 use Rattle.turn_client_api.proofs.HasLemmas.{Has}
 use Rattle.turn_client_laws.proofs.InAllocationLemmas.{has-any}
-use Rattle.turn_client_laws.proofs.MoveMessageLemmas.{turn-turns}
+use Rattle.turn_client_laws.proofs.MoveMessageLemmas.{input-moves}
 use Rattle.turn_client_laws.proofs.MoveSocketLemmas.{gone-settles}
-use Rattle.turn_client_laws.proofs.MoveTurnLemmas.{listings-made}
+use Rattle.turn_client_laws.proofs.MoveInputLemmas.{listings-made}
 use Rattle.turn_client_laws.proofs.NewIdLemmas.{fresh-free}
 use Rattle.turn_client_laws.proofs.StandLemmas.{contains-has, has-contains}
-use Rattle.turn_client_laws.proofs.TurnChainLemmas.{calls-do}
+use Rattle.turn_client_laws.proofs.InputChainLemmas.{calls-do}
 use Rattle.turn_client_laws.proofs.TwoPurposes.{purpose-with}
 
 -- ---- purposes of one request
@@ -114,8 +114,8 @@ together-less s t less h l other here there e = h l other (less l here) (less ot
 -- ---- inputs
 
 -- a request is made again for what the old one is listed for
-turn-together : (one : Input) → AreTogether one.before → AreTogether (processed one).1
-turn-together one h = together-more Came one.before (processed one).1 with (λ l there. by l ((turn-turns one).1 l there)) h
+input-together : (one : Input) → AreTogether one.before → AreTogether (processed one).1
+input-together one h = together-more Came one.before (processed one).1 with (λ l there. by l ((input-moves one).1 l there)) h
   where
     Came : Listing → Type 0
     Came l = Has (listing (id_of one.bytes) l.purpose) one.before.listed
@@ -131,9 +131,9 @@ pub differs-together : (s t : State) → DiffersInStreams s t → AreTogether s 
 differs-together s t differs h = subst AreTogether (sym differs.others) h
 
 pub first-together : (one : Input) (later : List Input) (s : State) → DiffersInStreams s one.before → AreTogether s → AreTogether (processed one).1
-first-together one later s differs h = turn-together one (differs-together s one.before differs h)
+first-together one later s differs h = input-together one (differs-together s one.before differs h)
 
-lead-together : (turns : List Input) (s t : State) → InputsLead turns s t → AreTogether s → AreTogether t
+lead-together : (inputs : List Input) (s t : State) → InputsLead inputs s t → AreTogether s → AreTogether t
 lead-together [] s t lead h = differs-together s t lead h
 lead-together (one ∷ later) s t (first, lead) h = lead-together later (processed one).1 t lead (first-together one later s first h)
 

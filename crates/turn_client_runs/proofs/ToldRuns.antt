@@ -29,8 +29,8 @@ use Rattle.turn_client_laws.proofs.FixedFields.{fixed-all-edits}
 use Rattle.turn_client_api.proofs.HasLemmas.{Has, has-all}
 use Rattle.turn_client_laws.proofs.ListedGrants.{AllHaveGrant, StayFounded, StayFounded-KeepsAllEdits}
 use Rattle.turn_client_laws.proofs.StandLemmas.{has-contains}
-use Rattle.turn_client_laws.proofs.TurnChainLemmas.{calls-do}
-use Rattle.turn_client_laws.proofs.TurnKeepLemmas.{before-kept}
+use Rattle.turn_client_laws.proofs.InputChainLemmas.{calls-do}
+use Rattle.turn_client_laws.proofs.InputKeepLemmas.{before-kept}
 use Rattle.turn_client_runs.specs.Told.{CausesAreToldOnce, IsOfGrant, IsToldOncePerRequest, attempts_in, caused_by, due_of, in_calls, is_about, is_awaited_by, is_like, is_to_come, told_by}
 use Rattle.turn_client_runs.proofs.LastingCounts.{passes, passes-none}
 use Rattle.turn_client_runs.proofs.LoneCalls.{call-lone, input-lone}

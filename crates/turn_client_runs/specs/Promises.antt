@@ -48,8 +48,8 @@ BoundHaveSuccess first calls =
 
 -- Each input is processed in its call and at its time, and its bytes were received by the calls up to that
 -- one.
-abbrev pub TurnsCameIn : State → List Call → Type 0
-TurnsCameIn first calls =
+abbrev pub InputsCameIn : State → List Call → Type 0
+InputsCameIn first calls =
     (earlier : List Call) (call : Call) (later : List Call) (one : Input) → calls ≡ earlier ++ call ∷ later
     → Contains (handled call (state_after_all first earlier)) one → ComesIn call one × HasArrived (earlier ++ call ∷ []) first one
 
@@ -57,7 +57,7 @@ TurnsCameIn first calls =
 -- from had been received
 abbrev pub DeliversOnlyPermitted : State → List Call → Type 0
 DeliversOnlyPermitted first calls =
-    InEachPart (λ s middle. ReceivesOnlyPermitted s middle × IcmpIsOfPermitted s middle) first calls × TurnsCameIn first calls
+    InEachPart (λ s middle. ReceivesOnlyPermitted s middle × IcmpIsOfPermitted s middle) first calls × InputsCameIn first calls
 
 -- a reply is accepted once
 abbrev pub RepliesCountOnce : State → List Call → Type 0

@@ -14,8 +14,8 @@ use Rattle.turn_client_runs.specs.HandshakeRows.{allocation_packet}
 use Rattle.turn_client_runs.specs.LastingRows.{refreshed_grants}
 use Rattle.turn_client_runs.proofs.HandshakeRowLemmas as H
 use Rattle.turn_client_runs.proofs.LastingRowLemmas as L
-use Rattle.turn_driver.specs.DrivenRows.{Allocation, Challenge, IsDriven, Nothing, RelayIsDriven, Reply, Success, Turn, after_turn, bound, client_after, received, turns_of_handshake}
-use Rattle.turn_driver.specs.DrivenRows.{turns_until_700_s}
+use Rattle.turn_driver.specs.DrivenRows.{Allocation, Challenge, IsDriven, Nothing, RelayIsDriven, Reply, Success, DriveCall, after_drive, bound, client_after, received, drives_of_handshake}
+use Rattle.turn_driver.specs.DrivenRows.{drives_until_700_s}
 use Rattle.turn_driver.specs.Driver.{DriveState, begun, drive_steps, going}
 use Rattle.turn_driver.specs.Given.{Given, given_in}
 use Rattle.turn_driver.specs.declared.task.Rest.TheVariants.{Until}
@@ -33,68 +33,68 @@ begins : (reply : Reply) (now : ℕ) (packet : Transmit (List ℕ)) (s t : State
 begins reply now packet s t comes after = rw comes (ap (going (option_to_list (given_in packet (packet_step packet now s).0))) after)
 
 -- what is said of a client and the iterations that follow
-abbrev Goes : (State → Type 0) → State → List Turn → Type 0
-Goes P s turns = IsDriven s turns × P (client_after s turns)
+abbrev Goes : (State → Type 0) → State → List DriveCall → Type 0
+Goes P s drives = IsDriven s drives × P (client_after s drives)
 
-goes-quiet : (P : State → Type 0) (now deadline : ℕ) (s t : State) (later : List Turn) → Sleeps now deadline s t → Goes P t later
+goes-quiet : (P : State → Type 0) (now deadline : ℕ) (s t : State) (later : List DriveCall) → Sleeps now deadline s t → Goes P t later
     → Goes P s (record { now = now; reply = Nothing; deadline = deadline } ∷ later)
 goes-quiet P now deadline s t later sleeps goes =
     let rest = subst (λ (x : State). Goes P x later) (sym (sleeps.client [])) goes in
     ((sleeps.rest [], rest.0), rest.1)
 
-goes-told : (P : State → Type 0) (reply : Reply) (now deadline : ℕ) (packet : Transmit (List ℕ)) (s r t : State) (later : List Turn) → received reply s ≡ Some packet
+goes-told : (P : State → Type 0) (reply : Reply) (now deadline : ℕ) (packet : Transmit (List ℕ)) (s r t : State) (later : List DriveCall) → received reply s ≡ Some packet
     → state_after (Recv packet now) s ≡ r → Sleeps now deadline r t → Goes P t later → Goes P s (record { now = now; reply = reply; deadline = deadline } ∷ later)
 goes-told P reply now deadline packet s r t later comes after sleeps goes =
     let given = option_to_list (given_in packet (packet_step packet now s).0) in
     let one = begins reply now packet s r comes after in
-    let told : (after_turn (record { now = now; reply = reply; deadline = deadline }) s).rest ≡ Until deadline = ap (λ (d : DriveState). (drive_steps 8 now d).rest) one ∙ sleeps.rest given in
-    let left : (after_turn (record { now = now; reply = reply; deadline = deadline }) s).client ≡ t = ap (λ (d : DriveState). (drive_steps 8 now d).client) one ∙ sleeps.client given in
+    let told : (after_drive (record { now = now; reply = reply; deadline = deadline }) s).rest ≡ Until deadline = ap (λ (d : DriveState). (drive_steps 8 now d).rest) one ∙ sleeps.rest given in
+    let left : (after_drive (record { now = now; reply = reply; deadline = deadline }) s).client ≡ t = ap (λ (d : DriveState). (drive_steps 8 now d).client) one ∙ sleeps.client given in
     let rest = subst (λ (x : State). Goes P x later) (sym left) goes in
     ((told, rest.0), rest.1)
 
 -- ---- the iterations, from the last one
 
-abbrev turns-15 : List Turn
-turns-15 = []
+abbrev drives-15 : List DriveCall
+drives-15 = []
 
-abbrev turns-14 : List Turn
-turns-14 = record { now = seconds 700; reply = Nothing; deadline = 721_300_000_000 } ∷ turns-15
+abbrev drives-14 : List DriveCall
+drives-14 = record { now = seconds 700; reply = Nothing; deadline = 721_300_000_000 } ∷ drives-15
 
-abbrev turns-13 : List Turn
-turns-13 = record { now = 541_200_000_000; reply = Success; deadline = 721_300_000_000 } ∷ turns-14
+abbrev drives-13 : List DriveCall
+drives-13 = record { now = 541_200_000_000; reply = Success; deadline = 721_300_000_000 } ∷ drives-14
 
-abbrev turns-12 : List Turn
-turns-12 = record { now = 541_100_000_000; reply = Nothing; deadline = 541_600_000_000 } ∷ turns-13
+abbrev drives-12 : List DriveCall
+drives-12 = record { now = 541_100_000_000; reply = Nothing; deadline = 541_600_000_000 } ∷ drives-13
 
-abbrev turns-11 : List Turn
-turns-11 = record { now = 540_300_000_000; reply = Success; deadline = 541_100_000_000 } ∷ turns-12
+abbrev drives-11 : List DriveCall
+drives-11 = record { now = 540_300_000_000; reply = Success; deadline = 541_100_000_000 } ∷ drives-12
 
-abbrev turns-10 : List Turn
-turns-10 = record { now = 540_200_000_000; reply = Nothing; deadline = 540_700_000_000 } ∷ turns-11
+abbrev drives-10 : List DriveCall
+drives-10 = record { now = 540_200_000_000; reply = Nothing; deadline = 540_700_000_000 } ∷ drives-11
 
-abbrev turns-9 : List Turn
-turns-9 = record { now = 481_300_000_000; reply = Success; deadline = 540_200_000_000 } ∷ turns-10
+abbrev drives-9 : List DriveCall
+drives-9 = record { now = 481_300_000_000; reply = Success; deadline = 540_200_000_000 } ∷ drives-10
 
-abbrev turns-8 : List Turn
-turns-8 = record { now = 481_200_000_000; reply = Nothing; deadline = 481_700_000_000 } ∷ turns-9
+abbrev drives-8 : List DriveCall
+drives-8 = record { now = 481_200_000_000; reply = Nothing; deadline = 481_700_000_000 } ∷ drives-9
 
-abbrev turns-7 : List Turn
-turns-7 = record { now = 241_200_000_000; reply = Success; deadline = 481_200_000_000 } ∷ turns-8
+abbrev drives-7 : List DriveCall
+drives-7 = record { now = 241_200_000_000; reply = Success; deadline = 481_200_000_000 } ∷ drives-8
 
-abbrev turns-6 : List Turn
-turns-6 = record { now = 241_100_000_000; reply = Nothing; deadline = 241_600_000_000 } ∷ turns-7
+abbrev drives-6 : List DriveCall
+drives-6 = record { now = 241_100_000_000; reply = Nothing; deadline = 241_600_000_000 } ∷ drives-7
 
-abbrev turns-5 : List Turn
-turns-5 = record { now = 1_100_000_000; reply = Success; deadline = 241_100_000_000 } ∷ turns-6
+abbrev drives-5 : List DriveCall
+drives-5 = record { now = 1_100_000_000; reply = Success; deadline = 241_100_000_000 } ∷ drives-6
 
-abbrev turns-4 : List Turn
-turns-4 = record { now = 1_000_000_000; reply = Nothing; deadline = 1_500_000_000 } ∷ turns-5
+abbrev drives-4 : List DriveCall
+drives-4 = record { now = 1_000_000_000; reply = Nothing; deadline = 1_500_000_000 } ∷ drives-5
 
-abbrev turns-3 : List Turn
-turns-3 = record { now = 200_000_000; reply = Allocation; deadline = 540_200_000_000 } ∷ []
+abbrev drives-3 : List DriveCall
+drives-3 = record { now = 200_000_000; reply = Allocation; deadline = 540_200_000_000 } ∷ []
 
-abbrev turns-2 : List Turn
-turns-2 = record { now = 100_000_000; reply = Challenge; deadline = 600_000_000 } ∷ turns-3
+abbrev drives-2 : List DriveCall
+drives-2 = record { now = 100_000_000; reply = Challenge; deadline = 600_000_000 } ∷ drives-3
 
 -- ---- the run
 
@@ -170,69 +170,69 @@ module _ (local remote : SocketAddr) (config : Config) (seed : List ℕ) where
   abbrev IsRefreshed : State → Type 0
   IsRefreshed s = s.grants ≡ refreshed_grants
 
-  from-14 : Goes IsRefreshed (L.s5 told refl) turns-14
-  from-14 = goes-quiet IsRefreshed (seconds 700) 721_300_000_000 (L.s5 told refl) (L.s5 told refl) turns-15 sleeps-14 (tt, refl)
+  from-14 : Goes IsRefreshed (L.s5 told refl) drives-14
+  from-14 = goes-quiet IsRefreshed (seconds 700) 721_300_000_000 (L.s5 told refl) (L.s5 told refl) drives-15 sleeps-14 (tt, refl)
 
-  from-13 : Goes IsRefreshed (L.asked-5 told refl) turns-13
+  from-13 : Goes IsRefreshed (L.asked-5 told refl) drives-13
   from-13 =
-      goes-told IsRefreshed Success 541_200_000_000 721_300_000_000 _ (L.asked-5 told refl) (L.s5 told refl) (L.s5 told refl) turns-14 refl
+      goes-told IsRefreshed Success 541_200_000_000 721_300_000_000 _ (L.asked-5 told refl) (L.s5 told refl) (L.s5 told refl) drives-14 refl
       (L.after-reply _ _ _ 0 [] _ _ _ _ _ _ _ (L.round-5 told refl)) sleeps-13 from-14
 
-  from-12 : Goes IsRefreshed (L.s4 told refl) turns-12
-  from-12 = goes-quiet IsRefreshed 541_100_000_000 541_600_000_000 (L.s4 told refl) (L.asked-5 told refl) turns-13 sleeps-12 from-13
+  from-12 : Goes IsRefreshed (L.s4 told refl) drives-12
+  from-12 = goes-quiet IsRefreshed 541_100_000_000 541_600_000_000 (L.s4 told refl) (L.asked-5 told refl) drives-13 sleeps-12 from-13
 
-  from-11 : Goes IsRefreshed (L.asked-4 told refl) turns-11
+  from-11 : Goes IsRefreshed (L.asked-4 told refl) drives-11
   from-11 =
-      goes-told IsRefreshed Success 540_300_000_000 541_100_000_000 _ (L.asked-4 told refl) (L.s4 told refl) (L.s4 told refl) turns-12 refl
+      goes-told IsRefreshed Success 540_300_000_000 541_100_000_000 _ (L.asked-4 told refl) (L.s4 told refl) (L.s4 told refl) drives-12 refl
       (L.after-reply _ _ _ 0 [] _ _ _ _ _ _ _ (L.round-4 told refl)) sleeps-11 from-12
 
-  from-10 : Goes IsRefreshed (L.s3 told refl) turns-10
-  from-10 = goes-quiet IsRefreshed 540_200_000_000 540_700_000_000 (L.s3 told refl) (L.asked-4 told refl) turns-11 sleeps-10 from-11
+  from-10 : Goes IsRefreshed (L.s3 told refl) drives-10
+  from-10 = goes-quiet IsRefreshed 540_200_000_000 540_700_000_000 (L.s3 told refl) (L.asked-4 told refl) drives-11 sleeps-10 from-11
 
-  from-9 : Goes IsRefreshed (L.asked-3 told refl) turns-9
+  from-9 : Goes IsRefreshed (L.asked-3 told refl) drives-9
   from-9 =
-      goes-told IsRefreshed Success 481_300_000_000 540_200_000_000 _ (L.asked-3 told refl) (L.s3 told refl) (L.s3 told refl) turns-10 refl
+      goes-told IsRefreshed Success 481_300_000_000 540_200_000_000 _ (L.asked-3 told refl) (L.s3 told refl) (L.s3 told refl) drives-10 refl
       (L.after-reply _ _ _ 0 [] _ _ _ _ _ _ _ (L.round-3 told refl)) sleeps-9 from-10
 
-  from-8 : Goes IsRefreshed (L.s2 told refl) turns-8
-  from-8 = goes-quiet IsRefreshed 481_200_000_000 481_700_000_000 (L.s2 told refl) (L.asked-3 told refl) turns-9 sleeps-8 from-9
+  from-8 : Goes IsRefreshed (L.s2 told refl) drives-8
+  from-8 = goes-quiet IsRefreshed 481_200_000_000 481_700_000_000 (L.s2 told refl) (L.asked-3 told refl) drives-9 sleeps-8 from-9
 
-  from-7 : Goes IsRefreshed (L.asked-2 told refl) turns-7
+  from-7 : Goes IsRefreshed (L.asked-2 told refl) drives-7
   from-7 =
-      goes-told IsRefreshed Success 241_200_000_000 481_200_000_000 _ (L.asked-2 told refl) (L.s2 told refl) (L.s2 told refl) turns-8 refl
+      goes-told IsRefreshed Success 241_200_000_000 481_200_000_000 _ (L.asked-2 told refl) (L.s2 told refl) (L.s2 told refl) drives-8 refl
       (L.after-reply _ _ _ 0 [] _ _ _ _ _ _ _ (L.round-2 told refl)) sleeps-7 from-8
 
-  from-6 : Goes IsRefreshed (L.s1 told refl) turns-6
-  from-6 = goes-quiet IsRefreshed 241_100_000_000 241_600_000_000 (L.s1 told refl) (L.asked-2 told refl) turns-7 sleeps-6 from-7
+  from-6 : Goes IsRefreshed (L.s1 told refl) drives-6
+  from-6 = goes-quiet IsRefreshed 241_100_000_000 241_600_000_000 (L.s1 told refl) (L.asked-2 told refl) drives-7 sleeps-6 from-7
 
-  from-5 : Goes IsRefreshed (L.sent_bind told refl) turns-5
+  from-5 : Goes IsRefreshed (L.sent_bind told refl) drives-5
   from-5 =
-      goes-told IsRefreshed Success 1_100_000_000 241_100_000_000 _ (L.sent_bind told refl) (L.granted_bind told refl) (L.s1 told refl) turns-6 refl
+      goes-told IsRefreshed Success 1_100_000_000 241_100_000_000 _ (L.sent_bind told refl) (L.granted_bind told refl) (L.s1 told refl) drives-6 refl
       (L.after-reply _ _ _ 0 [] _ _ _ _ _ _ _ (L.round-1 told refl)) sleeps-5 from-6
 
-  from-4 : Goes IsRefreshed (L.queued_bind told refl) turns-4
-  from-4 = goes-quiet IsRefreshed 1_000_000_000 1_500_000_000 (L.queued_bind told refl) (L.sent_bind told refl) turns-5 sleeps-4 from-5
+  from-4 : Goes IsRefreshed (L.queued_bind told refl) drives-4
+  from-4 = goes-quiet IsRefreshed 1_000_000_000 1_500_000_000 (L.queued_bind told refl) (L.sent_bind told refl) drives-5 sleeps-4 from-5
 
   allocated-after : state_after (Recv (allocation_packet (H.h3 local remote config seed)) 200_000_000) (H.h3 local remote config seed) ≡ H.done local remote config seed
   allocated-after =
       ap (λ (packet : Transmit (List ℕ)). state_after (Recv packet 200_000_000) (H.h3 local remote config seed)) (H.packet-is local remote config seed)
       ∙ H.done-after local remote config seed
 
-  handshake : Goes (λ t. t ≡ told) first turns_of_handshake
+  handshake : Goes (λ t. t ≡ told) first drives_of_handshake
   handshake =
-      goes-quiet (λ t. t ≡ told) 0 500_000_000 first (H.h1 local remote config seed) turns-2 sleeps-1
+      goes-quiet (λ t. t ≡ told) 0 500_000_000 first (H.h1 local remote config seed) drives-2 sleeps-1
       (goes-told (λ t. t ≡ told) Challenge 100_000_000 600_000_000 (H.challenge local remote config seed) (H.h1 local remote config seed) (H.h2 local remote config seed)
-      (H.h3 local remote config seed) turns-3
+      (H.h3 local remote config seed) drives-3
       refl (H.reached local remote config seed) sleeps-2
       (goes-told (λ t. t ≡ told) Allocation 200_000_000 540_200_000_000 (allocation_packet (H.h3 local remote config seed)) (H.h3 local remote config seed) (H.done local remote config seed) told []
       refl allocated-after sleeps-3 (tt, refl)))
 
-  pub after-handshake : Goes IsRefreshed (bound (client_after first turns_of_handshake)) turns_until_700_s
+  pub after-handshake : Goes IsRefreshed (bound (client_after first drives_of_handshake)) drives_until_700_s
   after-handshake =
-      let same : bound (client_after first turns_of_handshake) ≡ L.queued_bind told refl = ap bound handshake.1 ∙ L.binds told refl in
-      subst (λ (x : State). Goes IsRefreshed x turns_until_700_s) (sym same) from-4
+      let same : bound (client_after first drives_of_handshake) ≡ L.queued_bind told refl = ap bound handshake.1 ∙ L.binds told refl in
+      subst (λ (x : State). Goes IsRefreshed x drives_until_700_s) (sym same) from-4
 
-  pub handshake-driven : IsDriven first turns_of_handshake
+  pub handshake-driven : IsDriven first drives_of_handshake
   handshake-driven = handshake.0
 
 pub relay-is-driven : RelayIsDriven

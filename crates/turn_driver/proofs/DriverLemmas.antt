@@ -9,10 +9,10 @@ use Rattle.turn_driver.specs.declared.task.Rest.{Rest}
 use Rattle.turn_driver.specs.declared.task.Rest.TheVariants.{Until, Now, Ended}
 
 -- if work may be left, the next answer is appended to what was returned so far
-pub turned-going : (n now : ℕ) (start : DriveState) (given : List Given) (s t : State) (answer : Answer) → drive_steps n now start ≡ going given s → answer ≡ (next_step now s).0
+pub steps-going : (n now : ℕ) (start : DriveState) (given : List Given) (s t : State) (answer : Answer) → drive_steps n now start ≡ going given s → answer ≡ (next_step now s).0
     → t ≡ (next_step now s).1 → drive_steps (n + 1) now start ≡ with_answer given (answer, t)
 unfolding drive_steps
-turned-going n now start given s t answer e told after =
+steps-going n now start given s t answer e told after =
     rw (add-one n) (ap (once_more now) e ∙ sym (ap (λ (a : Answer). with_answer given (a, t)) told ∙ ap (λ (u : State). with_answer given ((next_step now s).0, u)) after))
 
 -- once there is nothing to do, the client is not polled again
@@ -22,20 +22,20 @@ once_more-rests now given (Until time) s other = refl
 once_more-rests now given Now s other = absurd (other refl)
 once_more-rests now given Ended s other = refl
 
-turned-rests : (j n now : ℕ) (start : DriveState) (given : List Given) (rest : Rest) (s : State) → (rest ≡ Now → ⊥) → drive_steps n now start ≡ record { given = given; rest = rest; client = s }
+steps-rests : (j n now : ℕ) (start : DriveState) (given : List Given) (rest : Rest) (s : State) → (rest ≡ Now → ⊥) → drive_steps n now start ≡ record { given = given; rest = rest; client = s }
     → drive_steps (j + n) now start ≡ record { given = given; rest = rest; client = s }
 unfolding drive_steps
-turned-rests zero n now start given rest s other e = rw (zero-add n) e
-turned-rests (suc j) n now start given rest s other e = rw (suc-add j n)
-    (ap (once_more now) (turned-rests j n now start given rest s other e) ∙ once_more-rests now given rest s other)
+steps-rests zero n now start given rest s other e = rw (zero-add n) e
+steps-rests (suc j) n now start given rest s other e = rw (suc-add j n)
+    (ap (once_more now) (steps-rests j n now start given rest s other e) ∙ once_more-rests now given rest s other)
 
 -- the result then stays the same, up to the maximum number of polls
-pub turned-rest : (n most now : ℕ) (start : DriveState) (given : List Given) (rest : Rest) (s t : State) → n < most → (rest ≡ Now → ⊥) → drive_steps n now start ≡ going given s
+pub steps-rest : (n most now : ℕ) (start : DriveState) (given : List Given) (rest : Rest) (s t : State) → n < most → (rest ≡ Now → ⊥) → drive_steps n now start ≡ going given s
     → Rests rest ≡ (next_step now s).0 → t ≡ (next_step now s).1 → record { given = given; rest = rest; client = t } ≡ drive_steps most now start
-turned-rest n most now start given rest s t less other e told after =
-    let ends : drive_steps (n + 1) now start ≡ record { given = given; rest = rest; client = t } = turned-going n now start given s t (Rests rest) e told after in
+steps-rest n most now start given rest s t less other e told after =
+    let ends : drive_steps (n + 1) now start ≡ record { given = given; rest = rest; client = t } = steps-going n now start given s t (Rests rest) e told after in
     let is : (most - (n + 1)) + (n + 1) ≡ most = omega arith in
-    sym (subst (λ (m : ℕ). drive_steps m now start ≡ record { given = given; rest = rest; client = t }) is (turned-rests (most - (n + 1)) (n + 1) now start given rest t other ends))
+    sym (subst (λ (m : ℕ). drive_steps m now start ≡ record { given = given; rest = rest; client = t }) is (steps-rests (most - (n + 1)) (n + 1) now start given rest t other ends))
 
 -- ---- allocation failure
 

@@ -23,7 +23,7 @@ use Rattle.turn_client_laws.proofs.EditsOfCalls.{calls-walk}
 use Rattle.turn_client_laws.proofs.FixedFields.{SameIn, fixed-all-edits}
 use Rattle.turn_client_laws.proofs.InAllocation.{GrantsHaveAllocations-AllHaveAllocation, initial-GrantsHaveAllocations, leaves-GrantsHaveAllocations}
 use Rattle.turn_client_laws.proofs.SendOrderLemmas.{initial-steady, leaves-steadies, steady-FitsPhaseForPoll}
-use Rattle.turn_client_laws.proofs.StreamDrainLemmas.{turn-lighter}
+use Rattle.turn_client_laws.proofs.StreamDrainLemmas.{step-lighter}
 use Rattle.turn_client_laws.proofs.StreamWeightLemmas.{weight}
 use Rattle.turn_client_laws.proofs.TimelyLemmas.{poll-timely}
 use Rattle.turn_driver.specs.Driver.{DriveState, begun, drive_state, drive_steps, going, once_more, with_answer}
@@ -142,7 +142,7 @@ drains (suc n) now s = by (find is_ready s.streams) refl (λ t. drains n now t)
     by : (o : Option Stream) → find is_ready s.streams ≡ o → Later
         → (weight (first_ready_step (steps_until_payload n now) now s o).1.streams < weight s.streams) ⊎ (first_ready_step (steps_until_payload n now) now s o ≡ (None, s))
     by None e later = inr refl
-    by (Some stream) e later = inl (goes (next_frame_step stream now s) (turn-lighter stream now s e) later)
+    by (Some stream) e later = inl (goes (next_frame_step stream now s) (step-lighter stream now s e) later)
 
 next-goes-on : (fit : State → Type 0) (measure : ℕ → State → List ℕ) (size : ℕ) (m : Measures fit measure size) (now : ℕ) → now ≤ 2 ^ 62 → (s : State) → fit s
     → GoesOn (measure now) s (next_step now s)

@@ -110,20 +110,20 @@ once_more-run now given Now s = answer-run now given s (next_step now s) (next-r
 once_more-run now given (Until time) s = ([], tt, (sym (append-nil given), refl))
 once_more-run now given Ended s = ([], tt, (sym (append-nil given), refl))
 
-turned-run : (n now : ℕ) (t : DriveState) → Runs now t (drive_steps n now t)
+steps-run : (n now : ℕ) (t : DriveState) → Runs now t (drive_steps n now t)
 unfolding drive_steps
-turned-run zero now t = ([], tt, (sym (append-nil t.given), refl))
-turned-run (suc n) now t =
+steps-run zero now t = ([], tt, (sym (append-nil t.given), refl))
+steps-run (suc n) now t =
     let u = drive_steps n now t in
-    Runs-append now t u (once_more now u) (turned-run n now t) (once_more-run now u.given u.rest u.client)
+    Runs-append now t u (once_more now u) (steps-run n now t) (once_more-run now u.given u.rest u.client)
 
 -- the input is passed in first
 begun-run : (packet : Transmit (List ℕ)) (now : ℕ) (t : DriveState) → IsRun (Recv packet now ∷ []) t (begun (Some packet) now t)
 begun-run packet now t = (ap (λ given. t.given ++ given) (sym (append-nil (given_by (Recv packet now) t.client))), refl)
 
-turn-whole : (came : Option (Transmit (List ℕ))) (most now : ℕ) (t : DriveState) → IsWhole came now t (drive_steps most now (begun came now t))
-turn-whole None most now t = turned-run most now t
-turn-whole (Some packet) most now t = by (turned-run most now (begun (Some packet) now t))
+drive-whole : (came : Option (Transmit (List ℕ))) (most now : ℕ) (t : DriveState) → IsWhole came now t (drive_steps most now (begun came now t))
+drive-whole None most now t = steps-run most now t
+drive-whole (Some packet) most now t = by (steps-run most now (begun (Some packet) now t))
   where
     by : Runs now (begun (Some packet) now t) (drive_steps most now (begun (Some packet) now t)) → IsWhole (Some packet) now t (drive_steps most now (begun (Some packet) now t))
     by (calls, all, run) = (calls, all, IsRun-append (Recv packet now ∷ []) calls t (begun (Some packet) now t) (drive_steps most now (begun (Some packet) now t)) (begun-run packet now t) run)
@@ -131,5 +131,5 @@ turn-whole (Some packet) most now t = by (turned-run most now (begun (Some packe
 -- the same holds of the list that is returned
 pub whole-ok : {E : Type 0} (r : Result Rest E) (came : Option (Transmit (List ℕ))) (most now : ℕ) (t : DriveState) (tasks : List Task) (s : State)
     → IfOk r (λ rest. driven tasks rest s ≡ drive_steps most now (begun came now t)) → OnOk r (IsWhole came now t (driven tasks Now s))
-whole-ok (Ok rest) came most now t tasks s told = subst (λ (u : DriveState). IsWhole came now t (record u { rest = Now })) (sym told) (turn-whole came most now t)
+whole-ok (Ok rest) came most now t tasks s told = subst (λ (u : DriveState). IsWhole came now t (record u { rest = Now })) (sym told) (drive-whole came most now t)
 whole-ok (Err e) came most now t tasks s told = tt

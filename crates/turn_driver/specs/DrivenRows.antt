@@ -32,29 +32,29 @@ received Success s = let l = first_request s.listed in Some (from_server s (succ
 -- ---- the loop
 
 -- an iteration at this time, to which this is passed in, and the deadline that it returns
-pub record Turn : Type 0 where
+pub record DriveCall : Type 0 where
   pub now : ℕ
   pub reply : Reply
   pub deadline : ℕ
 
 -- it makes at most eight polls
-abbrev pub after_turn : Turn → State → DriveState
-after_turn turn s = drive_steps 8 turn.now (begun (received turn.reply s) turn.now (going [] s))
+abbrev pub after_drive : DriveCall → State → DriveState
+after_drive made s = drive_steps 8 made.now (begun (received made.reply s) made.now (going [] s))
 
 -- each iteration returns `Until` its deadline, and the next begins with the client that it left
-abbrev pub IsDriven : State → List Turn → Type 0
+abbrev pub IsDriven : State → List DriveCall → Type 0
 IsDriven s [] = ⊤
-IsDriven s (turn ∷ later) = ((after_turn turn s).rest ≡ Until turn.deadline) × IsDriven (after_turn turn s).client later
+IsDriven s (made ∷ later) = ((after_drive made s).rest ≡ Until made.deadline) × IsDriven (after_drive made s).client later
 
-abbrev pub client_after : State → List Turn → State
+abbrev pub client_after : State → List DriveCall → State
 client_after s [] = s
-client_after s (turn ∷ later) = client_after (after_turn turn s).client later
+client_after s (made ∷ later) = client_after (after_drive made s).client later
 
 -- ---- the run
 
 -- each reply comes 100 ms after its request
-abbrev pub turns_of_handshake : List Turn
-turns_of_handshake =
+abbrev pub drives_of_handshake : List DriveCall
+drives_of_handshake =
     record { now = 0; reply = Nothing; deadline = 500_000_000 }
     ∷ record { now = 100_000_000; reply = Challenge; deadline = 600_000_000 }
     ∷ record { now = 200_000_000; reply = Allocation; deadline = 540_200_000_000 }
@@ -65,8 +65,8 @@ turns_of_handshake =
 abbrev pub bound : State → State
 bound s = state_after (BindChannel Udp peer 1_000_000_000) s
 
-abbrev pub turns_until_700_s : List Turn
-turns_until_700_s =
+abbrev pub drives_until_700_s : List DriveCall
+drives_until_700_s =
     record { now = 1_000_000_000; reply = Nothing; deadline = 1_500_000_000 }
     ∷ record { now = 1_100_000_000; reply = Success; deadline = 241_100_000_000 }
     ∷ record { now = 241_100_000_000; reply = Nothing; deadline = 241_600_000_000 }
@@ -82,9 +82,9 @@ turns_until_700_s =
 
 -- No iteration is called before its time, and at the end the allocation, the permission and the channel have been refreshed.
 pub record IsDrivenFor700Seconds (first : State) : Type 0 where
-  pub handshake : IsDriven first turns_of_handshake
-  pub later : IsDriven (bound (client_after first turns_of_handshake)) turns_until_700_s
-  pub refreshes : (client_after (bound (client_after first turns_of_handshake)) turns_until_700_s).grants ≡ refreshed_grants
+  pub handshake : IsDriven first drives_of_handshake
+  pub later : IsDriven (bound (client_after first drives_of_handshake)) drives_until_700_s
+  pub refreshes : (client_after (bound (client_after first drives_of_handshake)) drives_until_700_s).grants ≡ refreshed_grants
 
 -- whatever the client's addresses, credentials and IDs are
 abbrev pub RelayIsDriven : Type 0

@@ -15,11 +15,11 @@ run_of-broken_stream (Feed piece ∷ calls) = ap (given_first None) (run_of-brok
 run_of-broken_stream (Poll ∷ calls) = ap (given_first None) (run_of-broken_stream calls)
 
 -- what the first two bits and the length decide
-pub turn-no_frame : (s : Stream) → begins_no_frame s.bytes ≡ true → next_frame s ≡ record { frame = None; after = broken_stream }
-turn-no_frame s begins = ap (λ b. if b then record { frame = None; after = broken_stream } else next_frame_of s (frame_len s.bytes)) begins
+pub next_frame-no_frame : (s : Stream) → begins_no_frame s.bytes ≡ true → next_frame s ≡ record { frame = None; after = broken_stream }
+next_frame-no_frame s begins = ap (λ b. if b then record { frame = None; after = broken_stream } else next_frame_of s (frame_len s.bytes)) begins
 
-pub turn-frame_len : (s : Stream) (found : Option ℕ) → begins_no_frame s.bytes ≡ false → frame_len s.bytes ≡ found → next_frame s ≡ next_frame_of s found
-turn-frame_len s found begins e =
+pub next_frame-frame_len : (s : Stream) (found : Option ℕ) → begins_no_frame s.bytes ≡ false → frame_len s.bytes ≡ found → next_frame s ≡ next_frame_of s found
+next_frame-frame_len s found begins e =
     ap (λ b. if b then record { frame = None; after = broken_stream } else next_frame_of s (frame_len s.bytes)) begins ∙ ap (next_frame_of s) e
 
 -- a run that begins with this step returns the frames of all the bytes, if the rest of the run does
@@ -56,15 +56,15 @@ goes_on bytes calls later (Some k) e =
       broken = λ broken. subst (λ (cut : Frames). begins_no_frame cut.rest ≡ true) (sym some) (rest.broken broken);
     }
 
-first_turn_by : (bytes : List ℕ) (calls : List Call) → ((later : List ℕ) → GivesFrames (later ++ bytes_in calls) (run_of (framed later) calls)) → (begins : Bool) → begins_no_frame bytes ≡ begins
+first_next_frame_by : (bytes : List ℕ) (calls : List Call) → ((later : List ℕ) → GivesFrames (later ++ bytes_in calls) (run_of (framed later) calls)) → (begins : Bool) → begins_no_frame bytes ≡ begins
     → GivesAfter bytes calls (next_frame (framed bytes))
-first_turn_by bytes calls later true e = subst (GivesAfter bytes calls) (sym (turn-no_frame (framed bytes) e)) (breaks bytes calls e)
-first_turn_by bytes calls later false e =
-    subst (GivesAfter bytes calls) (sym (turn-frame_len (framed bytes) (frame_len bytes) e refl))
+first_next_frame_by bytes calls later true e = subst (GivesAfter bytes calls) (sym (next_frame-no_frame (framed bytes) e)) (breaks bytes calls e)
+first_next_frame_by bytes calls later false e =
+    subst (GivesAfter bytes calls) (sym (next_frame-frame_len (framed bytes) (frame_len bytes) e refl))
     (goes_on bytes calls later (frame_len bytes) refl)
 
-first_turn : (bytes : List ℕ) (calls : List Call) → ((later : List ℕ) → GivesFrames (later ++ bytes_in calls) (run_of (framed later) calls)) → GivesAfter bytes calls (next_frame (framed bytes))
-first_turn bytes calls later = first_turn_by bytes calls later (begins_no_frame bytes) refl
+first_next_frame : (bytes : List ℕ) (calls : List Call) → ((later : List ℕ) → GivesFrames (later ++ bytes_in calls) (run_of (framed later) calls)) → GivesAfter bytes calls (next_frame (framed bytes))
+first_next_frame bytes calls later = first_next_frame_by bytes calls later (begins_no_frame bytes) refl
 
 pub run_of-GivesFrames : (calls : List Call) (bytes : List ℕ) → GivesFrames (bytes ++ bytes_in calls) (run_of (framed bytes) calls)
 run_of-GivesFrames [] bytes = record {
@@ -74,8 +74,8 @@ run_of-GivesFrames [] bytes = record {
 }
 run_of-GivesFrames (Piece piece ∷ calls) bytes =
     subst (λ (all : List ℕ). GivesFrames all (run_of (framed bytes) (Piece piece ∷ calls))) (append_assoc bytes piece (bytes_in calls))
-    (first_turn (bytes ++ piece) calls (run_of-GivesFrames calls))
+    (first_next_frame (bytes ++ piece) calls (run_of-GivesFrames calls))
 run_of-GivesFrames (Feed piece ∷ calls) bytes =
     subst (λ (all : List ℕ). GivesFrames all (run_of (framed bytes) (Feed piece ∷ calls))) (append_assoc bytes piece (bytes_in calls))
     (run_of-GivesFrames calls (bytes ++ piece))
-run_of-GivesFrames (Poll ∷ calls) bytes = first_turn bytes calls (run_of-GivesFrames calls)
+run_of-GivesFrames (Poll ∷ calls) bytes = first_next_frame bytes calls (run_of-GivesFrames calls)

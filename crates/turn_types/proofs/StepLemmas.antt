@@ -6,7 +6,7 @@ use Rattle.turn_types.specs.Streams.{Mode, NextFrame, size_in, framed, broken_st
 use Rattle.turn_types.specs.Streams.Mode.{Framed, Bound, Broken}
 use Rattle.turn_types.proofs.CutLemmas.{by_first}
 use Rattle.turn_types.proofs.FrameLemmas.{size_in-IsPrefixCut}
-use Rattle.turn_types.proofs.RunLemmas.{turn-no_frame, turn-frame_len}
+use Rattle.turn_types.proofs.RunLemmas.{next_frame-no_frame, next_frame-frame_len}
 
 -- what the call finds at the start, and what it makes of it
 pub data Found : List ℕ → NextFrame → Type 0 where
@@ -15,12 +15,12 @@ pub data Found : List ℕ → NextFrame → Type 0 where
   Gives : {bytes : List ℕ} {k : ℕ} → begins_no_frame bytes ≡ false → frame_len bytes ≡ Some k → Found bytes (record { frame = Some (take k bytes); after = framed (drop k bytes) })
 
 found_by : (bytes : List ℕ) (begins : Bool) (found : Option ℕ) → begins_no_frame bytes ≡ begins → frame_len bytes ≡ found → Found bytes (next_frame (framed bytes))
-found_by bytes true found b f = subst (Found bytes) (sym (turn-no_frame (framed bytes) b)) (Breaks b)
-found_by bytes false None b f = subst (Found bytes) (sym (turn-frame_len (framed bytes) None b f)) (Waits b f)
-found_by bytes false (Some k) b f = subst (Found bytes) (sym (turn-frame_len (framed bytes) (Some k) b f)) (Gives b f)
+found_by bytes true found b f = subst (Found bytes) (sym (next_frame-no_frame (framed bytes) b)) (Breaks b)
+found_by bytes false None b f = subst (Found bytes) (sym (next_frame-frame_len (framed bytes) None b f)) (Waits b f)
+found_by bytes false (Some k) b f = subst (Found bytes) (sym (next_frame-frame_len (framed bytes) (Some k) b f)) (Gives b f)
 
-pub turn-Found : (bytes : List ℕ) → Found bytes (next_frame (framed bytes))
-turn-Found bytes = found_by bytes (begins_no_frame bytes) (frame_len bytes) refl refl
+pub next_frame-Found : (bytes : List ℕ) → Found bytes (next_frame (framed bytes))
+next_frame-Found bytes = found_by bytes (begins_no_frame bytes) (frame_len bytes) refl refl
 
 size-breaks : (bytes : List ℕ) → begins_no_frame bytes ≡ true → size_in Framed bytes ≡ Some 1
 size-breaks bytes e = ap (λ b. if b then Some 1 else frame_len bytes) e
@@ -63,15 +63,15 @@ module _ {S O : Type 0} (mode : S → Mode) (handle : S → List ℕ → S × Li
 
   pub framed-drained : (state : S) (bytes frame : List ℕ) → mode state ≡ Framed → (next_frame (framed bytes)).frame ≡ Some frame
       → drained (λ s. size_in (mode s)) handle state bytes ≡ behind (handle state frame).1 (drained (λ s. size_in (mode s)) handle (handle state frame).0 (next_frame (framed bytes)).after.bytes)
-  framed-drained state bytes frame e h = frame_step state bytes frame (next_frame (framed bytes)) e (turn-Found bytes) h
+  framed-drained state bytes frame e h = frame_step state bytes frame (next_frame (framed bytes)) e (next_frame-Found bytes) h
 
   pub waiting-drained : (state : S) (bytes : List ℕ) → mode state ≡ Framed → (next_frame (framed bytes)).frame ≡ None → (next_frame (framed bytes)).after.is_broken ≡ false
       → drained (λ s. size_in (mode s)) handle state bytes ≡ record { state = state; given = []; rest = bytes }
-  waiting-drained state bytes e h unbroken = wait_step state bytes (next_frame (framed bytes)) e (turn-Found bytes) h unbroken
+  waiting-drained state bytes e h unbroken = wait_step state bytes (next_frame (framed bytes)) e (next_frame-Found bytes) h unbroken
 
   pub breaking-drained : (state : S) (bytes : List ℕ) → mode state ≡ Framed → (next_frame (framed bytes)).after.is_broken ≡ true
       → drained (λ s. size_in (mode s)) handle state bytes ≡ behind (handle state (take 1 bytes)).1 (drained (λ s. size_in (mode s)) handle (handle state (take 1 bytes)).0 (drop 1 bytes))
-  breaking-drained state bytes e broken = break_step state bytes (next_frame (framed bytes)) e (turn-Found bytes) broken
+  breaking-drained state bytes e broken = break_step state bytes (next_frame (framed bytes)) e (next_frame-Found bytes) broken
 
   pub byte-drained : (state : S) (byte : ℕ) (bytes : List ℕ) → (mode state ≡ Framed → ⊥)
       → drained (λ s. size_in (mode s)) handle state (byte ∷ bytes) ≡ behind (handle state (byte ∷ [])).1 (drained (λ s. size_in (mode s)) handle (handle state (byte ∷ [])).0 bytes)

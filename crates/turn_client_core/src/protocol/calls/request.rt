@@ -52,7 +52,7 @@ impl TurnClientProtocol {
         ensures { result ≡ find (λ id. not (is_taken id self.now)) (map (λ n. (first + n) % 2 ^ 96) (range_with_len 0 count)) }
     {
         let mut id = first;
-        for _turn in 0..count {
+        for _round in 0..count {
             if !self.is_taken(id) {
                 return Some(id);
             }

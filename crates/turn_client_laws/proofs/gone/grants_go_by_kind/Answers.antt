@@ -1,4 +1,4 @@
-use Rattle.turn_client_laws.proofs.MoveTurnLemmas.{grants-taken}
+use Rattle.turn_client_laws.proofs.MoveInputLemmas.{grants-taken}
 use Rattle.turn_client_laws.proofs.OverLemmas.{poll-over}
 use Rattle.turn_client_laws.proofs.gone.grants_go_by_kind.Goals as goal
 

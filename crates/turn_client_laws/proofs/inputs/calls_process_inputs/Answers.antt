@@ -1,5 +1,5 @@
-use Rattle.turn_client_laws.proofs.TurnChainLemmas.{calls-do}
-use Rattle.turn_client_laws.proofs.TurnEndLemmas.{calls-end}
+use Rattle.turn_client_laws.proofs.InputChainLemmas.{calls-do}
+use Rattle.turn_client_laws.proofs.InputEndLemmas.{calls-end}
 use Rattle.turn_client_laws.proofs.inputs.calls_process_inputs.Goals as goal
 
 pub returns-clause-found : goal.returns-clause-found

@@ -1,5 +1,5 @@
-use Rattle.turn_client_laws.proofs.TurnFrameLemmas.{turn-IsInputOf}
+use Rattle.turn_client_laws.proofs.StepFrameLemmas.{step-IsInputOf}
 use Rattle.turn_client_laws.proofs.inputs.inputs_are_frames.Goals as goal
 
 pub returns : goal.returns
-returns c = turn-IsInputOf
+returns c = step-IsInputOf

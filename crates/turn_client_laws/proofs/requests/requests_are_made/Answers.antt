@@ -1,4 +1,4 @@
-use Rattle.turn_client_laws.proofs.MoveTurnLemmas.{listings-made, requests-made}
+use Rattle.turn_client_laws.proofs.MoveInputLemmas.{listings-made, requests-made}
 use Rattle.turn_client_laws.proofs.requests.requests_are_made.Goals as goal
 
 pub returns-clause-request : goal.returns-clause-request

@@ -6,7 +6,7 @@ use Rattle.turn_driver.specs.Driver.{going, drive_steps, with_answer}
 use Rattle.turn_driver.specs.declared.task.Task.{Task}
 use Rattle.turn_driver.specs.declared.task.Rest.{Rest}
 use Rattle.turn_driver.specs.declared.task.Rest.TheVariants.{Now}
-use Rattle.turn_driver.proofs.DriverLemmas.{on_err, stops-client, stops-list, turned-going, turned-rest}
+use Rattle.turn_driver.proofs.DriverLemmas.{on_err, stops-client, stops-list, steps-going, steps-rest}
 use Rattle.turn_driver.proofs.driver.poll_tasks.Goals as goal
 use Rattle.turn_driver.proofs.driver.poll_tasks.Goals.{in-Do+in_ok-push-in-Do, in-Rest+else-ne}
 
@@ -25,18 +25,18 @@ returns-in_err-task-clause-no_memory g c =
 pub returns-then-ne-clause-ok : goal.returns-then-ne-clause-ok
 returns-then-ne-clause-ok g c =
     ap (λ gs. record { given = gs; rest = c.in-Rest.rest; client = g.C.TurnClientApi.state c.next_task.new.client }) (ap (map given_of) c.reserve.ensures.items)
-    ∙ turned-rest c.loop.counter c.args.most c.args.now _ _ c.in-Rest.rest _ _ (search rules) (search rules) c.loop.invariant (sym (ap answer_of c.in-Rest.is)
+    ∙ steps-rest c.loop.counter c.args.most c.args.now _ _ c.in-Rest.rest _ _ (search rules) (search rules) c.loop.invariant (sym (ap answer_of c.in-Rest.is)
     ∙ c.in_ok-task.ensures.answer) c.in_ok-task.ensures.after
 
 pub loop-preserved : goal.loop-preserved
 loop-preserved g c = elim c.match-branch-3.branch [
   | in-Do+in_ok-push-in-Do w ↦
-      turned-going c.loop.counter c.args.now _ _ _ _ (Does (given_of w.in-Do.task)) c.loop.invariant (sym (ap answer_of w.in-Do.is) ∙ c.in_ok-task.ensures.answer) c.in_ok-task.ensures.after
+      steps-going c.loop.counter c.args.now _ _ _ _ (Does (given_of w.in-Do.task)) c.loop.invariant (sym (ap answer_of w.in-Do.is) ∙ c.in_ok-task.ensures.answer) c.in_ok-task.ensures.after
       ∙ ap (λ gs. going gs (g.C.TurnClientApi.state c.next_task.new.client)) (sym (ap (λ (v : Vec Task Global). map given_of v.items) w.tasks-is
       ∙ (ap (map given_of) w.in_ok-push-in-Do.ensures.items ∙ (map-append given_of c.reserve.new.self.items (w.in-Do.task ∷ [])
       ∙ ap (λ ts. map given_of ts ++ given_of w.in-Do.task ∷ []) c.reserve.ensures.items))))
   | in-Rest+else-ne w ↦
-      turned-going c.loop.counter c.args.now _ _ _ _ (Rests w.in-Rest.rest) c.loop.invariant (sym (ap answer_of w.in-Rest.is) ∙ c.in_ok-task.ensures.answer) c.in_ok-task.ensures.after
+      steps-going c.loop.counter c.args.now _ _ _ _ (Rests w.in-Rest.rest) c.loop.invariant (sym (ap answer_of w.in-Rest.is) ∙ c.in_ok-task.ensures.answer) c.in_ok-task.ensures.after
       ∙ (ap (λ (r : Rest). with_answer (map given_of c.loop.tasks.items) (Rests r, g.C.TurnClientApi.state c.next_task.new.client)) (let same : w.in-Rest.rest ≡ Now = search rules in same)
       ∙ ap (λ gs. going gs (g.C.TurnClientApi.state c.next_task.new.client)) (sym (ap (λ (v : Vec Task Global). map given_of v.items) w.tasks-is ∙ ap (map given_of) c.reserve.ensures.items)))
 ]

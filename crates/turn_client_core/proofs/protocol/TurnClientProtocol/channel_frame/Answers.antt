@@ -3,7 +3,7 @@ use Rattle.turn_types.specs.Frames.{begins_message}
 use Rattle.turn_client_core.specs.contracts.protocol.TurnClientProtocol.{the_view}
 use Rattle.turn_client_core.proofs.ControlDataLemmas.{channel-data, channel-none, front-data, message-none}
 use Rattle.turn_client_core.proofs.FrameLemmas.{channel-begins, message-begins}
-use Rattle.turn_client_core.proofs.TurnLemmas.{front-whole}
+use Rattle.turn_client_core.proofs.StepLemmas.{front-whole}
 use Rattle.turn_client_core.proofs.protocol.TurnClientProtocol.channel_frame.Goals as goal
 
 pub returns-in_default-parse-clause-payload : goal.returns-in_default-parse-clause-payload

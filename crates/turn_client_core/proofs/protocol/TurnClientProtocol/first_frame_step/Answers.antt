@@ -14,7 +14,7 @@ use Rattle.turn_client_core.proofs.FreePieceLemmas.{free-front, free-is}
 use Rattle.turn_client_core.specs.StreamSteps.{left_by, put_or_broken}
 use Rattle.turn_client_core.proofs.PieceLemmas.{comes-given, comes-with, fed-none, fed-some, handled-kept}
 use Rattle.turn_client_core.proofs.ResultLemmas.{no-err}
-use Rattle.turn_client_core.proofs.TurnLemmas.{front-whole}
+use Rattle.turn_client_core.proofs.StepLemmas.{front-whole}
 use Rattle.turn_client_core.proofs.protocol.TurnClientProtocol.first_frame_step.Goals as goal
 
 pub first_frame-requires-clause-whole : goal.first_frame-requires-clause-whole

@@ -3,15 +3,15 @@ use Rattle.turn_client_api.specs.Requests.{is_taken}
 use Rattle.turn_client_core.proofs.IdLemmas.{counted-on, find-counted}
 use Rattle.turn_client_core.proofs.protocol.TurnClientProtocol.first_free.Goals as goal
 
-pub loop-turn-preserved : goal.loop-turn-preserved
-loop-turn-preserved c =
+pub loop-round-preserved : goal.loop-round-preserved
+loop-round-preserved c =
     let taken = c.if-not-is_taken.false in
     record {
-      counted = rw (c.successor-id.ensures, c.loop-turn.invariant.counted) (counted-on c.args.first c.loop-turn._turn);
+      counted = rw (c.successor-id.ensures, c.loop-round.invariant.counted) (counted-on c.args.first c.loop-round._round);
       found = rw (
-        ← c.loop-turn.invariant.found,
-        find-counted (λ id. not (is_taken id c.args.self.now)) (λ n. (c.args.first + n) % 2 ^ 96) c.loop-turn._turn c.args.count c.loop-turn-test.true,
-        ← c.loop-turn.invariant.counted,
+        ← c.loop-round.invariant.found,
+        find-counted (λ id. not (is_taken id c.args.self.now)) (λ n. (c.args.first + n) % 2 ^ 96) c.loop-round._round c.args.count c.loop-round-test.true,
+        ← c.loop-round.invariant.counted,
         ← c.is_taken.ensures,
         taken,
       ) refl;

@@ -5,7 +5,7 @@ use Rattle.turn_client_api.specs.Payloads.{Outcome}
 use Rattle.turn_client_core.specs.ProtocolRecv.{outcome_in}
 use Rattle.turn_client_core.specs.StreamSteps.{owned_payload}
 use Rattle.turn_client_core.proofs.ResultLemmas.{on-err, some-is}
-use Rattle.turn_client_core.proofs.TurnLemmas.{framed-none, framed-some, front-wants, front-whole}
+use Rattle.turn_client_core.proofs.StepLemmas.{framed-none, framed-some, front-wants, front-whole}
 use Rattle.turn_client_core.proofs.protocol.TurnClientProtocol.framed_stream_step.Goals as goal
 
 pub frame-requires-clause-whole : goal.frame-requires-clause-whole

@@ -1,12 +1,12 @@
 use Rattle.std.proofs.Common.{◌≡◌, [], refl, subst, sym, ap, ◌∙◌, Some}
 use Rattle.std.specs.Prelude.{find}
 use Rattle.std.specs.Option.{option_map}
-use Rattle.turn_client_laws.proofs.StreamDrainLemmas.{turn-lighter}
+use Rattle.turn_client_laws.proofs.StreamDrainLemmas.{step-lighter}
 use Rattle.turn_client_api.specs.Streams.{is_ready, next_frame_step, detached_frame_step, with_bytes}
 use Rattle.turn_client_streams.specs.Held.{taken_out}
 use Rattle.turn_client_core.specs.StreamSteps.{received_payload, owned_payload}
 use Rattle.turn_client_core.specs.Wanted.{StepWantsMemory}
-use Rattle.turn_client_core.proofs.TurnLemmas.{bound-first, ends, ends-wanted, first-Rests, leads-on, rests-none, rests-on, rests-some, stays-led}
+use Rattle.turn_client_core.proofs.StepLemmas.{bound-first, ends, ends-wanted, first-Rests, leads-on, rests-none, rests-on, rests-some, stays-led}
 use Rattle.turn_client_core.proofs.UngrantedLemmas.{before-authenticating, led-none}
 use Rattle.turn_client_core.proofs.protocol.TurnClientProtocol.process_ready.Goals as goal
 
@@ -27,7 +27,7 @@ loop-stream-smaller c =
     let out : c.take_ready.new.self ≡ with_bytes c.in-Some.stream.local [] c.loop-stream.self = (c.take_ready.ensures.after ∙ ap (λ o. taken_out o c.loop-stream.self) c.in-Some.is) in
     let is : c.process_detached.new.self ≡ (next_frame_step c.in-Some.stream c.args.now c.loop-stream.self).1 =
     c.in-Ok-None.ensures.after ∙ ap (λ t. (detached_frame_step c.in-Some.stream c.args.now t).1) out in
-    rw is (turn-lighter c.in-Some.stream c.args.now c.loop-stream.self e)
+    rw is (step-lighter c.in-Some.stream c.args.now c.loop-stream.self e)
 
 pub loop-stream-preserved : goal.loop-stream-preserved
 loop-stream-preserved c =

@@ -1,6 +1,6 @@
 use Rattle.turn_client_api.specs.Answers.{LeadsTo}
 use Rattle.turn_client_laws.proofs.StreamWeightLemmas.{weight}
-use Rattle.turn_client_core.proofs.TurnLemmas.{Rests}
+use Rattle.turn_client_core.proofs.StepLemmas.{Rests}
 use Rattle.turn_client_core.proofs.protocol.TurnClientProtocol.process_ready.Given as goal
 
 abbrev pub invariant-loop-stream : goal.invariant-loop-stream

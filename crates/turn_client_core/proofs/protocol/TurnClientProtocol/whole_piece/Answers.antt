@@ -8,7 +8,7 @@ use Rattle.turn_client_api.specs.State.{State}
 use Rattle.turn_client_api.specs.Streams.{stream_at, with_bytes}
 use Rattle.turn_client_streams.specs.Held.{taken_out}
 use Rattle.turn_client_core.specs.StreamSteps.{PieceEnds}
-use Rattle.turn_client_core.proofs.ArrivalLemmas.{piece-ends, piece-ignored, piece-turned}
+use Rattle.turn_client_core.proofs.ArrivalLemmas.{piece-ends, piece-ignored, piece-step}
 use Rattle.turn_client_core.proofs.FreePieceLemmas.{free-bound, free-either, free-out, free-waits}
 use Rattle.turn_client_core.proofs.protocol.TurnClientProtocol.whole_piece.Goals as goal
 
@@ -27,7 +27,7 @@ returns g c =
     let was = c.args.self.now in
     let e : stream_at c.args.transmit.to was ≡ Some stream = sym c.take_at.ensures.stream ∙ c.in-Some.is in
     let out : c.take_at.new.self ≡ with_bytes stream.local [] was = c.take_at.ensures.after ∙ ap (λ o. taken_out o was) c.in-Some.is in
-    let same = piece-turned c.args.transmit.to stream piece c.args.now was c.take_at.new.self e c.requires.some c.requires.whole out in
+    let same = piece-step c.args.transmit.to stream piece c.args.now was c.take_at.new.self e c.requires.some c.requires.whole out in
     record {
       answer = subst (λ (p : Outcome × State). IfOk c.process_piece.result (λ given. outcome_of given ≡ p.0)) same c.process_piece.ensures.answer;
       hands_back = c.process_piece.ensures.hands_back;

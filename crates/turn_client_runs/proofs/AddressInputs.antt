@@ -19,10 +19,10 @@ use Rattle.turn_client_laws.proofs.CaseLemmas.{by_test}
 use Rattle.turn_client_laws.proofs.EditsOfMessages.{bind-walk, message-walk}
 use Rattle.turn_client_api.proofs.HasLemmas.{Has}
 use Rattle.turn_client_laws.proofs.StandLemmas.{Covers, contains-has}
-use Rattle.turn_client_laws.proofs.TurnBringLemmas.{IsBrought, leaves-bring}
+use Rattle.turn_client_laws.proofs.InputBringLemmas.{IsBrought, leaves-bring}
 use Rattle.turn_client_runs.proofs.AddressEdits.{AddressesWithin, HasAddress, KeepsAddresses, KeepsAddresses-KeepsAllEdits, filter-within}
 use Rattle.turn_client_runs.proofs.CallGrants.{quiet-grants, same-allocation}
-use Rattle.turn_client_runs.proofs.GrantTurns.{Granting, granting-brought, kept-alike}
+use Rattle.turn_client_runs.proofs.GrantInputs.{Granting, granting-brought, kept-alike}
 
 -- the input granted an allocation with this address, to a client that had none
 pub record Allocating (relayed : SocketAddr) (one : Input) : Type 0 where

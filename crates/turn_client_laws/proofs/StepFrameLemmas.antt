@@ -60,9 +60,9 @@ framed-IsInputOf stream now s = by (begins_no_frame stream.bytes) (frame_len str
       after = refl;
     }
 
-turn_in_mode : (m : Mode) (stream : Stream) (now : ℕ) (s : State) → IsInputOf (record stream { mode = m }) now s (stream_inputs_taken false (record stream { mode = m }) now s)
+step_in_mode : (m : Mode) (stream : Stream) (now : ℕ) (s : State) → IsInputOf (record stream { mode = m }) now s (stream_inputs_taken false (record stream { mode = m }) now s)
     (next_frame_step (record stream { mode = m }) now s)
-turn_in_mode (Bound peer) stream now s = record {
+step_in_mode (Bound peer) stream now s = record {
   taken_of = refl;
   at = refl;
   alone = refl;
@@ -71,8 +71,8 @@ turn_in_mode (Bound peer) stream now s = record {
   outcome = refl;
   after = sym (bytes-twice stream.local [] [] s);
 }
-turn_in_mode Broken stream now s = inr (inr (refl, refl))
-turn_in_mode m stream now s = framed-IsInputOf (record stream { mode = m }) now s
+step_in_mode Broken stream now s = inr (inr (refl, refl))
+step_in_mode m stream now s = framed-IsInputOf (record stream { mode = m }) now s
 
-pub turn-IsInputOf : (stream : Stream) (now : ℕ) (s : State) → IsInputOf stream now s (stream_inputs_taken false stream now s) (next_frame_step stream now s)
-turn-IsInputOf stream now s = turn_in_mode stream.mode stream now s
+pub step-IsInputOf : (stream : Stream) (now : ℕ) (s : State) → IsInputOf stream now s (stream_inputs_taken false stream now s) (next_frame_step stream now s)
+step-IsInputOf stream now s = step_in_mode stream.mode stream now s

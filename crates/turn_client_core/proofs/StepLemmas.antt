@@ -19,7 +19,7 @@ use Rattle.turn_client_api.specs.Payloads.{Payload, Outcome, Handled, PeerData}
 use Rattle.turn_client_api.specs.Streams.{broken_at, detached_frame_step, first_ready_step, frame_step, framed_by}
 use Rattle.turn_client_api.specs.Streams.{framed_stream_step, go_on, is_bound, is_ready, max_steps, next_frame_step, poll_recv_step}
 use Rattle.turn_client_api.specs.Streams.{put_back, sent_by, steps_until_payload, with_bytes}
-use Rattle.turn_client_laws.proofs.StreamDrainLemmas.{turn-lighter}
+use Rattle.turn_client_laws.proofs.StreamDrainLemmas.{step-lighter}
 use Rattle.turn_client_laws.proofs.StreamWeightLemmas.{weight, weight-le}
 use Rattle.turn_client_streams.specs.Buffered.{front_frame, passed}
 use Rattle.turn_client_core.specs.Lent.{IsBoundFirst}
@@ -81,15 +81,15 @@ given-some next (PeerData payload, t) given e = let same : record payload { plac
 given-some next (outcome, t) given e = cc
 
 -- a step first: the others are as if it had been made before
-pub turns-first : (n now : ℕ) (s : State) (stream : Stream) → find is_ready s.streams ≡ Some stream
+pub steps-first : (n now : ℕ) (s : State) (stream : Stream) → find is_ready s.streams ≡ Some stream
     → steps_until_payload (suc n) now s ≡ go_on (steps_until_payload n now) (next_frame_step stream now s)
 unfolding steps_until_payload
-turns-first n now s stream e = ap (λ o. first_ready_step (steps_until_payload n now) now s o) e
+steps-first n now s stream e = ap (λ o. first_ready_step (steps_until_payload n now) now s o) e
 
-pub turns-none : (n now : ℕ) (s : State) → find is_ready s.streams ≡ None → steps_until_payload n now s ≡ (None, s)
+pub steps-none : (n now : ℕ) (s : State) → find is_ready s.streams ≡ None → steps_until_payload n now s ≡ (None, s)
 unfolding steps_until_payload
-turns-none zero now s e = refl
-turns-none (suc n) now s e = ap (λ o. first_ready_step (steps_until_payload n now) now s o) e
+steps-none zero now s e = refl
+steps-none (suc n) now s e = ap (λ o. first_ready_step (steps_until_payload n now) now s o) e
 
 -- one step more, after steps that gave nothing
 pub one-more : (n now : ℕ) (was s t : State) → steps_until_payload n now was ≡ (None, s) → steps_until_payload 1 now s ≡ (None, t) → steps_until_payload (suc n) now was ≡ (None, t)
@@ -108,17 +108,17 @@ one-more (suc n) now was s t led last = by (find is_ready was.streams) refl (λ 
         → ((u : State) → steps_until_payload n now u ≡ (None, s) → steps_until_payload 1 now s ≡ (None, t) → steps_until_payload (suc n) now u ≡ (None, t))
         → first_ready_step (steps_until_payload (suc n) now) now was (find is_ready was.streams) ≡ (None, t)
     by None e more =
-        let stays : was ≡ s = ap (λ p. p.1) (sym (turns-none (suc n) now was e) ∙ led) in
-        turns-none (suc (suc n)) now was e ∙ (sym (turns-none 1 now was e) ∙ (ap (steps_until_payload 1 now) stays ∙ last))
+        let stays : was ≡ s = ap (λ p. p.1) (sym (steps-none (suc n) now was e) ∙ led) in
+        steps-none (suc (suc n)) now was e ∙ (sym (steps-none 1 now was e) ∙ (ap (steps_until_payload 1 now) stays ∙ last))
     by (Some stream) e more =
         ap (λ o. first_ready_step (steps_until_payload (suc n) now) now was o) e
-        ∙ on (next_frame_step stream now was) more (sym (turns-first n now was stream e) ∙ led)
+        ∙ on (next_frame_step stream now was) more (sym (steps-first n now was stream e) ∙ led)
 
 pub leads-on : (now : ℕ) (was s : State) (stream : Stream) → find is_ready s.streams ≡ Some stream → owned_payload (next_frame_step stream now s).0 ≡ None → LeadsTo now was s
     → LeadsTo now was (next_frame_step stream now s).1
 unfolding steps_until_payload
 leads-on now was s stream e none (n, led) =
-    (suc n, one-more n now was s (next_frame_step stream now s).1 led (turns-first 0 now s stream e ∙ given-none (steps_until_payload 0 now) (next_frame_step stream now s) none))
+    (suc n, one-more n now was s (next_frame_step stream now s).1 led (steps-first 0 now s stream e ∙ given-none (steps_until_payload 0 now) (next_frame_step stream now s) none))
 
 pub stays-led : (now : ℕ) (s : State) → LeadsTo now s s
 unfolding steps_until_payload
@@ -133,19 +133,19 @@ first-Rests now s = (max_steps s, weight-le s.streams, refl)
 
 pub rests-on : (now : ℕ) (was s : State) (stream : Stream) → find is_ready s.streams ≡ Some stream → owned_payload (next_frame_step stream now s).0 ≡ None → Rests now was s
     → Rests now was (next_frame_step stream now s).1
-rests-on now was s stream e none (zero, least, same) = let less = turn-lighter stream now s e in absurd (omega (arith, less, least))
+rests-on now was s stream e none (zero, least, same) = let less = step-lighter stream now s e in absurd (omega (arith, less, least))
 rests-on now was s stream e none (suc k, least, same) =
-    let less = turn-lighter stream now s e in
-    (k, omega (arith, less, least), sym (given-none (steps_until_payload k now) (next_frame_step stream now s) none) ∙ (sym (turns-first k now s stream e) ∙ same))
+    let less = step-lighter stream now s e in
+    (k, omega (arith, less, least), sym (given-none (steps_until_payload k now) (next_frame_step stream now s) none) ∙ (sym (steps-first k now s stream e) ∙ same))
 
 pub rests-none : (now : ℕ) (was s : State) → find is_ready s.streams ≡ None → Rests now was s → poll_recv_step now was ≡ (None, s)
-rests-none now was s e (k, least, same) = sym same ∙ turns-none k now s e
+rests-none now was s e (k, least, same) = sym same ∙ steps-none k now s e
 
 pub rests-some : (now : ℕ) (was s : State) (stream : Stream) (payload : Payload) → find is_ready s.streams ≡ Some stream → owned_payload (next_frame_step stream now s).0 ≡ Some payload
     → Rests now was s → poll_recv_step now was ≡ (Some payload, (next_frame_step stream now s).1)
-rests-some now was s stream payload e given (zero, least, same) = let less = turn-lighter stream now s e in absurd (omega (arith, less, least))
+rests-some now was s stream payload e given (zero, least, same) = let less = step-lighter stream now s e in absurd (omega (arith, less, least))
 rests-some now was s stream payload e given (suc k, least, same) =
-    sym same ∙ (turns-first k now s stream e ∙ given-some (steps_until_payload k now) (next_frame_step stream now s) payload given)
+    sym same ∙ (steps-first k now s stream e ∙ given-some (steps_until_payload k now) (next_frame_step stream now s) payload given)
 
 -- ---- a stream breaks
 
@@ -213,6 +213,6 @@ bound-first now was s stream e (suc n, led) bound = by (find is_ready was.stream
         let step = next_frame_step first now was in
         let (payload, given) = bound-gives first now (with_bytes first.local [] was) b in
         let some : steps_until_payload (suc n) now was ≡ (Some payload, step.1) =
-        turns-first n now was first f ∙ given-some (steps_until_payload n now) step payload given in
+        steps-first n now was first f ∙ given-some (steps_until_payload n now) step payload given in
         let clash : Some payload ≡ None = ap (λ (p : Option Payload × State). p.0) (sym some ∙ led) in
         cc

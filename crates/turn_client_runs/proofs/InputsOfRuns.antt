@@ -9,26 +9,26 @@ use Rattle.turn_client_api.specs.declared.call.Call.{Call}
 use Rattle.turn_client_api.specs.declared.call.Call.TheVariants.{Recv, PollRecv}
 use Rattle.turn_client_api.proofs.HasLemmas.{Has}
 use Rattle.turn_client_laws.proofs.StandLemmas.{contains-has, has-contains}
-use Rattle.turn_client_laws.proofs.TurnBringLemmas.{IsBrought, lead-brings}
-use Rattle.turn_client_laws.proofs.TurnChainLemmas.{calls-do}
+use Rattle.turn_client_laws.proofs.InputBringLemmas.{IsBrought, lead-brings}
+use Rattle.turn_client_laws.proofs.InputChainLemmas.{calls-do}
 use Rattle.turn_client_runs.specs.Inputs.{IsAmong, handled_in}
 
 -- ---- one of some inputs did it
 
-pub among-left : (Did : Input → Type 0) (turns more : List Input) → IsAmong Did turns → IsAmong Did (turns ++ more)
-among-left Did turns more (one, there, did) = (one, Contains-append_left turns more one there, did)
+pub among-left : (Did : Input → Type 0) (inputs more : List Input) → IsAmong Did inputs → IsAmong Did (inputs ++ more)
+among-left Did inputs more (one, there, did) = (one, Contains-append_left inputs more one there, did)
 
-pub among-right : (Did : Input → Type 0) (turns more : List Input) → IsAmong Did more → IsAmong Did (turns ++ more)
-among-right Did turns more (one, there, did) = (one, Contains-append_right turns more one there, did)
+pub among-right : (Did : Input → Type 0) (inputs more : List Input) → IsAmong Did more → IsAmong Did (inputs ++ more)
+among-right Did inputs more (one, there, did) = (one, Contains-append_right inputs more one there, did)
 
-pub among-first : (Did : Input → Type 0) (one : Input) (turns : List Input) → Did one → IsAmong Did (one ∷ turns)
-among-first Did one turns did = (one, has-contains one (one ∷ turns) (inl refl), did)
+pub among-first : (Did : Input → Type 0) (one : Input) (inputs : List Input) → Did one → IsAmong Did (one ∷ inputs)
+among-first Did one inputs did = (one, has-contains one (one ∷ inputs) (inl refl), did)
 
-pub among-later : (Did : Input → Type 0) (one : Input) (turns : List Input) → IsAmong Did turns → IsAmong Did (one ∷ turns)
-among-later Did one turns among = among-right Did (one ∷ []) turns among
+pub among-later : (Did : Input → Type 0) (one : Input) (inputs : List Input) → IsAmong Did inputs → IsAmong Did (one ∷ inputs)
+among-later Did one inputs among = among-right Did (one ∷ []) inputs among
 
-pub has-among : (Did : Input → Type 0) (turns : List Input) → (one : Input) × Has one turns × Did one → IsAmong Did turns
-has-among Did turns (one, there, did) = (one, has-contains one turns there, did)
+pub has-among : (Did : Input → Type 0) (inputs : List Input) → (one : Input) × Has one inputs × Did one → IsAmong Did inputs
+has-among Did inputs (one, there, did) = (one, has-contains one inputs there, did)
 
 pub among-none : (Did : Input → Type 0) → IsAmong Did [] → ⊥
 among-none Did (one, there, did) = contains-has one [] there
@@ -54,7 +54,7 @@ leads-or call s = elim (takes-or call) [
 
 pub handled-leads : (call : Call) (s : State) (front later : List Input) (one : Input) → handled call s ≡ front ++ one ∷ later → InputsLead (front ++ one ∷ later) s (state_after call s)
 handled-leads call s front later one e = elim (leads-or call s) [
-  | inl lead ↦ subst (λ (turns : List Input). InputsLead turns s (state_after call s)) e lead
+  | inl lead ↦ subst (λ (inputs : List Input). InputsLead inputs s (state_after call s)) e lead
   | inr nothing ↦ absurd (none-front front later one (sym nothing ∙ e))
 ]
 

@@ -16,9 +16,9 @@ use Rattle.turn_client_api.specs.Streams.{broken_at, frame_step, is_ready, put_b
 use Rattle.turn_client_laws.specs.LawsBodies.{IsAsideFrom}
 use Rattle.turn_client_laws.proofs.FrameRestLemmas.{frame-bytes}
 use Rattle.turn_client_laws.proofs.OtherStreamLemmas.{frame-aside}
-use Rattle.turn_client_laws.proofs.TurnFrameLemmas.{bytes-twice}
+use Rattle.turn_client_laws.proofs.StepFrameLemmas.{bytes-twice}
 use Rattle.turn_client_runs.specs.Cut.{bytes_at, outcome_payloads, left, one_by_one, whole}
-use Rattle.turn_client_runs.proofs.AllTurnsLemmas.{all-first, all-rest, all_turns, gives_then}
+use Rattle.turn_client_runs.proofs.AllStepsLemmas.{all-first, all-rest, all_steps, gives_then}
 use Rattle.turn_client_runs.proofs.FollowLemmas.{IsFramed, IsThere, Suits, SuitsMode, control-framed, waiting-framed}
 use Rattle.turn_client_runs.proofs.StreamAtLemmas.{IsAlone, aside-alone, broken-aside, broken-empty, broken-found, bytes-found, fed-found, found-local}
 use Rattle.turn_client_runs.proofs.WholeLemmas.{bound-whole, unless, whole-breaks, whole-frame, whole-partial}
@@ -63,20 +63,20 @@ module _ (a : SocketAddr) (now : ℕ) where
   out-alone stream bytes t alone at_a =
       ap (λ (l : SocketAddr). with_bytes l [] (with_bytes a bytes t)) at_a ∙ (bytes-twice a bytes [] t ∙ alone.empty)
 
-  turn-fed : (stream : Stream) (bytes : List ℕ) (t : State) → IsAlone a t → stream_at a t ≡ Some stream
+  step-fed : (stream : Stream) (bytes : List ℕ) (t : State) → IsAlone a t → stream_at a t ≡ Some stream
       → next_frame_step (fed stream bytes) now (with_bytes a bytes t) ≡ detached_frame_step (fed stream bytes) now t
-  turn-fed stream bytes t alone e = ap (detached_frame_step (fed stream bytes) now) (out-alone stream bytes t alone (found-local a t stream e))
+  step-fed stream bytes t alone e = ap (detached_frame_step (fed stream bytes) now) (out-alone stream bytes t alone (found-local a t stream e))
 
   -- a stream that is not ready, while no other is
   waits-fed : (n : ℕ) (stream : Stream) (bytes : List ℕ) (t : State) → IsAlone a t → stream_at a t ≡ Some stream → is_ready (fed stream bytes) ≡ false
-      → all_turns n now (with_bytes a bytes t) ≡ ([], with_bytes a bytes t)
+      → all_steps n now (with_bytes a bytes t) ≡ ([], with_bytes a bytes t)
   waits-fed n stream bytes t alone e waits = all-rest n now (with_bytes a bytes t) (fed-found a bytes t stream alone e ∙ rw waits refl)
 
   pub ready-fed : (n : ℕ) (stream : Stream) (bytes : List ℕ) (t : State) → IsAlone a t → stream_at a t ≡ Some stream → is_ready (fed stream bytes) ≡ true
-      → all_turns (suc n) now (with_bytes a bytes t) ≡ gives_then (all_turns n now) (detached_frame_step (fed stream bytes) now t)
+      → all_steps (suc n) now (with_bytes a bytes t) ≡ gives_then (all_steps n now) (detached_frame_step (fed stream bytes) now t)
   ready-fed n stream bytes t alone e ready =
       all-first n now (with_bytes a bytes t) (fed stream bytes) (fed-found a bytes t stream alone e ∙ rw ready refl)
-      ∙ ap (gives_then (all_turns n now)) (turn-fed stream bytes t alone e)
+      ∙ ap (gives_then (all_steps n now)) (step-fed stream bytes t alone e)
 
   -- ---- a broken stream
 
@@ -84,23 +84,23 @@ module _ (a : SocketAddr) (now : ℕ) where
   broken-alone t alone = aside-alone a t (broken_at a t) (broken-aside a t) (broken-empty a t) alone.distinct alone.others
 
   -- no step follows after a stream broke
-  broken-rests : (n : ℕ) (stream : Stream) (t : State) → IsAlone a t → stream_at a t ≡ Some stream → all_turns n now (broken_at a t) ≡ ([], broken_at a t)
+  broken-rests : (n : ℕ) (stream : Stream) (t : State) → IsAlone a t → stream_at a t ≡ Some stream → all_steps n now (broken_at a t) ≡ ([], broken_at a t)
   broken-rests n stream t alone e =
       let u = broken_at a t in
       let rests = waits-fed n (record stream { mode = Broken; bytes = [] }) [] u (broken-alone t alone) (broken-found a t stream e) refl in
-      subst (λ (v : State). all_turns n now v ≡ ([], v)) (broken-empty a t) rests
+      subst (λ (v : State). all_steps n now v ≡ ([], v)) (broken-empty a t) rests
 
   -- ---- a bound stream
 
   bound-agrees : (n : ℕ) (t : State) (stream : Stream) (peer : SocketAddr) (bytes : List ℕ) → IsAlone a t → stream_at a t ≡ Some (record stream { mode = Bound peer })
-      → Agrees a false (all_turns (suc n) now (with_bytes a bytes t)) (whole a now t bytes)
+      → Agrees a false (all_steps (suc n) now (with_bytes a bytes t)) (whole a now t bytes)
   bound-agrees n t stream peer [] alone e =
       let u = record stream { mode = Bound peer } in
       agrees-by a false _ ([], with_bytes a [] t) _ (left t []) (waits-fed (suc n) u [] t alone e refl) (bound-whole a now t peer stream e [])
       (record { given = refl; leaves = rest-left a false t u [] alone e tt })
   bound-agrees n t stream peer (b ∷ bytes) alone e =
       let u = record stream { mode = Bound peer } in
-      let rests : all_turns n now t ≡ ([], t) = subst (λ (v : State). all_turns n now v ≡ ([], v)) alone.empty (waits-fed n u [] t alone e refl) in
+      let rests : all_steps n now t ≡ ([], t) = subst (λ (v : State). all_steps n now v ≡ ([], v)) alone.empty (waits-fed n u [] t alone e refl) in
       agrees-by a false _ (sent_by peer (b ∷ bytes) None ∷ [], t) _ _
       (ready-fed n u (b ∷ bytes) t alone e refl ∙ ap (λ (q : List Payload × State). (sent_by peer (b ∷ bytes) None ∷ q.0, q.1)) rests)
       (bound-whole a now t peer stream e (b ∷ bytes))
@@ -114,7 +114,7 @@ module _ (a : SocketAddr) (now : ℕ) where
 
   -- after so many steps more, for a rest that is shorter
   abbrev Later : Bool → ℕ → Type 0
-  Later c n = (t : State) (rest : List ℕ) → length rest < n → IsAlone a t → IsThere c a t → Agrees a c (all_turns n now (with_bytes a rest t)) (whole a now t rest)
+  Later c n = (t : State) (rest : List ℕ) → length rest < n → IsAlone a t → IsThere c a t → Agrees a c (all_steps n now (with_bytes a rest t)) (whole a now t rest)
 
   -- For a stream of frames at this local address.
   module _ (c : Bool) (m : Mode) (is : IsFramed c m) (stream : Stream) (t : State) (alone : IsAlone a t) (e : stream_at a t ≡ Some (record stream { mode = m })) where
@@ -128,20 +128,20 @@ module _ (a : SocketAddr) (now : ℕ) where
     readiness bytes o f = ap is_some (is.ready stream bytes ∙ f)
 
     -- no frame begins so
-    breaks : (n : ℕ) (bytes : List ℕ) → begins_no_frame bytes ≡ true → Agrees a c (all_turns (suc n) now (with_bytes a bytes t)) (whole a now t bytes)
+    breaks : (n : ℕ) (bytes : List ℕ) → begins_no_frame bytes ≡ true → Agrees a c (all_steps (suc n) now (with_bytes a bytes t)) (whole a now t bytes)
     breaks n [] f = cc
     breaks n (b ∷ bytes) f =
         let u = broken_at a t in
-        let turned-is : detached_frame_step (fed here (b ∷ bytes)) now t ≡ (Handled, u) = is.turns (record stream { bytes = b ∷ bytes }) now t
+        let step-is : detached_frame_step (fed here (b ∷ bytes)) now t ≡ (Handled, u) = is.steps (record stream { bytes = b ∷ bytes }) now t
         ∙ rw f (ap (λ (l : SocketAddr). (Handled, broken_at l t)) local-is) in
         agrees-by a c _ ([], u) _ (left u [])
         (ready-fed n here (b ∷ bytes) t alone e (readiness (b ∷ bytes) (Some (length (b ∷ bytes))) (rw f refl))
-        ∙ (ap (gives_then (all_turns n now)) turned-is ∙ broken-rests n here t alone e))
+        ∙ (ap (gives_then (all_steps n now)) step-is ∙ broken-rests n here t alone e))
         (whole-breaks a now c m is stream t e (b ∷ bytes) f)
         (record { given = refl; leaves = empty-left a c u (record stream { mode = Broken; bytes = [] }) (broken-alone t alone) (broken-found a t here e) (suits-broken c) })
 
     -- no whole frame is present
-    partial : (n : ℕ) (bytes : List ℕ) → begins_no_frame bytes ≡ false → frame_len bytes ≡ None → Agrees a c (all_turns (suc n) now (with_bytes a bytes t)) (whole a now t bytes)
+    partial : (n : ℕ) (bytes : List ℕ) → begins_no_frame bytes ≡ false → frame_len bytes ≡ None → Agrees a c (all_steps (suc n) now (with_bytes a bytes t)) (whole a now t bytes)
     partial n bytes f g =
         agrees-by a c _ ([], with_bytes a bytes t) _ (left t bytes)
         (waits-fed (suc n) here bytes t alone e (readiness bytes None (unless _ _ _ f ∙ g)))
@@ -157,20 +157,20 @@ module _ (a : SocketAddr) (now : ℕ) where
 
     -- the first frame has so many bytes
     gives : (n : ℕ) (bytes : List ℕ) (k : ℕ) → begins_no_frame bytes ≡ false → frame_len bytes ≡ Some k → length bytes < suc n → Later c n
-        → Agrees a c (all_turns (suc n) now (with_bytes a bytes t)) (whole a now t bytes)
+        → Agrees a c (all_steps (suc n) now (with_bytes a bytes t)) (whole a now t bytes)
     gives n bytes k f g few later =
         let w = frame_len-IsWhole bytes k g in
         let frame = take k bytes in
         let rest = drop k bytes in
         let p = frame_step here frame now t in
         let shorter : length rest < n = rw length-drop (omega (arith, w.least, w.within, few)) in
-        let turned-is : detached_frame_step (fed here bytes) now t ≡ (p.0, with_bytes a rest p.1) =
-        is.turns (record stream { bytes = bytes }) now t
+        let step-is : detached_frame_step (fed here bytes) now t ≡ (p.0, with_bytes a rest p.1) =
+        is.steps (record stream { bytes = bytes }) now t
         ∙ rw (g, f) (ap (put_back stream.local rest) (is.same stream bytes frame now t) ∙ ap (λ (l : SocketAddr). put_back l rest p) local-is) in
-        let q = all_turns n now (with_bytes a rest p.1) in
+        let q = all_steps n now (with_bytes a rest p.1) in
         let more = later p.1 rest shorter (framed-alone frame) (is.stays a stream frame now t e) in
         agrees-by a c _ (outcome_payloads p.0 ++ q.0, q.1) _ (behind (outcome_payloads p.0) (whole a now p.1 rest))
-        (ready-fed n here bytes t alone e (readiness bytes (Some k) (unless _ _ _ f ∙ g)) ∙ ap (gives_then (all_turns n now)) turned-is)
+        (ready-fed n here bytes t alone e (readiness bytes (Some k) (unless _ _ _ f ∙ g)) ∙ ap (gives_then (all_steps n now)) step-is)
         (whole-frame a now c m is stream t e bytes k f g)
         (record {
           given =
@@ -180,20 +180,20 @@ module _ (a : SocketAddr) (now : ℕ) where
           leaves = more.leaves;
         })
 
-    framed-agrees : (n : ℕ) (bytes : List ℕ) → length bytes < suc n → Later c n → Agrees a c (all_turns (suc n) now (with_bytes a bytes t)) (whole a now t bytes)
+    framed-agrees : (n : ℕ) (bytes : List ℕ) → length bytes < suc n → Later c n → Agrees a c (all_steps (suc n) now (with_bytes a bytes t)) (whole a now t bytes)
     framed-agrees n bytes few later = by (begins_no_frame bytes) refl (frame_len bytes) refl
       where
-        by : (b : Bool) → begins_no_frame bytes ≡ b → (o : Option ℕ) → frame_len bytes ≡ o → Agrees a c (all_turns (suc n) now (with_bytes a bytes t)) (whole a now t bytes)
+        by : (b : Bool) → begins_no_frame bytes ≡ b → (o : Option ℕ) → frame_len bytes ≡ o → Agrees a c (all_steps (suc n) now (with_bytes a bytes t)) (whole a now t bytes)
         by true f o g = breaks n bytes f
         by false f None g = partial n bytes f g
         by false f (Some k) g = gives n bytes k f g few later
 
     -- its own step is the first of all, and while it waits there is none
-    pub framed-first : (n : ℕ) (bytes : List ℕ) → gives_then (all_turns n now) (detached_frame_step (fed here bytes) now t) ≡ all_turns (suc n) now (with_bytes a bytes t)
+    pub framed-first : (n : ℕ) (bytes : List ℕ) → gives_then (all_steps n now) (detached_frame_step (fed here bytes) now t) ≡ all_steps (suc n) now (with_bytes a bytes t)
     framed-first n bytes = by (begins_no_frame bytes) refl (frame_len bytes) refl
       where
         Goal : Type 0
-        Goal = gives_then (all_turns n now) (detached_frame_step (fed here bytes) now t) ≡ all_turns (suc n) now (with_bytes a bytes t)
+        Goal = gives_then (all_steps n now) (detached_frame_step (fed here bytes) now t) ≡ all_steps (suc n) now (with_bytes a bytes t)
 
         ready : is_ready (fed here bytes) ≡ true → Goal
         ready r = sym (ready-fed n here bytes t alone e r)
@@ -203,15 +203,15 @@ module _ (a : SocketAddr) (now : ℕ) where
         by false f (Some k) g = ready (readiness bytes (Some k) (unless _ _ _ f ∙ g))
         by false f None g =
             let waits = readiness bytes None (unless _ _ _ f ∙ g) in
-            let turned-is : detached_frame_step (fed here bytes) now t ≡ (Handled, with_bytes a bytes t) =
-            is.turns (record stream { bytes = bytes }) now t ∙ rw (g, f) (ap (λ (l : SocketAddr). (Handled, with_bytes l bytes t)) local-is) in
-            ap (gives_then (all_turns n now)) turned-is
+            let step-is : detached_frame_step (fed here bytes) now t ≡ (Handled, with_bytes a bytes t) =
+            is.steps (record stream { bytes = bytes }) now t ∙ rw (g, f) (ap (λ (l : SocketAddr). (Handled, with_bytes l bytes t)) local-is) in
+            ap (gives_then (all_steps n now)) step-is
             ∙ (waits-fed n here bytes t alone e waits ∙ sym (waits-fed (suc n) here bytes t alone e waits))
 
   -- ---- any stream that is not broken
 
   in-mode : (c : Bool) (m : Mode) (stream : Stream) (t : State) → SuitsMode c m → (m ≡ Broken → ⊥) → IsAlone a t → stream_at a t ≡ Some (record stream { mode = m }) → (n : ℕ) (bytes : List ℕ)
-      → length bytes < suc n → Later c n → Agrees a c (all_turns (suc n) now (with_bytes a bytes t)) (whole a now t bytes)
+      → length bytes < suc n → Later c n → Agrees a c (all_steps (suc n) now (with_bytes a bytes t)) (whole a now t bytes)
   in-mode true Control stream t suits unbroken alone e n bytes few later = framed-agrees true Control control-framed stream t alone e n bytes few later
   in-mode false Waiting stream t suits unbroken alone e n bytes few later = framed-agrees false Waiting waiting-framed stream t alone e n bytes few later
   in-mode false (Bound peer) stream t suits unbroken alone e n bytes few later = bound-agrees n t stream peer bytes alone e
@@ -220,7 +220,7 @@ module _ (a : SocketAddr) (now : ℕ) where
   in-mode c m stream t suits unbroken alone e n bytes few later = absurd suits
 
   -- more steps than bytes give the whole
-  pub turns-whole : (c : Bool) (n : ℕ) (t : State) (bytes : List ℕ) → length bytes < n → IsAlone a t → IsThere c a t → Agrees a c (all_turns n now (with_bytes a bytes t)) (whole a now t bytes)
-  turns-whole c zero t bytes few alone there = absurd (omega (arith, few))
-  turns-whole c (suc n) t bytes few alone there =
-      in-mode c there.stream.mode there.stream t there.suits there.unbroken alone there.found n bytes few (λ u rest less still is. turns-whole c n u rest less still is)
+  pub steps-whole : (c : Bool) (n : ℕ) (t : State) (bytes : List ℕ) → length bytes < n → IsAlone a t → IsThere c a t → Agrees a c (all_steps n now (with_bytes a bytes t)) (whole a now t bytes)
+  steps-whole c zero t bytes few alone there = absurd (omega (arith, few))
+  steps-whole c (suc n) t bytes few alone there =
+      in-mode c there.stream.mode there.stream t there.suits there.unbroken alone there.found n bytes few (λ u rest less still is. steps-whole c n u rest less still is)

@@ -10,11 +10,11 @@ use Rattle.turn_client_laws.specs.LawsHandled.{ProcessesInputs, InputsLead}
 use Rattle.turn_client_api.proofs.HasLemmas.{Has}
 use Rattle.turn_client_laws.proofs.RunKeepLemmas.{IsKept, differs-kept, input-kept}
 use Rattle.turn_client_laws.proofs.StandLemmas.{contains-has}
-use Rattle.turn_client_laws.proofs.TurnChainLemmas.{calls-do}
+use Rattle.turn_client_laws.proofs.InputChainLemmas.{calls-do}
 
 module _ (R : State → State → Type 0) (k : IsKept R) where
   -- up to the input
-  lead-kept : (turns : List Input) (s t : State) → InputsLead turns s t → (one : Input) → Has one turns → R s one.before
+  lead-kept : (inputs : List Input) (s t : State) → InputsLead inputs s t → (one : Input) → Has one inputs → R s one.before
   lead-kept [] s t lead one none = absurd none
   lead-kept (x ∷ later) s t (first, lead) one (inl e) = subst (λ (y : Input). R s y.before) (sym e) (differs-kept R k s x.before first)
   lead-kept (x ∷ later) s t (first, lead) one (inr there) =

@@ -23,15 +23,15 @@ use Rattle.turn_client_api.proofs.HasLemmas.{Has, has-filter}
 use Rattle.turn_client_laws.proofs.MoveCallLemmas.{channel-does, connect-does, does-same, does-settled, permission-does}
 use Rattle.turn_client_laws.proofs.MoveLemmas.{IsOfBare, Moves, Remains, Settles, adds-filter, adds-same, loses-same, loses-wider, moves-same}
 use Rattle.turn_client_laws.proofs.MoveLemmas.{remains-here, settles-moves, settles-same, settles-wider}
-use Rattle.turn_client_laws.proofs.MoveMessageLemmas.{turn-turns}
+use Rattle.turn_client_laws.proofs.MoveMessageLemmas.{input-moves}
 use Rattle.turn_client_laws.proofs.MovePollLemmas.{poll-does, transmit-does}
 use Rattle.turn_client_laws.proofs.MoveReplyLemmas.{is_for-whole}
 use Rattle.turn_client_laws.proofs.MoveSocketLemmas.{closed-does, delete-does, error-does, gone-settles, send-does, taken-does}
 use Rattle.turn_client_laws.proofs.StandLemmas.{contains-has, has-contains}
 use Rattle.turn_client_laws.proofs.MemoryLemmas.{memory-ends}
-use Rattle.turn_client_laws.proofs.TurnBringLemmas.{Among, among-done, front-done, later-among, leads-back}
-use Rattle.turn_client_laws.proofs.TurnChainLemmas.{calls-do, turns-lead}
-use Rattle.turn_client_laws.proofs.TurnEndLemmas.{calls-end}
+use Rattle.turn_client_laws.proofs.InputBringLemmas.{Among, among-done, front-done, later-among, leads-back}
+use Rattle.turn_client_laws.proofs.InputChainLemmas.{calls-do, steps-lead}
+use Rattle.turn_client_laws.proofs.InputEndLemmas.{calls-end}
 use Rattle.turn_client_api.specs.Calls.{is_open_to}
 use Rattle.turn_client_laws.proofs.MoveCallLemmas.{keep-does}
 
@@ -39,16 +39,16 @@ use Rattle.turn_client_laws.proofs.MoveCallLemmas.{keep-does}
 
 -- what held before the inputs holds after them, or one of them ended it
 leads-on : (P : State → Type 0) (Did : Input → Type 0) → ((s t : State) → DiffersInStreams s t → P s → P t) → ((one : Input) → P one.before → P (processed one).1 ⊎ Did one)
-    → (turns : List Input) (s t : State) → InputsLead turns s t → P s → P t ⊎ Among Did turns
+    → (inputs : List Input) (s t : State) → InputsLead inputs s t → P s → P t ⊎ Among Did inputs
 leads-on P Did alike step [] s t differs h = inl (alike s t differs h)
-leads-on P Did alike step (one ∷ turns) s t (differs, lead) h =
-    by (step one (alike s one.before differs h)) (λ here. leads-on P Did alike step turns (processed one).1 t lead here)
+leads-on P Did alike step (one ∷ inputs) s t (differs, lead) h =
+    by (step one (alike s one.before differs h)) (λ here. leads-on P Did alike step inputs (processed one).1 t lead here)
   where
-    further : P t ⊎ Among Did turns → P t ⊎ Among Did (one ∷ turns)
+    further : P t ⊎ Among Did inputs → P t ⊎ Among Did (one ∷ inputs)
     further (inl there) = inl there
-    further (inr among) = inr (later-among Did one turns among)
+    further (inr among) = inr (later-among Did one inputs among)
 
-    by : P (processed one).1 ⊎ Did one → (P (processed one).1 → P t ⊎ Among Did turns) → P t ⊎ Among Did (one ∷ turns)
+    by : P (processed one).1 ⊎ Did one → (P (processed one).1 → P t ⊎ Among Did inputs) → P t ⊎ Among Did (one ∷ inputs)
     by (inl here) more = further (more here)
     by (inr did) more = inr (one, inl refl, did)
 
@@ -65,28 +65,28 @@ taken-whole one g is same (inr over) = inr (by one.stream over)
 
 -- ---- a call that processes inputs
 
-module _ (turns : List Input) (s t : State) (lead : InputsLead turns s t) where
-  lead-transactions : (x : Transaction) → Has x t.transactions → Has x s.transactions ⊎ Among (IsMadeByInput x) turns
+module _ (inputs : List Input) (s t : State) (lead : InputsLead inputs s t) where
+  lead-transactions : (x : Transaction) → Has x t.transactions → Has x s.transactions ⊎ Among (IsMadeByInput x) inputs
   lead-transactions x h =
       leads-back (λ u. Has x u.transactions) (IsMadeByInput x)
       (λ u v differs there. subst (λ (w : State). Has x w.transactions) differs.others there)
-      (λ one there. (turn-turns one).0 x there) turns s t lead h
+      (λ one there. (input-moves one).0 x there) inputs s t lead h
 
-  lead-listed : (l : Listing) → Has l t.listed → Has l s.listed ⊎ Among (IsListedByInput l) turns
+  lead-listed : (l : Listing) → Has l t.listed → Has l s.listed ⊎ Among (IsListedByInput l) inputs
   lead-listed l h =
       leads-back (λ u. Has l u.listed) (IsListedByInput l)
       (λ u v differs there. subst (λ (w : State). Has l w.listed) differs.others there)
-      (λ one there. (turn-turns one).1 l there) turns s t lead h
+      (λ one there. (input-moves one).1 l there) inputs s t lead h
 
-  lead-grants : (g : Grant) → Has g s.grants → Remains g t.grants ⊎ Among (IsRemovedByInput g) turns
+  lead-grants : (g : Grant) → Has g s.grants → Remains g t.grants ⊎ Among (IsRemovedByInput g) inputs
   lead-grants g h =
       leads-on (λ u. Remains g u.grants) (IsRemovedByInput g)
       (λ u v differs there. subst (λ (w : State). Remains g w.grants) (sym differs.others) there)
-      step turns s t lead (remains-here g s.grants h)
+      step inputs s t lead (remains-here g s.grants h)
     where
       step : (one : Input) → Remains g one.before.grants → Remains g (processed one).1.grants ⊎ IsRemovedByInput g one
       step one (is, there, same) =
-          elim ((turn-turns one).2 is there) [ inl (last, here, e) ↦ inl (last, here, same ∙ e) | inr taken ↦ inr (taken-whole one g is same taken) ]
+          elim ((input-moves one).2 is there) [ inl (last, here, e) ↦ inl (last, here, same ∙ e) | inr taken ↦ inr (taken-whole one g is same taken) ]
 
 -- ---- the law
 
@@ -98,15 +98,15 @@ abbrev pub Obeys : Call → State → Type 0
 Obeys call s = ObeysTo call s (state_after call s)
 
 -- what the inputs do, the call does
-lead-obeys : (call : Call) (s t : State) (turns : List Input) → InputsLead turns s t → ((Did : Input → Type 0) → Among Did turns → IsDoneBy Did call s)
+lead-obeys : (call : Call) (s t : State) (inputs : List Input) → InputsLead inputs s t → ((Did : Input → Type 0) → Among Did inputs → IsDoneBy Did call s)
     → Moves (λ x. IsDoneBy (IsMadeByInput x) call s) (λ l. IsDoneBy (IsListedByInput l) call s) (λ g. IsDoneBy (IsRemovedByInput g) call s) s t
-lead-obeys call s t turns lead done = (
-  λ x h. by (IsMadeByInput x) (lead-transactions turns s t lead x h),
-  λ l h. by (IsListedByInput l) (lead-listed turns s t lead l h),
-  λ g h. by (IsRemovedByInput g) (lead-grants turns s t lead g h),
+lead-obeys call s t inputs lead done = (
+  λ x h. by (IsMadeByInput x) (lead-transactions inputs s t lead x h),
+  λ l h. by (IsListedByInput l) (lead-listed inputs s t lead l h),
+  λ g h. by (IsRemovedByInput g) (lead-grants inputs s t lead g h),
 )
   where
-    by : {X : Type 0} (Did : Input → Type 0) → X ⊎ Among Did turns → X ⊎ IsDoneBy Did call s
+    by : {X : Type 0} (Did : Input → Type 0) → X ⊎ Among Did inputs → X ⊎ IsDoneBy Did call s
     by Did (inl x) = inl x
     by Did (inr among) = inr (done Did among)
 
@@ -146,7 +146,7 @@ all-obey (TcpClosed local remote now) s = closed-does local remote now s
 all-obey (SendTo transport peer bytes now) s = send-does transport peer bytes now s
 all-obey (Recv packet now) s = recv-obeys packet now s
 all-obey (PollRecv now) s =
-    lead-obeys (PollRecv now) s _ (handled (PollRecv now) s) (turns-lead (max_steps s) now s) (λ Did. among-done Did (PollRecv now) s)
+    lead-obeys (PollRecv now) s _ (handled (PollRecv now) s) (steps-lead (max_steps s) now s) (λ Did. among-done Did (PollRecv now) s)
 all-obey (Poll now) s = poll-does now s
 all-obey (PollTransmit now) s = transmit-does now s
 all-obey PollEvent s = does-settled PollEvent s (state_after PollEvent s) (settles-same (IsTakenBy PollEvent s) s)

@@ -21,10 +21,10 @@ use Rattle.turn_client_api.specs.Steps.{EndsWithoutMemory}
 use Rattle.turn_client_api.specs.declared.call.Call.{Call}
 use Rattle.turn_client_api.specs.declared.call.Call.TheVariants.{Recv, PollRecv}
 use Rattle.turn_client_laws.specs.LawsHandled.{EndsAmidInputs, TakesInput, InputsLead}
-use Rattle.turn_client_laws.proofs.StreamDrainLemmas.{turn-lighter}
+use Rattle.turn_client_laws.proofs.StreamDrainLemmas.{step-lighter}
 use Rattle.turn_client_laws.proofs.MemoryLemmas.{behind}
 use Rattle.turn_client_laws.proofs.StreamWeightLemmas.{weight, weight-le}
-use Rattle.turn_client_laws.proofs.TurnChainLemmas.{broken-differs, fed-leads, leads-after, leads-append, turns-lead}
+use Rattle.turn_client_laws.proofs.InputChainLemmas.{broken-differs, fed-leads, leads-after, leads-append, steps-lead}
 
 -- these inputs are the first of those
 abbrev IsFrontOf : List Input → List Input → Type 0
@@ -45,14 +45,14 @@ taken-front (suc n) zero now s h = by (find is_ready s.streams) refl
   where
     by : (o : Option Stream) → find is_ready s.streams ≡ o → IsFrontOf (taken_first (inputs_taken n now) now s o) []
     by None e = ([], refl)
-    by (Some stream) e = let less = turn-lighter stream now s e in absurd (omega (arith, less, h))
+    by (Some stream) e = let less = step-lighter stream now s e in absurd (omega (arith, less, h))
 taken-front (suc n) (suc m) now s h = by (find is_ready s.streams) refl (λ t less. taken-front n m now t less)
   where
     by : (o : Option Stream) → find is_ready s.streams ≡ o → ((t : State) → weight t.streams ≤ m → IsFrontOf (inputs_taken n now t) (inputs_taken m now t))
         → IsFrontOf (taken_first (inputs_taken n now) now s o) (taken_first (inputs_taken m now) now s o)
     by None e more = ([], refl)
     by (Some stream) e more =
-        let less = turn-lighter stream now s e in
+        let less = step-lighter stream now s e in
         let next = (next_frame_step stream now s).1 in
         front-append (stream_inputs_taken false stream now s) _ _
         (front-given (payload_in (next_frame_step stream now s).0) (inputs_taken n now next) (inputs_taken m now next) (more next (omega (arith, less, h))))
@@ -61,11 +61,11 @@ taken-front (suc n) (suc m) now s h = by (find is_ready s.streams) refl (λ t le
 abbrev Ends : List Input → State → State → Type 0
 Ends all s t = (front : List Input) × IsFrontOf front all × ((last : State) × InputsLead front s last × (t ≡ closed last))
 
-turns-end : (now : ℕ) (s t : State) → EndsAfterSteps now s t → Ends (poll_recv_inputs now s) s t
-turns-end now s t (u, (n, led), broken) = by (find is_ready u.streams) broken
+steps-end : (now : ℕ) (s t : State) → EndsAfterSteps now s t → Ends (poll_recv_inputs now s) s t
+steps-end now s t (u, (n, led), broken) = by (find is_ready u.streams) broken
   where
     there : InputsLead (inputs_taken n now s) s u
-    there = subst (λ (p : Option Payload × State). InputsLead (inputs_taken n now s) s p.1) led (turns-lead n now s)
+    there = subst (λ (p : Option Payload × State). InputsLead (inputs_taken n now s) s p.1) led (steps-lead n now s)
 
     by : (o : Option Stream) → IsSomeAnd o (λ stream. t ≡ closed (broken_at stream.local u)) → Ends (poll_recv_inputs now s) s t
     by None none = absurd none
@@ -87,8 +87,8 @@ EndsFrom now t o = IsSomeAnd o (λ u. EndsAfterSteps now u t)
 
 control-end : (now : ℕ) (first : List Input) (s t : State) (p : Outcome × State) → InputsLead first s p.1 → EndsFrom now t (behind p) → Ends (first ++ then_taken now p) s t
 unfolding behind
-control-end now first s t (Handled, u) lead end = ends-append first (poll_recv_inputs now u) s t u lead (turns-end now u t end)
-control-end now first s t (Ignored, u) lead end = ends-append first (poll_recv_inputs now u) s t u lead (turns-end now u t end)
+control-end now first s t (Handled, u) lead end = ends-append first (poll_recv_inputs now u) s t u lead (steps-end now u t end)
+control-end now first s t (Ignored, u) lead end = ends-append first (poll_recv_inputs now u) s t u lead (steps-end now u t end)
 control-end now first s t (_, u) lead end = absurd end
 
 piece_in_mode : (to : SocketAddr) (m : Mode) (stream : Stream) (piece : List ℕ) (now : ℕ) (s t : State) → stream_at to s ≡ Some (record stream { mode = m })
@@ -100,7 +100,7 @@ piece_in_mode to Control stream piece now s t f end =
 piece_in_mode to Broken stream piece now s t f end = by (same_address stream.local s.local) (rw f at end)
   where
     by : (b : Bool) → EndsFrom now t (cond b (Some s) None) → Ends (cond b (poll_recv_inputs now s) []) s t
-    by true h = turns-end now s t h
+    by true h = steps-end now s t h
     by false h = absurd h
 piece_in_mode to m stream piece now s t f end = absurd (rw f at end)
 
@@ -144,5 +144,5 @@ ends-in call s t (front, (later, e), (last, lead, ended)) = record {
 
 pub calls-end : (call : Call) (s t : State) → TakesInput call → EndsWithoutMemory call s t → EndsAmidInputs call s t
 calls-end (Recv packet now) s t is (asks, end) = ends-in (Recv packet now) s t (recv_over s.transport packet.transport packet.from packet.to packet.payload now s t asks end)
-calls-end (PollRecv now) s t is end = ends-in (PollRecv now) s t (turns-end now s t end)
+calls-end (PollRecv now) s t is end = ends-in (PollRecv now) s t (steps-end now s t end)
 calls-end call s t is end = absurd is

@@ -12,7 +12,7 @@ use Rattle.turn_client_api.specs.Steps.{Leaves, state_after}
 use Rattle.turn_client_api.specs.declared.call.Call.{Call}
 use Rattle.turn_client_laws.specs.LawsHandled.{TakesInput}
 use Rattle.turn_client_laws.specs.LawsInputs.{Deed, IsBroughtBy}
-use Rattle.turn_client_laws.proofs.TurnBringLemmas.{IsBrought, leaves-bring}
+use Rattle.turn_client_laws.proofs.InputBringLemmas.{IsBrought, leaves-bring}
 
 -- Of a claim on states and what a message does: streams do not count, and if the claim holds after a
 -- message and did not before it, the message did it. The end of a connection, or of the client, causes

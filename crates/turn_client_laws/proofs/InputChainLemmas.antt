@@ -70,11 +70,11 @@ dropped-differs a s = record { others = refl; bound = by }
 
 -- ---- inputs in sequence
 
-pub leads-after : (turns : List Input) (s t u : State) → InputsLead turns s t → DiffersInStreams t u → InputsLead turns s u
+pub leads-after : (inputs : List Input) (s t u : State) → InputsLead inputs s t → DiffersInStreams t u → InputsLead inputs s u
 leads-after [] s t u lead more = differs-trans s t u lead more
 leads-after (one ∷ later) s t u (first, lead) more = (first, leads-after later (processed one).1 t u lead more)
 
-leads-before : (turns : List Input) (s t u : State) → DiffersInStreams s t → InputsLead turns t u → InputsLead turns s u
+leads-before : (inputs : List Input) (s t u : State) → DiffersInStreams s t → InputsLead inputs t u → InputsLead inputs s u
 leads-before [] s t u first lead = differs-trans s t u first lead
 leads-before (one ∷ later) s t u first (more, lead) = (differs-trans s t one.before first more, lead)
 
@@ -94,15 +94,15 @@ framed-leads l stream now t = by (begins_no_frame stream.bytes) (frame_len strea
         let one = stream_input l stream (take len stream.bytes) now t in
         (differs-same t, bytes-differs stream.local (drop len stream.bytes) (processed one).1)
 
-turned_in_mode : (m : Mode) (l : Bool) (stream : Stream) (now : ℕ) (t : State) → InputsLead (taken_in l (record stream { mode = m }) now t) t (detached_frame_step (record stream { mode = m }) now t).1
-turned_in_mode (Bound peer) l stream now t = (differs-same t, differs-same t)
-turned_in_mode Broken l stream now t = differs-same t
-turned_in_mode m l stream now t = framed-leads l (record stream { mode = m }) now t
+detached_in_mode : (m : Mode) (l : Bool) (stream : Stream) (now : ℕ) (t : State) → InputsLead (taken_in l (record stream { mode = m }) now t) t (detached_frame_step (record stream { mode = m }) now t).1
+detached_in_mode (Bound peer) l stream now t = (differs-same t, differs-same t)
+detached_in_mode Broken l stream now t = differs-same t
+detached_in_mode m l stream now t = framed-leads l (record stream { mode = m }) now t
 
-turn-leads : (l : Bool) (stream : Stream) (now : ℕ) (s : State) → InputsLead (stream_inputs_taken l stream now s) s (next_frame_step stream now s).1
-turn-leads l stream now s =
+step-leads : (l : Bool) (stream : Stream) (now : ℕ) (s : State) → InputsLead (stream_inputs_taken l stream now s) s (next_frame_step stream now s).1
+step-leads l stream now s =
     let out = with_bytes stream.local [] s in
-    leads-before (taken_in l stream now out) s out (next_frame_step stream now s).1 (bytes-differs stream.local [] s) (turned_in_mode stream.mode l stream now out)
+    leads-before (taken_in l stream now out) s out (next_frame_step stream now s).1 (bytes-differs stream.local [] s) (detached_in_mode stream.mode l stream now out)
 
 -- ---- all streams
 
@@ -111,18 +111,18 @@ go_on-leads : (next : State → Option Payload × State) (later : State → List
 go_on-leads next later front s (PeerData payload, t) first more = leads-append front [] s t t first (differs-same t)
 go_on-leads next later front s (_, t) first more = leads-append front (later t) s t (next t).1 first (more t)
 
-pub turns-lead : (n now : ℕ) (s : State) → InputsLead (inputs_taken n now s) s (steps_until_payload n now s).1
+pub steps-lead : (n now : ℕ) (s : State) → InputsLead (inputs_taken n now s) s (steps_until_payload n now s).1
 unfolding steps_until_payload inputs_taken
-turns-lead zero now s = differs-same s
-turns-lead (suc n) now s = by (find is_ready s.streams) (λ t. turns-lead n now t)
+steps-lead zero now s = differs-same s
+steps-lead (suc n) now s = by (find is_ready s.streams) (λ t. steps-lead n now t)
   where
     by : (o : Option Stream) → ((t : State) → InputsLead (inputs_taken n now t) t (steps_until_payload n now t).1)
         → InputsLead (taken_first (inputs_taken n now) now s o) s (first_ready_step (steps_until_payload n now) now s o).1
     by None more = differs-same s
-    by (Some stream) more = go_on-leads (steps_until_payload n now) (inputs_taken n now) (stream_inputs_taken false stream now s) s (next_frame_step stream now s) (turn-leads false stream now s) more
+    by (Some stream) more = go_on-leads (steps_until_payload n now) (inputs_taken n now) (stream_inputs_taken false stream now s) s (next_frame_step stream now s) (step-leads false stream now s) more
 
 poll_recv-leads : (now : ℕ) (s : State) → InputsLead (poll_recv_inputs now s) s (poll_recv_step now s).1
-poll_recv-leads now s = turns-lead (max_steps s) now s
+poll_recv-leads now s = steps-lead (max_steps s) now s
 
 -- ---- a piece of a stream
 
@@ -132,7 +132,7 @@ then_all-leads now front s (Ignored, t) first = leads-append front (poll_recv_in
 then_all-leads now front s (_, t) first = leads-append front [] s t t first (differs-same t)
 
 pub fed-leads : (stream : Stream) (piece : List ℕ) (now : ℕ) (s : State) → InputsLead (fed_taken stream piece now s) s (first_frame_step stream piece now s).1
-fed-leads stream piece now s = turn-leads (is_front stream.bytes) (stream_with_piece stream piece) now s
+fed-leads stream piece now s = step-leads (is_front stream.bytes) (stream_with_piece stream piece) now s
 
 piece_in_mode : (m : Mode) (stream : Stream) (piece : List ℕ) (now : ℕ) (s : State)
     → InputsLead (piece_inputs (record stream { mode = m }) piece now s) s (piece_step (record stream { mode = m }) piece now s).1
@@ -151,7 +151,7 @@ piece_in_mode Broken stream piece now s = by (same_address stream.local s.local)
 
 -- the inputs lead to the state after it, or the stream has ended
 abbrev Does : List Input → State → State → Type 0
-Does turns s t = InputsLead turns s t ⊎ ((local : SocketAddr) × (turns ≡ []) × (t ≡ without_stream local (connection_gone local s)))
+Does inputs s t = InputsLead inputs s t ⊎ ((local : SocketAddr) × (inputs ≡ []) × (t ≡ without_stream local (connection_gone local s)))
 
 stream-does : (stream : Stream) (piece : List ℕ) (now : ℕ) (s : State) → Does (stream_inputs stream piece now s) s (stream_step stream piece now s).1
 stream-does stream [] now s = inr (stream.local, refl, refl)

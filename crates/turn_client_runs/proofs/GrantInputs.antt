@@ -32,14 +32,14 @@ use Rattle.turn_client_laws.specs.LawsReplies.{IsAccepted, IsAwaited, IsNotAwait
 use Rattle.turn_client_api.specs.Payloads.{is_message, message_step}
 use Rattle.turn_client_api.specs.Receive.{connection_gone}
 use Rattle.turn_client_laws.proofs.AcceptedReplyLemmas.{bind-ended}
-use Rattle.turn_client_laws.proofs.BoundLemmas.{binds-turn, found-local}
+use Rattle.turn_client_laws.proofs.BoundLemmas.{binds-input, found-local}
 use Rattle.turn_client_laws.proofs.GrantOriginCallLemmas.{Binds, BindsOrLeaves, bind-leaves, gone-leaves}
 use Rattle.turn_client_laws.proofs.GrantOriginLemmas.{has-mapped}
 use Rattle.turn_client_laws.proofs.GrantOriginMessageLemmas.{message-grants}
 use Rattle.turn_client_api.proofs.AddressLemmas.{same_address-true}
 use Rattle.turn_client_api.proofs.HasLemmas.{Has}
 use Rattle.turn_client_laws.proofs.StandLemmas.{Covers, covers-left}
-use Rattle.turn_client_laws.proofs.TurnBringLemmas.{IsBrought}
+use Rattle.turn_client_laws.proofs.InputBringLemmas.{IsBrought}
 use Rattle.turn_client_runs.specs.Granted.{IsOverIts}
 use Rattle.turn_client_runs.proofs.MadeLemmas.{control-made, success-ends, waiting-made}
 use Rattle.std.specs.Prelude.{⊤}
@@ -204,13 +204,13 @@ module _ (one : Input) (stream : Stream) (of : one.stream ≡ Some stream) (wait
       rw (waiting-made stream.local one (rw of (waits, refl)) whole, steps) (bind-ended b.c one.bytes one.time one.before judged)
 
   pub bind-accepting : (b : Binds stream.local one.bytes one.before (bind_step stream.local one.bytes one.time one.before)) → one.before.phase ≡ Allocated
-      → (turn : IsBindInput stream.local b.c.peer one) → IsAccepting (ForBind stream.local turn.asked turn.number) one
-  bind-accepting b phase turn = record {
+      → (bind_input : IsBindInput stream.local b.c.peer one) → IsAccepting (ForBind stream.local bind_input.asked bind_input.number) one
+  bind-accepting b phase bind_input = record {
     whole = whole;
-    success = turn.success;
-    signed = turn.signed;
-    listed = turn.listed;
-    outstanding = turn.outstanding;
+    success = bind_input.success;
+    signed = bind_input.signed;
+    listed = bind_input.listed;
+    outstanding = bind_input.outstanding;
     ended = bind-ends b phase;
     heard = λ e. let no : Requesting ≡ Allocated = sym e ∙ phase in cc;
   }
@@ -221,11 +221,11 @@ module _ (one : Input) (stream : Stream) (of : one.stream ≡ Some stream) (wait
   bound-granting b phase (Connection d) c at (was, before, ends, to) (same, none) =
       let here : c.local ≡ stream.local = at ∙ found-local stream.local b.c _ b.found in
       let alike : c.peer ≡ d.peer = ap (λ (x : DataConnection). x.peer) same in
-      let turn = binds-turn one stream (bind_step stream.local one.bytes one.time one.before) of waits whole b in
+      let bind_input = binds-input one stream (bind_step stream.local one.bytes one.time one.before) of waits whole b in
       record {
         over = rw of (waits, sym here ∙ ap (λ (x : DataConnection). x.local) same);
-        purpose = ForBind stream.local turn.asked turn.number;
-        accepting = bind-accepting b phase turn;
+        purpose = ForBind stream.local bind_input.asked bind_input.number;
+        accepting = bind-accepting b phase bind_input;
         given = (sym (ap (λ (x : DataConnection). x.local) same) ∙ here, (was, before, ends ∙ here, to ∙ alike), sym (ap (λ (x : DataConnection). x.deadline) same) ∙ none);
       }
   bound-granting b phase g c at there k = absurd k

@@ -18,8 +18,8 @@ use Rattle.turn_client_api.proofs.HasLemmas.{Has, has-left}
 use Rattle.turn_client_laws.proofs.MemoryLemmas.{memory-ends}
 use Rattle.turn_client_laws.proofs.OneInputLemmas.{input-by}
 use Rattle.turn_client_laws.proofs.StandLemmas.{has-contains}
-use Rattle.turn_client_laws.proofs.TurnChainLemmas.{calls-do, dropped-differs}
-use Rattle.turn_client_laws.proofs.TurnEndLemmas.{calls-end}
+use Rattle.turn_client_laws.proofs.InputChainLemmas.{calls-do, dropped-differs}
+use Rattle.turn_client_laws.proofs.InputEndLemmas.{calls-end}
 
 -- Of a claim on states and what an input does: the bytes of streams do not count, and if the claim holds
 -- after a message and did not before it, the input of the message did it. The end of a connection, or of
@@ -36,10 +36,10 @@ pub record IsBrought (P : State → Type 0) (Did : Input → Type 0) : Type 0 wh
 
 -- one of these inputs did it
 abbrev pub Among : (Input → Type 0) → List Input → Type 0
-Among Did turns = (one : Input) × Has one turns × Did one
+Among Did inputs = (one : Input) × Has one inputs × Did one
 
-pub later-among : (Did : Input → Type 0) (one : Input) (turns : List Input) → Among Did turns → Among Did (one ∷ turns)
-later-among Did one turns (x, there, did) = (x, inr there, did)
+pub later-among : (Did : Input → Type 0) (one : Input) (inputs : List Input) → Among Did inputs → Among Did (one ∷ inputs)
+later-among Did one inputs (x, there, did) = (x, inr there, did)
 
 pub among-done : (Did : Input → Type 0) (call : Call) (s : State) → Among Did (handled call s) → IsDoneBy Did call s
 among-done Did call s (one, there, did) = (one, has-contains one (handled call s) there, did)
@@ -52,13 +52,13 @@ front-done Did call s front later all (one, there, did) = among-done Did call s 
 -- what holds after the inputs held before them, or one of them caused it
 pub leads-back : (P : State → Type 0) (Did : Input → Type 0) → ((s t : State) → DiffersInStreams s t → P t → P s)
     → ((one : Input) → P (processed one).1 → P one.before ⊎ Did one)
-    → (turns : List Input) (s t : State) → InputsLead turns s t → P t → P s ⊎ Among Did turns
+    → (inputs : List Input) (s t : State) → InputsLead inputs s t → P t → P s ⊎ Among Did inputs
 leads-back P Did alike step [] s t differs h = inl (alike s t differs h)
-leads-back P Did alike step (one ∷ turns) s t (differs, lead) h = by (leads-back P Did alike step turns (processed one).1 t lead h)
+leads-back P Did alike step (one ∷ inputs) s t (differs, lead) h = by (leads-back P Did alike step inputs (processed one).1 t lead h)
   where
-    by : P (processed one).1 ⊎ Among Did turns → P s ⊎ Among Did (one ∷ turns)
+    by : P (processed one).1 ⊎ Among Did inputs → P s ⊎ Among Did (one ∷ inputs)
     by (inl here) = elim (step one here) [ inl before ↦ inl (alike s one.before differs before) | inr did ↦ inr (one, inl refl, did) ]
-    by (inr among) = inr (later-among Did one turns among)
+    by (inr among) = inr (later-among Did one inputs among)
 
 -- ---- what is brought
 
@@ -67,13 +67,13 @@ module _ (P : State → Type 0) (Did : Input → Type 0) (k : IsBrought P Did) w
   abbrev Brings : Input → Type 0
   Brings one = P one.before ⊎ Did one
 
-  pub turn-brings : (one : Input) → P (processed one).1 → Brings one
-  turn-brings one =
+  pub processed-brings : (one : Input) → P (processed one).1 → Brings one
+  processed-brings one =
       input-by (λ t. P t → Brings one) one (λ h. inl h) (λ over whole h. k.message one over whole h)
       (λ stream of waits whole h. k.binds one stream of waits whole h)
 
-  pub lead-brings : (turns : List Input) (s t : State) → InputsLead turns s t → P t → P s ⊎ Among Did turns
-  lead-brings = leads-back P Did k.differs turn-brings
+  pub lead-brings : (inputs : List Input) (s t : State) → InputsLead inputs s t → P t → P s ⊎ Among Did inputs
+  lead-brings = leads-back P Did k.differs processed-brings
 
   does-brings : (call : Call) (s : State) → ProcessesInputs call s → P (state_after call s) → P s ⊎ IsDoneBy Did call s
   does-brings call s (inl lead) h =
@@ -95,12 +95,12 @@ module _ (P : State → Type 0) (Did : Input → Type 0) (k : IsBrought P Did) w
     abbrev Brought : Call → State → Type 0
     Brought call s = P s ⊎ Other call s ⊎ IsDoneBy Did call s
 
-    by-turn : (call : Call) (s : State) → P s ⊎ IsDoneBy Did call s → Brought call s
-    by-turn call s h = elim h [ inl there ↦ inl there | inr did ↦ inr (inr did) ]
+    by-input : (call : Call) (s : State) → P s ⊎ IsDoneBy Did call s → Brought call s
+    by-input call s h = elim h [ inl there ↦ inl there | inr did ↦ inr (inr did) ]
 
     found-brings : (call : Call) (s : State) → P (state_after call s) → Brought call s
-    found-brings (Recv packet now) s h = by-turn (Recv packet now) s (does-brings (Recv packet now) s (calls-do (Recv packet now) s tt) h)
-    found-brings (PollRecv now) s h = by-turn (PollRecv now) s (does-brings (PollRecv now) s (calls-do (PollRecv now) s tt) h)
+    found-brings (Recv packet now) s h = by-input (Recv packet now) s (does-brings (Recv packet now) s (calls-do (Recv packet now) s tt) h)
+    found-brings (PollRecv now) s h = by-input (PollRecv now) s (does-brings (PollRecv now) s (calls-do (PollRecv now) s tt) h)
     found-brings call s h = elim (others call s (λ is. is) h) [ inl there ↦ inl there | inr did ↦ inr (inl did) ]
 
     -- memory allocation fails
@@ -110,7 +110,7 @@ module _ (P : State → Type 0) (Did : Input → Type 0) (k : IsBrought P Did) w
         by : (t ≡ s) ⊎ (t ≡ closed s) ⊎ (TakesInput call × EndsWithoutMemory call s t) → Brought call s
         by (inl e) = inl (subst P e h)
         by (inr (inl e)) = inl (k.ended s (subst P e h))
-        by (inr (inr (takes, end))) = by-turn call s (end-brings call s t (calls-end call s t takes end) h)
+        by (inr (inr (takes, end))) = by-input call s (end-brings call s t (calls-end call s t takes end) h)
 
     pub leaves-bring : (call : Call) (s t : State) → Leaves call s t → P t → Brought call s
     leaves-bring call s t (inl e) h = found-brings call s (subst P e h)
