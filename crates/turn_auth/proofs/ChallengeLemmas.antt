@@ -75,24 +75,24 @@ has_nonce (Some held) offered denial algorithm = refl
 
 follows_from : (supported : List IntegrityAlgorithm) (held : Option Challenge) (offered : Option (List ℕ)) (denial : Denial) (algorithm : IntegrityAlgorithm) (code : Option ℕ) (challenge : Challenge)
     → code ≡ Some denial.code → challenge ≡ held_after held offered denial algorithm → chosen supported held offered denial ≡ Some algorithm → Follows supported offered code challenge held
-follows_from supported held offered denial algorithm code challenge told gives h =
-    rw (told, gives) (is_asked supported held offered denial algorithm h)
+follows_from supported held offered denial algorithm code challenge denied gives h =
+    rw (denied, gives) (is_asked supported held offered denial algorithm h)
 
 pub challenge_of-sound : (auth : ClientAuth) (bytes : List ℕ) (challenge : Challenge) → challenge_of auth bytes ≡ Some challenge → IsChallenge auth bytes challenge
 challenge_of-sound auth bytes challenge h =
     let offered = value_in 0x8002 bytes in
     let after : Denial → Option Challenge = λ denial. option_map (held_after auth.held offered denial) (chosen auth.supported auth.held offered denial) in
     let known = guard_some (is_some auth.credentials) (option_and_then after (denial_in bytes)) h in
-    let told = and_then_some after (denial_in bytes) known.1 in
-    let class = guard_some (is_error (class_of (type_of bytes))) (denial_with (realm_in bytes) (nonce_in bytes) (code_in bytes)) told.1 in
+    let denied = and_then_some after (denial_in bytes) known.1 in
+    let class = guard_some (is_error (class_of (type_of bytes))) (denial_with (realm_in bytes) (nonce_in bytes) (code_in bytes)) denied.1 in
     let parts = denial_with-parts (realm_in bytes) (nonce_in bytes) (code_in bytes) class.1 in
-    let found = map_some (held_after auth.held offered told.0) (chosen auth.supported auth.held offered told.0) told.2 in
+    let found = map_some (held_after auth.held offered denied.0) (chosen auth.supported auth.held offered denied.0) denied.2 in
     record {
       known = known.0;
       error = is_error-Error (class_of (type_of bytes)) class.0;
-      realm = parts.0 ∙ ap Some (has_realm auth.supported auth.held offered told.0 found.0 found.1 ∙ sym (ap (λ (c : Challenge). c.realm) found.2));
-      nonce = parts.1 ∙ ap Some (has_nonce auth.held offered told.0 found.0 ∙ sym (ap (λ (c : Challenge). c.nonce) found.2));
-      follows = follows_from auth.supported auth.held offered told.0 found.0 (code_in bytes) challenge parts.2 found.2 found.1;
+      realm = parts.0 ∙ ap Some (has_realm auth.supported auth.held offered denied.0 found.0 found.1 ∙ sym (ap (λ (c : Challenge). c.realm) found.2));
+      nonce = parts.1 ∙ ap Some (has_nonce auth.held offered denied.0 found.0 ∙ sym (ap (λ (c : Challenge). c.nonce) found.2));
+      follows = follows_from auth.supported auth.held offered denied.0 found.0 (code_in bytes) challenge parts.2 found.2 found.1;
     }
 
 -- ---- a challenge is computed
@@ -104,7 +104,7 @@ denial_of challenge code = record { realm = challenge.realm; nonce = challenge.n
 record IsComputed (supported : List IntegrityAlgorithm) (held : Option Challenge) (offered : Option (List ℕ)) (code : Option ℕ) (challenge : Challenge) : Type 0 where
   number : ℕ
   algorithm : IntegrityAlgorithm
-  told : code ≡ Some number
+  denied : code ≡ Some number
   picks : chosen supported held offered (denial_of challenge number) ≡ Some algorithm
   gives : held_after held offered (denial_of challenge number) algorithm ≡ challenge
 
@@ -113,18 +113,18 @@ follows-IsComputed : (supported : List IntegrityAlgorithm) (held : Option Challe
 follows-IsComputed supported None offered code challenge h =
     let gives : held_after None offered (denial_of challenge 0) challenge.algorithm ≡ challenge = rw (← h.2) refl in
     elim h.0 [
-      | inl unauthorized ↦ record { number = 401; algorithm = challenge.algorithm; told = unauthorized; picks = h.1; gives = gives }
-      | inr stale ↦ record { number = 438; algorithm = challenge.algorithm; told = stale; picks = h.1; gives = gives }
+      | inl unauthorized ↦ record { number = 401; algorithm = challenge.algorithm; denied = unauthorized; picks = h.1; gives = gives }
+      | inr stale ↦ record { number = 438; algorithm = challenge.algorithm; denied = stale; picks = h.1; gives = gives }
     ]
 follows-IsComputed supported (Some held) offered code challenge h =
     let realm : challenge.realm ≡ held.realm = ap (λ (c : Challenge). c.realm) h.1 in
     let same : bytes_eq challenge.realm held.realm ≡ true = rw realm (nat_list_eq_equiv.refl held.realm) in
-    record { number = 438; algorithm = held.algorithm; told = h.0; picks = rw same refl; gives = sym h.1 }
+    record { number = 438; algorithm = held.algorithm; denied = h.0; picks = rw same refl; gives = sym h.1 }
 
 pub challenge_of-complete : (auth : ClientAuth) (bytes : List ℕ) (challenge : Challenge) → IsChallenge auth bytes challenge → challenge_of auth bytes ≡ Some challenge
 challenge_of-complete auth bytes challenge is =
     let computed = follows-IsComputed auth.supported auth.held (value_in 0x8002 bytes) (code_in bytes) challenge is.follows in
-    rw (is.known, is.error, is.realm, is.nonce, computed.told, computed.picks, computed.gives) refl
+    rw (is.known, is.error, is.realm, is.nonce, computed.denied, computed.picks, computed.gives) refl
 
 -- the function that computes a challenge agrees with the definition of one
 pub challenge_of_is : (auth : ClientAuth) (bytes : List ℕ) (challenge : Challenge) → (challenge_of auth bytes ≡ Some challenge) ↔ IsChallenge auth bytes challenge

@@ -14,9 +14,9 @@ first_two (a ∷ []) h = absurd (omega (arith, h))
 first_two (a ∷ b ∷ others) h = refl
 
 -- the covered text, as it is digested: the type and the length, and the bytes after them
-pub covered_pieces : (bytes : List ℕ) (offset : ℕ) (told : ℕ) (end : ℕ) → 20 ≤ offset → offset ≤ length bytes → told ≡ end
-    → (get_or bytes 0 0 ∷ get_or bytes 1 0 ∷ to_be_bytes w16 told) ++ take (offset - 4) (drop 4 bytes) ≡ with_length end (take offset bytes)
-covered_pieces bytes offset told end header within same =
+pub covered_pieces : (bytes : List ℕ) (offset : ℕ) (counted : ℕ) (end : ℕ) → 20 ≤ offset → offset ≤ length bytes → counted ≡ end
+    → (get_or bytes 0 0 ∷ get_or bytes 1 0 ∷ to_be_bytes w16 counted) ++ take (offset - 4) (drop 4 bytes) ≡ with_length end (take offset bytes)
+covered_pieces bytes offset counted end header within same =
     let long : 2 ≤ offset = omega arith in
     let front : get_or bytes 0 0 ∷ get_or bytes 1 0 ∷ [] ≡ take 2 bytes = first_two bytes (omega arith) in
     rw (same, behind_length bytes offset (offset - 4) (omega arith), take-take 2 offset bytes long, ← front) refl

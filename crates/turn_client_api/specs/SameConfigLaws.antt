@@ -121,5 +121,5 @@ pub same_config-equivalence : IsEquivalence same_config
 same_config-equivalence = decided same_config same_config-Decides
 
 -- what the result of the test says
-pub told_content : (r : Bool) (a b : Config) → r ≡ same_config a b → IsTrue r ↔ (a ≡ b)
-told_content r a b e = rw e (same_config-Decides a b)
+pub test_says : (r : Bool) (a b : Config) → r ≡ same_config a b → IsTrue r ↔ (a ≡ b)
+test_says r a b e = rw e (same_config-Decides a b)

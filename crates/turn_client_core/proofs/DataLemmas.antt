@@ -27,10 +27,10 @@ pub peer-read : (message : List ℕ) (id : ℕ) (found : Option Attribute) (read
 peer-read message id found read peer named is says e = rw (← is, ← named) (sym says ∙ e)
 
 module _ (s : State) (message : List ℕ) where
-  outcome-if_permitted : (has_active_permission : Bool) (told : TurnProtocolRecv)
-      → outcome_in message (if_permitted has_active_permission told) ≡ (if has_active_permission then outcome_in message told else Ignored)
-  outcome-if_permitted true told = refl
-  outcome-if_permitted false told = refl
+  outcome-if_permitted : (has_active_permission : Bool) (outcome : TurnProtocolRecv)
+      → outcome_in message (if_permitted has_active_permission outcome) ≡ (if has_active_permission then outcome_in message outcome else Ignored)
+  outcome-if_permitted true outcome = refl
+  outcome-if_permitted false outcome = refl
 
   pub unknown-is : has_unknown message ≡ true → Ignored ≡ data_indicated s message
   unknown-is unknown = rw unknown refl

@@ -25,9 +25,9 @@ use Rattle.turn_client_core.proofs.StepLemmas.{framed-none, framed-some}
 
 -- ---- a part of a part
 
-pub part-IsWithin : (bytes : List ℕ) (was s : State) (told : TurnProtocolRecv) → IsPart bytes was s told → IsRangeWithin bytes told
+pub part-IsWithin : (bytes : List ℕ) (was s : State) (outcome : TurnProtocolRecv) → IsPart bytes was s outcome → IsRangeWithin bytes outcome
 part-IsWithin bytes was s (T.PeerData transport peer range) is = (is.0, is.1)
-part-IsWithin bytes was s told is = tt
+part-IsWithin bytes was s outcome is = tt
 
 -- in the front of some bytes a part is where it is in all of them
 slice-front : (xs : List ℕ) (end a b : ℕ) → end ≤ length xs → a ≤ b → b ≤ length (take end xs) → slice_range (take end xs) a b ≡ slice_range xs a b
@@ -37,10 +37,10 @@ slice-front xs end a b inside ordered within =
     ap (λ n. take (b - a) (drop a (take n xs))) split
     ∙ (ap (take (b - a)) (drop-take a (end - a) xs) ∙ take-take (b - a) (end - a) (drop a xs) (omega (arith, ordered, most)))
 
-front-outcome : (bytes : List ℕ) (end : ℕ) (told : TurnProtocolRecv) → end ≤ length bytes → IsRangeWithin (take end bytes) told → outcome_in bytes told ≡ outcome_in (take end bytes) told
+front-outcome : (bytes : List ℕ) (end : ℕ) (outcome : TurnProtocolRecv) → end ≤ length bytes → IsRangeWithin (take end bytes) outcome → outcome_in bytes outcome ≡ outcome_in (take end bytes) outcome
 front-outcome bytes end (T.PeerData transport peer range) inside is =
     ap (λ part. PeerData (record { transport = transport; peer = peer; bytes = part; place = Some range })) (sym (slice-front bytes end range.start range.end inside is.0 is.1))
-front-outcome bytes end told inside is = refl
+front-outcome bytes end outcome inside is = refl
 
 -- a range at the front
 part-front : (bytes : List ℕ) (range : Range ℕ) → range.start ≡ 0 → bytes_in_range bytes range ≡ take range.end bytes
@@ -48,11 +48,11 @@ part-front bytes range e =
     let whole : range.end - 0 ≡ range.end = omega arith in
     ap (λ n. take (range.end - n) (drop n bytes)) e ∙ ap (λ n. take n bytes) whole
 
-pub lent-outcome : (bytes : List ℕ) (range : Range ℕ) (told : TurnProtocolRecv) → range.start ≡ 0 → range.end ≤ length bytes → IsRangeWithin (bytes_in_range bytes range) told
-    → outcome_in bytes told ≡ outcome_in (bytes_in_range bytes range) told
-lent-outcome bytes range told e inside is =
-    front-outcome bytes range.end told inside (subst (λ part. IsRangeWithin part told) (part-front bytes range e) is)
-    ∙ ap (λ part. outcome_in part told) (sym (part-front bytes range e))
+pub lent-outcome : (bytes : List ℕ) (range : Range ℕ) (outcome : TurnProtocolRecv) → range.start ≡ 0 → range.end ≤ length bytes → IsRangeWithin (bytes_in_range bytes range) outcome
+    → outcome_in bytes outcome ≡ outcome_in (bytes_in_range bytes range) outcome
+lent-outcome bytes range outcome e inside is =
+    front-outcome bytes range.end outcome inside (subst (λ part. IsRangeWithin part outcome) (part-front bytes range e) is)
+    ∙ ap (λ part. outcome_in part outcome) (sym (part-front bytes range e))
 
 -- ---- the first frame
 

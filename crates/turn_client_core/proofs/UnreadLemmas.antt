@@ -167,10 +167,10 @@ data-datagram bytes now s class method headed is named sent =
     data-headed bytes now s headed (data-judged s bytes (rw (is, named) at sent))
 
 -- of bytes that are a message
-pub data-message : (s : State) (bytes message : List ℕ) (told : TurnProtocolRecv) → bytes ≡ message → IsMessage message (type_of message) (id_of message) (attributes_of message)
-    → outcome_in bytes told ≡ (if is_message bytes then data_indicated s bytes else Ignored) → outcome_in message told ≡ data_indicated s message
-data-message s bytes message told same is h =
+pub data-message : (s : State) (bytes message : List ℕ) (outcome : TurnProtocolRecv) → bytes ≡ message → IsMessage message (type_of message) (id_of message) (attributes_of message)
+    → outcome_in bytes outcome ≡ (if is_message bytes then data_indicated s bytes else Ignored) → outcome_in message outcome ≡ data_indicated s message
+data-message s bytes message outcome same is h =
     let whole : is_message message ≡ true = ap is_none (IsMessage-no_fault message _ _ _ is) in
-    let there : outcome_in message told ≡ (if is_message message then data_indicated s message else Ignored) =
-    subst (λ b. outcome_in b told ≡ (if is_message b then data_indicated s b else Ignored)) same h in
+    let there : outcome_in message outcome ≡ (if is_message message then data_indicated s message else Ignored) =
+    subst (λ b. outcome_in b outcome ≡ (if is_message b then data_indicated s b else Ignored)) same h in
     there ∙ (rw whole refl)

@@ -13,11 +13,11 @@ use Rattle.turn_client_core.specs.declared.protocol_recv.TurnProtocolRecv.{TurnP
 use Rattle.turn_stun.specs.Message.{id_of}
 
 -- the result of the call reports it so
-abbrev pub TellsOfChallenge : {E : Type 0} → List ℕ → ℕ → State → Result TurnProtocolRecv E → Type 0
-TellsOfChallenge message now s answer =
+abbrev pub ReportsOfChallenge : {E : Type 0} → List ℕ → ℕ → State → Result TurnProtocolRecv E → Type 0
+ReportsOfChallenge message now s answer =
     (challenge : Challenge)
     → challenge_in s message ≡ Some challenge
-    → IfOk answer (λ told. outcome_in message told ≡ (challenge_step message challenge now s).0)
+    → IfOk answer (λ outcome. outcome_in message outcome ≡ (challenge_step message challenge now s).0)
 
 -- it was accepted, or not
 abbrev pub MeetsChallenge : {E : Type 0} → List ℕ → ℕ → State → State → Result TurnProtocolRecv E → Type 0

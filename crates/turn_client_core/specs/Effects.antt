@@ -19,8 +19,8 @@ after AllocationsDeleted s = challenges_reset (record s { phase = Closed })
 
 -- with the new ledger, it is all that the reply changes for these purposes, in order
 abbrev pub Answers : List Purpose → Bool → List ℕ → ℕ → Ledger → Ledger → Effect → Type 0
-Answers purposes is_granted message now was ledger told =
-    (s : State) → after told (with_ledger ledger s) ≡ fold (effect (id_of message) is_granted message now) (with_ledger was s) purposes
+Answers purposes is_granted message now was ledger outcome =
+    (s : State) → after outcome (with_ledger ledger s) ≡ fold (effect (id_of message) is_granted message now) (with_ledger was s) purposes
 
 -- the reply to a CONNECT makes an offer, or reports that the connection failed (RFC 6062, section 4.3)
 abbrev pub connect_replied : SocketAddr → Bool → List ℕ → State → State

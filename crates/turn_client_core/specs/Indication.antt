@@ -17,7 +17,7 @@ value_place a = record { start = a.offset + 4; end = a.offset + 4 + length a.val
 
 -- the result, if its peer is permitted
 abbrev pub if_permitted : Bool → TurnProtocolRecv → TurnProtocolRecv
-if_permitted has_active_permission told = if has_active_permission then told else Ignored
+if_permitted has_active_permission outcome = if has_active_permission then outcome else Ignored
 
 -- an ICMP error of this peer, if one was reported
 abbrev pub icmp_of_peer : SocketAddr → Option Icmp → State → TurnProtocolRecv

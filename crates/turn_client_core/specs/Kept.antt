@@ -17,4 +17,4 @@ pub record IsWhole (config : Config) (auth : ClientAuth) (timers : Timers) (phas
   pub anonymous : auth.anonymous_username ≡ config.anonymous_username
   pub times : timers ≡ timers_of config
   pub held : IsHeldIn phase auth.held
-  pub told : phase ≡ Requesting → length families ≤ event_room
+  pub reportable : phase ≡ Requesting → length families ≤ event_room

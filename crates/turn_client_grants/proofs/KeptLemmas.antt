@@ -21,7 +21,7 @@ use Rattle.turn_client_grants.specs.Index.{IsIndex}
 use Rattle.turn_client_grants.specs.Keys.{is_found_by}
 use Rattle.turn_client_grants.specs.Lists.{find_allocation_in, with_lists}
 use Rattle.turn_client_grants.specs.Pending.{is_pending, is_refreshed}
-use Rattle.turn_client_grants.specs.Summary.{IsSummary, end_in, far, is_kept, is_requested, is_reserved, is_untold, kept_expiry, expiry_time_in, never}
+use Rattle.turn_client_grants.specs.Summary.{IsSummary, end_in, far, is_kept, is_requested, is_reserved, is_unreported, kept_expiry, expiry_time_in, never}
 use Rattle.turn_client_grants.specs.Table.{unlisted_in}
 use Rattle.turn_client_grants.specs.GrantFilter.{purposes_in}
 use Rattle.turn_client_grants.specs.declared.key.Key.{Key}
@@ -74,11 +74,11 @@ pub summary-joined : (was now : Summary) (rows others last : List Grant) (listed
     → now.keeps_first ≡ was.keeps_first → now.keeps_second ≡ was.keeps_second
     → ((s : State) → now.permissions ≡ fold min was.permissions (filter_map (kept_expiry false (with_lists rows listed s)) last))
     → ((s : State) → now.channels ≡ fold min was.channels (filter_map (kept_expiry true (with_lists rows listed s)) last))
-    → now.has_untold ≡ (was.has_untold || list_any is_untold last)
+    → now.has_unreported ≡ (was.has_unreported || list_any is_unreported last)
     → now.has_requested ≡ (was.has_requested || list_any is_requested last)
     → now.has_reserved ≡ (was.has_reserved || list_any is_reserved last)
     → IsSummary was others listed → IsSummary now rows listed
-summary-joined was now rows others last listed none are first second end next_expiry keeps_first keeps_second permissions channels untold requested reserved summed =
+summary-joined was now rows others last listed none are first second end next_expiry keeps_first keeps_second permissions channels unreported requested reserved summed =
     let relays : filter_map as_allocation rows ≡ filter_map as_allocation others = ap (filter_map as_allocation) are ∙ relays-joined others last none in
     record {
       first = first ∙ (summed.first ∙ ap (λ xs. slice_get xs 0) (sym relays));
@@ -97,7 +97,7 @@ summary-joined was now rows others last listed none are first second end next_ex
           ∙ (least-joined (kept_expiry true (with_lists rows listed s)) far was.channels others last
           (summed.channels s ∙ ap (λ xs. fold min far xs) (sym (refreshes-same true rows others others listed s relays)))
           ∙ ap (λ gs. fold min far (filter_map (kept_expiry true (with_lists rows listed s)) gs)) (sym are));
-      untold = untold ∙ (any-joined is_untold was.has_untold others last summed.untold ∙ ap (list_any is_untold) (sym are));
+      unreported = unreported ∙ (any-joined is_unreported was.has_unreported others last summed.unreported ∙ ap (list_any is_unreported) (sym are));
       requested = requested ∙ (any-joined is_requested was.has_requested others last summed.requested ∙ ap (list_any is_requested) (sym are));
       reserved = reserved ∙ (any-joined is_reserved was.has_reserved others last summed.reserved ∙ ap (list_any is_reserved) (sym are));
     }
@@ -135,8 +135,8 @@ no-refresh : (of_channels : Bool) (s : State) (g : Grant) → is_refreshed g ≡
 unfolding kept_expiry
 no-refresh of_channels s g h = grind arith
 
-not-untold : (g : Grant) → is_pending g ≡ true → is_untold g ≡ false
-not-untold g h = grind arith
+not-unreported : (g : Grant) → is_pending g ≡ true → is_unreported g ≡ false
+not-unreported g h = grind arith
 
 not-requested : (g : Grant) → is_pending g ≡ true → is_requested g ≡ false
 not-requested g h = grind arith
@@ -159,7 +159,7 @@ summary-without summary gone rows listed are summed =
       keeps_second = summed.keeps_second ∙ ap (λ xs. option_map_or (is_kept listed) (slice_get xs 1) false) (sym relays);
       permissions = λ s. summed.permissions s ∙ ap (λ xs. fold min far xs) (sym (kept false s relays));
       channels = λ s. summed.channels s ∙ ap (λ xs. fold min far xs) (sym (kept true s relays));
-      untold = summed.untold ∙ sym (any-without is_untold not-untold gone rows are);
+      unreported = summed.unreported ∙ sym (any-without is_unreported not-unreported gone rows are);
       requested = summed.requested ∙ sym (any-without is_requested not-requested gone rows are);
       reserved = summed.reserved ∙ sym (any-without is_reserved not-reserved gone rows are);
     }
@@ -214,7 +214,7 @@ summary-alike summary rows listed later alike summed = record {
   keeps_second = summed.keeps_second ∙ sym (keeps-alike 1 rows listed later alike);
   permissions = λ s. summed.permissions s ∙ ap (λ xs. fold min far xs) (sym (refreshes-alike false rows rows listed later s alike));
   channels = λ s. summed.channels s ∙ ap (λ xs. fold min far xs) (sym (refreshes-alike true rows rows listed later s alike));
-  untold = summed.untold;
+  unreported = summed.unreported;
   requested = summed.requested;
   reserved = summed.reserved;
 }

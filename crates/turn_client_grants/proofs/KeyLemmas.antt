@@ -124,13 +124,13 @@ index-relays (a ∷ others) lifetime now rows find is =
     subst (λ (gs : List Grant). IsIndex is_found_by find gs) (append_assoc rows (new_allocation lifetime now a ∷ []) (map (new_allocation lifetime now) others))
     (index-relays others lifetime now (rows ++ new_allocation lifetime now a ∷ []) find (index-pushed_other is_found_by find rows (new_allocation lifetime now a) is (λ k. relay-keys k _)))
 
-found-told : (k : Key) (family : AddressFamily) (rows : List Grant) → filter (is_found_by k) (first_reported family rows) ≡ filter (is_found_by k) rows
-found-told k family [] = refl
-found-told k family (g ∷ rows) = grind (arith, offer-keys k, found-told k family rows)
+found-reported : (k : Key) (family : AddressFamily) (rows : List Grant) → filter (is_found_by k) (first_reported family rows) ≡ filter (is_found_by k) rows
+found-reported k family [] = refl
+found-reported k family (g ∷ rows) = grind (arith, offer-keys k, found-reported k family rows)
 
-pub index-told : (family : AddressFamily) (rows : List Grant) (find : Key → Option Grant) → IsIndex is_found_by find rows → IsIndex is_found_by find (first_reported family rows)
+pub index-reported : (family : AddressFamily) (rows : List Grant) (find : Key → Option Grant) → IsIndex is_found_by find rows → IsIndex is_found_by find (first_reported family rows)
 unfolding IsIndex
-index-told family rows find is k = found-told k family rows ∙ is k
+index-reported family rows find is k = found-reported k family rows ∙ is k
 
 found-taken : (k : Key) (id : ℕ) (peer : SocketAddr) (rows : List Grant) → filter (is_found_by k) (without_first (is_offer_of id peer) rows) ≡ filter (is_found_by k) rows
 found-taken k id peer [] = refl

@@ -36,7 +36,7 @@ left-by totals (Permission ip (Active lease)) grants listed is =
       permissions = λ s.
           kept-no_less false (with_lists grants listed s) (Permission ip (Active lease)) totals.permissions lease.expiry (λ e. rw e refl) (λ e. rw e refl) others.1;
       channels = λ s. refl;
-      untold = refl;
+      unreported = refl;
       requested = refl;
       reserved = refl;
     }
@@ -49,7 +49,7 @@ left-by totals (Channel number peer (Active lease)) grants listed is =
       permissions = λ s. refl;
       channels = λ s.
           kept-no_less true (with_lists grants listed s) (Channel number peer (Active lease)) totals.channels lease.expiry (λ e. rw e refl) (λ e. rw e refl) others.1;
-      untold = refl;
+      unreported = refl;
       requested = refl;
       reserved = refl;
     }

@@ -22,7 +22,7 @@ use Rattle.turn_client_api.specs.declared.grant.Relay.{Relay}
 use Rattle.turn_client_grants.specs.Due.{all_times, relay_ends}
 use Rattle.turn_client_grants.specs.Lists.{with_lists}
 use Rattle.turn_client_grants.specs.Refresh.{due_purpose, first_refresh}
-use Rattle.turn_client_grants.specs.Summary.{end_in, is_requested, is_reserved, is_untold, expiry_time_in, never}
+use Rattle.turn_client_grants.specs.Summary.{end_in, is_requested, is_reserved, is_unreported, expiry_time_in, never}
 use Rattle.turn_client_grants.proofs.RefreshLemmas.{refreshes_first, refreshes_none}
 
 -- ---- the least of several times
@@ -173,17 +173,17 @@ soonest-is now pause time s first second low early relays =
 
 -- ---- offers
 
-none-untold : (family : AddressFamily) (gs : List Grant) → list_any is_untold gs ≡ false → filter_map (unreported_in family) gs ≡ []
-none-untold family [] none = refl
-none-untold family (g ∷ gs) none = grind (arith, none-untold family gs)
+none-unreported : (family : AddressFamily) (gs : List Grant) → list_any is_unreported gs ≡ false → filter_map (unreported_in family) gs ≡ []
+none-unreported family [] none = refl
+none-unreported family (g ∷ gs) none = grind (arith, none-unreported family gs)
 
 -- nothing is reported if all offers were reported
-pub no-offer : (s : State) (relays : List Relay) → list_any is_untold s.grants ≡ false → None ≡ slice_get (filter_map (λ a. first_unreported (family_of a.relayed) s) relays) 0
+pub no-offer : (s : State) (relays : List Relay) → list_any is_unreported s.grants ≡ false → None ≡ slice_get (filter_map (λ a. first_unreported (family_of a.relayed) s) relays) 0
 no-offer s relays none = ap (λ (os : List DataOffer). slice_get os 0) (sym (all relays))
   where
     all : (relays : List Relay) → filter_map (λ a. first_unreported (family_of a.relayed) s) relays ≡ []
     all [] = refl
-    all (a ∷ others) = rw (none-untold (family_of a.relayed) s.grants none) (all others)
+    all (a ∷ others) = rw (none-unreported (family_of a.relayed) s.grants none) (all others)
 
 pub none-requested : (id : ℕ) (gs : List Grant) → list_any is_requested gs ≡ false → list_any (is_of_request id) gs ≡ false
 none-requested id [] none = refl

@@ -5,7 +5,7 @@ use Rattle.std.specs.List.{list_any}
 use Rattle.turn_client_api.specs.declared.grant.Grant.{Grant}
 use Rattle.turn_client_api.specs.declared.grant.Listing.{Listing}
 use Rattle.turn_client_grants.specs.Lists.{with_lists}
-use Rattle.turn_client_grants.specs.Summary.{ReadsAlike, end_in, is_requested, is_reserved, is_untold, kept_expiry, expiry_time_in}
+use Rattle.turn_client_grants.specs.Summary.{ReadsAlike, end_in, is_requested, is_reserved, is_unreported, kept_expiry, expiry_time_in}
 use Rattle.turn_client_grants.specs.declared.totals.Totals.{Totals}
 
 least-first : (f : Grant → Option ℕ) (n : ℕ) (g : Grant) (gs : List Grant) → fold min (fold min n (filter_map f (g ∷ []))) (filter_map f gs) ≡ fold min n (filter_map f (g ∷ gs))
@@ -34,7 +34,7 @@ read-on now was start g rest all grants listed one before = record {
   next_expiry = least-on (expiry_time_in listed) now.next_expiry was.next_expiry g rest one.next_expiry ∙ before.next_expiry;
   permissions = λ s. least-on (kept_expiry false (with_lists grants listed s)) now.permissions was.permissions g rest (one.permissions s) ∙ before.permissions s;
   channels = λ s. least-on (kept_expiry true (with_lists grants listed s)) now.channels was.channels g rest (one.channels s) ∙ before.channels s;
-  untold = any-on is_untold now.has_untold was.has_untold g rest one.untold ∙ before.untold;
+  unreported = any-on is_unreported now.has_unreported was.has_unreported g rest one.unreported ∙ before.unreported;
   requested = any-on is_requested now.has_requested was.has_requested g rest one.requested ∙ before.requested;
   reserved = any-on is_reserved now.has_reserved was.has_reserved g rest one.reserved ∙ before.reserved;
 }

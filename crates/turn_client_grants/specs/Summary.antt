@@ -78,9 +78,9 @@ refresh_in ahead summary =
 -- ---- offers and channels
 
 -- an offer that was not reported
-abbrev pub is_untold : Grant → Bool
-is_untold (Offer offer) = not offer.is_reported
-is_untold _ = false
+abbrev pub is_unreported : Grant → Bool
+is_unreported (Offer offer) = not offer.is_reported
+is_unreported _ = false
 
 abbrev pub is_by_request : Origin → Bool
 is_by_request (ServerRequest id) = true
@@ -104,7 +104,7 @@ pub record ReadsAlike (now : Totals) (rest : List Grant) (start : Totals) (all g
       ≡ fold min start.permissions (filter_map (kept_expiry false (with_lists grants listed s)) all)
   pub channels : (s : State) → fold min now.channels (filter_map (kept_expiry true (with_lists grants listed s)) rest)
       ≡ fold min start.channels (filter_map (kept_expiry true (with_lists grants listed s)) all)
-  pub untold : (now.has_untold || list_any is_untold rest) ≡ (start.has_untold || list_any is_untold all)
+  pub unreported : (now.has_unreported || list_any is_unreported rest) ≡ (start.has_unreported || list_any is_unreported all)
   pub requested : (now.has_requested || list_any is_requested rest) ≡ (start.has_requested || list_any is_requested all)
   pub reserved : (now.has_reserved || list_any is_reserved rest) ≡ (start.has_reserved || list_any is_reserved all)
 
@@ -118,6 +118,6 @@ pub record IsSummary (summary : Summary) (grants : List Grant) (listed : List Li
   pub keeps_second : summary.keeps_second ≡ option_map_or (is_kept listed) (slice_get (filter_map as_allocation grants) 1) false
   pub permissions : (s : State) → summary.permissions ≡ fold min far (filter_map (kept_expiry false (with_lists grants listed s)) grants)
   pub channels : (s : State) → summary.channels ≡ fold min far (filter_map (kept_expiry true (with_lists grants listed s)) grants)
-  pub untold : summary.has_untold ≡ list_any is_untold grants
+  pub unreported : summary.has_unreported ≡ list_any is_unreported grants
   pub requested : summary.has_requested ≡ list_any is_requested grants
   pub reserved : summary.has_reserved ≡ list_any is_reserved grants

@@ -44,7 +44,7 @@ pub struct Summary {
     /// The earliest expiry of a channel that is to be refreshed, in nanoseconds, or 2^64 - 1.
     pub channels: u64,
     /// Whether there is an offer that was not reported.
-    pub has_untold: bool,
+    pub has_unreported: bool,
     /// Whether there is an offer that the server made by a request.
     pub has_requested: bool,
     /// Whether a channel is reserved.
@@ -64,7 +64,7 @@ pub(crate) fn summary_of(grants: &[Grant], listed: &[Listing]) -> Summary
         next_expiry: NEVER,
         permissions: u64::MAX,
         channels: u64::MAX,
-        has_untold: false,
+        has_unreported: false,
         has_requested: false,
         has_reserved: false,
     };
@@ -78,7 +78,7 @@ pub(crate) fn summary_of(grants: &[Grant], listed: &[Listing]) -> Summary
         keeps_second,
         permissions: totals.permissions,
         channels: totals.channels,
-        has_untold: totals.has_untold,
+        has_unreported: totals.has_unreported,
         has_requested: totals.has_requested,
         has_reserved: totals.has_reserved,
     }
@@ -129,7 +129,7 @@ fn joined(summary: &Summary, grants: &[Grant], listed: &[Listing], last: &[Grant
         next_expiry: summary.next_expiry,
         permissions: summary.permissions,
         channels: summary.channels,
-        has_untold: summary.has_untold,
+        has_unreported: summary.has_unreported,
         has_requested: summary.has_requested,
         has_reserved: summary.has_reserved,
     };
@@ -143,7 +143,7 @@ fn joined(summary: &Summary, grants: &[Grant], listed: &[Listing], last: &[Grant
         keeps_second: summary.keeps_second,
         permissions: totals.permissions,
         channels: totals.channels,
-        has_untold: totals.has_untold,
+        has_unreported: totals.has_unreported,
         has_requested: totals.has_requested,
         has_reserved: totals.has_reserved,
     }

@@ -7,7 +7,7 @@ ghost use Rattle.turn_client_api.specs.State.{State};
 ghost use Rattle.turn_client_api.specs.declared.grant.Grant.TheVariants.{Allocation};
 ghost use Rattle.turn_client_grants.specs.Lists.{with_lists};
 ghost use Rattle.turn_client_grants.specs.Passed.{adds_nothing, is_no_earlier};
-ghost use Rattle.turn_client_grants.specs.Summary.{ReadsAlike, end_in, expiry_by_kind, is_requested, is_reserved, is_untold, kept_expiry, expiry_time_in, needs_refresh};
+ghost use Rattle.turn_client_grants.specs.Summary.{ReadsAlike, end_in, expiry_by_kind, is_requested, is_reserved, is_unreported, kept_expiry, expiry_time_in, needs_refresh};
 
 use crate::due::{is_in_use, least};
 use crate::listed::has_request;
@@ -26,7 +26,7 @@ pub struct Totals {
     /// The earliest expiry of a channel that is to be refreshed, in nanoseconds, or 2^64 - 1.
     pub channels: u64,
     /// Whether there is an offer that was not reported.
-    pub has_untold: bool,
+    pub has_unreported: bool,
     /// Whether there is an offer that the server made by a request.
     pub has_requested: bool,
     /// Whether a channel is reserved.
@@ -85,7 +85,7 @@ fn with_grant(totals: &Totals, grants: &[Grant], listed: &[Listing], grant: &Gra
         next_expiry: least_nanos(totals.next_expiry, expiry_time_in(listed, grant)),
         permissions: least_kept(false, totals.permissions, grants, listed, grant),
         channels: least_kept(true, totals.channels, grants, listed, grant),
-        has_untold: totals.has_untold || is_untold(grant),
+        has_unreported: totals.has_unreported || is_unreported(grant),
         has_requested: totals.has_requested || is_requested(grant),
         has_reserved: totals.has_reserved || is_reserved(grant),
     }
@@ -191,8 +191,8 @@ fn least_kept(
 }
 
 /// Whether the grant is an offer that was not reported.
-fn is_untold(grant: &Grant) -> bool
-    ensures { result ≡ is_untold grant.now }
+fn is_unreported(grant: &Grant) -> bool
+    ensures { result ≡ is_unreported grant.now }
 {
     matches!(grant, Grant::Offer(offer) if !offer.is_reported)
 }

@@ -34,7 +34,7 @@ record HoldsOfJudged (Answers : Type 0) (P : Judgement → Type 0) (message : Li
   challenged : (d : Challenge) → challenge_in s message ≡ Some d → P (Challenged d)
   fatal : P Fatal
   late : P LateResponse
-  data_told : class_in message ≡ Indication → P DataIndication
+  data_reported : class_in message ≡ Indication → P DataIndication
   attempt : class_in message ≡ Indication → P ConnectionAttempt
   request : class_in message ≡ Request → P SignedRequest
   success : Answers → IsSignedReply Success message s → P SignedSuccess
@@ -91,7 +91,7 @@ module _ (Answers : Type 0) (P : Judgement → Type 0) (message : List ℕ) (s :
       by : (class : MessageClass) → class_in message ≡ class → (v : Validation) → validation_of (auth_of s) message ≡ v → P (allocated_judgement s message)
       by Indication e v f =
           rw e
-          (by_test P (eqb (method_in message) data_method) DataIndication _ (λ is. k.data_told e)
+          (by_test P (eqb (method_in message) data_method) DataIndication _ (λ is. k.data_reported e)
           (λ n. by_test P (eqb (method_in message) connection_attempt_method) ConnectionAttempt Unrelated (λ is. k.attempt e) (λ no. k.unrelated)))
       by Error e (Validated algorithm) f = rw (e, f) (or_challenged _ (signed (Validated algorithm) f tt))
       by Error e v f = rw (e, f) (or_challenged Unrelated k.unrelated)
@@ -137,7 +137,7 @@ says Answers message s = record {
   challenged = λ d e. e;
   fatal = tt;
   late = tt;
-  data_told = λ e. e;
+  data_reported = λ e. e;
   attempt = λ e. e;
   request = λ e. e;
   success = λ answers is. (answers, is);

@@ -61,14 +61,14 @@ deadline-outline : (local : SocketAddr) (deadline : Option ℕ) (g : Grant) → 
 deadline-outline local deadline (Connection c) = by_test (λ (g : Grant). outline g ≡ outline (Connection c)) (same_address c.local local) _ _ (λ e. refl) (λ e. refl)
 deadline-outline local deadline g = refl
 
-told-aged : (g : Grant) → aged (as_reported g) ≡ aged g
-told-aged (Offer offer) = refl
-told-aged g = refl
+reported-aged : (g : Grant) → aged (as_reported g) ≡ aged g
+reported-aged (Offer offer) = refl
+reported-aged g = refl
 
-pub told-alike : (family : AddressFamily) (gs : List Grant) → map aged (first_reported family gs) ≡ map aged gs
-told-alike family [] = refl
-told-alike family (g ∷ gs) =
-    by_test (λ (hs : List Grant). map aged hs ≡ map aged (g ∷ gs)) (is_some (unreported_in family g)) _ _ (λ e. rw (told-aged g) refl) (λ e. rw (told-alike family gs) refl)
+pub reported-alike : (family : AddressFamily) (gs : List Grant) → map aged (first_reported family gs) ≡ map aged gs
+reported-alike family [] = refl
+reported-alike family (g ∷ gs) =
+    by_test (λ (hs : List Grant). map aged hs ≡ map aged (g ∷ gs)) (is_some (unreported_in family g)) _ _ (λ e. rw (reported-aged g) refl) (λ e. rw (reported-alike family gs) refl)
 
 expired-aged : (family : AddressFamily) (g : Grant) → aged (changed_allocation (λ a. is_of_family family a.relayed) (λ a. record a { is_expired = true }) g) ≡ aged g
 expired-aged family (Allocation a) = by_test (λ (g : Grant). aged g ≡ aged (Allocation a)) (is_of_family family a.relayed) _ _ (λ e. refl) (λ e. refl)

@@ -34,7 +34,7 @@ use Rattle.turn_client_api.proofs.HasLemmas.{Has, has-filter, has-filter_map, ha
 use Rattle.turn_client_laws.proofs.InAllocationLemmas.{has-any, same_family-self}
 use Rattle.turn_client_laws.proofs.GrantOriginEffectLemmas.{same_ip-same}
 use Rattle.turn_client_laws.proofs.Edits.{IsAskable, KeepsEdits, SparesAllocations}
-use Rattle.turn_client_laws.proofs.EditsOfReplies.{closed-walk, each, either, found, one-of, removed, asked-walk, reserved-walk, spares-kind, spelled-else, unlisted-walk, told-alike}
+use Rattle.turn_client_laws.proofs.EditsOfReplies.{closed-walk, each, either, found, one-of, removed, asked-walk, reserved-walk, spares-kind, spelled-else, unlisted-walk, reported-alike}
 use Rattle.turn_client_api.proofs.ExpirySteps.{expired_in-does}
 use Rattle.turn_client_laws.proofs.CaseLemmas.{by_test, answer-by}
 
@@ -181,7 +181,7 @@ module _ (R : State → State → Type 0) (k : KeepsEdits R) where
   poll-walk now s =
       either R k (has_event s || has_reply s) s _ _ (λ e. k.same s)
       (λ e. found R k (λ offer. offer_step offer s) (next_offer s) s (timed_out_step now s)
-      (λ offer is. k.ages (offer_step offer s).1.grants s (told-alike (family_of offer.peer) s.grants)) (given_up-walk now s))
+      (λ offer is. k.ages (offer_step offer s).1.grants s (reported-alike (family_of offer.peer) s.grants)) (given_up-walk now s))
 
   -- ---- what is sent
 

@@ -24,7 +24,7 @@ use Rattle.turn_client_api.specs.Due.{has_event, has_reply}
 use Rattle.turn_client_api.specs.Poll.{answer_step, channel_expired, connections_unbound, failed, timed_out_step, allocation_expires, failed_by_timeout, is_expired_channel, is_listed_for_allocation}
 use Rattle.turn_client_api.specs.Poll.{is_over, expired_at, expired_allocation, expired_in, last_channel_expired, next_offer, offer_step, offers_timed_out, permissions_expired, poll_step, timed_step}
 use Rattle.turn_client_api.specs.Poll.{as_reported, first_reported, unbound, unreported_in, timed_out_purposes}
-use Rattle.turn_client_laws.specs.LawsBodies.{TellsOfFailed, can_fail, max_failures}
+use Rattle.turn_client_laws.specs.LawsBodies.{ReportsOfFailed, can_fail, max_failures}
 use Rattle.turn_client_api.specs.declared.event.TurnEvent.{TurnEvent}
 use Rattle.turn_client_api.specs.declared.event.TurnEvent.TheVariants.{AllocationCreateFailed}
 use Rattle.turn_client_api.specs.declared.poll.TurnPollRet.{TurnPollRet}
@@ -35,11 +35,11 @@ use Rattle.turn_client_laws.proofs.CaseLemmas.{by_test, by_found, answer-by}
 use Rattle.turn_client_laws.proofs.EditsOfReplies.{and-false}
 use Rattle.turn_client_api.specs.declared.grant.Lease.{Lease}
 
-tells-self : (s : State) → TellsOfFailed s s
-tells-self s = omega arith
+reports-self : (s : State) → ReportsOfFailed s s
+reports-self s = omega arith
 
-tells-then : (s t u : State) → TellsOfFailed s t → TellsOfFailed t u → TellsOfFailed s u
-tells-then s t u first later = omega (arith, first, later)
+reports-then : (s t u : State) → ReportsOfFailed s t → ReportsOfFailed t u → ReportsOfFailed s u
+reports-then s t u first later = omega (arith, first, later)
 
 -- ---- grants that can fail
 
@@ -87,8 +87,8 @@ abbrev Spares : (Grant → Bool) → Type 0
 Spares which = (g : Grant) → which g ≡ true → IsReserved g → ⊥
 
 -- so many events are queued for these
-told_of : TransportType → (Grant → Bool) → List Grant → ℕ
-told_of transport which gs = length (filter_map (failure_of transport) (filter which gs))
+reported_of : TransportType → (Grant → Bool) → List Grant → ℕ
+reported_of transport which gs = length (filter_map (failure_of transport) (filter which gs))
 
 -- one that fails could fail
 failure-one : (transport : TransportType) (g : Grant) (more : List TurnEvent) → (IsReserved g → ⊥) → length (cons_option (failure_of transport g) more) ≡ one g + length more
@@ -97,10 +97,10 @@ failure-one transport (Channel number peer (Reserved until)) more spared = absur
 failure-one transport g more spared = omega arith
 
 -- those that are removed, and those that stay
-told-count : (transport : TransportType) (which : Grant → Bool) (gs : List Grant) → Spares which → told_of transport which gs + count (filter (λ g. not (which g)) gs) ≤ count gs
-unfolding told_of
-told-count transport which [] spares = omega arith
-told-count transport which (g ∷ gs) spares = by (which g) refl (told-count transport which gs spares)
+reported-count : (transport : TransportType) (which : Grant → Bool) (gs : List Grant) → Spares which → reported_of transport which gs + count (filter (λ g. not (which g)) gs) ≤ count gs
+unfolding reported_of
+reported-count transport which [] spares = omega arith
+reported-count transport which (g ∷ gs) spares = by (which g) refl (reported-count transport which gs spares)
   where
     Claim : List Grant → Type 0
     Claim list = length (filter_map (failure_of transport) (filter which list)) + count (filter (λ g. not (which g)) list) ≤ count list
@@ -109,39 +109,39 @@ told-count transport which (g ∷ gs) spares = by (which g) refl (told-count tra
     by true e later = rw e (omega (arith, later, failure-one transport g (filter_map (failure_of transport) (filter which gs)) (spares g e), count-cons g gs))
     by false e later = rw e (omega (arith, later, count-cons g (filter (λ g. not (which g)) gs), count-cons g gs))
 
-failed-tells : (which : Grant → Bool) (s : State) → Spares which → TellsOfFailed s (failed which s)
-unfolding count told_of
-failed-tells which s spares =
-    let as_reported = told-count s.config.allocation_transport which s.grants spares in
+failed-reports : (which : Grant → Bool) (s : State) → Spares which → ReportsOfFailed s (failed which s)
+unfolding count reported_of
+failed-reports which s spares =
+    let as_reported = reported-count s.config.allocation_transport which s.grants spares in
     let front = length-append (reverse (failures_among which s)) s.events in
     let reversed = length-reverse (failures_among which s) in
     omega (arith, as_reported, front, reversed)
 
-unbound-tells : (which : Grant → Bool) (s : State) → Spares which → TellsOfFailed s (unbound which s)
-unbound-tells which s spares = failed-tells which s spares
+unbound-reports : (which : Grant → Bool) (s : State) → Spares which → ReportsOfFailed s (unbound which s)
+unbound-reports which s spares = failed-reports which s spares
 
-without-tells : (which : Grant → Bool) (s : State) → TellsOfFailed s (without_grants which s)
+without-reports : (which : Grant → Bool) (s : State) → ReportsOfFailed s (without_grants which s)
 unfolding count
-without-tells which s = let fewer = count-filter (λ g. not (which g)) s.grants in omega (arith, fewer)
+without-reports which s = let fewer = count-filter (λ g. not (which g)) s.grants in omega (arith, fewer)
 
 -- ---- one channel
 
-active-tells : (number : ℕ) (peer : SocketAddr) (expiry : Lease) (s : State) → Has (Channel number peer (Active expiry)) s.grants
-    → TellsOfFailed s (channel_expired (Some (Channel number peer (Active expiry))) s)
+active-reports : (number : ℕ) (peer : SocketAddr) (expiry : Lease) (s : State) → Has (Channel number peer (Active expiry)) s.grants
+    → ReportsOfFailed s (channel_expired (Some (Channel number peer (Active expiry))) s)
 unfolding count
-active-tells number peer expiry s there =
+active-reports number peer expiry s there =
     let kept = filter (λ g. not (is_channel_of number g)) s.grants in
     let fewer = count-without (λ g. not (is_channel_of number g)) (Channel number peer (Active expiry)) s.grants there (rw (eq-eqb number number refl) refl) refl in
     let more = count-append kept ((reserved number peer expiry.expiry (record s { grants = [] })).grants) in
     omega (arith, fewer, more)
 
-channel-tells : (o : Option Grant) (s : State) → ((g : Grant) → o ≡ Some g → Has g s.grants) → TellsOfFailed s (channel_expired o s)
-channel-tells (Some (Channel number peer (Active expiry))) s there = active-tells number peer expiry s (there (Channel number peer (Active expiry)) refl)
-channel-tells o s there = tells-self s
+channel-reports : (o : Option Grant) (s : State) → ((g : Grant) → o ≡ Some g → Has g s.grants) → ReportsOfFailed s (channel_expired o s)
+channel-reports (Some (Channel number peer (Active expiry))) s there = active-reports number peer expiry s (there (Channel number peer (Active expiry)) refl)
+channel-reports o s there = reports-self s
 
-last-tells : (family : AddressFamily) (now : ℕ) (s : State) → TellsOfFailed s (last_channel_expired family now s)
-last-tells family now s =
-    channel-tells (find test (reverse s.grants)) s (λ g e. has-unreversed g s.grants (has-found test g (reverse s.grants) e).0)
+last-reports : (family : AddressFamily) (now : ℕ) (s : State) → ReportsOfFailed s (last_channel_expired family now s)
+last-reports family now s =
+    channel-reports (find test (reverse s.grants)) s (λ g e. has-unreversed g s.grants (has-found test g (reverse s.grants) e).0)
   where
     test : Grant → Bool
     test g = is_of family g && is_expired_channel now g
@@ -160,56 +160,56 @@ and-none-between false b = refl
 -- ---- an allocation
 
 module _ (family : AddressFamily) (purposes : List Purpose) where
-  vain-tells : (which : Grant → Bool) → ((number : ℕ) (peer : SocketAddr) (until : ℕ) → which (Channel number peer (Reserved until)) ≡ false) → (s : State)
-      → TellsOfFailed s (failed_by_timeout family purposes which s)
-  vain-tells which none s =
-      failed-tells _ s (spared _ (λ number peer until.
+  vain-reports : (which : Grant → Bool) → ((number : ℕ) (peer : SocketAddr) (until : ℕ) → which (Channel number peer (Reserved until)) ≡ false) → (s : State)
+      → ReportsOfFailed s (failed_by_timeout family purposes which s)
+  vain-reports which none s =
+      failed-reports _ s (spared _ (λ number peer until.
       let g = Channel number peer (Reserved until) in
       rw (none number peer until) (and-none-between (is_of family g) (is_for_any purposes g))))
 
-  permissions-tell : (now : ℕ) (s : State) → TellsOfFailed s (permissions_expired family now s)
-  permissions-tell now s = failed-tells _ s (spared _ (λ number peer until. and-false (is_of family (Channel number peer (Reserved until)))))
+  permissions-report : (now : ℕ) (s : State) → ReportsOfFailed s (permissions_expired family now s)
+  permissions-report now s = failed-reports _ s (spared _ (λ number peer until. and-false (is_of family (Channel number peer (Reserved until)))))
 
-  connections-tell : (now : ℕ) (s : State) → TellsOfFailed s (connections_unbound family purposes now s)
-  connections-tell now s = unbound-tells _ s (spared _ (λ number peer until. and-false (is_of family (Channel number peer (Reserved until)))))
+  connections-report : (now : ℕ) (s : State) → ReportsOfFailed s (connections_unbound family purposes now s)
+  connections-report now s = unbound-reports _ s (spared _ (λ number peer until. and-false (is_of family (Channel number peer (Reserved until)))))
 
-  offers-tell : (given : Option ℕ) (s : State) → TellsOfFailed s (offers_timed_out family given s)
-  offers-tell None s = failed-tells _ s (spared _ (λ number peer until. and-false (is_of family (Channel number peer (Reserved until)))))
-  offers-tell (Some id) s = failed-tells _ s (spared _ (λ number peer until. and-false (is_of family (Channel number peer (Reserved until)))))
+  offers-report : (given : Option ℕ) (s : State) → ReportsOfFailed s (offers_timed_out family given s)
+  offers-report None s = failed-reports _ s (spared _ (λ number peer until. and-false (is_of family (Channel number peer (Reserved until)))))
+  offers-report (Some id) s = failed-reports _ s (spared _ (λ number peer until. and-false (is_of family (Channel number peer (Reserved until)))))
 
-  expired_in-tells : (given : Option ℕ) (now : ℕ) (s : State) → TellsOfFailed s (expired_in family given purposes now s)
-  expired_in-tells given now = expired_in-does TellsOfFailed family given purposes now (record {
-    trans = tells-then;
-    channels = vain-tells is_pending_channel (λ number peer until. refl);
-    permissions = vain-tells is_pending_permission (λ number peer until. refl);
-    last_channel = last-tells family now;
-    expired_permissions = permissions-tell now;
-    connects = vain-tells is_connect (λ number peer until. refl);
-    connections = connections-tell now;
-    offers = offers-tell given;
-    refreshes = tells-self;
-    frees = without-tells (λ g. is_of family g && is_over now g);
+  expired_in-reports : (given : Option ℕ) (now : ℕ) (s : State) → ReportsOfFailed s (expired_in family given purposes now s)
+  expired_in-reports given now = expired_in-does ReportsOfFailed family given purposes now (record {
+    trans = reports-then;
+    channels = vain-reports is_pending_channel (λ number peer until. refl);
+    permissions = vain-reports is_pending_permission (λ number peer until. refl);
+    last_channel = last-reports family now;
+    expired_permissions = permissions-report now;
+    connects = vain-reports is_connect (λ number peer until. refl);
+    connections = connections-report now;
+    offers = offers-report given;
+    refreshes = reports-self;
+    frees = without-reports (λ g. is_of family g && is_over now g);
   })
 
-allocation-tells : (given : Option ℕ) (purposes : List Purpose) (now : ℕ) (s : State) (a : Relay) → TellsOfFailed s (expired_allocation given purposes now s a)
-allocation-tells given purposes now s a =
-    by_test (TellsOfFailed s) (allocation_expires purposes now s a) _ _ (λ e. without-tells (is_of (family_of a.relayed)) s) (λ e. expired_in-tells (family_of a.relayed) purposes given now s)
+allocation-reports : (given : Option ℕ) (purposes : List Purpose) (now : ℕ) (s : State) (a : Relay) → ReportsOfFailed s (expired_allocation given purposes now s a)
+allocation-reports given purposes now s a =
+    by_test (ReportsOfFailed s) (allocation_expires purposes now s a) _ _ (λ e. without-reports (is_of (family_of a.relayed)) s) (λ e. expired_in-reports (family_of a.relayed) purposes given now s)
 
-each-tells : (given : Option ℕ) (purposes : List Purpose) (now : ℕ) (relays : List Relay) (s : State) → TellsOfFailed s (fold (expired_allocation given purposes now) s relays)
-each-tells given purposes now [] s = tells-self s
-each-tells given purposes now (a ∷ relays) s =
+each-reports : (given : Option ℕ) (purposes : List Purpose) (now : ℕ) (relays : List Relay) (s : State) → ReportsOfFailed s (fold (expired_allocation given purposes now) s relays)
+each-reports given purposes now [] s = reports-self s
+each-reports given purposes now (a ∷ relays) s =
     let t = expired_allocation given purposes now s a in
-    tells-then s t (fold (expired_allocation given purposes now) t relays) (allocation-tells given purposes now s a) (each-tells given purposes now relays t)
+    reports-then s t (fold (expired_allocation given purposes now) t relays) (allocation-reports given purposes now s a) (each-reports given purposes now relays t)
 
-expired_at-tells : (given : Option ℕ) (now : ℕ) (s : State) → TellsOfFailed s (expired_at given now s)
-expired_at-tells given now s = each-tells given (timed_out_purposes given s) now (allocations s) s
+expired_at-reports : (given : Option ℕ) (now : ℕ) (s : State) → ReportsOfFailed s (expired_at given now s)
+expired_at-reports given now s = each-reports given (timed_out_purposes given s) now (allocations s) s
 
 -- ---- poll
 
-told-can_fail : (family : AddressFamily) (gs : List Grant) → count (first_reported family gs) ≡ count gs
+reported-can_fail : (family : AddressFamily) (gs : List Grant) → count (first_reported family gs) ≡ count gs
 unfolding count
-told-can_fail family [] = refl
-told-can_fail family (g ∷ gs) = by (is_some (unreported_in family g)) (told-can_fail family gs)
+reported-can_fail family [] = refl
+reported-can_fail family (g ∷ gs) = by (is_some (unreported_in family g)) (reported-can_fail family gs)
   where
     same : (g : Grant) → count (as_reported g ∷ gs) ≡ count (g ∷ gs)
     same (Offer offer) = refl
@@ -219,40 +219,40 @@ told-can_fail family (g ∷ gs) = by (is_some (unreported_in family g)) (told-ca
     by true later = same g
     by false later = omega (arith, later, count-cons g (first_reported family gs), count-cons g gs)
 
-answer-tells : (given : Option ℕ) (now : ℕ) (s : State) → TellsOfFailed s (answer_step given now s).1
-answer-tells given now s = answer-by (TellsOfFailed s) given now s (λ closes. tells-self s)
+answer-reports : (given : Option ℕ) (now : ℕ) (s : State) → ReportsOfFailed s (answer_step given now s).1
+answer-reports given now s = answer-by (ReportsOfFailed s) given now s (λ closes. reports-self s)
 
-timed-tells : (p : Phase) (given : Option ℕ) (now : ℕ) (s : State) → p ≢ Requesting → TellsOfFailed s (timed_step p given now s).1
-timed-tells Requesting given now s other = absurd (other refl)
-timed-tells Authenticating None now s other = answer-tells None now s
-timed-tells Authenticating (Some id) now s other =
-    by_test (λ (t : State). TellsOfFailed s (answer_step (Some id) now t).1) (is_listed_for_allocation id s) (closed s) s
-    (λ e. tells-then s (closed s) (answer_step (Some id) now (closed s)).1 (tells-self s) (answer-tells (Some id) now (closed s))) (λ e. answer-tells (Some id) now s)
-timed-tells Allocated given now s other = tells-then s (expired_at given now s) (answer_step given now (expired_at given now s)).1 (expired_at-tells given now s) (answer-tells given now (expired_at given now s))
-timed-tells p given now s other = tells-self s
+timed-reports : (p : Phase) (given : Option ℕ) (now : ℕ) (s : State) → p ≢ Requesting → ReportsOfFailed s (timed_step p given now s).1
+timed-reports Requesting given now s other = absurd (other refl)
+timed-reports Authenticating None now s other = answer-reports None now s
+timed-reports Authenticating (Some id) now s other =
+    by_test (λ (t : State). ReportsOfFailed s (answer_step (Some id) now t).1) (is_listed_for_allocation id s) (closed s) s
+    (λ e. reports-then s (closed s) (answer_step (Some id) now (closed s)).1 (reports-self s) (answer-reports (Some id) now (closed s))) (λ e. answer-reports (Some id) now s)
+timed-reports Allocated given now s other = reports-then s (expired_at given now s) (answer_step given now (expired_at given now s)).1 (expired_at-reports given now s) (answer-reports given now (expired_at given now s))
+timed-reports p given now s other = reports-self s
 
-offer-tells : (offer : DataOffer) (s : State) → TellsOfFailed s (offer_step offer s).1
+offer-reports : (offer : DataOffer) (s : State) → ReportsOfFailed s (offer_step offer s).1
 unfolding count
-offer-tells offer s = let same = told-can_fail (family_of offer.peer) s.grants in omega (arith, same)
+offer-reports offer s = let same = reported-can_fail (family_of offer.peer) s.grants in omega (arith, same)
 
-pub poll-tells : (now : ℕ) (s : State) → s.phase ≢ Requesting → TellsOfFailed s (poll_step now s).1
-poll-tells now s other =
-    let told = λ (p : TurnPollRet × State). TellsOfFailed s p.1 in
-    by_test told (has_event s || has_reply s) _ _ (λ e. tells-self s)
-    (λ e. by_found told (λ offer. offer_step offer s) (next_offer s) (timed_out_step now s) (λ offer is. offer-tells offer s)
-    (by_found told (λ t. timed_step s.phase (Some t.id) now (transaction_ended t.id s)) (timed_out_transaction (agent_of s) now) (timed_step s.phase None now s)
-    (λ t is. timed-tells s.phase (Some t.id) now (transaction_ended t.id s) other) (timed-tells s.phase None now s other)))
+pub poll-reports : (now : ℕ) (s : State) → s.phase ≢ Requesting → ReportsOfFailed s (poll_step now s).1
+poll-reports now s other =
+    let reported = λ (p : TurnPollRet × State). ReportsOfFailed s p.1 in
+    by_test reported (has_event s || has_reply s) _ _ (λ e. reports-self s)
+    (λ e. by_found reported (λ offer. offer_step offer s) (next_offer s) (timed_out_step now s) (λ offer is. offer-reports offer s)
+    (by_found reported (λ t. timed_step s.phase (Some t.id) now (transaction_ended t.id s)) (timed_out_transaction (agent_of s) now) (timed_step s.phase None now s)
+    (λ t is. timed-reports s.phase (Some t.id) now (transaction_ended t.id s) other) (timed-reports s.phase None now s other)))
 
 -- ---- families
 
 -- at most one event more for each requested family
-abbrev TellsOfFamilies : State → State → Type 0
-TellsOfFamilies s t = length t.events ≤ length s.events + length s.families
+abbrev ReportsOfFamilies : State → State → Type 0
+ReportsOfFamilies s t = length t.events ≤ length s.events + length s.families
 
-answer-families : (given : Option ℕ) (now : ℕ) (s : State) → TellsOfFamilies s (answer_step given now s).1
-answer-families given now s = answer-by (TellsOfFamilies s) given now s (λ closes. omega arith)
+answer-families : (given : Option ℕ) (now : ℕ) (s : State) → ReportsOfFamilies s (answer_step given now s).1
+answer-families given now s = answer-by (ReportsOfFamilies s) given now s (λ closes. omega arith)
 
-timed-families : (p : Phase) (given : Option ℕ) (now : ℕ) (s : State) → p ≡ Requesting → TellsOfFamilies s (timed_step p given now s).1
+timed-families : (p : Phase) (given : Option ℕ) (now : ℕ) (s : State) → p ≡ Requesting → ReportsOfFamilies s (timed_step p given now s).1
 timed-families Requesting None now s e = answer-families None now s
 timed-families Requesting (Some id) now s e =
     let events = map AllocationCreateFailed s.families in
@@ -260,12 +260,12 @@ timed-families Requesting (Some id) now s e =
     omega (arith, more, length-reverse events, length-map s.families AllocationCreateFailed)
 timed-families p given now s e = cc
 
-pub poll-tells_families : (now : ℕ) (s : State) → s.phase ≡ Requesting → TellsOfFamilies s (poll_step now s).1
-poll-tells_families now s e =
-    let told = λ (p : TurnPollRet × State). TellsOfFamilies s p.1 in
-    by_test told (has_event s || has_reply s) _ _ (λ i. omega arith)
-    (λ i. by_found told (λ offer. offer_step offer s) (next_offer s) (timed_out_step now s) (λ offer is. omega arith)
-    (by_found told (λ t. timed_step s.phase (Some t.id) now (transaction_ended t.id s)) (timed_out_transaction (agent_of s) now) (timed_step s.phase None now s)
+pub poll-reports_families : (now : ℕ) (s : State) → s.phase ≡ Requesting → ReportsOfFamilies s (poll_step now s).1
+poll-reports_families now s e =
+    let reported = λ (p : TurnPollRet × State). ReportsOfFamilies s p.1 in
+    by_test reported (has_event s || has_reply s) _ _ (λ i. omega arith)
+    (λ i. by_found reported (λ offer. offer_step offer s) (next_offer s) (timed_out_step now s) (λ offer is. omega arith)
+    (by_found reported (λ t. timed_step s.phase (Some t.id) now (transaction_ended t.id s)) (timed_out_transaction (agent_of s) now) (timed_step s.phase None now s)
     (λ t is. timed-families s.phase (Some t.id) now (transaction_ended t.id s) e) (timed-families s.phase None now s e)))
 
 pub most-failures : (s : State) → max_failures s ≤ length s.grants

@@ -103,9 +103,9 @@ allocate-gives message now before s purposes same one = elim (cases_Option (life
   | inl e ↦ rw e (gives-left purposes message now before s.grants s.grants (left-same s.grants))
   | inr (n, e) ↦ rw e (gives-append purposes message now before s.grants (map (new_allocation n now) taken) (λ g there stands.
       let (a, among, is) = has-mapped (new_allocation n now) g taken there in
-      let told = has-contains a (relayed_in message) (taken-relayed s.families (relayed_in message) a among) in
+      let reported = has-contains a (relayed_in message) (taken-relayed s.families (relayed_in message) a among) in
       let asked = taken-family s.families (relayed_in message) a among in
-      subst (IsGivenOf purposes message now before) (sym is) (record { purpose = ForAllocation; one = one; given = (n, e, refl, told, rw same asked) })))
+      subst (IsGivenOf purposes message now before) (sym is) (record { purpose = ForAllocation; one = one; given = (n, e, refl, reported, rw same asked) })))
 ]
   where
     taken : List SocketAddr

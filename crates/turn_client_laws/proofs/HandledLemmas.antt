@@ -21,7 +21,7 @@ use Rattle.turn_client_api.specs.declared.call.Call.{Call}
 use Rattle.turn_client_api.specs.declared.call.Call.TheVariants.{PollRecv, Recv}
 use Rattle.turn_client_laws.specs.Handled.{Input, datagram_input, fed_taken, frame_taken, handled, is_front, processed, payloads, piece_inputs, poll_recv_inputs, stream_inputs}
 use Rattle.turn_client_laws.specs.Handled.{stream_inputs_taken, taken_in, taken_of_len, then_taken, stream_input, input_payload, inputs_taken, unless_given}
-use Rattle.turn_client_laws.specs.LawsPeers.{IsDeliveredByInput, IsPermittedInput, IsToldBy}
+use Rattle.turn_client_laws.specs.LawsPeers.{IsDeliveredByInput, IsPermittedInput, IsReportedBy}
 use Rattle.turn_client_api.proofs.HasLemmas.{Has, has-filter_map, has-left, cases_Option}
 use Rattle.turn_client_laws.proofs.StandLemmas.{has-contains}
 use Rattle.turn_client_laws.proofs.PeerLemmas.{datagram-IsMessageFromPermitted, frame-IsFromPermitted}
@@ -171,57 +171,57 @@ IsIcmp (PeerIcmp transport peer icmp) = ⊤
 IsIcmp _ = ⊥
 
 -- if the outcome is an ICMP report, one of these inputs returns it
-abbrev Tells : List Input → Outcome → Type 0
-Tells inputs o = IsIcmp o → (one : Input) × Has one inputs × ((processed one).0 ≡ o)
+abbrev Reports : List Input → Outcome → Type 0
+Reports inputs o = IsIcmp o → (one : Input) × Has one inputs × ((processed one).0 ≡ o)
 
-tells-kept : (waited : List ℕ) (inputs : List Input) (o : Outcome) → Tells inputs o → Tells inputs (place_kept waited o)
-tells-kept [] inputs o tells = tells
-tells-kept (b ∷ bs) inputs (PeerIcmp transport peer icmp) tells = tells
-tells-kept (b ∷ bs) inputs o tells = λ h. absurd h
+reports-kept : (waited : List ℕ) (inputs : List Input) (o : Outcome) → Reports inputs o → Reports inputs (place_kept waited o)
+reports-kept [] inputs o reports = reports
+reports-kept (b ∷ bs) inputs (PeerIcmp transport peer icmp) reports = reports
+reports-kept (b ∷ bs) inputs o reports = λ h. absurd h
 
-framed-tells : (is_lent : Bool) (stream : Stream) (now : ℕ) (t : State) → Tells (frame_taken is_lent stream now t) (framed_stream_step stream now t).0
-framed-tells is_lent stream now t = by (begins_no_frame stream.bytes) (frame_len stream.bytes)
+framed-reports : (is_lent : Bool) (stream : Stream) (now : ℕ) (t : State) → Reports (frame_taken is_lent stream now t) (framed_stream_step stream now t).0
+framed-reports is_lent stream now t = by (begins_no_frame stream.bytes) (frame_len stream.bytes)
   where
-    by : (b : Bool) (o : Option ℕ) → Tells (cond b [] (taken_of_len is_lent stream now t o)) (cond {A = Outcome × State} b (Handled, broken_at stream.local t) (framed_by stream now t o)).0
+    by : (b : Bool) (o : Option ℕ) → Reports (cond b [] (taken_of_len is_lent stream now t o)) (cond {A = Outcome × State} b (Handled, broken_at stream.local t) (framed_by stream now t o)).0
     by false (Some len) h = (stream_input is_lent stream (take len stream.bytes) now t, inl refl, refl)
     by b o h = absurd h
 
-fed-tells : (stream : Stream) (piece : List ℕ) (now : ℕ) (t : State) → Tells (frame_taken (is_front stream.bytes) (stream_with_piece stream piece) now t)
+fed-reports : (stream : Stream) (piece : List ℕ) (now : ℕ) (t : State) → Reports (frame_taken (is_front stream.bytes) (stream_with_piece stream piece) now t)
     (place_kept stream.bytes (framed_stream_step (stream_with_piece stream piece) now t).0)
-fed-tells stream piece now t = tells-kept stream.bytes _ (framed_stream_step (stream_with_piece stream piece) now t).0 (framed-tells (is_front stream.bytes) (stream_with_piece stream piece) now t)
+fed-reports stream piece now t = reports-kept stream.bytes _ (framed_stream_step (stream_with_piece stream piece) now t).0 (framed-reports (is_front stream.bytes) (stream_with_piece stream piece) now t)
 
 -- what all streams return is no ICMP report
 no-icmp : (o : Option Payload) (p : Outcome) → (IsIcmp p → ⊥) → IsIcmp (option_map_or PeerData o p) → ⊥
 no-icmp None p no_more h = no_more h
 no-icmp (Some payload) p no_more h = h
 
-then_all-tells : (now : ℕ) (front : List Input) (p : Outcome × State) → Tells front p.0 → Tells (front ++ then_taken now p) (then_all now p).0
-then_all-tells now front (PeerData payload, t) first h = absurd h
-then_all-tells now front (PeerIcmp transport peer icmp, t) first h = let (one, there, is) = first h in (one, has-left one front [] there, is)
-then_all-tells now front (outcome, t) first h = absurd (no-icmp (poll_recv_step now t).0 outcome (λ k. k) h)
+then_all-reports : (now : ℕ) (front : List Input) (p : Outcome × State) → Reports front p.0 → Reports (front ++ then_taken now p) (then_all now p).0
+then_all-reports now front (PeerData payload, t) first h = absurd h
+then_all-reports now front (PeerIcmp transport peer icmp, t) first h = let (one, there, is) = first h in (one, has-left one front [] there, is)
+then_all-reports now front (outcome, t) first h = absurd (no-icmp (poll_recv_step now t).0 outcome (λ k. k) h)
 
-piece-tells : (m : Mode) (stream : Stream) (piece : List ℕ) (now : ℕ) (s : State)
-    → Tells (piece_inputs (record stream { mode = m }) piece now s) (piece_step (record stream { mode = m }) piece now s).0
-piece-tells Control stream piece now s =
+piece-reports : (m : Mode) (stream : Stream) (piece : List ℕ) (now : ℕ) (s : State)
+    → Reports (piece_inputs (record stream { mode = m }) piece now s) (piece_step (record stream { mode = m }) piece now s).0
+piece-reports Control stream piece now s =
     let u = record stream { mode = Control } in
-    then_all-tells now (fed_taken u piece now s) (first_frame_step u piece now s) (fed-tells u piece now (with_bytes stream.local [] s))
-piece-tells Waiting stream piece now s = fed-tells (record stream { mode = Waiting }) piece now (with_bytes stream.local [] s)
-piece-tells (Bound peer) stream piece now s = λ h. absurd h
-piece-tells Broken stream piece now s = by (same_address stream.local s.local)
+    then_all-reports now (fed_taken u piece now s) (first_frame_step u piece now s) (fed-reports u piece now (with_bytes stream.local [] s))
+piece-reports Waiting stream piece now s = fed-reports (record stream { mode = Waiting }) piece now (with_bytes stream.local [] s)
+piece-reports (Bound peer) stream piece now s = λ h. absurd h
+piece-reports Broken stream piece now s = by (same_address stream.local s.local)
   where
-    by : (b : Bool) → Tells (cond b (poll_recv_inputs now s) []) (cond {A = Outcome × State} b (then_all now (Handled, s)) (Handled, s)).0
+    by : (b : Bool) → Reports (cond b (poll_recv_inputs now s) []) (cond {A = Outcome × State} b (then_all now (Handled, s)) (Handled, s)).0
     by true h = absurd (no-icmp (poll_recv_step now s).0 Handled (λ k. k) h)
     by false h = absurd h
 
-stream-tells : (stream : Stream) (piece : List ℕ) (now : ℕ) (s : State) → Tells (stream_inputs stream piece now s) (stream_step stream piece now s).0
-stream-tells stream [] now s h = absurd h
-stream-tells stream (b ∷ bs) now s h = piece-tells stream.mode stream (b ∷ bs) now s h
+stream-reports : (stream : Stream) (piece : List ℕ) (now : ℕ) (s : State) → Reports (stream_inputs stream piece now s) (stream_step stream piece now s).0
+stream-reports stream [] now s h = absurd h
+stream-reports stream (b ∷ bs) now s h = piece-reports stream.mode stream (b ∷ bs) now s h
 
-told : (call : Call) (s : State) (o : Outcome) → Tells (handled call s) o → IsToldBy o call s
-told call s (PeerIcmp transport peer icmp) tells = let (one, there, is) = tells tt in (one, has-contains one (handled call s) there, (is, input-IsFromPermitted one))
-told call s o tells = tt
+reported : (call : Call) (s : State) (o : Outcome) → Reports (handled call s) o → IsReportedBy o call s
+reported call s (PeerIcmp transport peer icmp) reports = let (one, there, is) = reports tt in (one, has-contains one (handled call s) there, (is, input-IsFromPermitted one))
+reported call s o reports = tt
 
-pub recv-IsToldBy : (packet : Transmit (List ℕ)) (now : ℕ) (s : State) → IsToldBy (packet_step packet now s).0 (Recv packet now) s
-recv-IsToldBy packet now s = told (Recv packet now) s (packet_step packet now s).0 (
-    packet-by (λ s inputs r. Tells inputs r.0) packet.transport packet.from packet.to packet.payload now
-    (λ s h. (datagram_input packet.payload now s, inl refl, refl)) (λ stream s e. stream-tells stream packet.payload now s) (λ s h. absurd h) s)
+pub recv-IsReportedBy : (packet : Transmit (List ℕ)) (now : ℕ) (s : State) → IsReportedBy (packet_step packet now s).0 (Recv packet now) s
+recv-IsReportedBy packet now s = reported (Recv packet now) s (packet_step packet now s).0 (
+    packet-by (λ s inputs r. Reports inputs r.0) packet.transport packet.from packet.to packet.payload now
+    (λ s h. (datagram_input packet.payload now s, inl refl, refl)) (λ stream s e. stream-reports stream packet.payload now s) (λ s h. absurd h) s)

@@ -154,15 +154,15 @@ module _ (now : ℕ) (s : State) where
       )
       by p = over
 
-told-grant_identity : (g : Grant) → grant_identity g ≡ grant_identity (as_reported g)
-told-grant_identity g = grind arith
+reported-grant_identity : (g : Grant) → grant_identity g ≡ grant_identity (as_reported g)
+reported-grant_identity g = grind arith
 
-pub told-loses : (Taken : Grant → Type 0) (family : AddressFamily) (gs : List Grant) → Loses Taken gs (first_reported family gs)
-told-loses Taken family [] = loses-same Taken []
-told-loses Taken family (x ∷ gs) =
+pub reported-loses : (Taken : Grant → Type 0) (family : AddressFamily) (gs : List Grant) → Loses Taken gs (first_reported family gs)
+reported-loses Taken family [] = loses-same Taken []
+reported-loses Taken family (x ∷ gs) =
     on_choice (Loses Taken (x ∷ gs)) (is_some (unreported_in family x)) (as_reported x ∷ gs) (x ∷ first_reported family gs)
-    (loses-cons Taken x (as_reported x) gs gs (told-grant_identity x) (loses-same Taken gs))
-    (loses-cons Taken x x gs (first_reported family gs) refl (told-loses Taken family gs))
+    (loses-cons Taken x (as_reported x) gs gs (reported-grant_identity x) (loses-same Taken gs))
+    (loses-cons Taken x x gs (first_reported family gs) refl (reported-loses Taken family gs))
 
 pub poll-does : (now : ℕ) (s : State) → Does (Poll now) s (poll_step now s).1
 poll-does now s =
@@ -176,7 +176,7 @@ poll-does now s =
 
     offered : (offer : DataOffer) → Does (Poll now) s (offer_step offer s).1
     offered offer = does-settled (Poll now) s (offer_step offer s).1
-        (adds-same Never s.transactions, adds-same Never s.listed, told-loses (IsTakenBy (Poll now) s) (family_of offer.peer) s.grants)
+        (adds-same Never s.transactions, adds-same Never s.listed, reported-loses (IsTakenBy (Poll now) s) (family_of offer.peer) s.grants)
 
 -- ---- what is sent
 

@@ -35,7 +35,7 @@ use Rattle.turn_client_api.proofs.HasLemmas.{Has, filter-has, has-append, has-fi
 use Rattle.turn_client_laws.proofs.InAllocationLemmas.{same_family-true}
 use Rattle.turn_client_api.proofs.HasLemmas.{has-unreversed}
 use Rattle.turn_client_laws.proofs.MoveLemmas.{Never, Remains, by_test, remains-here, cases_Option}
-use Rattle.turn_client_laws.proofs.MovePollLemmas.{told-loses}
+use Rattle.turn_client_laws.proofs.MovePollLemmas.{reported-loses}
 use Rattle.turn_client_laws.proofs.NumberLemmas.{AreApart, all-of, numbers}
 use Rattle.turn_client_laws.proofs.StandLemmas.{contains-has, has-contains}
 use Rattle.turn_client_api.specs.declared.grant.Lease.{Lease}
@@ -349,12 +349,12 @@ module _ (now : ℕ) (s : State) (apart : HasDistinctNumbers s) where
   poll-spares =
       by_test (λ t. Spares t.grants) (has_event s || has_reply s) _ _ spares-same (offered (next_offer s))
     where
-      told : (offer : DataOffer) → Spares (offer_step offer s).1.grants
-      told offer g there = elim (told-loses Never (family_of offer.peer) s.grants g there) [ inl remains ↦ inl remains | inr never ↦ absurd never ]
+      reported : (offer : DataOffer) → Spares (offer_step offer s).1.grants
+      reported offer g there = elim (reported-loses Never (family_of offer.peer) s.grants g there) [ inl remains ↦ inl remains | inr never ↦ absurd never ]
 
       offered : (o : Option DataOffer) → Spares (option_map_or (λ offer. offer_step offer s) o (timed_out_step now s)).1.grants
       offered None = timed-spares (timed_out_transaction (agent_of s) now) refl
-      offered (Some offer) = told offer
+      offered (Some offer) = reported offer
 
 -- even if memory allocation fails
 pub poll-over : (now : ℕ) (s t : State) (g : Grant) → Leaves (Poll now) s t → HasDistinctNumbers s → Contains s.grants g → IsStillThere t g ⊎ IsOver now s g

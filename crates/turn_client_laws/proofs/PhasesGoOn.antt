@@ -129,8 +129,8 @@ pub leaves-keeps : (call : Call) (s t : State) → Leaves call s t → Keeps s t
 leaves-keeps = leaves-walk Keeps Keeps-KeepsAllEdits (λ s streams. keeps-same s)
 
 -- a client that has ended reports so when nothing is pending
-told_of : (p : Phase) (events : List TurnEvent) (now : ℕ) (s : State) → p ≡ Closed → events ≡ [] → has_reply s ≡ false → (poll_step now (record s { phase = p; events = events })).0 ≡ Do.Closed
-told_of p events now s e f g = grind arith
+reported_of : (p : Phase) (events : List TurnEvent) (now : ℕ) (s : State) → p ≡ Closed → events ≡ [] → has_reply s ≡ false → (poll_step now (record s { phase = p; events = events })).0 ≡ Do.Closed
+reported_of p events now s e f g = grind arith
 
-pub closed-told : (now : ℕ) (s : State) → s.phase ≡ Closed → s.events ≡ [] → has_reply s ≡ false → (poll_step now s).0 ≡ Do.Closed
-closed-told now s = told_of s.phase s.events now s
+pub closed-reported : (now : ℕ) (s : State) → s.phase ≡ Closed → s.events ≡ [] → has_reply s ≡ false → (poll_step now s).0 ≡ Do.Closed
+closed-reported now s = reported_of s.phase s.events now s

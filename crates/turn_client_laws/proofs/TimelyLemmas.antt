@@ -90,15 +90,15 @@ wakeup-timely now was given t settled no_close = by (has_event t) given refl ref
 
     by : (b g : Bool) → has_event t ≡ b → given ≡ g → answer (next_wakeup given now t)
     by true g e f =
-        let tells : next_wakeup given now t ≡ now = rw (old, e) refl in
-        subst answer (sym tells) (now-timely now was t (event-busy now was t e))
+        let reports : next_wakeup given now t ≡ now = rw (old, e) refl in
+        subst answer (sym reports) (now-timely now was t (event-busy now was t e))
     by false true e f =
-        let tells : next_wakeup given now t ≡ now = rw (old, e, settled.no_reply, f) refl in
-        subst answer (sym tells) (now-timely now was t (inr (inr (settled.gave_up f))))
+        let reports : next_wakeup given now t ≡ now = rw (old, e, settled.no_reply, f) refl in
+        subst answer (sym reports) (now-timely now was t (inr (inr (settled.gave_up f))))
     by false false e f =
-        let tells : next_wakeup given now t ≡ least_or = rw (old, e, settled.no_reply, f) refl in
+        let reports : next_wakeup given now t ≡ least_or = rw (old, e, settled.no_reply, f) refl in
         let empty = no_event t.events e in
-        subst answer (sym tells) (waits (is_allocated t.phase) refl (record {
+        subst answer (sym reports) (waits (is_allocated t.phase) refl (record {
           no_event = empty;
           no_reply = settled.no_reply;
           no_offer = settled.no_offer;

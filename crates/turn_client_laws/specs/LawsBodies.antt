@@ -24,8 +24,8 @@ abbrev pub max_failures : State → ℕ
 max_failures s = length (filter can_fail s.grants)
 
 -- for each event that was queued there is one grant fewer that can fail
-abbrev pub TellsOfFailed : State → State → Type 0
-TellsOfFailed s t = length t.events + max_failures t ≤ length s.events + max_failures s
+abbrev pub ReportsOfFailed : State → State → Type 0
+ReportsOfFailed s t = length t.events + max_failures t ≤ length s.events + max_failures s
 
 -- ---- the parts of the returned time
 

@@ -98,7 +98,7 @@ abbrev pub IsDeliveredByInput : Option Payload → Call → State → Type 0
 IsDeliveredByInput o call s = IfSome o (λ payload. IsDeliveredByCall payload call s)
 
 -- if it returns an ICMP report, an input of the call returns that
-abbrev pub IsToldBy : Outcome → Call → State → Type 0
-IsToldBy (PeerIcmp transport peer icmp) call s =
+abbrev pub IsReportedBy : Outcome → Call → State → Type 0
+IsReportedBy (PeerIcmp transport peer icmp) call s =
     IsDoneBy (λ one. ((processed one).0 ≡ PeerIcmp transport peer icmp) × IsPermittedInput one) call s
-IsToldBy _ call s = ⊤
+IsReportedBy _ call s = ⊤

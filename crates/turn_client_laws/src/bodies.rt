@@ -10,7 +10,7 @@ ghost use Rattle.turn_client_api.specs.Poll.{expired_at, poll_step};
 ghost use Rattle.turn_client_api.specs.Streams.{frame_step, poll_recv_step, next_frame_step};
 ghost use Rattle.turn_client_laws.specs.Handled.{poll_recv_inputs};
 ghost use Rattle.turn_client_laws.specs.LawsStreams.{NeedsMoreBytes};
-ghost use Rattle.turn_client_laws.specs.LawsBodies.{AreTakenUpTo, IsAsideFrom, IsLeastFree, TellsOfFailed, max_failures, soonest};
+ghost use Rattle.turn_client_laws.specs.LawsBodies.{AreTakenUpTo, IsAsideFrom, IsLeastFree, ReportsOfFailed, max_failures, soonest};
 
 /// Before the earliest time at which a grant expires, time changes nothing unless a transaction timed out.
 /// These times are the expiries of allocations, permissions and channels (RFC 8656, sections 8, 9 and 12),
@@ -25,7 +25,7 @@ pub fn nothing_expires_early()
 /// as there are grants that are neither allocations nor reserved channels. In `Requesting` it queues at
 /// most one for each requested family (RFC 8656, section 7.1). A body can reserve room for them.
 pub fn events_are_bounded()
-    ensures granted { (now : ℕ) (s : State) → s.phase ≢ Requesting → TellsOfFailed s (poll_step now s).1 }
+    ensures granted { (now : ℕ) (s : State) → s.phase ≢ Requesting → ReportsOfFailed s (poll_step now s).1 }
     ensures requested { (now : ℕ) (s : State) → s.phase ≡ Requesting → length (poll_step now s).1.events ≤ length s.events + length s.families }
     ensures most { (s : State) → max_failures s ≤ length s.grants }
 {}

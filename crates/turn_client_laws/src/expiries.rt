@@ -18,9 +18,9 @@ pub fn grants_expire()
     // A minute before that the permission is to be refreshed.
     ensures refresh { (s : State) → (poll_step (ms 100) (with_both s)).0 ≡ WaitUntil (ms 240_100) }
     ensures permission { (s : State) → (poll_step (ms 300_100) (with_both s)).0 ≡ WaitUntil (ms 300_100) }
-    ensures permission_told { (s : State) → (poll_step (ms 300_100) (with_both s)).1.events ≡ PermissionCreateFailed Udp ip_of_peer ∷ [] }
+    ensures permission_reported { (s : State) → (poll_step (ms 300_100) (with_both s)).1.events ≡ PermissionCreateFailed Udp ip_of_peer ∷ [] }
     ensures channel_left { (s : State) → (poll_step (ms 300_100) (with_both s)).1.grants ≡ (with_channel_alone s).grants }
-    ensures channel_told { (s : State) → (poll_step (ms 600_100) (with_channel_alone s)).1.events ≡ ChannelCreateFailed Udp peer ∷ [] }
+    ensures channel_reported { (s : State) → (poll_step (ms 600_100) (with_channel_alone s)).1.events ≡ ChannelCreateFailed Udp peer ∷ [] }
     // Its number and its peer are reserved for 300 s.
     ensures reserved { (s : State) → (poll_step (ms 600_100) (with_channel_alone s)).1.grants ≡ (with_reserved s).grants }
     ensures refused { (s : State) → bind_channel_step Udp peer (ms 601_000) (with_reserved s) ≡ (Err (ExpiredChannelExists (ms 900_100)), with_reserved s) }

@@ -37,7 +37,7 @@ pub fn unkept_grants_are_not_refreshed()
 /// What a caller lets go, in worked states.
 pub fn grants_are_let_go()
     // A permission that was granted at 100 ms is not refreshed a minute before it expires: `poll` tells its expiry.
-    ensures told { (s : State) → (poll_step 100_000_000 (without_permission_kept (with_permission 50_000_000 s))).0 ≡ Do.WaitUntil 300_100_000_000 }
+    ensures reported { (s : State) → (poll_step 100_000_000 (without_permission_kept (with_permission 50_000_000 s))).0 ≡ Do.WaitUntil 300_100_000_000 }
     ensures silent { (s : State) → next_transmit 240_100_000_000 (without_permission_kept (with_permission 50_000_000 s)) ≡ None }
     // It ends as any other.
     ensures ends { (s : State) → (poll_step 300_100_000_000 (without_permission_kept (with_permission 50_000_000 s))).1.events

@@ -41,13 +41,13 @@ pub fn allocations_are_answered()
 /// grants last for 300 and 600 s from the time of the reply.
 pub fn grants_are_answered()
     ensures permitted { WhenSigned permitted asking_permission (λ r. r.1.grants ≡ allocation_of_v4 ∷ granted_permission ∷ []) }
-    ensures permission_told { WhenSigned permitted asking_permission (λ r. r.1.events ≡ PermissionCreated Udp ip_of_peer ∷ []) }
+    ensures permission_reported { WhenSigned permitted asking_permission (λ r. r.1.events ≡ PermissionCreated Udp ip_of_peer ∷ []) }
     ensures unsigned { IgnoresUnsigned permitted asking_permission }
     // A second copy changes nothing.
     ensures copy { IgnoresCopy permitted asking_permission }
     // The permission of a channel is granted before it.
     ensures bound { WhenSigned channel_bound asking_channel (λ r. r.1.grants ≡ allocation_of_v4 ∷ granted_permission ∷ granted_channel ∷ []) }
-    ensures channel_told { WhenSigned channel_bound asking_channel (λ r. r.1.events ≡ PermissionCreated Udp ip_of_peer ∷ ChannelCreated Udp peer ∷ []) }
+    ensures channel_reported { WhenSigned channel_bound asking_channel (λ r. r.1.events ≡ PermissionCreated Udp ip_of_peer ∷ ChannelCreated Udp peer ∷ []) }
     // A refusal removes the permission that was requested with the channel.
     ensures refused { WhenSigned channel_not_bound asking_channel (λ r. r.1.grants ≡ allocation_of_v4 ∷ []) }
     ensures refusals { WhenSigned channel_not_bound asking_channel
@@ -71,7 +71,7 @@ pub fn connects_are_answered()
     ensures offered { WhenSigned connected asking_connection (λ r. r.1.grants ≡ allocation_of_v4 ∷ permission_for_300_s ∷ offer_of OwnConnect ∷ []) }
     // A refusal counts, whatever else it contains.
     ensures refused { WhenSigned not_connected asking_connection (λ r. r.1.grants ≡ allocation_of_v4 ∷ permission_for_300_s ∷ []) }
-    ensures told { WhenSigned not_connected asking_connection (λ r. r.1.events ≡ TcpConnectFailed peer ∷ []) }
+    ensures reported { WhenSigned not_connected asking_connection (λ r. r.1.events ≡ TcpConnectFailed peer ∷ []) }
 {}
 
 /// The effects of challenges (RFC 8489, sections 9.2.3 to 9.2.5).
@@ -84,7 +84,7 @@ pub fn challenges_are_answered()
     // It changes nothing if its request is not outstanding, and any other reply before it ends the client.
     ensures unasked { (text : List ℕ) (s : State) → Ignores unauthorized (record (asking_first text s) { transactions = [] }) }
     ensures refused { (text : List ℕ) (s : State) → (after_message bad_request_reply (asking_first text s)).1.phase ≡ Closed }
-    ensures told { (text : List ℕ) (s : State) → (after_message bad_request_reply (asking_first text s)).1.events ≡ AllocationCreateFailed IPV4 ∷ [] }
+    ensures reported { (text : List ℕ) (s : State) → (after_message bad_request_reply (asking_first text s)).1.events ≡ AllocationCreateFailed IPV4 ∷ [] }
     // By default nine in sequence are answered, and the tenth ends the client.
     ensures ninth { (to : SocketAddr) (text : List ℕ) (s : State) → (after_message stale (challenged 8 to text s)).1.challenges ≡ 9 }
     ensures still { (to : SocketAddr) (text : List ℕ) (s : State) → (after_message stale (challenged 8 to text s)).1.phase ≡ Allocated }

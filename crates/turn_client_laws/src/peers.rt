@@ -8,7 +8,7 @@ ghost use Rattle.turn_client_api.specs.Payloads.{datagram_step};
 ghost use Rattle.turn_client_api.specs.Streams.{frame_step, payload_in, poll_recv_step};
 ghost use Rattle.turn_client_api.specs.Steps.{packet_step};
 ghost use Rattle.turn_client_api.specs.declared.call.Call.TheVariants.{PollRecv, Recv};
-ghost use Rattle.turn_client_laws.specs.LawsPeers.{IsDeliveredByInput, IsFromPermitted, IsMessageFromPermitted, IsToldBy};
+ghost use Rattle.turn_client_laws.specs.LawsPeers.{IsDeliveredByInput, IsFromPermitted, IsMessageFromPermitted, IsReportedBy};
 
 /// Data is returned only for a peer with an active permission, in a DATA indication that names it and that
 /// a client in `Allocated` accepts (RFC 8656, sections 11.4 and 11.6), for the peer of an active channel,
@@ -23,5 +23,5 @@ pub fn only_permitted()
     ensures frame { (stream : Stream) (frame : List ℕ) (now : ℕ) (s : State) → IsFromPermitted stream.mode frame s (frame_step stream frame now s).0 }
     ensures poll_recv { (now : ℕ) (s : State) → IsDeliveredByInput (poll_recv_step now s).0 (PollRecv now) s }
     ensures recv { (packet : Transmit (List ℕ)) (now : ℕ) (s : State) → IsDeliveredByInput (payload_in (packet_step packet now s).0) (Recv packet now) s }
-    ensures icmp { (packet : Transmit (List ℕ)) (now : ℕ) (s : State) → IsToldBy (packet_step packet now s).0 (Recv packet now) s }
+    ensures icmp { (packet : Transmit (List ℕ)) (now : ℕ) (s : State) → IsReportedBy (packet_step packet now s).0 (Recv packet now) s }
 {}

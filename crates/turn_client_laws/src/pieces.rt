@@ -44,7 +44,7 @@ pub fn connections_are_bound()
     // the connection is bound, and the data is polled.
     ensures handled { (byte : ℕ → ℕ) (text : List ℕ) (s : State) → (server_piece_step data_end (bind_success byte ++ hello) (with_waiting text s)).0 ≡ Handled }
     ensures behind { WhenJudged (Validated Sha1) hello (λ r. (poll_recv_at_1_s r.1).0 ≡ Some (from_peer hello None)) }
-    ensures told { WhenJudged (Validated Sha1) [] (λ r. r.1.events ≡ TcpConnected peer ∷ []) }
+    ensures event { WhenJudged (Validated Sha1) [] (λ r. r.1.events ≡ TcpConnected peer ∷ []) }
     // A reply with a wrong signature binds nothing: the connection is to be closed, and no data is
     // returned.
     ensures refused { WhenJudged (Refused true) hello (λ r. r.1.closes ≡ data_end ∷ []) }

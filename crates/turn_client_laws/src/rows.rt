@@ -66,7 +66,7 @@ pub fn wakeups_are_reported()
 /// A client keeps its path to the server alive by Binding indications (RFC 8489, section 5).
 pub fn paths_are_kept_alive()
     // `poll` tells when: 15 s after the last packet. None is sent before.
-    ensures told { (s : State) → (poll_step 100_000_000 (kept_alive s)).0 ≡ Do.WaitUntil 15_100_000_000 }
+    ensures reported { (s : State) → (poll_step 100_000_000 (kept_alive s)).0 ≡ Do.WaitUntil 15_100_000_000 }
     ensures early { (s : State) → next_transmit 15_099_999_999 (kept_alive s) ≡ None }
     // It goes to the server under the next ID, which is used then. Nothing is requested.
     ensures bytes { (s : State) → next_transmit 15_100_000_000 (kept_alive s)
@@ -93,7 +93,7 @@ pub fn refreshes_are_ahead()
         ≡ Some (expiry - seconds 60) }
     ensures default_channel { (number expiry : ℕ) → refresh_time_by_kind default_refresh_ahead (Channel number peer (granted_until expiry true)) ≡ Some (expiry - seconds 60) }
     // Two minutes ahead: `poll` tells the time of the permission, the first to expire, and it is refreshed then.
-    ensures told { (s : State) → (poll_step 100_000_000 (refreshing_ahead (seconds 120) (with_all 1800 s))).0 ≡ Do.WaitUntil 180_100_000_000 }
+    ensures reported { (s : State) → (poll_step 100_000_000 (refreshing_ahead (seconds 120) (with_all 1800 s))).0 ≡ Do.WaitUntil 180_100_000_000 }
     ensures early { (s : State) → next_transmit 180_099_999_999 (refreshing_ahead (seconds 120) (with_all 1800 s)) ≡ None }
     ensures refresh { (s : State) → map (λ l. l.purpose) (transmit_step 180_100_000_000 (refreshing_ahead (seconds 120) (with_all 1800 s))).1.listed
         ≡ ForPermission ip_of_peer ∷ [] }

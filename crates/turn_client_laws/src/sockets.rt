@@ -19,7 +19,7 @@ ghost use Rattle.turn_client_laws.specs.LawsSockets.{asked_to_connect, asked_wit
 pub fn peers_may_connect()
     // With a permission the caller is to open a connection.
     ensures offered { (s : State) → after_message attempted (relaying_tcp (permission ∷ []) s) ≡ (Handled, offered s) }
-    ensures told { (s : State) → (poll_step (ms 100) (offered s)).0 ≡ AllocateTcpSocket 9 control peer }
+    ensures reported { (s : State) → (poll_step (ms 100) (offered s)).0 ≡ AllocateTcpSocket 9 control peer }
     // Not a second time, nor without a permission.
     ensures again { (s : State) → after_message attempted (offered s) ≡ (Ignored, offered s) }
     ensures unpermitted { (s : State) → after_message attempted (relaying_tcp [] s) ≡ (Ignored, relaying_tcp [] s) }

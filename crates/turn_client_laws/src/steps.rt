@@ -16,7 +16,7 @@ ghost use Rattle.turn_client_api.specs.declared.poll.TurnPollRet.TheVariants as 
 /// no reply is queued, `poll` reports that it has ended (our choice).
 pub fn stays_closed()
     ensures stays { (call : Call) (s t : State) → Leaves call s t → StaysClosed s t }
-    ensures told { (now : ℕ) (s : State) → s.phase ≡ Closed → s.events ≡ [] → has_reply s ≡ false → (poll_step now s).0 ≡ Do.Closed }
+    ensures reported { (now : ℕ) (s : State) → s.phase ≡ Closed → s.events ≡ [] → has_reply s ≡ false → (poll_step now s).0 ≡ Do.Closed }
 {}
 
 /// In sequence at most as many challenges are answered as the configuration says, which no call changes,

@@ -1,6 +1,6 @@
 pub mod CallLemmas
 pub mod CarrierLemmas
-pub mod HeardLemmas
+pub mod DeliveredLemmas
 pub mod NoStreamLemmas
 pub mod RunLemmas
 pub mod TcpClientLemmas

@@ -10,7 +10,7 @@ use Rattle.turn_types.specs.declared.attribute.icmp_report.Icmp.{Icmp}
 use Rattle.turn_client_laws.specs.Handled.{processed}
 use Rattle.turn_client_runs.specs.Inputs.{IsAmong, handled_in}
 use Rattle.turn_client_api.specs.declared.call.Call.{Call}
-use Rattle.turn_client_runs.specs.Peers.{IsDeliveredIn, TellsOfPermitted}
+use Rattle.turn_client_runs.specs.Peers.{IsDeliveredIn, ReportsOfPermitted}
 use Rattle.turn_client_proto.specs.Run.{peer_data, replies_of}
 use Rattle.turn_client_proto.specs.declared.runs.reply.PeerData.{PeerData}
 use Rattle.turn_client_proto.specs.declared.runs.reply.Reply.TheVariants as Replies
@@ -20,13 +20,13 @@ abbrev pub IsDelivered : PeerData → State → List Call → Type 0
 IsDelivered given s calls = (payload : Payload) × (peer_data payload ≡ given) × IsDeliveredIn payload s calls
 
 -- one of the inputs gave this ICMP report, for a permitted peer
-abbrev pub IsTold : TransportType → SocketAddr → Icmp → State → List Call → Type 0
-IsTold transport peer icmp s calls =
-    IsAmong (λ one. ((processed one).0 ≡ PeerIcmp transport peer icmp) × TellsOfPermitted one) (handled_in s calls)
+abbrev pub IsReported : TransportType → SocketAddr → Icmp → State → List Call → Type 0
+IsReported transport peer icmp s calls =
+    IsAmong (λ one. ((processed one).0 ≡ PeerIcmp transport peer icmp) × ReportsOfPermitted one) (handled_in s calls)
 
 -- so is all data of peers among the replies to the calls, and every ICMP report
 abbrev pub AnswersOnlyPermitted : State → List Call → Type 0
 AnswersOnlyPermitted s calls =
     ((given : PeerData) → Contains (replies_of s calls) (Replies.PeerData given) → IsDelivered given s calls)
     × ((transport : TransportType) (peer : SocketAddr) (icmp : Icmp)
-    → Contains (replies_of s calls) (Replies.PeerIcmp transport peer icmp.icmp_type icmp.code icmp.«data») → IsTold transport peer icmp s calls)
+    → Contains (replies_of s calls) (Replies.PeerIcmp transport peer icmp.icmp_type icmp.code icmp.«data») → IsReported transport peer icmp s calls)

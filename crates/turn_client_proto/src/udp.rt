@@ -111,7 +111,7 @@ impl TurnClientUdp {
     ///
     /// If memory allocation for a message fails. The client has ended then, and nothing else has changed.
     fn datagram(&mut self, bytes: &[u8], now: Instant) -> Result<TurnProtocolRecv, AllocError>
-        ensures answer { IfOk result (λ told. outcome_in bytes.now told ≡ (datagram_step bytes.now now self.old).0) }
+        ensures answer { IfOk result (λ outcome. outcome_in bytes.now outcome ≡ (datagram_step bytes.now now self.old).0) }
         ensures within { IfOk result (IsRangeWithin bytes.now) }
         ensures after { OnOk result (self.new ≡ (datagram_step bytes.now now self.old).1) }
         ensures no_memory { OnErr result (self.new ≡ closed self.old) }
@@ -233,7 +233,7 @@ impl TurnClientApi for TurnClientUdp {
             return Ok(TurnRecvRet::Ignored(transmit));
         }
         match self.datagram(transmit.payload.as_slice(), now) {
-            Ok(told) => Ok(told.lent(transmit)),
+            Ok(outcome) => Ok(outcome.lent(transmit)),
             Err(refusal) => Err(refusal),
         }
     }

@@ -56,13 +56,13 @@ someone =
     }) []
 
 -- a request is as long as the length with which it was begun
-pub as_long_as_told : (auth : ClientAuth) (transport : TransportType) (families : List AddressFamily) (purpose : Purpose) (id asked signature : ℕ) (begun message text : List ℕ)
+pub as_long_as_asked : (auth : ClientAuth) (transport : TransportType) (families : List AddressFamily) (purpose : Purpose) (id asked signature : ℕ) (begun message text : List ℕ)
     → IsMessage begun (type_number (method_for purpose) Request) id [] → AddsAsked transport families purpose begun message → IsAskedLen transport families purpose asked
     → signature ≡ signature_len auth Request → length text ≡ signed_len auth message → length text ≡ 20 + asked + signature
-as_long_as_told auth transport families purpose id asked signature begun message text is adds told signs signed =
+as_long_as_asked auth transport families purpose id asked signature begun message text is adds measured signs signed =
     let all = adds someone in
     let class : class_of (type_of message) ≡ Request =
     ap class_of (all.type ∙ is.has_type) ∙ request_class purpose in
     let added : signature_len auth (class_of (type_of message)) ≡ signature = ap (signature_len auth) class ∙ sym signs in
     let header : length begun ≡ 20 = omega (arith, ap length is.has_attributes, length-drop 20 begun, is.whole) in
-    omega (arith, signed, added, all.len, told someone (id_of begun), header)
+    omega (arith, signed, added, all.len, measured someone (id_of begun), header)

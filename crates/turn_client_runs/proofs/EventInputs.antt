@@ -190,7 +190,7 @@ module _ (one : Input) (over : IsOverControl one) (whole : is_message one.bytes 
       signed g j judged accepted success error answers valid outstanding e there =
           elim (signed-says g message one.time s (λ allocates. has-allocation (asked_for message s) (and_parts (is_response (class_in message)) _ (answers allocates)).1) e there) [
             | inl old ↦ inl old
-            | inr told ↦ inr (replied g j judged accepted success error valid outstanding e told)
+            | inr reported ↦ inr (replied g j judged accepted success error valid outstanding e reported)
           ]
 
       by : (j : Judgement) → judgement_of s message ≡ j → Says (AnswersAllocate message s) message s (judgement_of s message) → Adding (message_step message one.time s).1
@@ -223,19 +223,19 @@ module _ (local : SocketAddr) (message : List ℕ) (now : ℕ) (s : State) where
     pub unbound : bind_judgement s c.local message ≡ SignedSuccess → ⊥
     pub unchallenged : (challenge : Challenge) → bind_judgement s c.local message ≡ Challenged challenge → ⊥
 
-  abbrev pub BindTells : State → TurnEvent → Type 0
-  BindTells t e = ((b : Binds local message s t) × (s.phase ≡ Allocated) × (e ≡ TcpConnected b.c.peer)) ⊎ Unbinds e
+  abbrev pub BindReports : State → TurnEvent → Type 0
+  BindReports t e = ((b : Binds local message s t) × (s.phase ≡ Allocated) × (e ≡ TcpConnected b.c.peer)) ⊎ Unbinds e
 
   abbrev pub BindAdds : State → Type 0
-  BindAdds t = (e : TurnEvent) → Has e t.events → Has e s.events ⊎ BindTells t e
+  BindAdds t = (e : TurnEvent) → Has e t.events → Has e s.events ⊎ BindReports t e
 
   none-binds : (t : State) → t.events ≡ s.events → BindAdds t
   none-binds t same e there = inl (subst (Has e) same there)
 
-  one-binds : (x : TurnEvent) (t : State) → t.events ≡ s.events ++ x ∷ [] → ((e : TurnEvent) → e ≡ x → BindTells t e) → BindAdds t
-  one-binds x t is told e there = elim (has-append e s.events (x ∷ []) (subst (Has e) is there)) [
+  one-binds : (x : TurnEvent) (t : State) → t.events ≡ s.events ++ x ∷ [] → ((e : TurnEvent) → e ≡ x → BindReports t e) → BindAdds t
+  one-binds x t is reported e there = elim (has-append e s.events (x ∷ []) (subst (Has e) is there)) [
     | inl old ↦ inl old
-    | inr (inl same) ↦ inr (told e same)
+    | inr (inl same) ↦ inr (reported e same)
     | inr (inr none) ↦ absurd none
   ]
 
@@ -263,8 +263,8 @@ module _ (local : SocketAddr) (message : List ℕ) (now : ℕ) (s : State) where
           one-binds (TcpConnected c.peer) (bind_answered c message now s) (rw f refl) (λ e same. inl (b, phase, same))
       by j f = one-binds (TcpConnectFailed c.peer) (bind_answered c message now s) (rw f refl) (λ e same. inr (refused j f (λ is. cc) (λ d is. cc) e same))
 
-  pub bind-tells : BindAdds (bind_step local message now s)
-  bind-tells = bind-by BindAdds local message now s (none-binds s refl) answered-binds
+  pub bind-reports : BindAdds (bind_step local message now s)
+  bind-reports = bind-by BindAdds local message now s (none-binds s refl) answered-binds
 
 module _ (one : Input) (stream : Stream) (of : one.stream ≡ Some stream) (waits : stream.mode ≡ Waiting) (whole : is_message one.bytes ≡ true) where
   abbrev t : State
@@ -288,7 +288,7 @@ module _ (one : Input) (stream : Stream) (of : one.stream ≡ Some stream) (wait
       bind_input = binds-input one stream t of waits whole b
 
   pub waiting-adds : (e : TurnEvent) → Has e t.events → Has e one.before.events ⊎ Causing e one
-  waiting-adds e there = elim (bind-tells stream.local one.bytes one.time one.before e there) [
+  waiting-adds e there = elim (bind-reports stream.local one.bytes one.time one.before e there) [
     | inl old ↦ inl old
     | inr (inl (b, phase, named)) ↦ inr (inl (bound-causes e b phase named))
     | inr (inr u) ↦ inr (inr (inr (subst (λ (x : TurnEvent). FailsIn x one) (sym u.named) (record {

@@ -41,7 +41,7 @@ use Rattle.turn_client_api.proofs.HasLemmas.{Has, has-filter, has-filter_map}
 use Rattle.turn_client_laws.proofs.InAllocationLemmas.{any-has, has-any}
 use Rattle.turn_client_laws.proofs.StandLemmas.{has-contains}
 use Rattle.turn_client_runs.specs.Events.{IsNoRefresh, Reports}
-use Rattle.turn_client_runs.proofs.EventLemmas.{Adds, Tells, adds-after, adds-before, adds-none, adds-trans, told-one, tells-fold, tells-same, tells-trans}
+use Rattle.turn_client_runs.proofs.EventLemmas.{Adds, AddsReported, adds-after, adds-before, adds-none, adds-trans, reported-one, reports-fold, reports-same, reports-trans}
 
 -- ---- the addresses that are taken
 
@@ -101,18 +101,18 @@ module _ (is_granted : Bool) (message : List ℕ) (now : ℕ) (before : State) w
   IsConfigured s = s.config ≡ before.config
 
   abbrev Say : State → State → Type 0
-  Say s t = Tells IsConfigured Replied s t
+  Say s t = AddsReported IsConfigured Replied s t
 
-  -- nothing is told
+  -- nothing is reported
   quiet : (s t : State) → t.config ≡ s.config → t.events ≡ s.events → Say s t
   quiet s t same none c = (same ∙ c, adds-none IsConfigured Replied s t none)
 
   -- one event after the others, or before them
   later : (x : TurnEvent) (s t : State) → t.config ≡ s.config → t.events ≡ s.events ++ x ∷ [] → (IsConfigured s → Replied x) → Say s t
-  later x s t same is told c = (same ∙ c, adds-after IsConfigured Replied s t (x ∷ []) is (told-one IsConfigured Replied x (told c)))
+  later x s t same is reported c = (same ∙ c, adds-after IsConfigured Replied s t (x ∷ []) is (reported-one IsConfigured Replied x (reported c)))
 
   sooner : (x : TurnEvent) (s t : State) → t.config ≡ s.config → t.events ≡ x ∷ s.events → (IsConfigured s → Replied x) → Say s t
-  sooner x s t same is told c = (same ∙ c, adds-before IsConfigured Replied s t (x ∷ []) is (told-one IsConfigured Replied x (told c)))
+  sooner x s t same is reported c = (same ∙ c, adds-before IsConfigured Replied s t (x ∷ []) is (reported-one IsConfigured Replied x (reported c)))
 
   relays : (s : State) → IsConfigured s → s.config.allocation_transport ≡ over
   relays s c = ap (λ x. x.allocation_transport) c
@@ -135,15 +135,15 @@ module _ (is_granted : Bool) (message : List ℕ) (now : ℕ) (before : State) w
           rw e (later (PermissionCreateFailed s.config.allocation_transport ip) s (pending_permission_answered ip is_kept false now s) refl refl (λ c. lost false f s c refl))
       by (Some (Active expiry)) e true f = rw e (quiet s (active_permission_answered ip true now s) refl refl)
       by (Some (Active expiry)) e false f = rw e (sooner (PermissionCreateFailed s.config.allocation_transport ip) s (active_permission_answered ip false now s) refl refl (λ c. lost false f s c refl))
-      by o e g f = rw e (tells-same IsConfigured Replied s)
+      by o e g f = rw e (reports-same IsConfigured Replied s)
 
   permissions-say : (g : Bool) → is_granted ≡ g → (purposes : List Purpose) → ((p : Purpose) → Has p purposes → Has p (asked_for message before)) → (s : State)
       → Say s (fold (permission_answered_for g now) s purposes)
-  permissions-say g f purposes asked = tells-fold IsConfigured Replied (permission_answered_for g now) purposes (λ t p there. one p t (asked p there))
+  permissions-say g f purposes asked = reports-fold IsConfigured Replied (permission_answered_for g now) purposes (λ t p there. one p t (asked p there))
     where
       one : (p : Purpose) (t : State) → Has p (asked_for message before) → Say t (permission_answered_for g now t p)
       one (ForPermission ip) t there = permission-says ip g f there t
-      one p t there = tells-same IsConfigured Replied t
+      one p t there = reports-same IsConfigured Replied t
 
   -- ---- channels
 
@@ -164,16 +164,16 @@ module _ (is_granted : Bool) (message : List ℕ) (now : ℕ) (before : State) w
   refused-too f purposes asked s c = (c, adds-after IsConfigured Replied s (permission_refused_too purposes s) (failures_among (is_asked_permission purposes) s) refl each)
     where
       of : (g : Grant) (e : TurnEvent) → is_asked_permission purposes g ≡ true → failure_of s.config.allocation_transport g ≡ Some e → Replied e
-      of (Permission ip (Pending is_kept)) e is told =
+      of (Permission ip (Pending is_kept)) e is reported =
           let (other, there, same) = for-permission purposes ip is_kept is in
           let named : PermissionCreateFailed s.config.allocation_transport ip ≡ e = cc in
           subst Replied named (ForPermission other, asked (ForPermission other) there, inr (f, relays s c, same))
-      of g e is told = cc
+      of g e is reported = cc
 
       each : (e : TurnEvent) → Has e (failures_among (is_asked_permission purposes) s) → Replied e
       each e there =
-          let (g, kept, told) = has-filter_map (failure_of s.config.allocation_transport) e (filter (is_asked_permission purposes) s.grants) there in
-          of g e (has-filter (is_asked_permission purposes) g s.grants kept).1 told
+          let (g, kept, reported) = has-filter_map (failure_of s.config.allocation_transport) e (filter (is_asked_permission purposes) s.grants) there in
+          of g e (has-filter (is_asked_permission purposes) g s.grants kept).1 reported
 
   channel-says : (number : ℕ) (asked : SocketAddr) (g : Bool) → is_granted ≡ g → Has (ForChannel number asked) (asked_for message before) → (s : State) → IsWithin before s
       → Say s (channel_answered number (id_of message) g now s)
@@ -194,7 +194,7 @@ module _ (is_granted : Bool) (message : List ℕ) (now : ℕ) (before : State) w
           let end = pending_channel_answered number peer is_kept (id_of message) true now s in
           let has = known peer (Pending is_kept) (channel-there number peer (Pending is_kept) s e) in
           rw e
-          (λ first. tells-trans IsConfigured Replied s t end (permissions-say true f (purposes_of (id_of message) s) all s)
+          (λ first. reports-trans IsConfigured Replied s t end (permissions-say true f (purposes_of (id_of message) s) all s)
           (λ c. later (ChannelCreated s.config.allocation_transport peer) t end refl refl
           (λ d. (ForChannel number asked, there, inl (f, tt, (Channel number peer (granted_until (later_by channel_lifetime now) is_kept), (relays s first, refl), (refl, refl, has))))) c) first)
       by (Some (peer, Pending is_kept)) e false f =
@@ -202,14 +202,14 @@ module _ (is_granted : Bool) (message : List ℕ) (now : ℕ) (before : State) w
           let u = record t { events = s.events ++ ChannelCreateFailed s.config.allocation_transport peer ∷ [] } in
           let has = known peer (Pending is_kept) (channel-there number peer (Pending is_kept) s e) in
           rw e
-          (tells-trans IsConfigured Replied s u (permission_refused_too (purposes_of (id_of message) s) u)
+          (reports-trans IsConfigured Replied s u (permission_refused_too (purposes_of (id_of message) s) u)
           (later (ChannelCreateFailed s.config.allocation_transport peer) s u refl refl (lost f peer has)) (refused-too f (purposes_of (id_of message) s) all u))
       by (Some (peer, Active expiry)) e true f = rw e (quiet s (active_channel_answered number peer expiry.expiry true now s) refl refl)
       by (Some (peer, Active expiry)) e false f =
           let end = active_channel_answered number peer expiry.expiry false now s in
           let has = known peer (Active expiry) (channel-there number peer (Active expiry) s e) in
           rw e (later (ChannelCreateFailed s.config.allocation_transport peer) s end refl refl (lost f peer has))
-      by o e g f = rw e (tells-same IsConfigured Replied s)
+      by o e g f = rw e (reports-same IsConfigured Replied s)
 
   -- ---- connections
 
@@ -230,7 +230,7 @@ module _ (is_granted : Bool) (message : List ℕ) (now : ℕ) (before : State) w
       (λ e. by_test (Say s) (is_granted || has_code allocation_mismatch message) (challenges_reset (all_gone s)) s (λ f. quiet s (challenges_reset (all_gone s)) refl refl) (λ f. quiet s s refl refl))
       (λ e. by_test (Say s) is_granted _ s
       (λ f. by_found (Say s) (λ granted. prolonged family granted now s) (lifetime_in message) s
-      (λ n told. by_test (Say s) (leb min_lifetime n) (longer n) s (λ long. quiet s (longer n) refl refl) (λ short. quiet s s refl refl)) (quiet s s refl refl)) (λ f. quiet s s refl refl))
+      (λ n reported. by_test (Say s) (leb min_lifetime n) (longer n) s (λ long. quiet s (longer n) refl refl) (λ short. quiet s s refl refl)) (quiet s s refl refl)) (λ f. quiet s s refl refl))
     where
       longer : ℕ → State
       longer n =
@@ -245,16 +245,16 @@ module _ (is_granted : Bool) (message : List ℕ) (now : ℕ) (before : State) w
   effect-says (ForChannel number peer) there s within = channel-says number peer is_granted refl there s within
   effect-says (ForConnect peer) there s within =
       connect-says peer there (cond is_granted (connection_id_in message) None) (none-given is_granted (connection_id_in message)) s
-  effect-says p there s within = tells-same IsConfigured Replied s
+  effect-says p there s within = reports-same IsConfigured Replied s
 
   effects-say : (some : List Purpose) → ((p : Purpose) → Has p some → Has p (asked_for message before)) → (s : State) → IsWithin before s
       → Say s (fold (effect (id_of message) is_granted message now) s some)
-  effects-say [] each s within = tells-same IsConfigured Replied s
+  effects-say [] each s within = reports-same IsConfigured Replied s
   effects-say (p ∷ some) each s within =
       let t = effect (id_of message) is_granted message now s p in
       let taken = effect-takes (asked_for message before) message now before (id_of message) is_granted s p within.1 (λ g. each p (inl refl))
       (λ g q still. purposes-within (id_of message) before s within.0 q still) in
-      tells-trans IsConfigured Replied s t (fold (effect (id_of message) is_granted message now) t some) (effect-says p (each p (inl refl)) s within)
+      reports-trans IsConfigured Replied s t (fold (effect (id_of message) is_granted message now) t some) (effect-says p (each p (inl refl)) s within)
       (effects-say some (λ q there. each q (inr there)) t
       (λ l there. within.0 l (taken.0.0 l there), λ number peer h. within.1 number peer (taken.0.1 number peer h)))
 
@@ -287,9 +287,9 @@ module _ (is_granted : Bool) (message : List ℕ) (now : ℕ) (before : State) w
         made : (lifetime : ℕ) → lifetime_in message ≡ Some lifetime → IsConfigured s → (e : TurnEvent) → Has e (map (AllocationCreated s.config.allocation_transport) addresses) → Replied e
         made lifetime is c e there =
             let (a, has, named) = has-mapped (AllocationCreated s.config.allocation_transport) e addresses there in
-            let told = has-contains a (relayed_in message) (taken-relayed s.families (relayed_in message) a has) in
+            let reported = has-contains a (relayed_in message) (taken-relayed s.families (relayed_in message) a has) in
             let wanted = subst (λ (fs : List AddressFamily). list_any (λ family. is_of_family family a) fs ≡ true) same (taken-family s.families (relayed_in message) a has) in
-            subst Replied (sym named) (ForAllocation, asked, inl (f, tt, (new_allocation lifetime now a, (relays s c, refl), (lifetime, is, refl, told, wanted))))
+            subst Replied (sym named) (ForAllocation, asked, inl (f, tt, (new_allocation lifetime now a, (relays s c, refl), (lifetime, is, refl, reported, wanted))))
 
         lost : (e : TurnEvent) → Has e (map AllocationCreateFailed (missing_families addresses s)) → Replied e
         lost e there =

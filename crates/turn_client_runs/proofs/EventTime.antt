@@ -31,7 +31,7 @@ use Rattle.turn_client_laws.proofs.AfterExpiryLemmas.{IsReserved}
 use Rattle.turn_client_api.proofs.ExpirySteps.{expired_in-does}
 use Rattle.turn_client_laws.proofs.StandLemmas.{has-contains}
 use Rattle.turn_client_runs.specs.Events.{FailsInTime, HasFailed}
-use Rattle.turn_client_runs.proofs.EventLemmas.{Tells, adds-before, adds-none, told-one, tells-fold, tells-same, tells-trans}
+use Rattle.turn_client_runs.proofs.EventLemmas.{AddsReported, adds-before, adds-none, reported-one, reports-fold, reports-same, reports-trans}
 
 -- ---- what fails, where a request that was made for these purposes may have timed out
 
@@ -55,7 +55,7 @@ module _ (given : Option ℕ) (purposes : List Purpose) (now : ℕ) (before : St
   Keeps t = (t.config ≡ before.config) × ((g : Grant) → Has g t.grants → Has g before.grants ⊎ IsReserved g)
 
   abbrev Say : State → State → Type 0
-  Say s t = Tells Keeps Lost s t
+  Say s t = AddsReported Keeps Lost s t
 
   unreserved : (g : Grant) → IsReserved g → IsLost g → ⊥
   unreserved (Channel number peer (Reserved until)) is lost = lost
@@ -75,9 +75,9 @@ module _ (given : Option ℕ) (purposes : List Purpose) (now : ℕ) (before : St
     where
       each : (e : TurnEvent) → Has e (failures_among which s) → Lost e
       each e there =
-          let (g, kept, told) = has-filter_map (failure_of s.config.allocation_transport) e (filter which s.grants) there in
+          let (g, kept, reported) = has-filter_map (failure_of s.config.allocation_transport) e (filter which s.grants) there in
           let (here, is) = has-filter which g s.grants kept in
-          (g, was-there s keeps g here (loses g is), ap (λ c. failure_of c.allocation_transport g) (sym keeps.0) ∙ told, loses g is)
+          (g, was-there s keeps g here (loses g is), ap (λ c. failure_of c.allocation_transport g) (sym keeps.0) ∙ reported, loses g is)
 
   channel-says : (o : Option Grant) (s : State) → ((g : Grant) → o ≡ Some g → Has g s.grants × (is_expired_channel now g ≡ true)) → Say s (channel_expired o s)
   channel-says (Some (Channel number peer (Active expiry))) s found =
@@ -88,7 +88,7 @@ module _ (given : Option ℕ) (purposes : List Purpose) (now : ℕ) (before : St
       λ keeps. (
         (keeps.0, grants keeps),
         adds-before Keeps Lost s end (ChannelCreateFailed s.config.allocation_transport peer ∷ []) refl
-            (told-one Keeps Lost (ChannelCreateFailed s.config.allocation_transport peer)
+            (reported-one Keeps Lost (ChannelCreateFailed s.config.allocation_transport peer)
             (g, was-there s keeps g there lost, ap (λ c. failure_of c.allocation_transport g) (sym keeps.0), lost)),
       )
     where
@@ -98,7 +98,7 @@ module _ (given : Option ℕ) (purposes : List Purpose) (now : ℕ) (before : St
         | inr (inl is) ↦ inr (subst IsReserved (sym is) tt)
         | inr (inr none) ↦ absurd none
       ]
-  channel-says o s found = tells-same Keeps Lost s
+  channel-says o s found = reports-same Keeps Lost s
 
   -- ---- each kind
 
@@ -147,7 +147,7 @@ module _ (given : Option ℕ) (purposes : List Purpose) (now : ℕ) (before : St
 
   expired_in-says : (family : AddressFamily) (s : State) → Say s (expired_in family given purposes now s)
   expired_in-says family = expired_in-does Say family given purposes now (record {
-    trans = tells-trans Keeps Lost;
+    trans = reports-trans Keeps Lost;
     channels = failed-says _ (asked-for family is_pending_channel lost-channel);
     permissions = failed-says _ (asked-for family is_pending_permission lost-permission);
     last_channel = λ s. channel-says (find (test family) (reverse s.grants)) s (found family s);
@@ -168,7 +168,7 @@ module _ (given : Option ℕ) (purposes : List Purpose) (now : ℕ) (before : St
           (has-unreversed g s.grants there, (and_parts (is_of family g) (is_expired_channel now g) is).1)
 
   expired_at-says : (relays : List Relay) (s : State) → Say s (fold (expired_allocation given purposes now) s relays)
-  expired_at-says relays = tells-fold Keeps Lost (expired_allocation given purposes now) relays
+  expired_at-says relays = reports-fold Keeps Lost (expired_allocation given purposes now) relays
       (λ t a there. by_test (Say t) (allocation_expires purposes now t a) (without_grants (is_of (family_of a.relayed)) t) (expired_in (family_of a.relayed) given purposes now t)
       (λ e. without-says (is_of (family_of a.relayed)) t) (λ e. expired_in-says (family_of a.relayed) t))
 
@@ -221,7 +221,7 @@ module _ (now : ℕ) (s : State) where
       let keeps : Keeps given (timed_out_purposes given t) now s t = (config, λ g has. inl (subst (Has g) grants has)) in
       elim ((expired_at-says given (timed_out_purposes given t) now s (allocations t) t keeps).1 e there) [
         | inl old ↦ inl (subst (Has e) events old)
-        | inr (g, has, told, lost) ↦ inr (inr (g, has-contains g s.grants has, told, lost-fails given (timed_out_purposes given t) by g lost))
+        | inr (g, has, reported, lost) ↦ inr (inr (g, has-contains g s.grants has, reported, lost-fails given (timed_out_purposes given t) by g lost))
       ]
 
   answer-adds : (given : Option ℕ) (t : State) → TimeAdds t → TimeAdds (answer_step given now t).1

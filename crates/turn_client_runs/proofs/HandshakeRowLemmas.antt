@@ -239,13 +239,13 @@ module _ (local remote : SocketAddr) (config : Config) (seed : List ℕ) where
       by : (c : ℕ) → is_taken c (requested id text) ≡ true → id ≡ c
       by c h = elim (cases_Bool (eqb id c)) [ inl e ↦ eqb-true id c e | inr e ↦ absurd (let no : false ≡ true = rw (← h) (rw e refl) in cc) ]
 
-  told-first : (id : ℕ) (text : List ℕ) → poll_step 0 (requested id text) ≡ (WaitUntil 500_000_000, requested id text)
+  reported-first : (id : ℕ) (text : List ℕ) → poll_step 0 (requested id text) ≡ (WaitUntil 500_000_000, requested id text)
   unfolding refresh_time
-  told-first id text = refl
+  reported-first id text = refl
 
-  told-second : (id other : ℕ) (text : List ℕ) → poll_step 100_000_000 (asked id other text) ≡ (WaitUntil 600_000_000, asked id other text)
+  reported-second : (id other : ℕ) (text : List ℕ) → poll_step 100_000_000 (asked id other text) ≡ (WaitUntil 600_000_000, asked id other text)
   unfolding refresh_time
-  told-second id other text = refl
+  reported-second id other text = refl
 
   judged : (message : List ℕ) (id : ℕ) (text : List ℕ) → id_of message ≡ id → class_in message ≡ Error → challenge_in (requested id text) message ≡ Some held
       → judgement_of (requested id text) message ≡ Challenged held
@@ -335,7 +335,7 @@ module _ (local remote : SocketAddr) (config : Config) (seed : List ℕ) where
     tt,
     (
       record {
-        on_time = on-time 0 500_000_000 100_000_000 h1 (first-fits id1 text1) (all-none (HasAllocation h1)) (told-first id1 text1) (omega arith) (omega arith) (omega arith) (omega arith);
+        on_time = on-time 0 500_000_000 100_000_000 h1 (first-fits id1 text1) (all-none (HasAllocation h1)) (reported-first id1 text1) (omega arith) (omega arith) (omega arith) (omega arith);
         answered = all-one (λ (x : Transaction). 100_000_000 ≤ x.last_send + 100_000_000) (first_sent id1 remote 0 text1) (omega arith);
       },
       inl is-challenge,
@@ -401,7 +401,7 @@ module _ (local remote : SocketAddr) (config : Config) (seed : List ℕ) where
     is-allocating,
     next-grants,
     record {
-      on_time = on-time 100_000_000 600_000_000 200_000_000 h3 (waiting-fits id1 id2 (text-again id1 text1)) (all-none (HasAllocation h3)) (told-second id1 id2 (text-again id1 text1))
+      on_time = on-time 100_000_000 600_000_000 200_000_000 h3 (waiting-fits id1 id2 (text-again id1 text1)) (all-none (HasAllocation h3)) (reported-second id1 id2 (text-again id1 text1))
           (omega arith) (omega arith) (omega arith) (omega arith);
       answered = all-one (λ (x : Transaction). 200_000_000 ≤ x.last_send + 100_000_000) (first_sent id2 remote 100_000_000 (text-again id1 text1)) (omega arith);
     },

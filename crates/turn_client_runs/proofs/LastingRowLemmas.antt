@@ -56,11 +56,11 @@ all-one P a p = all-has P (a ∷ []) by
     by x (inl e) = subst P (sym e) p
     by x (inr none) = absurd none
 
--- ---- a caller that polled is on time until the time that it was told
+-- ---- a caller that polled is on time until the time that it was reported
 
 pub on-time : (now time next : ℕ) (s : State) → FitsPhaseForPoll s → AllHaveAllocation s → poll_step now s ≡ (WaitUntil time, s) → now < time → now ≤ next → next ≤ time → next ≤ 2 ^ 62
     → IsOnTime now next s
-on-time now time next s fits in_allocations told later from until range = record {
+on-time now time next s fits in_allocations reported later from until range = record {
   later = from;
   in_range = range;
   punctual = λ t after before. ap (λ (p : Option (Transmit (List ℕ)) × State). p.0) (idle.sends_nothing t after (omega (arith, before, until)));
@@ -70,7 +70,7 @@ on-time now time next s fits in_allocations told later from until range = record
     timely = poll-timely now s fits in_allocations (omega (arith, from, range))
 
     idle : IsIdleUntil now time s
-    idle = (subst (λ (p : TurnPollRet × State). IsTimely p.0 now s p.1) told timely).0 later
+    idle = (subst (λ (p : TurnPollRet × State). IsTimely p.0 now s p.1) reported timely).0 later
 
 -- no time passes
 pub at-once : (now : ℕ) (s : State) → now ≤ 2 ^ 62 → IsOnTime now now s
@@ -123,7 +123,7 @@ pub record IsRound (before now id : ℕ) (purpose : Purpose) (others : List Purp
   replied : (message : List ℕ) → IsReplyFor purpose id message → (response_step true message (now + delay) u).1 ≡ r
   answered : r.transactions ≡ []
   calm : r.challenges ≡ 0
-  told : state_after PollEvent (state_after PollEvent r) ≡ v
+  reported : state_after PollEvent (state_after PollEvent r) ≡ v
   within_u : IsWithin 3 1 u
   within_r : IsWithin 3 1 r
   within_v : IsWithin 3 1 v
@@ -159,17 +159,17 @@ module _ (before now id last : ℕ) (later : List ℕ) (purpose : Purpose) (othe
   tail (runs, ends) = (steady, over)
     where
       within-v : IsWithin 3 1 (state_after PollEvent (state_after PollEvent r))
-      within-v = subst (IsWithin 3 1) (sym is.told) is.within_v
+      within-v = subst (IsWithin 3 1) (sym is.reported) is.within_v
 
       over : (state_after_all (state_after PollEvent (state_after PollEvent r)) (served last later (state_after PollEvent (state_after PollEvent r)))).grants ≡ refreshed_grants
-      over = subst (λ (x : State). (state_after_all x (served last later x)).grants ≡ refreshed_grants) (sym is.told) ends
+      over = subst (λ (x : State). (state_after_all x (served last later x)).grants ≡ refreshed_grants) (sym is.reported) ends
 
       fits-v : (past : History) → All (λ x. past.made x.id ≡ x.last_send) v.transactions
-      fits-v past = subst (λ (x : State). All (λ (y : Transaction). past.made y.id ≡ y.last_send) x.transactions) is.told (fits-r past)
+      fits-v past = subst (λ (x : State). All (λ (y : Transaction). past.made y.id ≡ y.last_send) x.transactions) is.reported (fits-r past)
 
       rest : (past : History) → past.extra ≡ []
           → RunsSteadily 3 1 0 delay (now + delay) past (state_after PollEvent (state_after PollEvent r)) (served last later (state_after PollEvent (state_after PollEvent r)))
-      rest past none = subst (λ (x : State). RunsSteadily 3 1 0 delay (now + delay) past x (served last later x)) (sym is.told) (runs past (none, fits-v past))
+      rest past none = subst (λ (x : State). RunsSteadily 3 1 0 delay (now + delay) past x (served last later x)) (sym is.reported) (runs past (none, fits-v past))
 
       steady : (past : History) → FitsPast past r → RunsSteadily 3 1 0 delay (now + delay) past r (PollEvent ∷ PollEvent ∷ served last later (state_after PollEvent (state_after PollEvent r)))
       steady past fits =
@@ -274,8 +274,8 @@ three-in_allocations time a p c ids s = all-has (HasAllocation (with_three time 
 
 three-on-time : (now time next sent a p c : ℕ) (ids : Source) (s : State) → poll_step now (with_three sent a p c ids s) ≡ (WaitUntil time, with_three sent a p c ids s)
     → now < time → now ≤ next → next ≤ time → next ≤ 2 ^ 62 → IsOnTime now next (with_three sent a p c ids s)
-three-on-time now time next sent a p c ids s told later from until range =
-    on-time now time next (with_three sent a p c ids s) (fits (with_three sent a p c ids s) refl refl) (three-in_allocations sent a p c ids s) told later from until range
+three-on-time now time next sent a p c ids s reported later from until range =
+    on-time now time next (with_three sent a p c ids s) (fits (with_three sent a p c ids s) refl refl) (three-in_allocations sent a p c ids s) reported later from until range
 
 -- ---- a refresh
 
@@ -296,7 +296,7 @@ module _ (before now time a p c a' p' c' : ℕ) (ids : Source) (purpose : Purpos
       → now + delay ≤ time → now + delay ≤ 2 ^ 62
       → ((message : List ℕ) → IsReplyFor purpose (fresh_id (old sent)) message → (response_step true message (now + delay) (asked sent)).1 ≡ new)
       → IsRound before now (fresh_id (old sent)) purpose [] (text sent) (old sent) (asked sent) new new
-  refreshed sent punctual sends told later range replied = record {
+  refreshed sent punctual sends reported later range replied = record {
     on_time = punctual;
     waits = all-none (λ (x : Transaction). now ≤ x.last_send + delay);
     idle = refl;
@@ -310,11 +310,11 @@ module _ (before now time a p c a' p' c' : ℕ) (ids : Source) (purpose : Purpos
     held = some;
     small = omega arith;
     in_range = range;
-    awaits = on-time now time (now + delay) (asked sent) (fits (asked sent) refl refl) (three-in_allocations sent a p c ids s) told (omega (arith, later)) (omega arith) later range;
+    awaits = on-time now time (now + delay) (asked sent) (fits (asked sent) refl refl) (three-in_allocations sent a p c ids s) reported (omega (arith, later)) (omega arith) later range;
     replied = replied;
     answered = refl;
     calm = refl;
-    told = refl;
+    reported = refl;
     within_u = (omega arith, omega arith);
     within_r = (omega arith, omega arith);
     within_v = (omega arith, omega arith);
@@ -347,33 +347,33 @@ module _ (s : State) (some : IsSome s.held) where
   abbrev pub s5 : State
   s5 = with_three 541_100_000_000 1_140_300_000_000 781_300_000_000 1_141_200_000_000 (behind_id (behind_id (behind_id (behind_id ids1)))) s
 
-  told-1 : poll_step 1_100_000_000 s1 ≡ (WaitUntil 241_100_000_000, s1)
+  reported-1 : poll_step 1_100_000_000 s1 ≡ (WaitUntil 241_100_000_000, s1)
   unfolding refresh_time
-  told-1 = refl
+  reported-1 = refl
 
-  told-2 : poll_step 241_200_000_000 s2 ≡ (WaitUntil 481_200_000_000, s2)
+  reported-2 : poll_step 241_200_000_000 s2 ≡ (WaitUntil 481_200_000_000, s2)
   unfolding refresh_time
-  told-2 = refl
+  reported-2 = refl
 
-  told-3 : poll_step 481_300_000_000 s3 ≡ (WaitUntil 540_200_000_000, s3)
+  reported-3 : poll_step 481_300_000_000 s3 ≡ (WaitUntil 540_200_000_000, s3)
   unfolding refresh_time
-  told-3 = refl
+  reported-3 = refl
 
-  told-4 : poll_step 540_300_000_000 s4 ≡ (WaitUntil 541_100_000_000, s4)
+  reported-4 : poll_step 540_300_000_000 s4 ≡ (WaitUntil 541_100_000_000, s4)
   unfolding refresh_time
-  told-4 = refl
+  reported-4 = refl
 
-  told-5 : poll_step 541_200_000_000 s5 ≡ (WaitUntil 721_300_000_000, s5)
+  reported-5 : poll_step 541_200_000_000 s5 ≡ (WaitUntil 721_300_000_000, s5)
   unfolding refresh_time
-  told-5 = refl
+  reported-5 = refl
 
-  told-6 : poll_step 700_000_000_000 s5 ≡ (WaitUntil 721_300_000_000, s5)
+  reported-6 : poll_step 700_000_000_000 s5 ≡ (WaitUntil 721_300_000_000, s5)
   unfolding refresh_time
-  told-6 = refl
+  reported-6 = refl
 
-  told-0 : poll_step 200_000_000 s0 ≡ (WaitUntil 540_200_000_000, s0)
+  reported-0 : poll_step 200_000_000 s0 ≡ (WaitUntil 540_200_000_000, s0)
   unfolding refresh_time
-  told-0 = refl
+  reported-0 = refl
 
   -- ---- the channel is bound
 
@@ -404,9 +404,9 @@ module _ (s : State) (some : IsSome s.held) where
   unfolding channel_numbers
   binds = refl
 
-  told-bind : poll_step 1_000_000_000 sent_bind ≡ (WaitUntil 1_500_000_000, sent_bind)
+  reported-bind : poll_step 1_000_000_000 sent_bind ≡ (WaitUntil 1_500_000_000, sent_bind)
   unfolding refresh_time
-  told-bind = refl
+  reported-bind = refl
 
   bind-in_allocations : AllHaveAllocation sent_bind
   bind-in_allocations = all-has (HasAllocation sent_bind) pending by
@@ -450,11 +450,11 @@ module _ (s : State) (some : IsSome s.held) where
     held = some;
     small = omega arith;
     in_range = omega arith;
-    awaits = on-time 1_000_000_000 1_500_000_000 1_100_000_000 sent_bind (fits sent_bind refl refl) bind-in_allocations told-bind (omega arith) (omega arith) (omega arith) (omega arith);
+    awaits = on-time 1_000_000_000 1_500_000_000 1_100_000_000 sent_bind (fits sent_bind refl refl) bind-in_allocations reported-bind (omega arith) (omega arith) (omega arith) (omega arith);
     replied = replied-1 id1 text1;
     answered = refl;
     calm = refl;
-    told = refl;
+    reported = refl;
     within_u = (omega arith, omega arith);
     within_r = (omega arith, omega arith);
     within_v = (omega arith, omega arith);
@@ -464,23 +464,23 @@ module _ (s : State) (some : IsSome s.held) where
 
   punctual-2 : IsOnTime 1_100_000_000 241_100_000_000 s1
   punctual-2 = three-on-time 1_100_000_000 241_100_000_000 241_100_000_000 1_000_000_000 600_200_000_000 301_100_000_000 601_100_000_000
-      ids1 s told-1 (omega arith) (omega arith) (omega arith) (omega arith)
+      ids1 s reported-1 (omega arith) (omega arith) (omega arith) (omega arith)
 
   punctual-3 : IsOnTime 241_200_000_000 481_200_000_000 s2
   punctual-3 = three-on-time 241_200_000_000 481_200_000_000 481_200_000_000 241_100_000_000 600_200_000_000 541_200_000_000 601_100_000_000
-      (behind_id ids1) s told-2 (omega arith) (omega arith) (omega arith) (omega arith)
+      (behind_id ids1) s reported-2 (omega arith) (omega arith) (omega arith) (omega arith)
 
   punctual-4 : IsOnTime 481_300_000_000 540_200_000_000 s3
   punctual-4 = three-on-time 481_300_000_000 540_200_000_000 540_200_000_000 481_200_000_000 600_200_000_000 781_300_000_000 601_100_000_000
-      (behind_id (behind_id ids1)) s told-3 (omega arith) (omega arith) (omega arith) (omega arith)
+      (behind_id (behind_id ids1)) s reported-3 (omega arith) (omega arith) (omega arith) (omega arith)
 
   punctual-5 : IsOnTime 540_300_000_000 541_100_000_000 s4
   punctual-5 = three-on-time 540_300_000_000 541_100_000_000 541_100_000_000 540_200_000_000 1_140_300_000_000 781_300_000_000 601_100_000_000
-      (behind_id (behind_id (behind_id ids1))) s told-4 (omega arith) (omega arith) (omega arith) (omega arith)
+      (behind_id (behind_id (behind_id ids1))) s reported-4 (omega arith) (omega arith) (omega arith) (omega arith)
 
   punctual-6 : IsOnTime 541_200_000_000 700_000_000_000 s5
   punctual-6 = three-on-time 541_200_000_000 721_300_000_000 700_000_000_000 541_100_000_000 1_140_300_000_000 781_300_000_000 1_141_200_000_000
-      (behind_id (behind_id (behind_id (behind_id ids1)))) s told-5 (omega arith) (omega arith) (omega arith) (omega arith)
+      (behind_id (behind_id (behind_id (behind_id ids1)))) s reported-5 (omega arith) (omega arith) (omega arith) (omega arith)
 
   abbrev pub asked-2 : State
   asked-2 = requesting 241_100_000_000 (fresh_id s1) (ForPermission ip_of_peer) (request_for s1 (ForPermission ip_of_peer) (fresh_id s1)) s1
@@ -561,11 +561,11 @@ module _ (s : State) (some : IsSome s.held) where
     λ past fits. (
       record { on_time = punctual-6; answered = all-none (λ (x : Transaction). 700_000_000_000 ≤ past.made x.id + delay) },
       tt,
-      subst (λ (q : TurnPollRet × State). IsWithin 3 1 q.1) (sym told-6) (omega arith, omega arith),
+      subst (λ (q : TurnPollRet × State). IsWithin 3 1 q.1) (sym reported-6) (omega arith, omega arith),
       seldom-none 60_000_000_000 700_000_000_000 (with_call (Poll 700_000_000_000) 700_000_000_000 s5 past) fits.0,
       tt,
     ),
-    ap (λ (q : TurnPollRet × State). q.1.grants) told-6,
+    ap (λ (q : TurnPollRet × State). q.1.grants) reported-6,
   )
 
   from-5 : Goes 540_300_000_000 s4 (served (seconds 700) (541_100_000_000 ∷ []) s4)
@@ -624,7 +624,7 @@ module _ (s : State) (some : IsSome s.held) where
       by past fits =
           let next = with_call (BindChannel Udp peer 1_000_000_000) 1_000_000_000 s0 past in (
             record {
-              on_time = on-time 200_000_000 540_200_000_000 1_000_000_000 s0 fits-0 (all-one (HasAllocation s0) (new_allocation 600 200_000_000 relayed_v4) refl) told-0
+              on_time = on-time 200_000_000 540_200_000_000 1_000_000_000 s0 fits-0 (all-one (HasAllocation s0) (new_allocation 600 200_000_000 relayed_v4) refl) reported-0
                   (omega arith) (omega arith) (omega arith) (omega arith);
               answered = all-none (λ (x : Transaction). 1_000_000_000 ≤ past.made x.id + delay);
             },

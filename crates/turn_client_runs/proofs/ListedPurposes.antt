@@ -183,7 +183,7 @@ pub record Opens (id : ℕ) (tuple : Socket5Tuple) (local peer : SocketAddr) (no
 
 socket-accepted : (id : ℕ) (tuple : Socket5Tuple) (local peer : SocketAddr) (now : ℕ) (s : State) → Opens id tuple local peer now s
     ⊎ ((allocated_tcp_socket_step id tuple peer (Some local) now s).1.listed ≡ s.listed)
-socket-accepted id tuple local peer now s = told (by_test Fits (same_transport s.config.allocation_transport Tcp && is_control tuple s && is_allocated s.phase) _ _ (λ e. found) (λ e. inr refl))
+socket-accepted id tuple local peer now s = reported (by_test Fits (same_transport s.config.allocation_transport Tcp && is_control tuple s && is_allocated s.phase) _ _ (λ e. found) (λ e. inr refl))
   where
     Fits : Result Unit TcpAllocateError × State → Type 0
     Fits x = ((origin : Origin) × (offer_origin id peer s ≡ Some origin) × (x ≡ (Ok tt, socket_opened id peer local origin now s))) ⊎ (x.1.listed ≡ s.listed)
@@ -192,10 +192,10 @@ socket-accepted id tuple local peer now s = told (by_test Fits (same_transport s
     found = by_found Fits (λ origin. socket_step id peer (Some local) origin now s) (offer_origin id peer s) _
         (λ origin e. by_test Fits (is_local_taken local s) _ _ (λ f. inr refl) (λ f. inl (origin, e, refl))) (inr refl)
 
-    told : Fits (allocated_tcp_socket_step id tuple peer (Some local) now s) → Opens id tuple local peer now s
+    reported : Fits (allocated_tcp_socket_step id tuple peer (Some local) now s) → Opens id tuple local peer now s
         ⊎ ((allocated_tcp_socket_step id tuple peer (Some local) now s).1.listed ≡ s.listed)
-    told (inl (origin, e, f)) = inl (record { origin = origin; found = e; step = f })
-    told (inr same) = inr same
+    reported (inl (origin, e, f)) = inl (record { origin = origin; found = e; step = f })
+    reported (inr same) = inr same
 
 -- ---- the call that asked for it
 

@@ -52,60 +52,60 @@ use Rattle.turn_client_api.proofs.HasLemmas.{Has, has-append, has-filter}
 
 module _ (s : State) (message : List ℕ) where
   -- a ConnectionAttempt is one by its method, and a request is signed
-  abbrev pub Tells : Judgement → Type 0
-  Tells ConnectionAttempt = method_in message ≡ connection_attempt_method
-  Tells SignedRequest = IsValidated (validation_of (auth_of s) message)
-  Tells _ = ⊤
+  abbrev pub Reports : Judgement → Type 0
+  Reports ConnectionAttempt = method_in message ≡ connection_attempt_method
+  Reports SignedRequest = IsValidated (validation_of (auth_of s) message)
+  Reports _ = ⊤
 
-  or-tells : (j : Judgement) → Tells j → (o : Option Challenge) → Tells (challenged_or j o)
-  or-tells j h None = h
-  or-tells j h (Some d) = tt
+  or-reports : (j : Judgement) → Reports j → (o : Option Challenge) → Reports (challenged_or j o)
+  or-reports j h None = h
+  or-reports j h (Some d) = tt
 
-  class-tells : (v : Validation) → validation_of (auth_of s) message ≡ v → IsValidated v → (class : MessageClass) → Tells (by_class class)
-  class-tells v e valid Request = rw e valid
-  class-tells v e valid Indication = tt
-  class-tells v e valid Success = tt
-  class-tells v e valid Error = tt
+  class-reports : (v : Validation) → validation_of (auth_of s) message ≡ v → IsValidated v → (class : MessageClass) → Reports (by_class class)
+  class-reports v e valid Request = rw e valid
+  class-reports v e valid Indication = tt
+  class-reports v e valid Success = tt
+  class-reports v e valid Error = tt
 
-  authenticating-tells : Tells (authenticating_judgement s message)
-  authenticating-tells = by (validation_of (auth_of s) message) refl
+  authenticating-reports : Reports (authenticating_judgement s message)
+  authenticating-reports = by (validation_of (auth_of s) message) refl
     where
-      by : (v : Validation) → validation_of (auth_of s) message ≡ v → Tells (authenticating_judgement s message)
+      by : (v : Validation) → validation_of (auth_of s) message ≡ v → Reports (authenticating_judgement s message)
       by (Validated algorithm) e =
           rw e
-          (by_test Tells (answers_allocate s message) _ Unrelated
-          (λ a. or-tells _
-          (by_test Tells (is_outstanding (id_of message) s.transactions) _ LateResponse (λ o. class-tells (Validated algorithm) e tt (class_in message)) (λ n. tt)) (challenge_in s message))
+          (by_test Reports (answers_allocate s message) _ Unrelated
+          (λ a. or-reports _
+          (by_test Reports (is_outstanding (id_of message) s.transactions) _ LateResponse (λ o. class-reports (Validated algorithm) e tt (class_in message)) (λ n. tt)) (challenge_in s message))
           (λ n. tt))
       by (Refused integrity) e =
-          rw e (by_test Tells (answers_allocate s message) _ Unrelated (λ a. or-tells _ (by_test Tells integrity Fatal Unrelated (λ i. tt) (λ n. tt)) (challenge_in s message)) (λ n. tt))
-      by (ResendRequest algorithm) e = rw e (by_test Tells (answers_allocate s message) _ Unrelated (λ a. or-tells Unrelated tt (challenge_in s message)) (λ n. tt))
+          rw e (by_test Reports (answers_allocate s message) _ Unrelated (λ a. or-reports _ (by_test Reports integrity Fatal Unrelated (λ i. tt) (λ n. tt)) (challenge_in s message)) (λ n. tt))
+      by (ResendRequest algorithm) e = rw e (by_test Reports (answers_allocate s message) _ Unrelated (λ a. or-reports Unrelated tt (challenge_in s message)) (λ n. tt))
 
-  allocated-tells : Tells (allocated_judgement s message)
-  allocated-tells = by (class_in message) refl (validation_of (auth_of s) message) refl
+  allocated-reports : Reports (allocated_judgement s message)
+  allocated-reports = by (class_in message) refl (validation_of (auth_of s) message) refl
     where
       signed : (v : Validation) → validation_of (auth_of s) message ≡ v → IsValidated v
-          → Tells (cond (is_response (class_in message) && not (is_outstanding (id_of message) s.transactions)) Unrelated (by_class (class_in message)))
+          → Reports (cond (is_response (class_in message) && not (is_outstanding (id_of message) s.transactions)) Unrelated (by_class (class_in message)))
       signed v f valid =
-          by_test Tells (is_response (class_in message) && not (is_outstanding (id_of message) s.transactions)) Unrelated _ (λ n. tt) (λ o. class-tells v f valid (class_in message))
+          by_test Reports (is_response (class_in message) && not (is_outstanding (id_of message) s.transactions)) Unrelated _ (λ n. tt) (λ o. class-reports v f valid (class_in message))
 
-      by : (class : MessageClass) → class_in message ≡ class → (v : Validation) → validation_of (auth_of s) message ≡ v → Tells (allocated_judgement s message)
+      by : (class : MessageClass) → class_in message ≡ class → (v : Validation) → validation_of (auth_of s) message ≡ v → Reports (allocated_judgement s message)
       by Indication e v f =
           rw e
-          (by_test Tells (eqb (method_in message) data_method) DataIndication _ (λ is. tt)
-          (λ n. by_test Tells (eqb (method_in message) connection_attempt_method) ConnectionAttempt Unrelated (λ is. eqb-true (method_in message) connection_attempt_method is) (λ no. tt)))
-      by Error e (Validated algorithm) f = rw (e, f) (or-tells _ (signed (Validated algorithm) f tt) (challenge_in s message))
-      by Error e v f = rw (e, f) (or-tells Unrelated tt (challenge_in s message))
+          (by_test Reports (eqb (method_in message) data_method) DataIndication _ (λ is. tt)
+          (λ n. by_test Reports (eqb (method_in message) connection_attempt_method) ConnectionAttempt Unrelated (λ is. eqb-true (method_in message) connection_attempt_method is) (λ no. tt)))
+      by Error e (Validated algorithm) f = rw (e, f) (or-reports _ (signed (Validated algorithm) f tt) (challenge_in s message))
+      by Error e v f = rw (e, f) (or-reports Unrelated tt (challenge_in s message))
       by class e (Validated algorithm) f = rw (e, f) (signed (Validated algorithm) f tt)
       by class e v f = rw (e, f) tt
 
-  pub judgement-tells : Tells (judgement_of s message)
-  judgement-tells = by s.phase refl
+  pub judgement-reports : Reports (judgement_of s message)
+  judgement-reports = by s.phase refl
     where
-      by : (p : Phase) → s.phase ≡ p → Tells (judgement_of s message)
-      by Requesting e = rw e (by_test Tells (answers_one s message) _ Unrelated (λ a. or-tells Fatal tt (challenge_in s message)) (λ n. tt))
-      by Authenticating e = rw e authenticating-tells
-      by Allocated e = rw e allocated-tells
+      by : (p : Phase) → s.phase ≡ p → Reports (judgement_of s message)
+      by Requesting e = rw e (by_test Reports (answers_one s message) _ Unrelated (λ a. or-reports Fatal tt (challenge_in s message)) (λ n. tt))
+      by Authenticating e = rw e authenticating-reports
+      by Allocated e = rw e allocated-reports
       by p e = rw e tt
 
 -- ---- an offer that is there after an edit was there before it

@@ -53,7 +53,7 @@ use Rattle.turn_client_runs.proofs.ComingLemmas.{inputs-come}
 use Rattle.turn_client_runs.proofs.ListedPurposes.{IsConnectTo, IsListed, IsOpening, answered-listed, bind-listed, connect-listed, input-listed}
 use Rattle.turn_client_runs.proofs.MadeLemmas.{control-made, success-ends}
 use Rattle.turn_client_runs.proofs.OfferCalls.{HasOffer, gone-offers, opened-takes, quiet-offers}
-use Rattle.turn_client_runs.proofs.OfferMessages.{IsMadeFor, bind-back, judgement-tells, message-offers}
+use Rattle.turn_client_runs.proofs.OfferMessages.{IsMadeFor, bind-back, judgement-reports, message-offers}
 use Rattle.turn_client_runs.proofs.ReceivedRuns.{HoldNothing, inputs-received}
 use Rattle.turn_client_runs.proofs.RunGrants.{AnswersFor, answered-in, first-hold, grants-have-replies}
 use Rattle.turn_client_runs.proofs.RunLemmas.{IsDoneLast, run-did}
@@ -122,11 +122,11 @@ module _ (id : ℕ) (peer : SocketAddr) (origin : Origin) where
       by (inl (judged, own, among, named)) = inl (own, connects judged among named)
       by (inr (inl (judged, from, named, method))) =
           let class : class_in one.bytes ≡ Request = rw judged at (judgement-says one.before one.bytes) in
-          let signed : IsValidated (validation_of (auth_of one.before) one.bytes) = rw judged at (judgement-tells one.before one.bytes) in
+          let signed : IsValidated (validation_of (auth_of one.before) one.bytes) = rw judged at (judgement-reports one.before one.bytes) in
           inr (subst (λ (o : Origin). AttemptsAs o id peer one) (sym from) (attempts method named, class, signed, refl))
       by (inr (inr (judged, from, named, accepts))) =
           let class : class_in one.bytes ≡ Indication = rw judged at (judgement-says one.before one.bytes) in
-          let method : method_in one.bytes ≡ connection_attempt_method = rw judged at (judgement-tells one.before one.bytes) in
+          let method : method_in one.bytes ≡ connection_attempt_method = rw judged at (judgement-reports one.before one.bytes) in
           inr (subst (λ (o : Origin). AttemptsAs o id peer one) (sym from) (attempts method named, class, accepts-permitted peer one.before accepts))
 
   making-brought : IsBrought (λ s. HasOffer id peer origin s.grants) Making

@@ -19,7 +19,7 @@ use Rattle.turn_client_api.specs.declared.state.Stream.{Stream}
 use Rattle.turn_client_laws.proofs.HandledLemmas.{poll_recv-Gives, recv-AreOf, input-IsFromPermitted}
 use Rattle.turn_client_api.proofs.HasLemmas.{has-filter_map}
 use Rattle.turn_client_laws.proofs.StandLemmas.{contains-has}
-use Rattle.turn_client_runs.specs.Peers.{InputDelivers, IsPeerPermitted, IsDeliveredIn, TellsOfPermitted}
+use Rattle.turn_client_runs.specs.Peers.{InputDelivers, IsPeerPermitted, IsDeliveredIn, ReportsOfPermitted}
 use Rattle.turn_client_runs.specs.Inputs.{IsAmong, delivered_by, answered_in, handled_in, payloads_in}
 use Rattle.turn_client_runs.proofs.ComingLemmas.{Stands, inputs-stand}
 use Rattle.turn_client_runs.proofs.InputsOfRuns.{among-left, among-right, has-among}
@@ -113,24 +113,24 @@ all-answered s (call ∷ calls) = rw (call-answered call s, all-answered (state_
 
 -- ---- ICMP reports
 
-tells-through : (one : Input) (o : Outcome) → (processed one).0 ≡ o → IsMessageFromPermitted one.bytes one.before o → TellsOfPermitted one
-tells-through one (PeerIcmp transport peer icmp) e (indicated, is) = rw e (indicated, is)
-tells-through one o e exact = rw e tt
+reports-through : (one : Input) (o : Outcome) → (processed one).0 ≡ o → IsMessageFromPermitted one.bytes one.before o → ReportsOfPermitted one
+reports-through one (PeerIcmp transport peer icmp) e (indicated, is) = rw e (indicated, is)
+reports-through one o e exact = rw e tt
 
-tells-nothing : (one : Input) (o : Outcome) → (processed one).0 ≡ o → HasNoPeer o → TellsOfPermitted one
-tells-nothing one Handled e none = rw e tt
-tells-nothing one Ignored e none = rw e tt
-tells-nothing one o e none = absurd none
+reports-nothing : (one : Input) (o : Outcome) → (processed one).0 ≡ o → HasNoPeer o → ReportsOfPermitted one
+reports-nothing one Handled e none = rw e tt
+reports-nothing one Ignored e none = rw e tt
+reports-nothing one o e none = absurd none
 
-tells_in_mode : (m : Mode) (stream : Stream) (t : Input) → IsPermittedInput (record t { stream = Some (record stream { mode = m }) })
-    → TellsOfPermitted (record t { stream = Some (record stream { mode = m }) })
-tells_in_mode Control stream t exact = let one = record t { stream = Some (record stream { mode = Control }) } in tells-through one (processed one).0 refl exact
-tells_in_mode Waiting stream t exact = let one = record t { stream = Some (record stream { mode = Waiting }) } in tells-nothing one (processed one).0 refl exact
-tells_in_mode m stream t exact = tt
+reports_in_mode : (m : Mode) (stream : Stream) (t : Input) → IsPermittedInput (record t { stream = Some (record stream { mode = m }) })
+    → ReportsOfPermitted (record t { stream = Some (record stream { mode = m }) })
+reports_in_mode Control stream t exact = let one = record t { stream = Some (record stream { mode = Control }) } in reports-through one (processed one).0 refl exact
+reports_in_mode Waiting stream t exact = let one = record t { stream = Some (record stream { mode = Waiting }) } in reports-nothing one (processed one).0 refl exact
+reports_in_mode m stream t exact = tt
 
-pub tells-permitted : (one : Input) → TellsOfPermitted one
-tells-permitted one = by one.stream one (input-IsFromPermitted one)
+pub reports-permitted : (one : Input) → ReportsOfPermitted one
+reports-permitted one = by one.stream one (input-IsFromPermitted one)
   where
-    by : (o : Option Stream) (t : Input) → IsPermittedInput (record t { stream = o }) → TellsOfPermitted (record t { stream = o })
-    by None t exact = let u = record t { stream = None } in tells-through u (processed u).0 refl exact
-    by (Some stream) t exact = tells_in_mode stream.mode stream t exact
+    by : (o : Option Stream) (t : Input) → IsPermittedInput (record t { stream = o }) → ReportsOfPermitted (record t { stream = o })
+    by None t exact = let u = record t { stream = None } in reports-through u (processed u).0 refl exact
+    by (Some stream) t exact = reports_in_mode stream.mode stream t exact

@@ -35,7 +35,7 @@ use Rattle.turn_client_runs.specs.Lasting.{RunsSteadily}
 use Rattle.turn_client_runs.specs.LastingRuns.{GrantsLastInRuns}
 use Rattle.turn_client_runs.proofs.OfferRuns.{bound-are-offered}
 use Rattle.turn_client_runs.proofs.InOrderRuns.{inputs-follow}
-use Rattle.turn_client_runs.proofs.PeerLemmas.{received, tells-permitted}
+use Rattle.turn_client_runs.proofs.PeerLemmas.{received, reports-permitted}
 use Rattle.turn_client_runs.proofs.ProcessedLemmas.{calls-process}
 use Rattle.turn_client_runs.proofs.RealmLemmas.{inputs-realm}
 use Rattle.turn_client_runs.proofs.ReplyLemmas.{made-between, made-in, made-until, reply-again, reply-ends}
@@ -79,7 +79,7 @@ module _ (transport : TransportType) (local remote : SocketAddr) (config : Confi
 
   pub run-hears : DeliversOnlyPermitted first calls
   run-hears = (
-    λ earlier middle later e. (λ payload. received payload (state_after_all first earlier) middle, λ one there. tells-permitted one),
+    λ earlier middle later e. (λ payload. received payload (state_after_all first earlier) middle, λ one there. reports-permitted one),
     λ earlier call later one e there.
         let has = contains-has one (handled call (state_after_all first earlier)) there in
         (inputs-come call (state_after_all first earlier) one has, inputs-received earlier call first (first-hold transport local remote config seed) one has),

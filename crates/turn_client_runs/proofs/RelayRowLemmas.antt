@@ -22,11 +22,11 @@ module _ (local remote : SocketAddr) (config : Config) (seed : List ℕ) where
   allocated = done local remote config seed
 
   -- the event was taken
-  abbrev told : State
-  told = record allocated { events = [] }
+  abbrev reported : State
+  reported = record allocated { events = [] }
 
-  later : LastsFor700Seconds (with_allocation told)
-  later = relay-stays-up told refl
+  later : LastsFor700Seconds (with_allocation reported)
+  later = relay-stays-up reported refl
 
   abbrev Goes : State → Type 0
   Goes t = RunsSteadily 3 1 0 100_000_000 200_000_000 (no_history t) t (calls_after t) × ((state_after_all t (calls_after t)).grants ≡ refreshed_grants)
@@ -38,7 +38,7 @@ module _ (local remote : SocketAddr) (config : Config) (seed : List ℕ) where
       tt,
       (omega arith, omega arith),
       λ since within. omega arith,
-      relay-runs told refl (with_call PollEvent 200_000_000 allocated (no_history allocated)) refl,
+      relay-runs reported refl (with_call PollEvent 200_000_000 allocated (no_history allocated)) refl,
     ),
     later.refreshes,
   )

@@ -124,8 +124,8 @@ module _ (e : TurnEvent) where
 
 pub events-have-causes : (transport : TransportType) (local remote : SocketAddr) (config : Config) (seed : List ℕ) (calls : List Call)
     → EventsHaveCauses (initial transport local remote config seed) calls
-events-have-causes transport local remote config seed calls earlier later e split told =
+events-have-causes transport local remote config seed calls earlier later e split polled =
     let first = initial transport local remote config seed in
     last-cause e first refl (first-hold transport local remote config seed) earlier
     (run-did (Waits e) (Causes e) Keeps call-keeps (call-causes e) earlier first (first-keeps transport local remote config seed) (λ waits. contains-has e [] waits)
-    (has-contains e (state_after_all first earlier).events (first-has e (state_after_all first earlier).events told)))
+    (has-contains e (state_after_all first earlier).events (first-has e (state_after_all first earlier).events polled)))

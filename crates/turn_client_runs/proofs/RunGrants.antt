@@ -177,7 +177,7 @@ AnswersFor Did = (p : Purpose) (one : Input) → Did p one → Contains (purpose
 
 -- what is granted is granted for a request that deletes nothing
 no-return : (one : Input) (g : Grant) (p : Purpose) → IsGivenIn one p g → GivesBack p → ⊥
-no-return one (Allocation a) (ForRefresh family lifetime) (least, same, told) back = absurd (omega (arith, least, back))
+no-return one (Allocation a) (ForRefresh family lifetime) (least, same, reported) back = absurd (omega (arith, least, back))
 no-return one g (ForRefresh family lifetime) given back = given
 no-return one g p given back = back
 

@@ -41,8 +41,8 @@ abbrev pub ReceivesOnlyPermitted : State → List Call → Type 0
 ReceivesOnlyPermitted s calls = (payload : Payload) → Contains (payloads_in s calls) payload → IsDeliveredIn payload s calls
 
 -- an ICMP report of an input is about a peer whose IP address has an active permission
-abbrev pub TellsOfPermitted : Input → Type 0
-TellsOfPermitted one = by (processed one).0
+abbrev pub ReportsOfPermitted : Input → Type 0
+ReportsOfPermitted one = by (processed one).0
   where
     by : Outcome → Type 0
     by (PeerIcmp transport peer icmp) = IsIndicated one.bytes peer one.before × IsIcmpAttribute one.bytes one.before transport icmp
@@ -50,4 +50,4 @@ TellsOfPermitted one = by (processed one).0
 
 -- this holds for each input of the run
 abbrev pub IcmpIsOfPermitted : State → List Call → Type 0
-IcmpIsOfPermitted s calls = (one : Input) → Contains (handled_in s calls) one → TellsOfPermitted one
+IcmpIsOfPermitted s calls = (one : Input) → Contains (handled_in s calls) one → ReportsOfPermitted one

@@ -30,20 +30,20 @@ with_marked s =
     granted_at (ms 100) (Allocation (record { relayed = relayed_v4; first_lifetime = seconds 1000; expiry = ms 1_000_050; is_expired = true }) ∷ []) s
 
 -- what the call returns, if it is `poll`, is timely
-abbrev pub TellsTimely : State → Call → Type 0
-TellsTimely s (Poll now) =
+abbrev pub ReportsTimely : State → Call → Type 0
+ReportsTimely s (Poll now) =
     IsTimely (poll_step now s).0 now s (poll_step now s).1 × WaitsForAllocations (poll_step now s).0 now (poll_step now s).1
-TellsTimely s _ = ⊤
+ReportsTimely s _ = ⊤
 
 -- a caller that sleeps until the time that each `poll` of the run returns misses no deadline
 abbrev pub SleepsThroughNothing : State → List Call → Type 0
 SleepsThroughNothing s [] = ⊤
-SleepsThroughNothing s (call ∷ calls) = TellsTimely s call × SleepsThroughNothing (state_after call s) calls
+SleepsThroughNothing s (call ∷ calls) = ReportsTimely s call × SleepsThroughNothing (state_after call s) calls
 
 -- as long as it polls at times that are not too late
 abbrev pub SleepsInTime : State → List Call → Type 0
 SleepsInTime s calls = All IsPolledInTime calls → SleepsThroughNothing s calls
 
 -- what the client returns, if it is polled next, is timely
-abbrev pub TellsTimelyNext : State → Type 0
-TellsTimelyNext s = (now : ℕ) → now ≤ 2 ^ 62 → TellsTimely s (Poll now)
+abbrev pub ReportsTimelyNext : State → Type 0
+ReportsTimelyNext s = (now : ℕ) → now ≤ 2 ^ 62 → ReportsTimely s (Poll now)

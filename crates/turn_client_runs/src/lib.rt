@@ -32,7 +32,7 @@ mod sent;
 mod server;
 mod silence;
 mod sleeps;
-mod told;
+mod reported;
 
 pub use bound::{bound_connections_have_their_success, bound_streams_have_their_success};
 pub use busy::without_waits_a_client_is_busy_for_ever;
@@ -56,4 +56,4 @@ pub use sent::{packets_are_worked, packets_go_out};
 pub use server::requests_can_be_granted;
 pub use silence::silence_ends_a_client;
 pub use sleeps::runs_miss_no_deadline;
-pub use told::{causes_are_told_once, events_are_counted};
+pub use reported::{causes_are_reported_once, events_are_counted};

@@ -6,7 +6,7 @@ ghost use Rattle.turn_client_api.specs.State.{State};
 ghost use Rattle.turn_client_api.specs.declared.poll.TurnPollRet.TheVariants.{WaitUntil};
 ghost use Rattle.turn_client_laws.specs.LawsMessages.{ms};
 ghost use Rattle.turn_client_runs.specs.Holds.{HoldsInAnyRun, HoldsOfRuns};
-ghost use Rattle.turn_client_runs.specs.Sleeps.{SleepsInTime, TellsTimelyNext, with_marked};
+ghost use Rattle.turn_client_runs.specs.Sleeps.{SleepsInTime, ReportsTimelyNext, with_marked};
 
 /// A caller that sleeps until the time that each `poll` of a run returns misses no deadline: if it is after
 /// now, no packet is due before it, nothing ends and nothing is pending. If it is not after now there is
@@ -16,7 +16,7 @@ ghost use Rattle.turn_client_runs.specs.Sleeps.{SleepsInTime, TellsTimelyNext, w
 /// failed memory allocation.
 pub fn runs_miss_no_deadline()
     ensures found { HoldsOfRuns SleepsInTime }
-    ensures any { HoldsInAnyRun TellsTimelyNext }
+    ensures any { HoldsInAnyRun ReportsTimelyNext }
     // An allocation that is marked as expired, and lasts for 1000 s.
     ensures marked { (s : State) → (poll_step (ms 100) (with_marked s)).0 ≡ WaitUntil (ms 1_000_050) }
 {}

@@ -42,15 +42,15 @@ goes-quiet P now deadline s t later sleeps goes =
     let rest = subst (λ (x : State). Goes P x later) (sym (sleeps.client [])) goes in
     ((sleeps.rest [], rest.0), rest.1)
 
-goes-told : (P : State → Type 0) (reply : Reply) (now deadline : ℕ) (packet : Transmit (List ℕ)) (s r t : State) (later : List DriveCall) → received reply s ≡ Some packet
+goes-reported : (P : State → Type 0) (reply : Reply) (now deadline : ℕ) (packet : Transmit (List ℕ)) (s r t : State) (later : List DriveCall) → received reply s ≡ Some packet
     → state_after (Recv packet now) s ≡ r → Sleeps now deadline r t → Goes P t later → Goes P s (record { now = now; reply = reply; deadline = deadline } ∷ later)
-goes-told P reply now deadline packet s r t later comes after sleeps goes =
+goes-reported P reply now deadline packet s r t later comes after sleeps goes =
     let given = option_to_list (given_in packet (packet_step packet now s).0) in
     let one = begins reply now packet s r comes after in
-    let told : (after_drive (record { now = now; reply = reply; deadline = deadline }) s).rest ≡ Until deadline = ap (λ (d : DriveState). (drive_steps 8 now d).rest) one ∙ sleeps.rest given in
+    let reported : (after_drive (record { now = now; reply = reply; deadline = deadline }) s).rest ≡ Until deadline = ap (λ (d : DriveState). (drive_steps 8 now d).rest) one ∙ sleeps.rest given in
     let left : (after_drive (record { now = now; reply = reply; deadline = deadline }) s).client ≡ t = ap (λ (d : DriveState). (drive_steps 8 now d).client) one ∙ sleeps.client given in
     let rest = subst (λ (x : State). Goes P x later) (sym left) goes in
-    ((told, rest.0), rest.1)
+    ((reported, rest.0), rest.1)
 
 -- ---- the iterations, from the last one
 
@@ -102,8 +102,8 @@ module _ (local remote : SocketAddr) (config : Config) (seed : List ℕ) where
   abbrev first : State
   first = H.h0 local remote config seed
 
-  abbrev told : State
-  told = record (H.done local remote config seed) { events = [] }
+  abbrev reported : State
+  reported = record (H.done local remote config seed) { events = [] }
 
   -- ---- the handshake
 
@@ -115,53 +115,53 @@ module _ (local remote : SocketAddr) (config : Config) (seed : List ℕ) where
   unfolding drive_steps steps_until_payload refresh_time is_refresh_due
   sleeps-2 = record { rest = λ given. refl; client = λ given. refl }
 
-  sleeps-3 : Sleeps 200_000_000 540_200_000_000 (H.done local remote config seed) told
+  sleeps-3 : Sleeps 200_000_000 540_200_000_000 (H.done local remote config seed) reported
   unfolding drive_steps steps_until_payload refresh_time is_refresh_due
   sleeps-3 = record { rest = λ given. refl; client = λ given. refl }
 
   -- ---- the channel and the refreshes
 
-  sleeps-4 : Sleeps 1_000_000_000 1_500_000_000 (L.queued_bind told refl) (L.sent_bind told refl)
+  sleeps-4 : Sleeps 1_000_000_000 1_500_000_000 (L.queued_bind reported refl) (L.sent_bind reported refl)
   unfolding drive_steps steps_until_payload refresh_time is_refresh_due
   sleeps-4 = record { rest = λ given. refl; client = λ given. refl }
 
-  sleeps-5 : Sleeps 1_100_000_000 241_100_000_000 (L.granted_bind told refl) (L.s1 told refl)
+  sleeps-5 : Sleeps 1_100_000_000 241_100_000_000 (L.granted_bind reported refl) (L.s1 reported refl)
   unfolding drive_steps steps_until_payload refresh_time is_refresh_due
   sleeps-5 = record { rest = λ given. refl; client = λ given. refl }
 
-  sleeps-6 : Sleeps 241_100_000_000 241_600_000_000 (L.s1 told refl) (L.asked-2 told refl)
+  sleeps-6 : Sleeps 241_100_000_000 241_600_000_000 (L.s1 reported refl) (L.asked-2 reported refl)
   unfolding drive_steps steps_until_payload refresh_time is_refresh_due
   sleeps-6 = record { rest = λ given. refl; client = λ given. refl }
 
-  sleeps-7 : Sleeps 241_200_000_000 481_200_000_000 (L.s2 told refl) (L.s2 told refl)
+  sleeps-7 : Sleeps 241_200_000_000 481_200_000_000 (L.s2 reported refl) (L.s2 reported refl)
   unfolding drive_steps steps_until_payload refresh_time is_refresh_due
   sleeps-7 = record { rest = λ given. refl; client = λ given. refl }
 
-  sleeps-8 : Sleeps 481_200_000_000 481_700_000_000 (L.s2 told refl) (L.asked-3 told refl)
+  sleeps-8 : Sleeps 481_200_000_000 481_700_000_000 (L.s2 reported refl) (L.asked-3 reported refl)
   unfolding drive_steps steps_until_payload refresh_time is_refresh_due
   sleeps-8 = record { rest = λ given. refl; client = λ given. refl }
 
-  sleeps-9 : Sleeps 481_300_000_000 540_200_000_000 (L.s3 told refl) (L.s3 told refl)
+  sleeps-9 : Sleeps 481_300_000_000 540_200_000_000 (L.s3 reported refl) (L.s3 reported refl)
   unfolding drive_steps steps_until_payload refresh_time is_refresh_due
   sleeps-9 = record { rest = λ given. refl; client = λ given. refl }
 
-  sleeps-10 : Sleeps 540_200_000_000 540_700_000_000 (L.s3 told refl) (L.asked-4 told refl)
+  sleeps-10 : Sleeps 540_200_000_000 540_700_000_000 (L.s3 reported refl) (L.asked-4 reported refl)
   unfolding drive_steps steps_until_payload refresh_time is_refresh_due
   sleeps-10 = record { rest = λ given. refl; client = λ given. refl }
 
-  sleeps-11 : Sleeps 540_300_000_000 541_100_000_000 (L.s4 told refl) (L.s4 told refl)
+  sleeps-11 : Sleeps 540_300_000_000 541_100_000_000 (L.s4 reported refl) (L.s4 reported refl)
   unfolding drive_steps steps_until_payload refresh_time is_refresh_due
   sleeps-11 = record { rest = λ given. refl; client = λ given. refl }
 
-  sleeps-12 : Sleeps 541_100_000_000 541_600_000_000 (L.s4 told refl) (L.asked-5 told refl)
+  sleeps-12 : Sleeps 541_100_000_000 541_600_000_000 (L.s4 reported refl) (L.asked-5 reported refl)
   unfolding drive_steps steps_until_payload refresh_time is_refresh_due
   sleeps-12 = record { rest = λ given. refl; client = λ given. refl }
 
-  sleeps-13 : Sleeps 541_200_000_000 721_300_000_000 (L.s5 told refl) (L.s5 told refl)
+  sleeps-13 : Sleeps 541_200_000_000 721_300_000_000 (L.s5 reported refl) (L.s5 reported refl)
   unfolding drive_steps steps_until_payload refresh_time is_refresh_due
   sleeps-13 = record { rest = λ given. refl; client = λ given. refl }
 
-  sleeps-14 : Sleeps (seconds 700) 721_300_000_000 (L.s5 told refl) (L.s5 told refl)
+  sleeps-14 : Sleeps (seconds 700) 721_300_000_000 (L.s5 reported refl) (L.s5 reported refl)
   unfolding drive_steps steps_until_payload refresh_time is_refresh_due
   sleeps-14 = record { rest = λ given. refl; client = λ given. refl }
 
@@ -170,66 +170,66 @@ module _ (local remote : SocketAddr) (config : Config) (seed : List ℕ) where
   abbrev IsRefreshed : State → Type 0
   IsRefreshed s = s.grants ≡ refreshed_grants
 
-  from-14 : Goes IsRefreshed (L.s5 told refl) drives-14
-  from-14 = goes-quiet IsRefreshed (seconds 700) 721_300_000_000 (L.s5 told refl) (L.s5 told refl) drives-15 sleeps-14 (tt, refl)
+  from-14 : Goes IsRefreshed (L.s5 reported refl) drives-14
+  from-14 = goes-quiet IsRefreshed (seconds 700) 721_300_000_000 (L.s5 reported refl) (L.s5 reported refl) drives-15 sleeps-14 (tt, refl)
 
-  from-13 : Goes IsRefreshed (L.asked-5 told refl) drives-13
+  from-13 : Goes IsRefreshed (L.asked-5 reported refl) drives-13
   from-13 =
-      goes-told IsRefreshed Success 541_200_000_000 721_300_000_000 _ (L.asked-5 told refl) (L.s5 told refl) (L.s5 told refl) drives-14 refl
-      (L.after-reply _ _ _ 0 [] _ _ _ _ _ _ _ (L.round-5 told refl)) sleeps-13 from-14
+      goes-reported IsRefreshed Success 541_200_000_000 721_300_000_000 _ (L.asked-5 reported refl) (L.s5 reported refl) (L.s5 reported refl) drives-14 refl
+      (L.after-reply _ _ _ 0 [] _ _ _ _ _ _ _ (L.round-5 reported refl)) sleeps-13 from-14
 
-  from-12 : Goes IsRefreshed (L.s4 told refl) drives-12
-  from-12 = goes-quiet IsRefreshed 541_100_000_000 541_600_000_000 (L.s4 told refl) (L.asked-5 told refl) drives-13 sleeps-12 from-13
+  from-12 : Goes IsRefreshed (L.s4 reported refl) drives-12
+  from-12 = goes-quiet IsRefreshed 541_100_000_000 541_600_000_000 (L.s4 reported refl) (L.asked-5 reported refl) drives-13 sleeps-12 from-13
 
-  from-11 : Goes IsRefreshed (L.asked-4 told refl) drives-11
+  from-11 : Goes IsRefreshed (L.asked-4 reported refl) drives-11
   from-11 =
-      goes-told IsRefreshed Success 540_300_000_000 541_100_000_000 _ (L.asked-4 told refl) (L.s4 told refl) (L.s4 told refl) drives-12 refl
-      (L.after-reply _ _ _ 0 [] _ _ _ _ _ _ _ (L.round-4 told refl)) sleeps-11 from-12
+      goes-reported IsRefreshed Success 540_300_000_000 541_100_000_000 _ (L.asked-4 reported refl) (L.s4 reported refl) (L.s4 reported refl) drives-12 refl
+      (L.after-reply _ _ _ 0 [] _ _ _ _ _ _ _ (L.round-4 reported refl)) sleeps-11 from-12
 
-  from-10 : Goes IsRefreshed (L.s3 told refl) drives-10
-  from-10 = goes-quiet IsRefreshed 540_200_000_000 540_700_000_000 (L.s3 told refl) (L.asked-4 told refl) drives-11 sleeps-10 from-11
+  from-10 : Goes IsRefreshed (L.s3 reported refl) drives-10
+  from-10 = goes-quiet IsRefreshed 540_200_000_000 540_700_000_000 (L.s3 reported refl) (L.asked-4 reported refl) drives-11 sleeps-10 from-11
 
-  from-9 : Goes IsRefreshed (L.asked-3 told refl) drives-9
+  from-9 : Goes IsRefreshed (L.asked-3 reported refl) drives-9
   from-9 =
-      goes-told IsRefreshed Success 481_300_000_000 540_200_000_000 _ (L.asked-3 told refl) (L.s3 told refl) (L.s3 told refl) drives-10 refl
-      (L.after-reply _ _ _ 0 [] _ _ _ _ _ _ _ (L.round-3 told refl)) sleeps-9 from-10
+      goes-reported IsRefreshed Success 481_300_000_000 540_200_000_000 _ (L.asked-3 reported refl) (L.s3 reported refl) (L.s3 reported refl) drives-10 refl
+      (L.after-reply _ _ _ 0 [] _ _ _ _ _ _ _ (L.round-3 reported refl)) sleeps-9 from-10
 
-  from-8 : Goes IsRefreshed (L.s2 told refl) drives-8
-  from-8 = goes-quiet IsRefreshed 481_200_000_000 481_700_000_000 (L.s2 told refl) (L.asked-3 told refl) drives-9 sleeps-8 from-9
+  from-8 : Goes IsRefreshed (L.s2 reported refl) drives-8
+  from-8 = goes-quiet IsRefreshed 481_200_000_000 481_700_000_000 (L.s2 reported refl) (L.asked-3 reported refl) drives-9 sleeps-8 from-9
 
-  from-7 : Goes IsRefreshed (L.asked-2 told refl) drives-7
+  from-7 : Goes IsRefreshed (L.asked-2 reported refl) drives-7
   from-7 =
-      goes-told IsRefreshed Success 241_200_000_000 481_200_000_000 _ (L.asked-2 told refl) (L.s2 told refl) (L.s2 told refl) drives-8 refl
-      (L.after-reply _ _ _ 0 [] _ _ _ _ _ _ _ (L.round-2 told refl)) sleeps-7 from-8
+      goes-reported IsRefreshed Success 241_200_000_000 481_200_000_000 _ (L.asked-2 reported refl) (L.s2 reported refl) (L.s2 reported refl) drives-8 refl
+      (L.after-reply _ _ _ 0 [] _ _ _ _ _ _ _ (L.round-2 reported refl)) sleeps-7 from-8
 
-  from-6 : Goes IsRefreshed (L.s1 told refl) drives-6
-  from-6 = goes-quiet IsRefreshed 241_100_000_000 241_600_000_000 (L.s1 told refl) (L.asked-2 told refl) drives-7 sleeps-6 from-7
+  from-6 : Goes IsRefreshed (L.s1 reported refl) drives-6
+  from-6 = goes-quiet IsRefreshed 241_100_000_000 241_600_000_000 (L.s1 reported refl) (L.asked-2 reported refl) drives-7 sleeps-6 from-7
 
-  from-5 : Goes IsRefreshed (L.sent_bind told refl) drives-5
+  from-5 : Goes IsRefreshed (L.sent_bind reported refl) drives-5
   from-5 =
-      goes-told IsRefreshed Success 1_100_000_000 241_100_000_000 _ (L.sent_bind told refl) (L.granted_bind told refl) (L.s1 told refl) drives-6 refl
-      (L.after-reply _ _ _ 0 [] _ _ _ _ _ _ _ (L.round-1 told refl)) sleeps-5 from-6
+      goes-reported IsRefreshed Success 1_100_000_000 241_100_000_000 _ (L.sent_bind reported refl) (L.granted_bind reported refl) (L.s1 reported refl) drives-6 refl
+      (L.after-reply _ _ _ 0 [] _ _ _ _ _ _ _ (L.round-1 reported refl)) sleeps-5 from-6
 
-  from-4 : Goes IsRefreshed (L.queued_bind told refl) drives-4
-  from-4 = goes-quiet IsRefreshed 1_000_000_000 1_500_000_000 (L.queued_bind told refl) (L.sent_bind told refl) drives-5 sleeps-4 from-5
+  from-4 : Goes IsRefreshed (L.queued_bind reported refl) drives-4
+  from-4 = goes-quiet IsRefreshed 1_000_000_000 1_500_000_000 (L.queued_bind reported refl) (L.sent_bind reported refl) drives-5 sleeps-4 from-5
 
   allocated-after : state_after (Recv (allocation_packet (H.h3 local remote config seed)) 200_000_000) (H.h3 local remote config seed) ≡ H.done local remote config seed
   allocated-after =
       ap (λ (packet : Transmit (List ℕ)). state_after (Recv packet 200_000_000) (H.h3 local remote config seed)) (H.packet-is local remote config seed)
       ∙ H.done-after local remote config seed
 
-  handshake : Goes (λ t. t ≡ told) first drives_of_handshake
+  handshake : Goes (λ t. t ≡ reported) first drives_of_handshake
   handshake =
-      goes-quiet (λ t. t ≡ told) 0 500_000_000 first (H.h1 local remote config seed) drives-2 sleeps-1
-      (goes-told (λ t. t ≡ told) Challenge 100_000_000 600_000_000 (H.challenge local remote config seed) (H.h1 local remote config seed) (H.h2 local remote config seed)
+      goes-quiet (λ t. t ≡ reported) 0 500_000_000 first (H.h1 local remote config seed) drives-2 sleeps-1
+      (goes-reported (λ t. t ≡ reported) Challenge 100_000_000 600_000_000 (H.challenge local remote config seed) (H.h1 local remote config seed) (H.h2 local remote config seed)
       (H.h3 local remote config seed) drives-3
       refl (H.reached local remote config seed) sleeps-2
-      (goes-told (λ t. t ≡ told) Allocation 200_000_000 540_200_000_000 (allocation_packet (H.h3 local remote config seed)) (H.h3 local remote config seed) (H.done local remote config seed) told []
+      (goes-reported (λ t. t ≡ reported) Allocation 200_000_000 540_200_000_000 (allocation_packet (H.h3 local remote config seed)) (H.h3 local remote config seed) (H.done local remote config seed) reported []
       refl allocated-after sleeps-3 (tt, refl)))
 
   pub after-handshake : Goes IsRefreshed (bound (client_after first drives_of_handshake)) drives_until_700_s
   after-handshake =
-      let same : bound (client_after first drives_of_handshake) ≡ L.queued_bind told refl = ap bound handshake.1 ∙ L.binds told refl in
+      let same : bound (client_after first drives_of_handshake) ≡ L.queued_bind reported refl = ap bound handshake.1 ∙ L.binds reported refl in
       subst (λ (x : State). Goes IsRefreshed x drives_until_700_s) (sym same) from-4
 
   pub handshake-driven : IsDriven first drives_of_handshake

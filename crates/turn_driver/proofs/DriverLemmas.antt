@@ -12,8 +12,8 @@ use Rattle.turn_driver.specs.declared.task.Rest.TheVariants.{Until, Now, Ended}
 pub steps-going : (n now : ℕ) (start : DriveState) (given : List Given) (s t : State) (answer : Answer) → drive_steps n now start ≡ going given s → answer ≡ (next_step now s).0
     → t ≡ (next_step now s).1 → drive_steps (n + 1) now start ≡ with_answer given (answer, t)
 unfolding drive_steps
-steps-going n now start given s t answer e told after =
-    rw (add-one n) (ap (once_more now) e ∙ sym (ap (λ (a : Answer). with_answer given (a, t)) told ∙ ap (λ (u : State). with_answer given ((next_step now s).0, u)) after))
+steps-going n now start given s t answer e reported after =
+    rw (add-one n) (ap (once_more now) e ∙ sym (ap (λ (a : Answer). with_answer given (a, t)) reported ∙ ap (λ (u : State). with_answer given ((next_step now s).0, u)) after))
 
 -- once there is nothing to do, the client is not polled again
 once_more-rests : (now : ℕ) (given : List Given) (rest : Rest) (s : State) → (rest ≡ Now → ⊥)
@@ -32,8 +32,8 @@ steps-rests (suc j) n now start given rest s other e = rw (suc-add j n)
 -- the result then stays the same, up to the maximum number of polls
 pub steps-rest : (n most now : ℕ) (start : DriveState) (given : List Given) (rest : Rest) (s t : State) → n < most → (rest ≡ Now → ⊥) → drive_steps n now start ≡ going given s
     → Rests rest ≡ (next_step now s).0 → t ≡ (next_step now s).1 → record { given = given; rest = rest; client = t } ≡ drive_steps most now start
-steps-rest n most now start given rest s t less other e told after =
-    let ends : drive_steps (n + 1) now start ≡ record { given = given; rest = rest; client = t } = steps-going n now start given s t (Rests rest) e told after in
+steps-rest n most now start given rest s t less other e reported after =
+    let ends : drive_steps (n + 1) now start ≡ record { given = given; rest = rest; client = t } = steps-going n now start given s t (Rests rest) e reported after in
     let is : (most - (n + 1)) + (n + 1) ≡ most = omega arith in
     sym (subst (λ (m : ℕ). drive_steps m now start ≡ record { given = given; rest = rest; client = t }) is (steps-rests (most - (n + 1)) (n + 1) now start given rest t other ends))
 

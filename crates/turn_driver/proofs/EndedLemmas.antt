@@ -14,7 +14,7 @@ use Rattle.turn_client_api.specs.Requests.{binding_indication, fresh_id, id_used
 use Rattle.turn_client_api.specs.Transmit.{idle_step, keepalive_step, queue_step, refresh_step, reply_in, reply_step, sent, transmit_step, without_first_reply}
 use Rattle.turn_client_api.specs.declared.event.TurnEvent.{TurnEvent}
 use Rattle.turn_client_api.specs.Answers.{event_step}
-use Rattle.turn_driver.specs.Next.{AnswersRest, answer_of, to_send, to_tell, waiting}
+use Rattle.turn_driver.specs.Next.{AnswersRest, answer_of, to_send, to_report, waiting}
 use Rattle.turn_driver.specs.declared.next.Next.{Next}
 use Rattle.turn_driver.specs.declared.task.Rest.{Rest}
 use Rattle.turn_driver.specs.declared.task.Rest.TheVariants.{Now, Ended}
@@ -94,21 +94,21 @@ sent-now : (now : ℕ) (p : Option (Transmit (List ℕ)) × State) → AnswersRe
 sent-now now (Some packet, t) = tt
 sent-now now (None, t) = tt
 
-told-now : (now : ℕ) (p : Option TurnEvent × State) → AnswersRest (to_tell now Now p).0 now (to_tell now Now p).1
-told-now now (Some event, t) = tt
-told-now now (None, t) = sent-now now (transmit_step now t)
+reported-now : (now : ℕ) (p : Option TurnEvent × State) → AnswersRest (to_report now Now p).0 now (to_report now Now p).1
+reported-now now (Some event, t) = tt
+reported-now now (None, t) = sent-now now (transmit_step now t)
 
 -- ---- the answer of the code
 
 restful : {E : Type 0} (r : Result Next E) (rest : Rest) (now : ℕ) (s t : State) → AnswersRest (waiting now rest s).0 now (waiting now rest s).1
     → IfOk r (λ next. answer_of next ≡ (waiting now rest s).0) → OnOk r (t ≡ (waiting now rest s).1) → IfOk r (λ next. AnswersRest (answer_of next) now t)
-restful (Ok next) rest now s t is told after = rw (told, after) is
-restful (Err e) rest now s t is told after = tt
+restful (Ok next) rest now s t is reported after = rw (reported, after) is
+restful (Err e) rest now s t is reported after = tt
 
 pub restful-ended : {E : Type 0} (r : Result Next E) (now : ℕ) (s t : State) → IfOk r (λ next. answer_of next ≡ (waiting now Ended s).0) → OnOk r (t ≡ (waiting now Ended s).1)
     → IfOk r (λ next. AnswersRest (answer_of next) now t)
-restful-ended r now s t told after = restful r Ended now s t (waiting-ended now s) told after
+restful-ended r now s t reported after = restful r Ended now s t (waiting-ended now s) reported after
 
 pub restful-now : {E : Type 0} (r : Result Next E) (now : ℕ) (s t : State) → IfOk r (λ next. answer_of next ≡ (waiting now Now s).0) → OnOk r (t ≡ (waiting now Now s).1)
     → IfOk r (λ next. AnswersRest (answer_of next) now t)
-restful-now r now s t told after = restful r Now now s t (told-now now (event_step s)) told after
+restful-now r now s t reported after = restful r Now now s t (reported-now now (event_step s)) reported after

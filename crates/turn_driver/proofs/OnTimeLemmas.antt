@@ -110,8 +110,8 @@ joined before now next s first second = let l = first.later in let m = second.la
   punctual = λ t from until. elim (cases_Bool (ltb t now)) [ inl less ↦ first.punctual t from (ltb-true t now less) | inr more ↦ second.punctual t (ltb-false t now more) until ];
 }
 
-untold : (before now : ℕ) (s : State) → IsOnTime before now s → IsOnTime before now (state_after PollEvent s)
-untold before now s is = record { later = is.later; in_range = is.in_range; punctual = λ t from until. packet-same t s _ ∙ is.punctual t from until }
+unreported : (before now : ℕ) (s : State) → IsOnTime before now s → IsOnTime before now (state_after PollEvent s)
+unreported before now s is = record { later = is.later; in_range = is.in_range; punctual = λ t from until. packet-same t s _ ∙ is.punctual t from until }
 
 -- what an iteration returns says until when its caller is on time
 pub wakes : (rest : Rest) (now : ℕ) (s : State) → now ≤ 2 ^ 62 → IsRestful rest now s → WakesOnTime rest now s
@@ -142,7 +142,7 @@ asked now before s call calls is ask later = by ask
     event : Polls before now s (PollEvent ∷ calls)
     event =
         let l = is.later in let r = is.in_range in
-        let rest = later before (state_after PollEvent s) (untold before now s is) in
+        let rest = later before (state_after PollEvent s) (unreported before now s is) in
         ((at-once before s (omega (arith, l, r)), rest.0), rest.1)
 
     by : IsAsk now call → Polls before now s (call ∷ calls)

@@ -34,9 +34,9 @@ use Rattle.turn_driver.specs.declared.task.Rest.{Rest}
 use Rattle.turn_driver.specs.declared.task.Rest.TheVariants.{Until, Now, Ended}
 use Rattle.turn_driver.specs.declared.task.Task.{Task}
 use Rattle.turn_driver.proofs.EndedLemmas.{transmit-IsIdle}
-use Rattle.turn_driver.proofs.RestPolls.{IsTold, poll-IsTold}
+use Rattle.turn_driver.proofs.RestPolls.{IsReported, poll-IsReported}
 use Rattle.turn_driver.proofs.RestSends.{transmit-GetsOn}
-use Rattle.turn_driver.proofs.RestWaitPolls.{poll-told}
+use Rattle.turn_driver.proofs.RestWaitPolls.{poll-reported}
 use Rattle.turn_driver.proofs.RestWaitSends.{transmit-awaits}
 use Rattle.turn_driver.proofs.RestWaits.{left_to_await}
 use Rattle.turn_driver.proofs.RestWeights.{GetsOn, IsLess, KeepsUp, descends, gets-on-further, left_to_do, less-trans}
@@ -50,9 +50,9 @@ pub record Measures (fit : State → Type 0) (left : ℕ → State → List ℕ)
   pub calls : (call : Call) (s : State) → fit s → fit (state_after call s)
   pub phase : (s : State) → fit s → FitsPhase s
   pub in_allocations : (s : State) → fit s → GrantsHaveAllocations s
-  pub told : (now : ℕ) (s : State) → now ≤ 2 ^ 62 → fit s → IsTold (left now) s (poll_step now s)
+  pub reported : (now : ℕ) (s : State) → now ≤ 2 ^ 62 → fit s → IsReported (left now) s (poll_step now s)
   pub sends : (now : ℕ) (s : State) → now ≤ 2 ^ 62 → fit s → (packet : Transmit (List ℕ)) → (transmit_step now s).0 ≡ Some packet → GetsOn (left now) s (transmit_step now s).1
-  pub tells : (now : ℕ) (event : TurnEvent) (events : List TurnEvent) (s : State) → GetsOn (left now) (record s { events = event ∷ events }) (record s { events = events })
+  pub reports : (now : ℕ) (event : TurnEvent) (events : List TurnEvent) (s : State) → GetsOn (left now) (record s { events = event ∷ events }) (record s { events = events })
   pub drains : (now : ℕ) (s t : State) → weight t.streams < weight s.streams → GetsOn (left now) s t
 
 calls-fit : (fit : State → Type 0) → ((call : Call) (s : State) → fit s → fit (state_after call s)) → (calls : List Call) (s : State) → fit s → fit (state_after_all s calls)
@@ -78,7 +78,7 @@ module _ (fit : State → Type 0) (measure : ℕ → State → List ℕ) (size :
   abbrev left : State → List ℕ
   left = measure now
 
-  -- nothing was to be told and sent, though something was due: a request has timed out
+  -- nothing was to be reported and sent, though something was due: a request has timed out
   gave-up : (t : State) → KeepsUp left s t → t.events ≡ [] → (transmit_step now t).0 ≡ None → HasWorkNow now s t → GetsOn left s t
   gave-up t (inl less) none idle busy = less
   gave-up t (inr (same, awaits)) none idle (inl some) = absurd (some none)
@@ -105,21 +105,21 @@ module _ (fit : State → Type 0) (measure : ℕ → State → List ℕ) (size :
           → GoesOn left s (waiting now rest (record t { events = events }))
       by [] keeps is busy = let u : State = record t { events = [] } in sent-goes-on rest u keeps refl is busy (transmit_step now u) refl
       by (event ∷ events) keeps is busy =
-          gets-on-further left s (record t { events = event ∷ events }) (record t { events = events }) keeps (m.tells now event events t)
+          gets-on-further left s (record t { events = event ∷ events }) (record t { events = events }) keeps (m.reports now event events t)
 
-  told-goes-on : (p : TurnPollRet × State) → IsTold left s p → IsTimely p.0 now s p.1 → fit p.1 → GoesOn left s (by_time now p)
-  told-goes-on (Poll.AllocateTcpSocket id socket peer, t) told timely is = told
-  told-goes-on (Poll.TcpClose local remote, t) told timely is = told
-  told-goes-on (Poll.Closed, t) told timely is = waiting-goes-on Ended t told is (λ e. cc)
-  told-goes-on (Poll.WaitUntil time, t) told timely is = by (nat_lt now time) refl
+  reported-goes-on : (p : TurnPollRet × State) → IsReported left s p → IsTimely p.0 now s p.1 → fit p.1 → GoesOn left s (by_time now p)
+  reported-goes-on (Poll.AllocateTcpSocket id socket peer, t) reported timely is = reported
+  reported-goes-on (Poll.TcpClose local remote, t) reported timely is = reported
+  reported-goes-on (Poll.Closed, t) reported timely is = waiting-goes-on Ended t reported is (λ e. cc)
+  reported-goes-on (Poll.WaitUntil time, t) reported timely is = by (nat_lt now time) refl
     where
       by : (b : Bool) → nat_lt now time ≡ b → GoesOn left s (cond b (Rests (Until time), t) (waiting now Now t))
       by true e = tt
-      by false e = waiting-goes-on Now t told is (λ same. timely.1 (ltb-false now time e))
+      by false e = waiting-goes-on Now t reported is (λ same. timely.1 (ltb-false now time e))
 
   polled-goes-on : fit s → GoesOn left s (poll_answer now s)
   polled-goes-on is =
-      told-goes-on (poll_step now s) (m.told now s range is)
+      reported-goes-on (poll_step now s) (m.reported now s range is)
       (poll-timely now s (steady-FitsPhaseForPoll s (m.phase s is)) (GrantsHaveAllocations-AllHaveAllocation s (m.in_allocations s is)) range) (m.calls (PollCall now) s is)
 
 -- ---- the streams
@@ -182,7 +182,7 @@ module _ (fit : State → Type 0) (measure : ℕ → State → List ℕ) (size :
   settles-first s is goes later = by (next_step now s) refl goes
     where
       fit-after : fit (next_step now s).1
-      fit-after = let (calls, all, told) = next-run now s in rw told.1 (calls-fit fit m.calls calls s is)
+      fit-after = let (calls, all, reported) = next-run now s in rw reported.1 (calls-fit fit m.calls calls s is)
 
       -- after the first poll
       after : (n : ℕ) (p : Answer × State) → next_step now s ≡ p → ((most : ℕ) (given : List Given) → n ≤ most → IsAtRest (drive_steps most now (with_answer given p)).rest) → Settles now s
@@ -293,9 +293,9 @@ pausing = record {
   calls = call-fit;
   phase = λ s is. is.phase;
   in_allocations = λ s is. is.in_allocations;
-  told = λ now s range is. poll-IsTold now s;
+  reported = λ now s range is. poll-IsReported now s;
   sends = λ now s range is packet e. transmit-GetsOn now s is.pauses range packet e;
-  tells = λ now event events s. inr (refl, inr (refl, inr (refl, inr (refl, inl (omega arith)))));
+  reports = λ now event events s. inr (refl, inr (refl, inr (refl, inr (refl, inl (omega arith)))));
   drains = λ now s t less. inl less;
 }
 
@@ -321,9 +321,9 @@ waiting-long = record {
   calls = call-patient;
   phase = λ s is. is.phase;
   in_allocations = λ s is. is.in_allocations;
-  told = λ now s range is. poll-told now s;
+  reported = λ now s range is. poll-reported now s;
   sends = λ now s range is packet e. transmit-awaits now s range is.waits.waits is.waits.keepalive packet e;
-  tells = λ now event events s. inr (refl, inr (refl, inr (refl, inr (refl, inr (refl, inr (refl, inl (omega arith)))))));
+  reports = λ now event events s. inr (refl, inr (refl, inr (refl, inr (refl, inr (refl, inr (refl, inl (omega arith)))))));
   drains = λ now s t less. inl less;
 }
 

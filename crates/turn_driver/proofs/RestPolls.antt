@@ -186,7 +186,7 @@ ages-KeepsUp now s t ages = by ages.lighter
 
     by : IsLighter s t → KeepsUp (left_to_do now) s t
     by (inl less) = inl (inr (bytes, inr (may, inr (awaits, inl less))))
-    by (inr (same, told)) = inr (five-same _ _ _ _ _ _ _ _ _ _ bytes may awaits same (omega (arith, resends, queue, told)), stands.transactions)
+    by (inr (same, reported)) = inr (five-same _ _ _ _ _ _ _ _ _ _ bytes may awaits same (omega (arith, resends, queue, reported)), stands.transactions)
 
 -- a request is no longer awaited, and the streams and the pause are as they were
 fewer-GetsOn : (now : ℕ) (s t u : State) → t.streams ≡ s.streams → t.config ≡ s.config → t.last_send ≡ s.last_send → Stands t u → length t.transactions < length s.transactions
@@ -197,26 +197,26 @@ fewer-GetsOn now s t u streams config last_send stands less =
 -- ---- what is returned
 
 -- what the caller is to do leaves less to do, and a time to wait for leaves as much at most
-abbrev pub IsTold : (State → List ℕ) → State → TurnPollRet × State → Type 0
-IsTold left s (Poll.AllocateTcpSocket id socket peer, t) = GetsOn left s t
-IsTold left s (Poll.TcpClose local remote, t) = GetsOn left s t
-IsTold left s (Poll.WaitUntil time, t) = KeepsUp left s t
-IsTold left s (Poll.Closed, t) = KeepsUp left s t
+abbrev pub IsReported : (State → List ℕ) → State → TurnPollRet × State → Type 0
+IsReported left s (Poll.AllocateTcpSocket id socket peer, t) = GetsOn left s t
+IsReported left s (Poll.TcpClose local remote, t) = GetsOn left s t
+IsReported left s (Poll.WaitUntil time, t) = KeepsUp left s t
+IsReported left s (Poll.Closed, t) = KeepsUp left s t
 
-pub gets-on-IsTold : (left : State → List ℕ) (s : State) (p : TurnPollRet × State) → GetsOn left s p.1 → IsTold left s p
-gets-on-IsTold left s (Poll.AllocateTcpSocket id socket peer, t) less = less
-gets-on-IsTold left s (Poll.TcpClose local remote, t) less = less
-gets-on-IsTold left s (Poll.WaitUntil time, t) less = inl less
-gets-on-IsTold left s (Poll.Closed, t) less = inl less
+pub gets-on-IsReported : (left : State → List ℕ) (s : State) (p : TurnPollRet × State) → GetsOn left s p.1 → IsReported left s p
+gets-on-IsReported left s (Poll.AllocateTcpSocket id socket peer, t) less = less
+gets-on-IsReported left s (Poll.TcpClose local remote, t) less = less
+gets-on-IsReported left s (Poll.WaitUntil time, t) less = inl less
+gets-on-IsReported left s (Poll.Closed, t) less = inl less
 
 -- a connection to close leaves less to do
 abbrev pub Closes : (State → List ℕ) → Type 0
 Closes left = (local : SocketAddr) (others : List SocketAddr) (s : State) → s.closes ≡ local ∷ others → GetsOn left s (record s { closes = others })
 
-pub answer-IsTold : (left : State → List ℕ) → Closes left → (given : Option ℕ) (now : ℕ) (s t : State) → KeepsUp left s t → IsTold left s (answer_step given now t)
-answer-IsTold left closing given now s t keeps = by t.closes t.phase (allocations t) refl
+pub answer-IsReported : (left : State → List ℕ) → Closes left → (given : Option ℕ) (now : ℕ) (s t : State) → KeepsUp left s t → IsReported left s (answer_step given now t)
+answer-IsReported left closing given now s t keeps = by t.closes t.phase (allocations t) refl
   where
-    by : (closes : List SocketAddr) (p : Phase) (relays : List Relay) → t.closes ≡ closes → IsTold left s (answer_by closes p relays given now t)
+    by : (closes : List SocketAddr) (p : Phase) (relays : List Relay) → t.closes ≡ closes → IsReported left s (answer_by closes p relays given now t)
     by (local ∷ others) p relays e = gets-on-further left s t (record t { closes = others }) keeps (closing local others t e)
     by [] Allocated [] e = keeps
     by [] Allocated (a ∷ relays) e = keeps
@@ -229,12 +229,12 @@ closing : (now : ℕ) → Closes (left_to_do now)
 closing now local others s e = let more = ap (λ (xs : List SocketAddr). length xs) e in inr (refl, inr (refl, inr (refl, inr (refl, inl (omega (arith, more))))))
 
 -- nothing timed out
-none-IsTold : (p : Phase) (now : ℕ) (s : State) → IsTold (left_to_do now) s (timed_step p None now s)
-none-IsTold New now s = inr (refl, refl)
-none-IsTold Requesting now s = answer-IsTold (left_to_do now) (closing now) None now s s (inr (refl, refl))
-none-IsTold Authenticating now s = answer-IsTold (left_to_do now) (closing now) None now s s (inr (refl, refl))
-none-IsTold Allocated now s = answer-IsTold (left_to_do now) (closing now) None now s (expired_at None now s) (ages-KeepsUp now s (expired_at None now s) (expired_at-ages None now s))
-none-IsTold Closed now s = inr (refl, refl)
+none-IsReported : (p : Phase) (now : ℕ) (s : State) → IsReported (left_to_do now) s (timed_step p None now s)
+none-IsReported New now s = inr (refl, refl)
+none-IsReported Requesting now s = answer-IsReported (left_to_do now) (closing now) None now s s (inr (refl, refl))
+none-IsReported Authenticating now s = answer-IsReported (left_to_do now) (closing now) None now s s (inr (refl, refl))
+none-IsReported Allocated now s = answer-IsReported (left_to_do now) (closing now) None now s (expired_at None now s) (ages-KeepsUp now s (expired_at None now s) (expired_at-ages None now s))
+none-IsReported Closed now s = inr (refl, refl)
 
 -- a request timed out
 pub answer-stands : (given : Option ℕ) (now : ℕ) (s t : State) → Stands s t → Stands s (answer_step given now t).1
@@ -258,12 +258,12 @@ timed-stands Authenticating id now s = answer-stands (Some id) now s _ (by (is_l
 timed-stands Allocated id now s = answer-stands (Some id) now s (expired_at (Some id) now s) (expired_at-ages (Some id) now s).stands
 timed-stands Closed id now s = stands-self s
 
-timed-IsTold : (now : ℕ) (s : State) (x : Transaction) → timed_out_transaction (agent_of s) now ≡ Some x → IsTold (left_to_do now) s (timed_step s.phase (Some x.id) now (transaction_ended x.id s))
-timed-IsTold now s x found =
+timed-IsReported : (now : ℕ) (s : State) (x : Transaction) → timed_out_transaction (agent_of s) now ≡ Some x → IsReported (left_to_do now) s (timed_step s.phase (Some x.id) now (transaction_ended x.id s))
+timed-IsReported now s x found =
     let t = transaction_ended x.id s in
     let p = timed_step s.phase (Some x.id) now t in
     let there = has-found _ x s.transactions found in
-    gets-on-IsTold (left_to_do now) s p
+    gets-on-IsReported (left_to_do now) s p
     (fewer-GetsOn now s t p.1 refl refl refl (timed-stands s.phase x.id now t)
     (fewer (λ (y : Transaction). not (eqb y.id x.id)) x s.transactions there.0 (not_from_true (eqb x.id x.id) (eq-eqb x.id x.id refl))))
 
@@ -321,29 +321,29 @@ offer-lighter s offer e = by s.phase e
 
 -- what each case of the call leaves to do
 pub record Polls (left : State → List ℕ) (now : ℕ) (s : State) : Type 0 where
-  pub none : IsTold left s (timed_step s.phase None now s)
-  pub timed : (x : Transaction) → timed_out_transaction (agent_of s) now ≡ Some x → IsTold left s (timed_step s.phase (Some x.id) now (transaction_ended x.id s))
-  pub offers : (offer : DataOffer) → next_offer s ≡ Some offer → IsTold left s (offer_step offer s)
+  pub none : IsReported left s (timed_step s.phase None now s)
+  pub timed : (x : Transaction) → timed_out_transaction (agent_of s) now ≡ Some x → IsReported left s (timed_step s.phase (Some x.id) now (transaction_ended x.id s))
+  pub offers : (offer : DataOffer) → next_offer s ≡ Some offer → IsReported left s (offer_step offer s)
 
-pub told-by : (left : State → List ℕ) (now : ℕ) (s : State) → Polls left now s → IsTold left s (poll_step now s)
-told-by left now s cases = by (has_event s || has_reply s)
+pub reported-by : (left : State → List ℕ) (now : ℕ) (s : State) → Polls left now s → IsReported left s (poll_step now s)
+reported-by left now s cases = by (has_event s || has_reply s)
   where
     timed : (o : Option Transaction) → timed_out_transaction (agent_of s) now ≡ o
-        → IsTold left s (option_map_or (λ t. timed_step s.phase (Some t.id) now (transaction_ended t.id s)) o (timed_step s.phase None now s))
+        → IsReported left s (option_map_or (λ t. timed_step s.phase (Some t.id) now (transaction_ended t.id s)) o (timed_step s.phase None now s))
     timed None e = cases.none
     timed (Some x) e = cases.timed x e
 
-    offered : (o : Option DataOffer) → next_offer s ≡ o → IsTold left s (option_map_or (λ offer. offer_step offer s) o (timed_out_step now s))
+    offered : (o : Option DataOffer) → next_offer s ≡ o → IsReported left s (option_map_or (λ offer. offer_step offer s) o (timed_out_step now s))
     offered None e = timed (timed_out_transaction (agent_of s) now) refl
     offered (Some offer) e = cases.offers offer e
 
-    by : (b : Bool) → IsTold left s (cond b (Poll.WaitUntil now, s) (option_map_or (λ offer. offer_step offer s) (next_offer s) (timed_out_step now s)))
+    by : (b : Bool) → IsReported left s (cond b (Poll.WaitUntil now, s) (option_map_or (λ offer. offer_step offer s) (next_offer s) (timed_out_step now s)))
     by true = inr (refl, refl)
     by false = offered (next_offer s) refl
 
-pub poll-IsTold : (now : ℕ) (s : State) → IsTold (left_to_do now) s (poll_step now s)
-poll-IsTold now s = told-by (left_to_do now) now s (record {
-  none = none-IsTold s.phase now s;
-  timed = timed-IsTold now s;
+pub poll-IsReported : (now : ℕ) (s : State) → IsReported (left_to_do now) s (poll_step now s)
+poll-IsReported now s = reported-by (left_to_do now) now s (record {
+  none = none-IsReported s.phase now s;
+  timed = timed-IsReported now s;
   offers = λ offer e. inr (refl, inr (refl, inr (refl, inl (offer-lighter s offer e))));
 })

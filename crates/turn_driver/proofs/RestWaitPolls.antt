@@ -27,7 +27,7 @@ use Rattle.turn_client_laws.proofs.CaseLemmas.{answer-by}
 use Rattle.turn_client_api.proofs.HasLemmas.{Has, has-found, has-unreversed}
 use Rattle.turn_client_api.proofs.ExpirySteps.{expired_in-does}
 use Rattle.turn_client_laws.proofs.StreamWeightLemmas.{weight}
-use Rattle.turn_driver.proofs.RestPolls.{Closes, IsTold, Stands, answer-IsTold, gets-on-IsTold, expired_at-ages, offer-lighter, stands-self, stands-trans, timed-stands, told-by}
+use Rattle.turn_driver.proofs.RestPolls.{Closes, IsReported, Stands, answer-IsReported, gets-on-IsReported, expired_at-ages, offer-lighter, stands-self, stands-trans, timed-stands, reported-by}
 use Rattle.turn_driver.proofs.RestWaits.{is_over, left_to_await, may_begin, may_keep, over, over-without}
 use Rattle.turn_driver.proofs.RestWeights.{GetsOn, IsParted, KeepsUp, load, load-append, parted, removed-load}
 
@@ -190,8 +190,8 @@ calms-KeepsUp now s t calms = by calms.calmer
 
     by : IsCalmer s t → KeepsUp (left_to_await now) s t
     by (inl less) = inl (inr (bytes, inr (begins, inr (waits, inl less))))
-    by (inr (same, listed, told)) =
-        inr (seven-same _ _ _ _ _ _ _ _ _ _ _ _ _ _ bytes begins waits (ap load same) (rw (same, listed) refl) (keeps same) (omega (arith, queue, told)), stands.transactions)
+    by (inr (same, listed, reported)) =
+        inr (seven-same _ _ _ _ _ _ _ _ _ _ _ _ _ _ bytes begins waits (ap load same) (rw (same, listed) refl) (keeps same) (omega (arith, queue, reported)), stands.transactions)
 
 -- ---- what is returned
 
@@ -200,12 +200,12 @@ closing now local others s e =
     let more = ap (λ (xs : List SocketAddr). length xs) e in
     inr (refl, inr (refl, inr (refl, inr (refl, inr (refl, inr (refl, inl (omega (arith, more))))))))
 
-none-told : (p : Phase) (now : ℕ) (s : State) → IsTold (left_to_await now) s (timed_step p None now s)
-none-told New now s = inr (refl, refl)
-none-told Requesting now s = answer-IsTold (left_to_await now) (closing now) None now s s (inr (refl, refl))
-none-told Authenticating now s = answer-IsTold (left_to_await now) (closing now) None now s s (inr (refl, refl))
-none-told Allocated now s = answer-IsTold (left_to_await now) (closing now) None now s (expired_at None now s) (calms-KeepsUp now s (expired_at None now s) (expired_at-calms now s))
-none-told Closed now s = inr (refl, refl)
+none-reported : (p : Phase) (now : ℕ) (s : State) → IsReported (left_to_await now) s (timed_step p None now s)
+none-reported New now s = inr (refl, refl)
+none-reported Requesting now s = answer-IsReported (left_to_await now) (closing now) None now s s (inr (refl, refl))
+none-reported Authenticating now s = answer-IsReported (left_to_await now) (closing now) None now s s (inr (refl, refl))
+none-reported Allocated now s = answer-IsReported (left_to_await now) (closing now) None now s (expired_at None now s) (calms-KeepsUp now s (expired_at None now s) (expired_at-calms now s))
+none-reported Closed now s = inr (refl, refl)
 
 -- a client that is not new stays so
 old-stays : (p : Phase) (id now : ℕ) (s : State) → s.phase ≡ p → may_begin (timed_step p (Some id) now s).1.phase ≤ may_begin p
@@ -219,9 +219,9 @@ old-stays Authenticating id now s e = answer-by (λ t. may_begin t.phase ≤ 0) 
 old-stays Allocated id now s e = answer-by (λ t. may_begin t.phase ≤ 0) (Some id) now (expired_at (Some id) now s) (λ closes. rw (expired_at-ages (Some id) now s).phase (rw e (omega arith)))
 old-stays Closed id now s e = rw e (omega arith)
 
-timed-told : (now : ℕ) (s : State) (x : Transaction) → timed_out_transaction (agent_of s) now ≡ Some x
-    → IsTold (left_to_await now) s (timed_step s.phase (Some x.id) now (transaction_ended x.id s))
-timed-told now s x found = gets-on-IsTold (left_to_await now) s p (by (old-stays s.phase x.id now t refl))
+timed-reported : (now : ℕ) (s : State) (x : Transaction) → timed_out_transaction (agent_of s) now ≡ Some x
+    → IsReported (left_to_await now) s (timed_step s.phase (Some x.id) now (transaction_ended x.id s))
+timed-reported now s x found = gets-on-IsReported (left_to_await now) s p (by (old-stays s.phase x.id now t refl))
   where
     t : State
     t = transaction_ended x.id s
@@ -247,9 +247,9 @@ timed-told now s x found = gets-on-IsTold (left_to_await now) s p (by (old-stays
       | inr e ↦ let differ = eqb-false (may_begin p.1.phase) (may_begin s.phase) e in inr (ap weight stands.streams, inl (omega (arith, most, differ)))
     ]
 
-pub poll-told : (now : ℕ) (s : State) → IsTold (left_to_await now) s (poll_step now s)
-poll-told now s = told-by (left_to_await now) now s (record {
-  none = none-told s.phase now s;
-  timed = timed-told now s;
+pub poll-reported : (now : ℕ) (s : State) → IsReported (left_to_await now) s (poll_step now s)
+poll-reported now s = reported-by (left_to_await now) now s (record {
+  none = none-reported s.phase now s;
+  timed = timed-reported now s;
   offers = λ offer e. inr (refl, inr (refl, inr (refl, inl (offer-lighter s offer e))));
 })

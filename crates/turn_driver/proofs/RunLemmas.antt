@@ -18,7 +18,7 @@ use Rattle.turn_client_api.specs.declared.event.TurnEvent.{TurnEvent}
 use Rattle.turn_client_api.specs.declared.poll.TurnPollRet.{TurnPollRet}
 use Rattle.turn_client_api.specs.declared.poll.TurnPollRet.TheVariants as Poll
 use Rattle.turn_driver.specs.Given.{Given, FromPeer, Happened, ToSend}
-use Rattle.turn_driver.specs.Next.{Answer, Does, Rests, by_streams, by_time, next_step, to_send, to_tell, waiting}
+use Rattle.turn_driver.specs.Next.{Answer, Does, Rests, by_streams, by_time, next_step, to_send, to_report, waiting}
 use Rattle.turn_driver.specs.Run.{IsAsk, IsRun, IsWhole, all_given, asked_for, given_by}
 use Rattle.turn_driver.specs.Driver.{DriveState, begun, going, once_more, driven, drive_steps, with_answer}
 use Rattle.turn_driver.specs.declared.task.Rest.{Rest}
@@ -42,12 +42,12 @@ sent-run : (now : ℕ) (rest : Rest) (p : Option (Transmit (List ℕ)) × State)
 sent-run now rest (Some packet, s) = ([], tt, (refl, refl))
 sent-run now rest (None, s) = ([], tt, (refl, refl))
 
-told-run : (now : ℕ) (rest : Rest) (p : Option TurnEvent × State) → GoesOn now (option_to_list (option_map Happened p.0)) p.1 (to_tell now rest p)
-told-run now rest (Some event, s) = ([], tt, (refl, refl))
-told-run now rest (None, s) = first now (PollTransmit now) s (to_send rest (transmit_step now s)) (inr (inr (inr refl))) (sent-run now rest (transmit_step now s))
+reported-run : (now : ℕ) (rest : Rest) (p : Option TurnEvent × State) → GoesOn now (option_to_list (option_map Happened p.0)) p.1 (to_report now rest p)
+reported-run now rest (Some event, s) = ([], tt, (refl, refl))
+reported-run now rest (None, s) = first now (PollTransmit now) s (to_send rest (transmit_step now s)) (inr (inr (inr refl))) (sent-run now rest (transmit_step now s))
 
 waiting-run : (now : ℕ) (rest : Rest) (s : State) → GoesOn now [] s (waiting now rest s)
-waiting-run now rest s = first now PollEvent s (waiting now rest s) (inr (inr (inl refl))) (told-run now rest (event_step s))
+waiting-run now rest s = first now PollEvent s (waiting now rest s) (inr (inr (inl refl))) (reported-run now rest (event_step s))
 
 until-run : (later : Bool) (now time : ℕ) (s : State) → GoesOn now [] s (cond later (Rests (Until time), s) (waiting now Now s))
 until-run true now time s = ([], tt, (refl, refl))
@@ -101,8 +101,8 @@ Runs-append : (now : ℕ) (t u v : DriveState) → Runs now t u → Runs now u v
 Runs-append now t u v (calls, all, run) (more, others, after) = (calls ++ more, asks-append now calls more all others, IsRun-append calls more t u v run after)
 
 answer-run : (now : ℕ) (given : List Given) (s : State) (p : Answer × State) → GoesOn now [] s p → Runs now (going given s) (with_answer given p)
-answer-run now given s (Does one, t) (calls, all, told) = (calls, all, (ap (λ more. given ++ more) told.0, told.1))
-answer-run now given s (Rests rest, t) (calls, all, told) = (calls, all, (sym (append-nil given) ∙ ap (λ more. given ++ more) told.0, told.1))
+answer-run now given s (Does one, t) (calls, all, reported) = (calls, all, (ap (λ more. given ++ more) reported.0, reported.1))
+answer-run now given s (Rests rest, t) (calls, all, reported) = (calls, all, (sym (append-nil given) ∙ ap (λ more. given ++ more) reported.0, reported.1))
 
 once_more-run : (now : ℕ) (given : List Given) (rest : Rest) (s : State) → Runs now (record { given = given; rest = rest; client = s })
     (once_more now (record { given = given; rest = rest; client = s }))
@@ -131,5 +131,5 @@ drive-whole (Some packet) most now t = by (steps-run most now (begun (Some packe
 -- the same holds of the list that is returned
 pub whole-ok : {E : Type 0} (r : Result Rest E) (came : Option (Transmit (List ℕ))) (most now : ℕ) (t : DriveState) (tasks : List Task) (s : State)
     → IfOk r (λ rest. driven tasks rest s ≡ drive_steps most now (begun came now t)) → OnOk r (IsWhole came now t (driven tasks Now s))
-whole-ok (Ok rest) came most now t tasks s told = subst (λ (u : DriveState). IsWhole came now t (record u { rest = Now })) (sym told) (drive-whole came most now t)
-whole-ok (Err e) came most now t tasks s told = tt
+whole-ok (Ok rest) came most now t tasks s reported = subst (λ (u : DriveState). IsWhole came now t (record u { rest = Now })) (sym reported) (drive-whole came most now t)
+whole-ok (Err e) came most now t tasks s reported = tt

@@ -35,12 +35,12 @@ to_send rest (Some packet, s) = (Does (ToSend packet), s)
 to_send rest (None, s) = (Rests rest, s)
 
 -- the next event, or else the next packet
-abbrev pub to_tell : ℕ → Rest → Option TurnEvent × State → Answer × State
-to_tell now rest (Some event, s) = (Does (Happened event), s)
-to_tell now rest (None, s) = to_send rest (transmit_step now s)
+abbrev pub to_report : ℕ → Rest → Option TurnEvent × State → Answer × State
+to_report now rest (Some event, s) = (Does (Happened event), s)
+to_report now rest (None, s) = to_send rest (transmit_step now s)
 
 abbrev pub waiting : ℕ → Rest → State → Answer × State
-waiting now rest s = to_tell now rest (event_step s)
+waiting now rest s = to_report now rest (event_step s)
 
 -- what `poll` returns: nothing is due before a wake-up time in the future
 abbrev pub by_time : ℕ → TurnPollRet × State → Answer × State

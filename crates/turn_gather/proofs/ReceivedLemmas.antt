@@ -12,10 +12,10 @@ use Rattle.turn_gather.specs.declared.receive.GatherRecv.{GatherRecv}
 use Rattle.turn_gather.specs.declared.receive.GatherRecv.TheVariants as Recv
 
 -- it is a part of the caller's input wherever the client's payload was
-pub passed-HandsOn : {T : Type 0} {g : Ghosts T ℕ} (transmit : Transmit T) (told : TurnRecvRet T g) (given : TurnPeerData T g) (r : GatherRecv T g) → HandsBack transmit told
-    → told ≡ Client.PeerData given → PassesUp given r → HandsOn transmit r
-passed-HandsOn transmit told given (Recv.Payload passed) back is up =
+pub passed-HandsOn : {T : Type 0} {g : Ghosts T ℕ} (transmit : Transmit T) (reported : TurnRecvRet T g) (given : TurnPeerData T g) (r : GatherRecv T g) → HandsBack transmit reported
+    → reported ≡ Client.PeerData given → PassesUp given r → HandsOn transmit r
+passed-HandsOn transmit reported given (Recv.Payload passed) back is up =
     subst (λ p. IsPartOf transmit.payload (held_in p)) (sym up) (subst (λ answer. HandsBack transmit answer) is back)
-passed-HandsOn transmit told given Recv.Handled back is up = tt
-passed-HandsOn transmit told given (Recv.Ignored again) back is up = absurd up
-passed-HandsOn transmit told given Recv.Dropped back is up = tt
+passed-HandsOn transmit reported given Recv.Handled back is up = tt
+passed-HandsOn transmit reported given (Recv.Ignored again) back is up = absurd up
+passed-HandsOn transmit reported given Recv.Dropped back is up = tt

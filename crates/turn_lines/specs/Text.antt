@@ -121,7 +121,7 @@ yes_or_no false = codes "no"
 
 -- the answer of a call
 abbrev pub reply_fields : Reply → List (List ℕ)
-reply_fields (Replies.Poll told) = poll_fields told
+reply_fields (Replies.Poll polled) = poll_fields polled
 reply_fields (Replies.Transmit None) = codes "none" ∷ []
 reply_fields (Replies.Transmit (Some packet)) = packet_fields packet
 reply_fields (Replies.Event None) = codes "none" ∷ []

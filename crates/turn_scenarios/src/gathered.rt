@@ -490,9 +490,9 @@ mod memory {
         check_twice(&rt, rt.alloc(), client_over_udp(rt.alloc()));
     }
 
-    /// Asserts that the candidates are told at the second try, unless they are at the first one: the client has lost
+    /// Asserts that the candidates are reported at the second try, unless they are at the first one: the client has lost
     /// nothing.
-    fn are_told<C: TurnClientApi>(
+    fn are_reported<C: TurnClientApi>(
         rt: &impl Abort,
         alloc: Global,
         gatherer: &Gatherer<C>,
@@ -506,7 +506,7 @@ mod memory {
     }
 
     /// The same for a gatherer over this client, once it has its relayed address.
-    fn tell<C: TurnClientApi>(
+    fn report<C: TurnClientApi>(
         rt: &impl Abort,
         alloc: Global,
         client: Result<C, CredentialsError>,
@@ -517,11 +517,11 @@ mod memory {
         if permitted(alloc, &mut client).is_err() {
             return Ok(());
         }
-        are_told(rt, alloc, &Gatherer::new(alloc, client))
+        are_reported(rt, alloc, &Gatherer::new(alloc, client))
     }
 
     #[test]
-    fn candidates_are_told_or_refused(rt: HostRuntime) -> Result<(), Fail> {
-        Ok(tell(&rt, rt.alloc(), client_over_udp(rt.alloc()))?)
+    fn candidates_are_reported_or_refused(rt: HostRuntime) -> Result<(), Fail> {
+        Ok(report(&rt, rt.alloc(), client_over_udp(rt.alloc()))?)
     }
 }

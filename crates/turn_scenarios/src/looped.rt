@@ -169,7 +169,7 @@ impl<'a> Looped<'a> {
     /// The time of the next iteration. A caller with a clock of milliseconds rounds up.
     fn wakes(&mut self, rest: Rest) -> u32 {
         self.has_more = rest == Rest::Now;
-        let told = match rest {
+        let waits = match rest {
             Rest::Until(time) => {
                 let millis = time.as_nanos().div_ceil(1_000_000);
                 u32::try_from(millis).unwrap_or(u32::MAX)
@@ -181,8 +181,8 @@ impl<'a> Looped<'a> {
             }
         };
         let until = match self.coming.as_slice().get(self.came) {
-            Some((comes, _)) => told.min(*comes),
-            None => told,
+            Some((comes, _)) => waits.min(*comes),
+            None => waits,
         };
         until.max(self.now)
     }

@@ -93,9 +93,9 @@ enum Step<'a> {
     Close,
     /// The caller is to close the connection.
     ToClose,
-    TellOfAllocation,
-    TellOfPermission,
-    TellOfConnection,
+    ReportOfAllocation,
+    ReportOfPermission,
+    ReportOfConnection,
 }
 
 /// The result of a step.
@@ -115,11 +115,11 @@ const STEPS: &[Step<'static>] = &[
     Step::Hear(0, End::Control, CHALLENGE),
     Step::Send(50, [0x00, 0x03]),
     Step::Hear(50, End::Control, GRANT),
-    Step::TellOfAllocation,
+    Step::ReportOfAllocation,
     Step::Permit,
     Step::Send(100, [0x00, 0x08]),
     Step::Hear(100, End::Control, PERMISSION),
-    Step::TellOfPermission,
+    Step::ReportOfPermission,
     Step::Connect,
     Step::Send(150, [0x00, 0x0a]),
     Step::Hear(150, End::Control, CONNECTION),
@@ -128,7 +128,7 @@ const STEPS: &[Step<'static>] = &[
     Step::Send(200, [0x00, 0x0b]),
     Step::Hear(200, End::Data, BINDING_FRONT),
     Step::Hear(200, End::Data, BINDING_BACK),
-    Step::TellOfConnection,
+    Step::ReportOfConnection,
     Step::Give(&[0xff, 0x00]),
     Step::Close,
     Step::ToClose,
@@ -211,7 +211,7 @@ fn close<C: TurnClientApi>(client: &mut C) -> Taken {
     Taken::AsWanted
 }
 
-fn tell<C: TurnClientApi>(client: &mut C, event: TurnEvent) -> Taken {
+fn report<C: TurnClientApi>(client: &mut C, event: TurnEvent) -> Taken {
     wanted(client.poll_event() == Some(event))
 }
 
@@ -240,18 +240,18 @@ fn take<C: TurnClientApi>(client: &mut C, step: &Step<'_>) -> Taken {
             };
             poll(client, close)
         }
-        Step::TellOfAllocation => tell(
+        Step::ReportOfAllocation => report(
             client,
             TurnEvent::AllocationCreated(tcp, RELAYED.address()),
         ),
-        Step::TellOfPermission => tell(client, TurnEvent::PermissionCreated(tcp, PEER.ip())),
-        Step::TellOfConnection => tell(client, TurnEvent::TcpConnected(PEER.address())),
+        Step::ReportOfPermission => report(client, TurnEvent::PermissionCreated(tcp, PEER.ip())),
+        Step::ReportOfConnection => report(client, TurnEvent::TcpConnected(PEER.address())),
     }
 }
 
 /// Whether a permission was reported, now or before.
-fn tells_permission<C: TurnClientApi>(client: &mut C, was_told: bool) -> bool {
-    let mut is_reported = was_told;
+fn reports_permission<C: TurnClientApi>(client: &mut C, was_reported: bool) -> bool {
+    let mut is_reported = was_reported;
     for _ in 0..8 {
         match client.poll_event() {
             Some(TurnEvent::PermissionCreated(_, _)) => is_reported = true,
@@ -269,8 +269,8 @@ fn drops_frames<C: TurnClientApi>(client: &mut C, end: End) -> bool {
 }
 
 /// Whether the client has ended, and has reported what is active, and this stream is broken, if any is.
-fn has_ended<C: TurnClientApi>(client: &mut C, broken: Option<End>, was_told: bool) -> bool {
-    let is_reported = tells_permission(client, was_told);
+fn has_ended<C: TurnClientApi>(client: &mut C, broken: Option<End>, was_reported: bool) -> bool {
+    let is_reported = reports_permission(client, was_reported);
     let has_active_permission = client.have_permission(TransportType::Tcp, PEER.ip());
     let is_closed = matches!(client.poll(at(300)), Ok(TurnPollRet::Closed));
     let is_refused = matches!(
@@ -286,7 +286,7 @@ fn has_ended<C: TurnClientApi>(client: &mut C, broken: Option<End>, was_told: bo
 
 /// Whether each step has the expected result, on a second try at the latest, or leaves a client that has ended.
 fn goes_on_or_ends<C: TurnClientApi>(client: &mut C) -> bool {
-    let mut was_told = false;
+    let mut was_reported = false;
     for step in STEPS {
         let taken = match take(client, step) {
             Taken::Refused => take(client, step),
@@ -294,10 +294,10 @@ fn goes_on_or_ends<C: TurnClientApi>(client: &mut C) -> bool {
         };
         match taken {
             Taken::AsWanted => {}
-            Taken::Ended(broken) => return has_ended(client, broken, was_told),
+            Taken::Ended(broken) => return has_ended(client, broken, was_reported),
             Taken::Otherwise | Taken::Refused => return false,
         }
-        was_told = was_told || matches!(step, Step::TellOfPermission);
+        was_reported = was_reported || matches!(step, Step::ReportOfPermission);
     }
     true
 }

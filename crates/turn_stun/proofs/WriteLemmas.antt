@@ -70,7 +70,7 @@ with_attribute-Extends kind value message is =
       header = is.faultless.long;
       len = omega (arith, len);
       cut = ap (with_length (length message - 20)) (take-with_length-append n (length message) message (attribute_bytes kind value) header refl)
-          ∙ (with_length-twice (length message - 20) n message header ∙ is.told);
+          ∙ (with_length-twice (length message - 20) n message header ∙ is.counted);
     }
 
 -- ---- one attribute more
@@ -215,10 +215,10 @@ with_attribute-IsMessage kind value message is k room =
 pub IsWritten-IsMessage : (message : List ℕ) → IsWritten message → IsMessage message (type_of message) (id_of message) (attributes_of message)
 IsWritten-IsMessage message is = fault_of-none message is.faultless.none
 
-with_attribute-told : (kind : ℕ) (value message : List ℕ) → kind < 2 ^ 16 → length value < 2 ^ 16 → 20 ≤ length message
+with_attribute-counted : (kind : ℕ) (value message : List ℕ) → kind < 2 ^ 16 → length value < 2 ^ 16 → 20 ≤ length message
     → with_length (length (with_attribute kind value message) - 20) (with_attribute kind value message) ≡ with_attribute kind value message
 unfolding with_attribute
-with_attribute-told kind value message k short twenty =
+with_attribute-counted kind value message k short twenty =
     let longer = message ++ attribute_bytes kind value in
     let n = length message - 20 + (4 + padded_len (length value)) in
     let long : 4 ≤ length longer = omega (arith, length-append message (attribute_bytes kind value)) in
@@ -234,7 +234,7 @@ with_attribute-IsWritten kind value message is k room =
     record {
       faultless = no_fault-IsFaultless _ (IsMessage-no_fault _ _ _ _ new);
       short = rw (length-with_attribute kind value message k (omega (arith, padded_len-ge (length value))) is.faultless.long) room;
-      told = with_attribute-told kind value message k (omega (arith, padded_len-ge (length value))) is.faultless.long;
+      counted = with_attribute-counted kind value message k (omega (arith, padded_len-ge (length value))) is.faultless.long;
     }
 
 pub with_attribute-AddsAttribute : (kind : ℕ) (value message : List ℕ) → IsWritten message → kind < 2 ^ 16 → length message + (4 + padded_len (length value)) ≤ 65552
@@ -258,7 +258,7 @@ pub header_of-IsWritten : (type id : ℕ) → type < 2 ^ 14 → id < 2 ^ 96 → 
 header_of-IsWritten type id t i = record {
   faultless = no_fault-IsFaultless _ (IsMessage-no_fault _ _ _ _ (header_of-IsMessage type id t i));
   short = lit≤ tt;
-  told = refl;
+  counted = refl;
 }
 
 -- a message whose length is set after an attribute was appended

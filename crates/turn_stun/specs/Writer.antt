@@ -46,4 +46,4 @@ pub record Extends (old new : List ℕ) : Type 0 where
 pub record IsWritten (bytes : List ℕ) : Type 0 where
   pub faultless : IsFaultless bytes
   pub short : length bytes ≤ 65552
-  pub told : with_length (length bytes - 20) bytes ≡ bytes
+  pub counted : with_length (length bytes - 20) bytes ≡ bytes

@@ -75,7 +75,7 @@ fn a_refused_resend_ends_the_client_and_is_still_due(rt: HostRuntime) -> Result<
     sends_twice(&rt, client(rt.alloc()))
 }
 
-fn tells_a_failure<C: TurnClientApi>(rt: &impl Abort, client: &mut C, family: AddressFamily) {
+fn reports_a_failure<C: TurnClientApi>(rt: &impl Abort, client: &mut C, family: AddressFamily) {
     let event = TurnEvent::AllocationCreateFailed(family);
     check(rt, client.poll_event() == Some(event));
 }
@@ -98,8 +98,8 @@ fn is_ended<C: TurnClientApi>(rt: &impl Abort, client: &mut C, refused: bool) ->
 /// The allocations of both families fail, after the client sent its request.
 fn ends<C: TurnClientApi>(rt: &impl Abort, client: &mut C, refused: bool) {
     if is_ended(rt, client, refused) {
-        tells_a_failure(rt, client, AddressFamily::IPV6);
-        tells_a_failure(rt, client, AddressFamily::IPV4);
+        reports_a_failure(rt, client, AddressFamily::IPV6);
+        reports_a_failure(rt, client, AddressFamily::IPV4);
     }
     check(rt, client.poll_event().is_none());
     check(
@@ -121,7 +121,7 @@ fn sends_and_ends<C: TurnClientApi>(
 }
 
 #[test]
-fn an_end_tells_each_failure_or_finds_no_memory(rt: HostRuntime) {
+fn an_end_reports_each_failure_or_finds_no_memory(rt: HostRuntime) {
     sends_and_ends(&rt, client_for_both(rt.alloc()), false);
     sends_and_ends(&rt, client_for_both(rt.alloc()), true);
 }
@@ -130,10 +130,10 @@ fn an_end_tells_each_failure_or_finds_no_memory(rt: HostRuntime) {
 fn are_first(replies: &[Reply]) -> bool {
     match replies {
         [
-            Reply::Poll(told),
+            Reply::Poll(polled),
             Reply::Transmit(Some(_)),
             Reply::Event(None),
-        ] => { *told == TurnPollRet::WaitUntil(at(0)) }
+        ] => { *polled == TurnPollRet::WaitUntil(at(0)) }
         _ => false,
     }
 }

@@ -125,8 +125,8 @@ yarrowdoor_call_spec 𝓤 𝓛 𝓜 𝓡 wired =
     calls_at ! (framed 𝓤 𝓛.H 𝓜 𝓣) P placed z1 (and_then ! (get ! refl) (and_then ! (get ! refl) (and_then ! (get ! refl) (no_more !)))) (λ v1.
     use1 𝓛 (later (some (λ (r : Ptr). (‵ ftrue ⊛ ‵ (RawPtr.own_val r (v1 ∷ []))) ⊛ some
     (λ (ls : Lasts p.ended z1.0.0 z1.0.3). ‵ (lasts p.ended z1.0.0 z1.0.3 ls) ⊛ raw (fact 𝓤 (r ≡ place_of bytes_p n1 other)))))) (id⊢ 𝓤 _) $
-    await ! tt $ pick ! (λ r. split ! $ split ! $ drop ! $ feq_l ! (λ told. pick ! (λ _. split ! $ drop ! $ heard ! (r ≡ place_of bytes_p n1 other) (λ there.
-    lands_as ! (ap only told ∙ ap ptr_val (there ∙ e1)) refl (tt, tt) $
+    await ! tt $ pick ! (λ r. split ! $ split ! $ drop ! $ feq_l ! (λ known. pick ! (λ _. split ! $ drop ! $ heard ! (r ≡ place_of bytes_p n1 other) (λ there.
+    lands_as ! (ap only known ∙ ap ptr_val (there ∙ e1)) refl (tt, tt) $
     sets ! (agg ! (and_then ! (get ! refl) (and_then ! (get ! refl) (no_more !)))) refl (tt, (tt, (record { fits = fits1 }, tt))) $
     -- the place of the buffer
     let z2 : P.Ghost = ((tt, tt, tt, (buffer, (n2, (other, tt))), (rawptr_vals buffer, (uint_vals w64 n2, (rawptr_vals other, tt)))), tt) in
@@ -135,8 +135,8 @@ yarrowdoor_call_spec 𝓤 𝓛 𝓜 𝓡 wired =
     calls_at ! (framed 𝓤 𝓛.H 𝓜 𝓣) P placed z2 (and_then ! (get ! refl) (and_then ! (get ! refl) (and_then ! (get ! refl) (no_more !)))) (λ v2.
     use1 𝓛 (later (some (λ (r : Ptr). (‵ ftrue ⊛ ‵ (RawPtr.own_val r (v2 ∷ []))) ⊛ some
     (λ (ls : Lasts p.ended z2.0.0 z2.0.3). ‵ (lasts p.ended z2.0.0 z2.0.3 ls) ⊛ raw (fact 𝓤 (r ≡ place_of buffer n2 other)))))) (id⊢ 𝓤 _) $
-    await ! tt $ pick ! (λ r. split ! $ split ! $ drop ! $ feq_l ! (λ told. pick ! (λ _. split ! $ drop ! $ heard ! (r ≡ place_of buffer n2 other) (λ there.
-    lands_as ! (ap only told ∙ ap ptr_val (there ∙ e2)) refl (tt, tt) $
+    await ! tt $ pick ! (λ r. split ! $ split ! $ drop ! $ feq_l ! (λ known. pick ! (λ _. split ! $ drop ! $ heard ! (r ≡ place_of buffer n2 other) (λ there.
+    lands_as ! (ap only known ∙ ap ptr_val (there ∙ e2)) refl (tt, tt) $
     sets ! (of_opd ! (get ! refl)) refl (tt, tt) $
     sets ! (agg ! (and_then ! (get ! refl) (and_then ! (get ! refl) (no_more !)))) refl (tt, (tt, (record { fits = fits2 }, tt))) $
     sets ! (addr ! (from ! (fld ! refl (hop ! (look_in_at ! 11 (sub ! 0 refl (whole !))) (stop !))))) refl (tt, tt) $

@@ -114,8 +114,8 @@ yarrowdoor_new_spec 𝓤 𝓛 𝓜 𝓡 wired =
     calls_at ! (framed 𝓤 𝓛.H 𝓜 𝓣) P placed z1 (and_then ! (get ! refl) (and_then ! (get ! refl) (and_then ! (get ! refl) (no_more !)))) (λ v1.
     use1 𝓛 (later (some (λ (r : Ptr). (‵ ftrue ⊛ ‵ (RawPtr.own_val r (v1 ∷ []))) ⊛ some
     (λ (ls : Lasts p.ended z1.0.0 z1.0.3). ‵ (lasts p.ended z1.0.0 z1.0.3 ls) ⊛ raw (fact 𝓤 (r ≡ place_of user n1 other)))))) (id⊢ 𝓤 _) $
-    await ! tt $ pick ! (λ r. split ! $ split ! $ drop ! $ feq_l ! (λ told. pick ! (λ _. split ! $ drop ! $ heard ! (r ≡ place_of user n1 other) (λ there.
-    lands_as ! (ap only told ∙ ap ptr_val (there ∙ e1)) refl (tt, tt) $
+    await ! tt $ pick ! (λ r. split ! $ split ! $ drop ! $ feq_l ! (λ known. pick ! (λ _. split ! $ drop ! $ heard ! (r ≡ place_of user n1 other) (λ there.
+    lands_as ! (ap only known ∙ ap ptr_val (there ∙ e1)) refl (tt, tt) $
     sets ! (agg ! (and_then ! (get ! refl) (and_then ! (get ! refl) (no_more !)))) refl (tt, (tt, (record { fits = fits1 }, tt))) $
     -- the place of the password
     let z2 : P.Ghost = ((tt, tt, tt, (password, (n2, (other, tt))), (rawptr_vals password, (uint_vals w64 n2, (rawptr_vals other, tt)))), tt) in
@@ -124,8 +124,8 @@ yarrowdoor_new_spec 𝓤 𝓛 𝓜 𝓡 wired =
     calls_at ! (framed 𝓤 𝓛.H 𝓜 𝓣) P placed z2 (and_then ! (get ! refl) (and_then ! (get ! refl) (and_then ! (get ! refl) (no_more !)))) (λ v2.
     use1 𝓛 (later (some (λ (r : Ptr). (‵ ftrue ⊛ ‵ (RawPtr.own_val r (v2 ∷ []))) ⊛ some
     (λ (ls : Lasts p.ended z2.0.0 z2.0.3). ‵ (lasts p.ended z2.0.0 z2.0.3 ls) ⊛ raw (fact 𝓤 (r ≡ place_of password n2 other)))))) (id⊢ 𝓤 _) $
-    await ! tt $ pick ! (λ r. split ! $ split ! $ drop ! $ feq_l ! (λ told. pick ! (λ _. split ! $ drop ! $ heard ! (r ≡ place_of password n2 other) (λ there.
-    lands_as ! (ap only told ∙ ap ptr_val (there ∙ e2)) refl (tt, tt) $
+    await ! tt $ pick ! (λ r. split ! $ split ! $ drop ! $ feq_l ! (λ known. pick ! (λ _. split ! $ drop ! $ heard ! (r ≡ place_of password n2 other) (λ there.
+    lands_as ! (ap only known ∙ ap ptr_val (there ∙ e2)) refl (tt, tt) $
     sets ! (agg ! (and_then ! (get ! refl) (and_then ! (get ! refl) (no_more !)))) refl (tt, (tt, (record { fits = fits2 }, tt))) $
     -- the place of the seed
     let z3 : P.Ghost = ((tt, tt, tt, (seed, (n3, (other, tt))), (rawptr_vals seed, (uint_vals w64 n3, (rawptr_vals other, tt)))), tt) in
@@ -134,8 +134,8 @@ yarrowdoor_new_spec 𝓤 𝓛 𝓜 𝓡 wired =
     calls_at ! (framed 𝓤 𝓛.H 𝓜 𝓣) P placed z3 (and_then ! (get ! refl) (and_then ! (get ! refl) (and_then ! (get ! refl) (no_more !)))) (λ v3.
     use1 𝓛 (later (some (λ (r : Ptr). (‵ ftrue ⊛ ‵ (RawPtr.own_val r (v3 ∷ []))) ⊛ some
     (λ (ls : Lasts p.ended z3.0.0 z3.0.3). ‵ (lasts p.ended z3.0.0 z3.0.3 ls) ⊛ raw (fact 𝓤 (r ≡ place_of seed n3 other)))))) (id⊢ 𝓤 _) $
-    await ! tt $ pick ! (λ r. split ! $ split ! $ drop ! $ feq_l ! (λ told. pick ! (λ _. split ! $ drop ! $ heard ! (r ≡ place_of seed n3 other) (λ there.
-    lands_as ! (ap only told ∙ ap ptr_val (there ∙ e3)) refl (tt, tt) $
+    await ! tt $ pick ! (λ r. split ! $ split ! $ drop ! $ feq_l ! (λ known. pick ! (λ _. split ! $ drop ! $ heard ! (r ≡ place_of seed n3 other) (λ there.
+    lands_as ! (ap only known ∙ ap ptr_val (there ∙ e3)) refl (tt, tt) $
     sets ! (agg ! (and_then ! (get ! refl) (and_then ! (get ! refl) (no_more !)))) refl (tt, (tt, (record { fits = fits3 }, tt))) $
     sets ! (addr ! (through ! refl (stop !))) refl (tt, tt) $
     lft_new ! tt (λ α1. let κ1 : Lft = α1 ∷ [] in let s1 : Bor (List ℕ) = record { ref_ptr = (b1, o1); now = xs1 } in

@@ -74,8 +74,8 @@ yarrowdoor_read_message_spec 𝓤 𝓛 𝓜 𝓡 wired =
     (and_then ! (get ! refl) (and_then ! (get ! refl) (and_then ! (get ! refl) (no_more !)))) (λ v.
     use1 𝓛 (later (some (λ (r : Ptr). (‵ ftrue ⊛ ‵ (RawPtr.own_val r (v ∷ []))) ⊛ some
     (λ (ls : Lasts p.ended z.0.0 z.0.3). ‵ (lasts p.ended z.0.0 z.0.3 ls) ⊛ raw (fact 𝓤 (r ≡ place_of at n none)))))) (id⊢ 𝓤 _) $
-    await ! tt $ pick ! (λ r. split ! $ split ! $ drop ! $ feq_l ! (λ told. pick ! (λ _. split ! $ drop ! $ heard ! (r ≡ place_of at n none) (λ there.
-    lands_as ! (ap only told ∙ ap ptr_val (there ∙ e)) refl (tt, tt) $
+    await ! tt $ pick ! (λ r. split ! $ split ! $ drop ! $ feq_l ! (λ known. pick ! (λ _. split ! $ drop ! $ heard ! (r ≡ place_of at n none) (λ there.
+    lands_as ! (ap only known ∙ ap ptr_val (there ∙ e)) refl (tt, tt) $
     sets ! (agg ! (and_then ! (get ! refl) (and_then ! (get ! refl) (no_more !)))) refl (tt, (tt, (record { fits = n_fits }, tt))) $
     sets ! (addr ! (through ! refl (stop !))) refl (tt, tt) $
     lft_new ! tt (λ α. let κ : Lft = α ∷ [] in let s : Bor (List ℕ) = record { ref_ptr = (b, o); now = xs } in

@@ -264,8 +264,8 @@ impl GrantTable {
     pub fn next_offer(&self) -> Option<DataOffer>
         ensures { (s : State) → result ≡ next_offer (with_table self.now (record s { phase = Allocated })) }
     {
-        let has_untold = self.summary.has_untold;
-        if has_untold {
+        let has_unreported = self.summary.has_unreported;
+        if has_unreported {
             return offers::next_offer(self.grants.as_slice());
         }
         None

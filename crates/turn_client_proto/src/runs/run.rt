@@ -13,7 +13,7 @@ ghost use Rattle.turn_client_runs.specs.Offers.{BoundAreOffered};
 ghost use Rattle.turn_client_runs.specs.Sent.{PacketsGoOut};
 ghost use Rattle.turn_client_runs.specs.Short.{StreamsAreShort};
 ghost use Rattle.turn_client_runs.specs.Sleeps.{SleepsThroughNothing};
-ghost use Rattle.turn_client_runs.specs.Told.{CausesAreToldOnce};
+ghost use Rattle.turn_client_runs.specs.Reported.{CausesAreReportedOnce};
 ghost use Rattle.turn_client_proto.specs.Delivered.{AnswersOnlyPermitted};
 ghost use Rattle.turn_client_proto.specs.Run.{IsCallable, replies_of, run};
 ghost use Rattle.turn_client_api.specs.Steps.{state_after_all};
@@ -77,7 +77,7 @@ pub struct Replayed {
 ///   it reports as created was granted by a signed success to an own request for it. What it reports as failed
 ///   was refused by a signed reply, timed out or expired at a `poll`, or ended with the client; or a message of
 ///   its data connection did not bind it.
-/// - `once`: no cause is told twice. Of each requested address family at most one event tells that it was allocated
+/// - `once`: no cause is reported twice. Of each requested address family at most one event tells that it was allocated
 ///   or that it failed, as a configuration names each once. An accepted request of the caller that found no such
 ///   permission or channel is answered by at most one event that it was created, and by at most one that it failed. A
 ///   `tcp_connect` that found no data connection to the peer, and an attempt of the server that the client accepted,
@@ -129,7 +129,7 @@ pub fn replay(
     ensures order { InputsFollow (initial transport local remote config seed) calls.now }
     ensures sent { PacketsGoOut (initial transport local remote config seed) calls.now }
     ensures events { EventsHaveCauses (initial transport local remote config seed) calls.now }
-    ensures once { CausesAreToldOnce (initial transport local remote config seed) calls.now }
+    ensures once { CausesAreReportedOnce (initial transport local remote config seed) calls.now }
     ensures short { StreamsAreShort (initial transport local remote config seed) calls.now }
     ensures cuts { CutsAgree (initial transport local remote config seed) calls.now }
     ensures lasts { GrantsLastInRuns (initial transport local remote config seed) calls.now }

@@ -93,7 +93,7 @@ fn recv<C: TurnClientApi>(
     let bytes = transmit.payload.as_bytes();
     let packet = Transmit::new(bytes, transmit.transport, transmit.from, transmit.to);
     let given = gatherer.recv(packet, now)?;
-    told(alloc, &given)
+    as_reply(alloc, &given)
 }
 
 /// Polls for the next payload of a peer in the streams.
@@ -106,13 +106,13 @@ fn poll_recv<C: TurnClientApi>(
     ensures { IfOk result (λ reply. (reply, gatherer.new) ≡ step gatherer.old (GatherCall.PollRecv now)) }
 {
     match gatherer.poll_recv(now)? {
-        Some(given) => told(alloc, &given),
+        Some(given) => as_reply(alloc, &given),
         None => Ok(GatherReply::NoPayload),
     }
 }
 
 /// The answer of `recv` and `poll_recv`, with its own copy of the bytes.
-fn told<T: AsSlice<u8> + Debug + Drop>(
+fn as_reply<T: AsSlice<u8> + Debug + Drop>(
     alloc: Global,
     given: &GatherRecv<T>,
 ) -> Result<GatherReply, AllocError>

@@ -11,10 +11,10 @@ use std::net::SocketAddr;
 use turn_client_api::{Socket5Tuple, TurnPollRet};
 
 /// The wake-up time, the data connection to open or to close, or that the client has ended.
-pub fn poll_text(alloc: Global, told: &TurnPollRet) -> Result<String, AllocError>
-    ensures { IfOk result (λ text. string_bytes text ≡ fields_text (poll_fields told.now)) }
+pub fn poll_text(alloc: Global, polled: &TurnPollRet) -> Result<String, AllocError>
+    ensures { IfOk result (λ text. string_bytes text ≡ fields_text (poll_fields polled.now)) }
 {
-    match told {
+    match polled {
         TurnPollRet::WaitUntil(time) => {
             let nanos = time.as_nanos();
             format!(in alloc; "wait {nanos}")

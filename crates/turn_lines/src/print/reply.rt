@@ -21,7 +21,7 @@ pub fn reply_text(alloc: Global, reply: &Reply) -> Result<String, AllocError>
     ensures { IfOk result (λ text. string_bytes text ≡ fields_text (reply_fields reply.now)) }
 {
     match reply {
-        Reply::Poll(told) => poll_text(alloc, told),
+        Reply::Poll(polled) => poll_text(alloc, polled),
         Reply::Transmit(None) | Reply::Event(None) | Reply::NoData => {
             String::from_str(alloc, "none")
         }

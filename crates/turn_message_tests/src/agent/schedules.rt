@@ -138,10 +138,10 @@ fn default_schedule_takes_39_seconds_and_a_half(rt: HostRuntime) {
 }
 
 #[test]
-fn an_agent_tells_what_it_is_for(rt: HostRuntime) {
+fn an_agent_reports_what_it_is_for(rt: HostRuntime) {
     let agent = StunAgent::builder(rt.alloc(), TransportType::Udp, local())
         .remote_addr(server())
         .build();
-    let told = (agent.local_addr(), agent.remote_addr(), agent.transport());
-    same(&rt, told, (local(), Some(server()), TransportType::Udp));
+    let ends = (agent.local_addr(), agent.remote_addr(), agent.transport());
+    same(&rt, ends, (local(), Some(server()), TransportType::Udp));
 }

@@ -58,16 +58,16 @@ pub fn resends(rt: &impl Abort, agent: &mut StunAgent, now: u64, n: u32) {
     same(rt, (now, due(rt, agent, now)), (now, (Some(n), true)));
 }
 
-fn tells(rt: &impl Abort, agent: &mut StunAgent, now: u64, want: StunAgentPollRet) {
+fn reports(rt: &impl Abort, agent: &mut StunAgent, now: u64, want: StunAgentPollRet) {
     same(rt, (now, agent.poll(at(now))), (now, want));
 }
 
 pub fn waits(rt: &impl Abort, agent: &mut StunAgent, now: u64, until: u64) {
-    tells(rt, agent, now, StunAgentPollRet::WaitUntil(at(until)));
+    reports(rt, agent, now, StunAgentPollRet::WaitUntil(at(until)));
 }
 
 pub fn gives_up(rt: &impl Abort, agent: &mut StunAgent, now: u64, n: u32) {
-    tells(rt, agent, now, StunAgentPollRet::TransactionTimedOut(id(n)));
+    reports(rt, agent, now, StunAgentPollRet::TransactionTimedOut(id(n)));
 }
 
 /// The step has the expected answer.

@@ -97,7 +97,7 @@ fn hmac_sha1_is_that_of_the_standard(rt: HostRuntime) {
 fn hmac_sha256_is_that_of_the_standard(rt: HostRuntime) {
     for (key, text, expected) in RFC_4231 {
         let found = hmac_sha256(key, text);
-        let told = expected.len().min(found.len());
-        same_bytes(&rt, &found[..told], expected);
+        let shared = expected.len().min(found.len());
+        same_bytes(&rt, &found[..shared], expected);
     }
 }

@@ -93,7 +93,7 @@ fn adds(
 }
 
 #[test]
-fn signing_adds_what_was_told(rt: HostRuntime) {
+fn signing_adds_what_was_reported(rt: HostRuntime) {
     let cases = [
         (IntegrityAlgorithm::Sha1, Feature::Auto, 56usize),
         (IntegrityAlgorithm::Sha1, Feature::Disabled, 56),
@@ -107,7 +107,7 @@ fn signing_adds_what_was_told(rt: HostRuntime) {
 }
 
 #[test]
-fn nothing_is_told_without_a_realm(rt: HostRuntime) {
+fn nothing_is_reported_without_a_realm(rt: HostRuntime) {
     let auth = nobody(rt.alloc()).expect(&rt, "memory");
     same(&rt, auth.message_signature_bytes(), 0);
 }
@@ -168,10 +168,10 @@ fn signed_under(
     let mut message = allocate(alloc).expect(rt, "memory");
     let before = message.as_bytes().len();
     assert!(rt; before < 60_000);
-    let told = auth.signature_bytes_under(challenge);
+    let returned = auth.signature_bytes_under(challenge);
     auth.sign_under(challenge, &mut message)
         .expect(rt, "memory");
-    same(rt, message.as_bytes().len(), before + told);
+    same(rt, message.as_bytes().len(), before + returned);
     message
 }
 

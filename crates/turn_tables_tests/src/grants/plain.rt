@@ -154,7 +154,7 @@ pub(crate) struct Asked {
 
 /// Where the event of a failure is queued, if it is.
 #[derive(Clone, Copy, PartialEq, Eq)]
-pub(crate) enum Told {
+pub(crate) enum Reported {
     First,
     Last,
     Never,
@@ -258,11 +258,11 @@ impl Plain {
     }
 
     /// Removes the rows that are marked for it, and what is listed for them.
-    pub(crate) fn sweep(&mut self, told: Told) -> Result<(), AllocError> {
+    pub(crate) fn sweep(&mut self, reported: Reported) -> Result<(), AllocError> {
         for row in &self.rows {
             if row.goes {
                 drop_listed(&mut self.asked, row);
-                tell_failure(&mut self.events, row, told)?;
+                report_failure(&mut self.events, row, reported)?;
             }
         }
         self.rows.retain(|row| !row.goes);
@@ -274,15 +274,15 @@ impl Plain {
         for row in self.rows.iter_mut() {
             row.goes = true;
         }
-        self.sweep(Told::Never)
+        self.sweep(Reported::Never)
     }
 
     /// Removes the row of this kind and key.
-    pub(crate) fn drop_row(&mut self, kind: Kind, key: u32, told: Told) -> Result<(), AllocError> {
+    pub(crate) fn drop_row(&mut self, kind: Kind, key: u32, reported: Reported) -> Result<(), AllocError> {
         for row in self.rows.iter_mut() {
             row.goes = row.is(kind, key);
         }
-        self.sweep(told)
+        self.sweep(reported)
     }
 }
 
@@ -292,14 +292,14 @@ pub(crate) fn drop_listed(asked: &mut Vec<Asked>, row: &Row) {
 }
 
 /// Queues the failure of the row, if there is one.
-fn tell_failure(events: &mut VecDeque<TurnEvent>, row: &Row, told: Told) -> Result<(), AllocError> {
+fn report_failure(events: &mut VecDeque<TurnEvent>, row: &Row, reported: Reported) -> Result<(), AllocError> {
     let Some(event) = failure(row) else {
         return Ok(());
     };
-    match told {
-        Told::First => events.push_front(event)?,
-        Told::Last => events.push_back(event)?,
-        Told::Never => {}
+    match reported {
+        Reported::First => events.push_front(event)?,
+        Reported::Last => events.push_back(event)?,
+        Reported::Never => {}
     }
     Ok(())
 }

@@ -165,7 +165,7 @@ fn third_changes(
 ) -> Result<(), AllocError> {
     match kind {
         0 => connections::offered(ledger, plain, draw),
-        1 => connections::told(ledger, plain),
+        1 => connections::reported(ledger, plain),
         2 => connections::taken(ledger, plain, draw),
         3 => connections::opened(ledger, plain, draw),
         4 => connections::bound(ledger, plain, draw),

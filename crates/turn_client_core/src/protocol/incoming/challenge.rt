@@ -10,7 +10,7 @@ ghost use Rattle.turn_client_api.specs.Judgement.{challenge_in};
 ghost use Rattle.turn_client_api.specs.Memory.{challenge_takes_memory};
 ghost use Rattle.turn_client_api.specs.Retry.{phase_after, retried};
 ghost use Rattle.turn_client_api.specs.State.{State};
-ghost use Rattle.turn_client_core.specs.Challenges.{AsksAgain, MeetsChallenge, TellsOfChallenge};
+ghost use Rattle.turn_client_core.specs.Challenges.{AsksAgain, MeetsChallenge, ReportsOfChallenge};
 ghost use Rattle.turn_client_core.specs.Outgoing.{request_queued, with_room};
 ghost use Rattle.turn_client_core.specs.ProtocolRecv.{IsPart};
 ghost use Rattle.turn_client_grants.specs.Ledger.{SameRoomBut, with_ledger};
@@ -49,7 +49,7 @@ impl TurnClientProtocol {
         now: Instant,
     ) -> Result<TurnProtocolRecv, AllocError>
         requires { IsSome (challenge_in self.old message.now) }
-        ensures answer { TellsOfChallenge message.now now self.old result }
+        ensures answer { ReportsOfChallenge message.now now self.old result }
         ensures part { IfOk result (IsPart message.now self.old self.new) }
         ensures after { MeetsChallenge message.now now self.old self.new result }
         ensures err { OnErr result (self.new ≡ self.old) }
@@ -76,7 +76,7 @@ impl TurnClientProtocol {
         requires challenge { IsSome (challenge_in self.old message.now) }
         requires few { self.old.challenges < self.old.config.max_stale_nonces }
         requires small { self.old.challenges < 65535 }
-        ensures answer { TellsOfChallenge message.now now self.old result }
+        ensures answer { ReportsOfChallenge message.now now self.old result }
         ensures part { IfOk result (IsPart message.now self.old self.new) }
         ensures after { MeetsChallenge message.now now self.old self.new result }
         ensures err { OnErr result (self.new ≡ self.old) }

@@ -29,7 +29,7 @@ impl TurnClientProtocol {
     /// does a message that requires no action.
     pub fn datagram(&mut self, bytes: &[u8], now: Instant) -> Result<TurnProtocolRecv, AllocError>
         requires before { self.old.phase ≡ Phase.Authenticating → self.old.grants ≡ [] }
-        ensures answer { IfOk result (λ told. outcome_in bytes.now told ≡ (datagram_step bytes.now now self.old).0) }
+        ensures answer { IfOk result (λ outcome. outcome_in bytes.now outcome ≡ (datagram_step bytes.now now self.old).0) }
         ensures part { IfOk result (IsPart bytes.now self.old self.new) }
         ensures after { OnOk result (self.new ≡ (datagram_step bytes.now now self.old).1) }
         ensures no_memory { OnErr result (self.new ≡ closed self.old) }
@@ -60,7 +60,7 @@ impl TurnClientProtocol {
         requires method { header.now.message_type.method.value ≡ method_in bytes.now }
         requires id { header.now.transaction_id ≡ id_of bytes.now }
         requires before { self.old.phase ≡ Phase.Authenticating → self.old.grants ≡ [] }
-        ensures answer { IfOk result (λ told. outcome_in bytes.now told ≡ (datagram_step bytes.now now self.old).0) }
+        ensures answer { IfOk result (λ outcome. outcome_in bytes.now outcome ≡ (datagram_step bytes.now now self.old).0) }
         ensures part { IfOk result (IsPart bytes.now self.old self.new) }
         ensures after { OnOk result (self.new ≡ (datagram_step bytes.now now self.old).1) }
         ensures no_memory { OnErr result (self.new ≡ closed self.old) }
@@ -90,7 +90,7 @@ impl TurnClientProtocol {
         now: Instant,
     ) -> Result<TurnProtocolRecv, AllocError>
         requires before { self.old.phase ≡ Phase.Authenticating → self.old.grants ≡ [] }
-        ensures answer { IfOk result (λ told. outcome_in message.now told ≡ (message_step message.now now self.old).0) }
+        ensures answer { IfOk result (λ outcome. outcome_in message.now outcome ≡ (message_step message.now now self.old).0) }
         ensures part { IfOk result (IsPart message.now self.old self.new) }
         ensures after { OnOk result (self.new ≡ (message_step message.now now self.old).1) }
         ensures no_memory { OnErr result (self.new ≡ closed self.old) }
@@ -98,7 +98,7 @@ impl TurnClientProtocol {
         ensures wanted { OnErr result (message_takes_memory message.now self.old ≡ true) }
     {
         match self.message(message, now) {
-            Ok(told) => Ok(told),
+            Ok(outcome) => Ok(outcome),
             Err(refusal) => {
                 self.close();
                 Err(refusal)

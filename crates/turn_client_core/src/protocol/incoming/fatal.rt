@@ -20,7 +20,7 @@ impl TurnClientProtocol {
     ///
     /// If memory allocation fails. Nothing changes then.
     pub(crate) fn fatal(&mut self, message: &Message<'_>) -> Result<TurnProtocolRecv, AllocError>
-        ensures answer { IfOk result (λ told. outcome_in message.now told ≡ (wrong_step message.now self.old).0) }
+        ensures answer { IfOk result (λ outcome. outcome_in message.now outcome ≡ (wrong_step message.now self.old).0) }
         ensures part { IfOk result (IsPart message.now self.old self.new) }
         ensures after { OnOk result (self.new ≡ (wrong_step message.now self.old).1) }
         ensures err { OnErr result (self.new ≡ self.old) }

@@ -35,7 +35,7 @@ impl TurnClientProtocol {
         now: Instant,
     ) -> Result<TurnProtocolRecv, AllocError>
         requires before { self.old.phase ≡ Phase.Authenticating → self.old.grants ≡ [] }
-        ensures answer { IfOk result (λ told. outcome_in message.now told ≡ (message_step message.now now self.old).0) }
+        ensures answer { IfOk result (λ outcome. outcome_in message.now outcome ≡ (message_step message.now now self.old).0) }
         ensures part { IfOk result (IsPart message.now self.old self.new) }
         ensures after { OnOk result (self.new ≡ (message_step message.now now self.old).1) }
         ensures err { OnErr result (self.new ≡ self.old) }
@@ -65,7 +65,7 @@ impl TurnClientProtocol {
     /// If memory allocation fails. Nothing changes then.
     fn requested(&mut self, message: &Message<'_>) -> Result<TurnProtocolRecv, AllocError>
         requires { CanSign self.old.phase }
-        ensures answer { IfOk result (λ told. outcome_in message.now told ≡ (request_step message.now self.old).0) }
+        ensures answer { IfOk result (λ outcome. outcome_in message.now outcome ≡ (request_step message.now self.old).0) }
         ensures part { IfOk result (IsPart message.now self.old self.new) }
         ensures after { OnOk result (self.new ≡ (request_step message.now self.old).1) }
         ensures err { OnErr result (self.new ≡ self.old) }
@@ -89,7 +89,7 @@ impl TurnClientProtocol {
         now: Instant,
     ) -> Result<TurnProtocolRecv, AllocError>
         requires before { self.old.phase ≡ Phase.Authenticating → self.old.grants ≡ [] }
-        ensures answer { IfOk result (λ told. outcome_in message.now told ≡ (signed_step true message.now now self.old).0) }
+        ensures answer { IfOk result (λ outcome. outcome_in message.now outcome ≡ (signed_step true message.now now self.old).0) }
         ensures part { IfOk result (IsPart message.now self.old self.new) }
         ensures after { OnOk result (self.new ≡ (signed_step true message.now now self.old).1) }
         ensures err { OnErr result (self.new ≡ self.old) }
@@ -113,7 +113,7 @@ impl TurnClientProtocol {
         now: Instant,
     ) -> Result<TurnProtocolRecv, AllocError>
         requires { self.old.phase ≡ Phase.Authenticating → is_outstanding (id_of message.now) self.old.transactions ≡ true }
-        ensures answer { IfOk result (λ told. outcome_in message.now told ≡ (signed_step false message.now now self.old).0) }
+        ensures answer { IfOk result (λ outcome. outcome_in message.now outcome ≡ (signed_step false message.now now self.old).0) }
         ensures part { IfOk result (IsPart message.now self.old self.new) }
         ensures after { OnOk result (self.new ≡ (signed_step false message.now now self.old).1) }
         ensures err { OnErr result (self.new ≡ self.old) }

@@ -100,11 +100,11 @@ impl TurnClientProtocol {
 
     /// This result of an input from the peer, if the peer's IP address has an active permission, or
     /// else `Ignored`.
-    fn if_permitted(&self, peer: SocketAddr, told: TurnProtocolRecv) -> TurnProtocolRecv
-        ensures { result ≡ if_permitted (has_active_permission (socket_ip peer) self.now) told }
+    fn if_permitted(&self, peer: SocketAddr, outcome: TurnProtocolRecv) -> TurnProtocolRecv
+        ensures { result ≡ if_permitted (has_active_permission (socket_ip peer) self.now) outcome }
     {
         if self.has_active_permission(peer.ip()) {
-            return told;
+            return outcome;
         }
         TurnProtocolRecv::Ignored
     }

@@ -42,7 +42,7 @@ impl TurnClientProtocol {
         is_granted: bool,
         now: Instant,
     ) -> Result<TurnProtocolRecv, AllocError>
-        ensures answer { IfOk result (λ told. outcome_in message.now told ≡ (response_step is_granted message.now now self.old).0) }
+        ensures answer { IfOk result (λ outcome. outcome_in message.now outcome ≡ (response_step is_granted message.now now self.old).0) }
         ensures part { IfOk result (IsPart message.now self.old self.new) }
         ensures after { OnOk result (self.new ≡ (response_step is_granted message.now now self.old).1) }
         ensures err { OnErr result (self.new ≡ self.old) }
@@ -52,7 +52,7 @@ impl TurnClientProtocol {
         let purposes = answered(message.method(), &self.ledger.table().purposes_of(id));
         if is_empty(&purposes) {
             self.outbox.end(message.transaction_id());
-            return Ok(told_of(message, &purposes));
+            return Ok(reported_of(message, &purposes));
         }
         // Keeps the room for the failure events of families that are still requested.
         let Some(events) = self.families.len().checked_add(6) else {
@@ -62,7 +62,7 @@ impl TurnClientProtocol {
         self.outbox.end(id);
         let effect = answer_all(&mut self.ledger, &purposes, message, is_granted, now);
         self.apply_effect(effect);
-        Ok(told_of(message, &purposes))
+        Ok(reported_of(message, &purposes))
     }
 
     /// Applies what a reply changes apart from the grants.
@@ -146,7 +146,7 @@ fn only_ipv6(alloc: Global) -> SmallVec<AddressFamily, 2>
 
 /// The result of a reply: one to a REFRESH is always `Handled`, and another one if its request was made
 /// for something of its method.
-fn told_of(message: &Message<'_>, purposes: &Purposes) -> TurnProtocolRecv
+fn reported_of(message: &Message<'_>, purposes: &Purposes) -> TurnProtocolRecv
     ensures outcome { outcome_in message.now result ≡ outcome_for message.now (purposes_in purposes.now) }
     ensures part { (was s : State) → IsPart message.now was s result }
 {

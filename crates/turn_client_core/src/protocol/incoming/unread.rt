@@ -79,7 +79,7 @@ impl TurnClientProtocol {
         now: Instant,
     ) -> Result<TurnProtocolRecv, AllocError>
         requires before { self.old.phase ≡ Phase.Authenticating → self.old.grants ≡ [] }
-        ensures answer { IfOk result (λ told. outcome_in message.now told ≡ (message_step message.now now self.old).0) }
+        ensures answer { IfOk result (λ outcome. outcome_in message.now outcome ≡ (message_step message.now now self.old).0) }
         ensures part { IfOk result (IsPart message.now self.old self.new) }
         ensures after { OnOk result (self.new ≡ (message_step message.now now self.old).1) }
         ensures err { OnErr result (self.new ≡ self.old) }

@@ -33,7 +33,7 @@ impl TurnClientProtocol {
     ) -> Result<TurnProtocolRecv, AllocError>
         requires whole { frame_len frame.now ≡ Some (length frame.now) }
         requires before { self.old.phase ≡ Phase.Authenticating → self.old.grants ≡ [] }
-        ensures answer { IfOk result (λ told. outcome_in frame.now told ≡ (control_frame_step frame.now now self.old).0) }
+        ensures answer { IfOk result (λ outcome. outcome_in frame.now outcome ≡ (control_frame_step frame.now now self.old).0) }
         ensures part { IfOk result (IsPart frame.now self.old self.new) }
         ensures after { OnOk result (self.new ≡ (control_frame_step frame.now now self.old).1) }
         ensures err { OnErr result (self.new ≡ self.old) }
@@ -58,7 +58,7 @@ impl TurnClientProtocol {
     ) -> Result<TurnProtocolRecv, AllocError>
         requires begins { begins_message frame.now ≡ true }
         requires before { self.old.phase ≡ Phase.Authenticating → self.old.grants ≡ [] }
-        ensures answer { IfOk result (λ told. outcome_in frame.now told ≡ (control_frame_step frame.now now self.old).0) }
+        ensures answer { IfOk result (λ outcome. outcome_in frame.now outcome ≡ (control_frame_step frame.now now self.old).0) }
         ensures part { IfOk result (IsPart frame.now self.old self.new) }
         ensures after { OnOk result (self.new ≡ (control_frame_step frame.now now self.old).1) }
         ensures err { OnErr result (self.new ≡ self.old) }
@@ -85,7 +85,7 @@ impl TurnClientProtocol {
         now: Instant,
     ) -> Result<TurnProtocolRecv, AllocError>
         requires { frame_len frame.now ≡ Some (length frame.now) }
-        ensures answer { IfOk result (λ told. outcome_in frame.now told ≡ (waiting_frame_step local frame.now now self.old).0) }
+        ensures answer { IfOk result (λ outcome. outcome_in frame.now outcome ≡ (waiting_frame_step local frame.now now self.old).0) }
         ensures part { IfOk result (IsPart frame.now self.old self.new) }
         ensures after { OnOk result (self.new ≡ (waiting_frame_step local frame.now now self.old).1) }
         ensures err { OnErr result (self.new ≡ self.old) }
@@ -109,7 +109,7 @@ impl TurnClientProtocol {
         now: Instant,
     ) -> Result<TurnProtocolRecv, AllocError>
         requires { begins_message frame.now ≡ true }
-        ensures answer { IfOk result (λ told. outcome_in frame.now told ≡ (waiting_frame_step local frame.now now self.old).0) }
+        ensures answer { IfOk result (λ outcome. outcome_in frame.now outcome ≡ (waiting_frame_step local frame.now now self.old).0) }
         ensures part { IfOk result (IsPart frame.now self.old self.new) }
         ensures after { OnOk result (self.new ≡ (waiting_frame_step local frame.now now self.old).1) }
         ensures err { OnErr result (self.new ≡ self.old) }

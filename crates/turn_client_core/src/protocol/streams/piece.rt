@@ -284,9 +284,9 @@ impl TurnClientProtocol {
         ensures wanted { OnErr result (frame_takes_memory stream (bytes_in_range (T.items transmit.payload) place) self.old ≡ true) }
     {
         let frame = &transmit.payload.as_slice()[place.start..place.end];
-        let told = self.frame(&stream, frame, now)?;
+        let outcome = self.frame(&stream, frame, now)?;
         self.put(stream);
-        Ok(told.lent(transmit))
+        Ok(outcome.lent(transmit))
     }
 
     /// The result of a whole frame that began before the piece.
@@ -309,9 +309,9 @@ impl TurnClientProtocol {
         ensures err { OnErr result (self.new ≡ self.old) }
         ensures wanted { OnErr result (frame_takes_memory stream frame.items self.old ≡ true) }
     {
-        let told = self.frame(&stream, frame.as_slice(), now)?;
+        let outcome = self.frame(&stream, frame.as_slice(), now)?;
         self.put(stream);
-        Ok(told.owned(frame, transmit))
+        Ok(outcome.owned(frame, transmit))
     }
 
     /// Processes a piece of a stream that is bound to this peer, and is taken out.

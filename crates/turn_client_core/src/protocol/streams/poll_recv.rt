@@ -161,8 +161,8 @@ impl TurnClientProtocol {
             self.put(stream);
             return Ok(None);
         };
-        let told = self.frame(&stream, frame, now)?;
-        let given = self.owned(frame, told)?;
+        let outcome = self.frame(&stream, frame, now)?;
+        let given = self.owned(frame, outcome)?;
         stream.pass();
         self.put(stream);
         Ok(given)
@@ -181,7 +181,7 @@ impl TurnClientProtocol {
     ) -> Result<TurnProtocolRecv, AllocError>
         requires whole { frame_len frame.now ≡ Some (length frame.now) }
         requires before { self.old.phase ≡ Phase.Authenticating → self.old.grants ≡ [] }
-        ensures answer { IfOk result (λ told. outcome_in frame.now told ≡ (frame_step stream.now frame.now now self.old).0) }
+        ensures answer { IfOk result (λ outcome. outcome_in frame.now outcome ≡ (frame_step stream.now frame.now now self.old).0) }
         ensures part { IfOk result (IsPart frame.now self.old self.new) }
         ensures after { OnOk result (self.new ≡ (frame_step stream.now frame.now now self.old).1) }
         ensures err { OnErr result (self.new ≡ self.old) }
@@ -204,12 +204,12 @@ impl TurnClientProtocol {
     /// # Errors
     ///
     /// If memory allocation for the copy fails.
-    fn owned(&self, frame: &[u8], told: TurnProtocolRecv) -> Result<Option<Received>, AllocError>
-        requires part { IsPart frame.now self.now self.now told }
-        ensures answer { IfOk result (λ given. option_map received_payload given ≡ owned_payload (outcome_in frame.now told)) }
-        ensures memory { owned_payload (outcome_in frame.now told) ≡ None → IsOk result }
+    fn owned(&self, frame: &[u8], outcome: TurnProtocolRecv) -> Result<Option<Received>, AllocError>
+        requires part { IsPart frame.now self.now self.now outcome }
+        ensures answer { IfOk result (λ given. option_map received_payload given ≡ owned_payload (outcome_in frame.now outcome)) }
+        ensures memory { owned_payload (outcome_in frame.now outcome) ≡ None → IsOk result }
     {
-        match told {
+        match outcome {
             TurnProtocolRecv::Handled => Ok(None),
             TurnProtocolRecv::Ignored => Ok(None),
             TurnProtocolRecv::PeerData(transport, peer, place) => {

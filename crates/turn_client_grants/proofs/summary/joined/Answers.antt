@@ -7,4 +7,4 @@ pub returns : goal.returns
 returns c = λ others are summed.
     let read = c.totals_of-totals.ensures in
     summary-joined c.args.summary.now _ c.args.grants.now others c.args.last.now c.args.listed.now c.requires are refl refl read.end read.next_expiry refl refl read.permissions read.channels
-    (or-false read.untold) (or-false read.requested) (or-false read.reserved) summed
+    (or-false read.unreported) (or-false read.requested) (or-false read.reserved) summed

@@ -8,9 +8,9 @@ unfolding refresh_time channel_numbers
 returns c = record {
   refresh = λ s. refl;
   permission = λ s. refl;
-  permission_told = λ s. refl;
+  permission_reported = λ s. refl;
   channel_left = λ s. refl;
-  channel_told = λ s. refl;
+  channel_reported = λ s. refl;
   reserved = λ s. refl;
   refused = λ s. refl;
   still_refused = λ s. refl;

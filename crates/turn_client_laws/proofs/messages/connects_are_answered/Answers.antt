@@ -8,5 +8,5 @@ unfolding fault_of attributes_from seen_after
 returns c = record {
   offered = λ to text s byte e. rw e refl;
   refused = λ to text s byte e. rw e refl;
-  told = λ to text s byte e. rw e refl;
+  reported = λ to text s byte e. rw e refl;
 }

@@ -7,11 +7,11 @@ pub returns : goal.returns
 unfolding fault_of attributes_from seen_after
 returns c = record {
   permitted = λ to text s byte e. rw e refl;
-  permission_told = λ to text s byte e. rw e refl;
+  permission_reported = λ to text s byte e. rw e refl;
   unsigned = λ to text s e. rw e refl;
   copy = λ byte to text s e. rw e (rw e refl);
   bound = λ to text s byte e. rw e refl;
-  channel_told = λ to text s byte e. rw e refl;
+  channel_reported = λ to text s byte e. rw e refl;
   refused = λ to text s byte e. rw e refl;
   refusals = λ to text s byte e. rw e refl;
 }

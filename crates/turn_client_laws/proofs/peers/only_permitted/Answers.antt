@@ -1,4 +1,4 @@
-use Rattle.turn_client_laws.proofs.HandledLemmas.{poll_recv-IsGivenBy, recv-IsGivenBy, recv-IsToldBy}
+use Rattle.turn_client_laws.proofs.HandledLemmas.{poll_recv-IsGivenBy, recv-IsGivenBy, recv-IsReportedBy}
 use Rattle.turn_client_laws.proofs.PeerLemmas.{datagram-IsMessageFromPermitted, frame-IsFromPermitted}
 use Rattle.turn_client_laws.proofs.peers.only_permitted.Goals as goal
 
@@ -8,5 +8,5 @@ returns c = record {
   frame = frame-IsFromPermitted;
   poll_recv = poll_recv-IsGivenBy;
   recv = recv-IsGivenBy;
-  icmp = recv-IsToldBy;
+  icmp = recv-IsReportedBy;
 }

@@ -6,7 +6,7 @@ use Rattle.turn_client_laws.proofs.rows.paths_are_kept_alive.Goals as goal
 pub returns : goal.returns
 unfolding refresh_time is_refresh_due
 returns c = record {
-  told = λ s. refl;
+  reported = λ s. refl;
   early = λ s. refl;
   bytes = λ s. refl;
   after = λ s. refl;

@@ -13,9 +13,9 @@ returns-clause-default_permission c = λ ip expiry. refl
 pub returns-clause-default_channel : goal.returns-clause-default_channel
 returns-clause-default_channel c = λ number expiry. refl
 
-pub returns-clause-told : goal.returns-clause-told
+pub returns-clause-reported : goal.returns-clause-reported
 unfolding refresh_time
-returns-clause-told c = λ s. refl
+returns-clause-reported c = λ s. refl
 
 pub returns-clause-early : goal.returns-clause-early
 unfolding refresh_time is_refresh_due

@@ -7,7 +7,7 @@ pub returns : goal.returns
 unfolding attributes_from seen_after
 returns c = record {
   offered = λ s. refl;
-  told = λ s. refl;
+  reported = λ s. refl;
   again = λ s. refl;
   unpermitted = λ s. refl;
   asked = λ s byte e. rw e refl;

@@ -1,6 +1,6 @@
 use Rattle.std.proofs.Common.{length, refl, ap, ◌∙◌}
 use Rattle.turn_auth.proofs.SignLemmas.{begun_is_unsigned}
-use Rattle.turn_client_requests.proofs.AskedLemmas.{as_long_as_told}
+use Rattle.turn_client_requests.proofs.AskedLemmas.{as_long_as_asked}
 use Rattle.turn_client_requests.proofs.request.request_for.Goals as goal
 
 pub signed-requires-clause-unsigned : goal.signed-requires-clause-unsigned
@@ -12,7 +12,7 @@ prove-unreachable-requires c =
     let begun = rw c.method_for.ensures at c.in_ok-message.ensures.message in
     c.if-prove.true
     (ap length c.as_bytes.ensures
-    ∙ as_long_as_told c.args.auth.now c.args.transport c.args.families.now c.args.purpose.now _ _ _ _ _ _ begun
+    ∙ as_long_as_asked c.args.auth.now c.args.transport c.args.families.now c.args.purpose.now _ _ _ _ _ _ begun
     c.in_ok-add_asked.ensures.all c.asked_len-asked.ensures.exact c.message_signature_bytes.ensures.value c.in_ok-text.ensures.len)
 
 pub returns : goal.returns

@@ -6,7 +6,7 @@ use Rattle.turn_auth.proofs.SignLemmas.{begun_is_unsigned}
 use Rattle.turn_client_api.specs.Requests.{asked_attributes, message_of, method_for}
 use Rattle.turn_client_api.specs.State.{auth_of}
 use Rattle.turn_client_requests.specs.RequestAttributes.{with_asked_families}
-use Rattle.turn_client_requests.proofs.AskedLemmas.{as_long_as_told}
+use Rattle.turn_client_requests.proofs.AskedLemmas.{as_long_as_asked}
 use Rattle.turn_client_requests.proofs.request.request_under.Goals as goal
 
 pub signed_under-requires-clause-unsigned : goal.signed_under-requires-clause-unsigned
@@ -18,7 +18,7 @@ prove-unreachable-requires c =
     let begun = rw c.method_for.ensures at c.in_ok-message.ensures.message in
     c.if-prove.true
     (ap length c.as_bytes.ensures
-    ∙ as_long_as_told (with_challenge c.args.challenge.now c.args.auth.now) c.args.transport c.args.families.now c.args.purpose.now _ _ _ _ _ _ begun
+    ∙ as_long_as_asked (with_challenge c.args.challenge.now c.args.auth.now) c.args.transport c.args.families.now c.args.purpose.now _ _ _ _ _ _ begun
     c.in_ok-add_asked.ensures.all c.asked_len-asked.ensures.exact c.signature_bytes_under.ensures.value c.in_ok-text.ensures.len)
 
 pub returns : goal.returns

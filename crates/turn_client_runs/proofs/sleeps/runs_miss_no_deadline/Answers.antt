@@ -1,13 +1,13 @@
 use Rattle.std.proofs.Common.{refl}
 use Rattle.turn_client_api.specs.Due.{refresh_time}
-use Rattle.turn_client_runs.proofs.SleepLemmas.{any-tells, run-sleeps}
+use Rattle.turn_client_runs.proofs.SleepLemmas.{any-reports, run-sleeps}
 use Rattle.turn_client_runs.proofs.sleeps.runs_miss_no_deadline.Goals as goal
 
 pub returns-clause-found : goal.returns-clause-found
 returns-clause-found c = run-sleeps
 
 pub returns-clause-any : goal.returns-clause-any
-returns-clause-any c = any-tells
+returns-clause-any c = any-reports
 
 pub returns-clause-marked : goal.returns-clause-marked
 unfolding refresh_time

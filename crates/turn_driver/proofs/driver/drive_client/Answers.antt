@@ -15,7 +15,7 @@ use Rattle.turn_driver.proofs.driver.drive_client.Goals.{in-Some+in_ok-receive, 
 -- the loop begins with the input
 begins : (came : Option (Transmit (Vec ℕ Global))) (now : ℕ) (was is : DriveState) (packet : Option (Transmit (List ℕ))) → packet_in came ≡ packet → is ≡ begun packet now was
     → is ≡ begun (packet_in came) now was
-begins came now was is packet e told = told ∙ sym (ap (λ packet. begun packet now was) e)
+begins came now was is packet e reported = reported ∙ sym (ap (λ packet. begun packet now was) e)
 
 starts : (g : Over) (c : goal.After-poll_tasks g) → driven c.match-came.tasks.items Now (g.C.TurnClientApi.state c.match-came.client) ≡ begun (packet_in c.args.came) c.args.now
     (driven c.args.tasks.now.items Now (g.C.TurnClientApi.state c.args.client.now))

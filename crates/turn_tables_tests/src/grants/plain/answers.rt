@@ -1,7 +1,7 @@
 //! What the server answers, and what the caller does, on plain lists.
 
 use crate::grants::plain::{
-    Asked, Kind, Plain, Reason, Row, SECOND, Stage, TRANSPORT, Told, address, byte_of, family,
+    Asked, Kind, Plain, Reason, Row, SECOND, Stage, TRANSPORT, Reported, address, byte_of, family,
     is_ipv6,
 };
 use std::alloc::AllocError;
@@ -34,9 +34,9 @@ impl Plain {
                 self.stands(&row, later(now, 300))?;
                 self.wait(TurnEvent::PermissionCreated(TRANSPORT, address(peer).ip()))
             }
-            Stage::Pending => self.drop_row(row.kind, row.key, Told::Last),
+            Stage::Pending => self.drop_row(row.kind, row.key, Reported::Last),
             _ if is_granted => Ok(self.lasts(&row, later(now, 300))),
-            _ => self.drop_row(row.kind, row.key, Told::First),
+            _ => self.drop_row(row.kind, row.key, Reported::First),
         }
     }
 
@@ -45,7 +45,7 @@ impl Plain {
         let mut granted = *row;
         granted.stage = Stage::Active;
         granted.until = until;
-        self.drop_row(row.kind, row.key, Told::Never)?;
+        self.drop_row(row.kind, row.key, Reported::Never)?;
         self.add(&granted)
     }
 
@@ -96,11 +96,11 @@ impl Plain {
     /// The pending permissions of the same request are removed with the channel.
     fn channel_refused(&mut self, row: &Row, id: u8) -> Result<(), AllocError> {
         let given = self.asked_by(id);
-        self.drop_row(row.kind, row.key, Told::Last)?;
+        self.drop_row(row.kind, row.key, Reported::Last)?;
         for other in self.rows.iter_mut() {
             other.goes = other.is_at(Kind::Permission, Stage::Pending) && given.names(other);
         }
-        self.sweep(Told::Last)
+        self.sweep(Reported::Last)
     }
 
     /// Neither the number nor the peer of an expired channel is bound for a while.
@@ -108,7 +108,7 @@ impl Plain {
         let mut kept = *row;
         kept.stage = Stage::Reserved;
         kept.until = later(row.until, 300);
-        self.drop_row(row.kind, row.key, Told::Never)?;
+        self.drop_row(row.kind, row.key, Reported::Never)?;
         self.add(&kept)
     }
 
@@ -118,7 +118,7 @@ impl Plain {
         peer: u8,
         number: Option<u32>,
     ) -> Result<(), AllocError> {
-        self.drop_row(Kind::Connect, u32::from(peer), Told::Never)?;
+        self.drop_row(Kind::Connect, u32::from(peer), Reported::Never)?;
         match number {
             Some(number) => self.offered(number, peer, Reason::Own),
             None => self.wait(TurnEvent::TcpConnectFailed(address(peer))),
@@ -145,7 +145,7 @@ impl Plain {
             row.goes = !is_taken && row.is(Kind::Offer, key);
             is_taken = is_taken || row.goes;
         }
-        self.sweep(Told::Never)
+        self.sweep(Reported::Never)
     }
 
     /// The caller opened a connection, which a request with this ID is to bind.
@@ -180,7 +180,7 @@ impl Plain {
     /// The server did not bind the connection, and the caller is to close its end.
     pub(crate) fn not_bound(&mut self, local: u8) -> Result<(), AllocError> {
         self.closes.push_back(address(local))?;
-        self.drop_row(Kind::Connection, u32::from(local), Told::Last)
+        self.drop_row(Kind::Connection, u32::from(local), Reported::Last)
     }
 
     /// The server is to bind the connection by a request with another ID.
@@ -208,7 +208,7 @@ impl Plain {
             return Ok(());
         }
         self.closes.push_front(address(local))?;
-        self.drop_row(Kind::Connection, u32::from(local), Told::Never)
+        self.drop_row(Kind::Connection, u32::from(local), Reported::Never)
     }
 
     /// The allocation of this family expires so many seconds from now.
@@ -233,7 +233,7 @@ impl Plain {
             row.goes = row.is_at(Kind::Permission, Stage::Active)
                 || row.is_at(Kind::Channel, Stage::Active);
         }
-        self.sweep(Told::Never)?;
+        self.sweep(Reported::Never)?;
         for row in self.rows.iter_mut() {
             if row.kind == Kind::Allocation {
                 row.until = now;

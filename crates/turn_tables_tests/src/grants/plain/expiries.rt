@@ -1,7 +1,7 @@
 //! What expires as time passes, on plain lists.
 
 use crate::grants::plain::{
-    Kind, Plain, Reason, Row, Stage, TRANSPORT, Told, address, byte_of, drop_listed, is_ipv6,
+    Kind, Plain, Reason, Row, Stage, TRANSPORT, Reported, address, byte_of, drop_listed, is_ipv6,
 };
 use std::alloc::AllocError;
 use turn_client_api::TurnEvent;
@@ -104,24 +104,24 @@ impl Plain {
     fn expire_one(&mut self, relay: &Row, given: &Given, now: u64) -> Result<(), AllocError> {
         let is_kept = relay.is_marked && self.has_request(relay) && !given.names(relay);
         if relay.until <= now && !is_kept {
-            return self.step(relay, Step::All, given, now, Told::Never);
+            return self.step(relay, Step::All, given, now, Reported::Never);
         }
-        self.step(relay, Step::InVain(Kind::Channel), given, now, Told::First)?;
+        self.step(relay, Step::InVain(Kind::Channel), given, now, Reported::First)?;
         self.step(
             relay,
             Step::InVain(Kind::Permission),
             given,
             now,
-            Told::First,
+            Reported::First,
         )?;
         self.expire_channel(relay, now)?;
-        self.step(relay, Step::Expired, given, now, Told::First)?;
-        self.step(relay, Step::InVain(Kind::Connect), given, now, Told::First)?;
+        self.step(relay, Step::Expired, given, now, Reported::First)?;
+        self.step(relay, Step::InVain(Kind::Connect), given, now, Reported::First)?;
         self.close_unbound(relay, given, now)?;
-        self.step(relay, Step::Unbound, given, now, Told::First)?;
-        self.step(relay, Step::Unanswered, given, now, Told::First)?;
+        self.step(relay, Step::Unbound, given, now, Reported::First)?;
+        self.step(relay, Step::Unanswered, given, now, Reported::First)?;
         self.unlist_given(relay, given);
-        self.step(relay, Step::Free, given, now, Told::Never)
+        self.step(relay, Step::Free, given, now, Reported::Never)
     }
 
     /// Removes the rows of the allocation that expire in this step.
@@ -131,12 +131,12 @@ impl Plain {
         step: Step,
         given: &Given,
         now: u64,
-        told: Told,
+        reported: Reported,
     ) -> Result<(), AllocError> {
         for row in self.rows.iter_mut() {
             row.goes = is_in(relay, row) && ends(row, step, given, now);
         }
-        self.sweep(told)
+        self.sweep(reported)
     }
 
     /// The last channel of the allocation whose expiry has passed is reserved.

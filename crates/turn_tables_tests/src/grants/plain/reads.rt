@@ -236,17 +236,17 @@ impl Plain {
         let Some(first) = self.first_allocation() else {
             return None;
         };
-        if let Some(offer) = self.untold(is_ipv6(first.peer)) {
+        if let Some(offer) = self.unreported(is_ipv6(first.peer)) {
             return Some(offer);
         }
         if self.find(Kind::Allocation, 1 - first.key.min(1)).is_none() {
             return None;
         }
-        self.untold(!is_ipv6(first.peer))
+        self.unreported(!is_ipv6(first.peer))
     }
 
     /// The first offer over IPv6, or over IPv4, that was not reported.
-    fn untold(&self, over_ipv6: bool) -> Option<Row> {
+    fn unreported(&self, over_ipv6: bool) -> Option<Row> {
         for row in &self.rows {
             if row.kind == Kind::Offer && !row.is_marked && is_ipv6(row.peer) == over_ipv6 {
                 return Some(*row);
@@ -256,7 +256,7 @@ impl Plain {
     }
 
     /// Marks the next offer as reported.
-    pub(crate) fn told(&mut self) {
+    pub(crate) fn reported(&mut self) {
         let Some(next) = self.next_offer() else {
             return;
         };

@@ -27,12 +27,12 @@ pub(crate) fn offered(
 }
 
 /// Reports the next offer to the caller.
-pub(crate) fn told(ledger: &mut GrantLedger, plain: &mut Plain) -> Result<(), AllocError> {
+pub(crate) fn reported(ledger: &mut GrantLedger, plain: &mut Plain) -> Result<(), AllocError> {
     let next = ledger.table().next_offer();
     if let Some(offer) = next {
         ledger.offer_reported(&offer);
     }
-    Ok(plain.told())
+    Ok(plain.reported())
 }
 
 /// The caller could not open the connection of an offer.

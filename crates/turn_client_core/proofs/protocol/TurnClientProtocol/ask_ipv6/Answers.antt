@@ -53,10 +53,10 @@ returns-clause-ok c =
     (id_of c.args.message.now) fresh c.args.self.now.transactions c.fresh_id-fresh.ensures.unsent c.requires.outstanding) in
     let all : with_asked_families c.transport.result (IPV6 ∷ []) u ≡ u = rw c.transport.ensures refl in
     let written : text ≡ request_for u ForAllocation fresh = c.in_ok-text.ensures u (sym own) ∙ ap (λ w. request_for w ForAllocation fresh) all in
-    let told : with_ledger c.push_event.new.self v ≡ u = c.push_event.ensures.state v
+    let outcome : with_ledger c.push_event.new.self v ≡ u = c.push_event.ensures.state v
     ∙ ap (wait (AllocationCreateFailed IPV4 ∷ [])) (c.unlist_allocates.ensures.state v v.phase ∙ ap (in_phase v.phase) (c.reserve.ensures.same v)) in
     let more : record (with_ledger c.push_event.new.self v) { grants = c.push_event.new.self.grants ++ [] } ≡ u = ap (λ gs. record (with_ledger c.push_event.new.self v) { grants = gs })
-    (append-nil c.push_event.new.self.grants) ∙ told in
+    (append-nil c.push_event.new.self.grants) ∙ outcome in
     rw c.only_ipv6-families.ensures
     (ap (λ o. with_ledger c.ask-2.new.self (with_outbox o v)) (c.end.ensures ∙ ap (λ (o : Outgoing). record o { transactions = without_transaction id o.transactions }) c.in_ok-ask.ensures.ok)
     ∙ (ap (λ ts. queued true from text (with_ledger c.ask-2.new.self (record (id_used v) { transactions = ts }))) (without-other id new s.transactions other)

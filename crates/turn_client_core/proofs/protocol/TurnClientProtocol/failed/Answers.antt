@@ -16,7 +16,7 @@ returns-then-is_authenticating-clause-after c = c.in_ok-allocate_denied.ensures.
 
 pub returns-clause-answer : goal.returns-clause-answer
 returns-clause-answer c =
-    subst (λ (p : Outcome × State). IfOk c.respond.result (λ told. outcome_in c.args.message.now told ≡ p.0))
+    subst (λ (p : Outcome × State). IfOk c.respond.result (λ outcome. outcome_in c.args.message.now outcome ≡ p.0))
     (sym (other-step false c.args.message.now c.args.now c.args.self.now (sym c.is_authenticating.ensures ∙ c.if-is_authenticating.false))) c.respond.ensures.answer
 
 pub returns-clause-after : goal.returns-clause-after

@@ -23,19 +23,19 @@ returns-clause-after c =
       c.pass.ensures,
       framed-some c.args.stream c.in-Some.frame.now c.args.now c.args.self.now (sym c.is_stuck.ensures ∙ c.if-is_stuck.false)
           (rw c.in-Some.is at c.front.ensures.exact),
-      ← c.in_ok-told.ensures.after,
+      ← c.in_ok-outcome.ensures.after,
     )
     refl
 
-pub returns-in_err-told-clause-wanted : goal.returns-in_err-told-clause-wanted
-returns-in_err-told-clause-wanted c =
+pub returns-in_err-outcome-clause-wanted : goal.returns-in_err-outcome-clause-wanted
+returns-in_err-outcome-clause-wanted c =
     on-err _
     (front-wants c.args.stream c.in-Some.frame.now c.args.now c.args.self.now (sym c.is_stuck.ensures ∙ c.if-is_stuck.false) (rw c.in-Some.is at c.front.ensures.exact)
-    (inl c.in_err-told.ensures.wanted))
+    (inl c.in_err-outcome.ensures.wanted))
 
 pub returns-in_err-given-clause-wanted : goal.returns-in_err-given-clause-wanted
 returns-in_err-given-clause-wanted c =
-    let told = some-is (owned_payload (outcome_in c.in-Some.frame.now c.in_ok-told.told)) (λ none. false≢true (c.in_err-given.ensures.memory none)) in
+    let outcome = some-is (owned_payload (outcome_in c.in-Some.frame.now c.in_ok-outcome.outcome)) (λ none. false≢true (c.in_err-given.ensures.memory none)) in
     on-err _
     (front-wants c.args.stream c.in-Some.frame.now c.args.now c.args.self.now (sym c.is_stuck.ensures ∙ c.if-is_stuck.false) (rw c.in-Some.is at c.front.ensures.exact)
-    (inr (subst (λ (o : Outcome). IsSome (owned_payload o)) c.in_ok-told.ensures.answer told)))
+    (inr (subst (λ (o : Outcome). IsSome (owned_payload o)) c.in_ok-outcome.ensures.answer outcome)))

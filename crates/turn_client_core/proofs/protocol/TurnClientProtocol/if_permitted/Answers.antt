@@ -8,10 +8,10 @@ pub returns-then-has_active_permission : goal.returns-then-has_active_permission
 returns-then-has_active_permission c =
     let is : has_active_permission (socket_ip c.args.peer) c.args.self.now ≡ true =
     ap (λ ip. has_active_permission ip c.args.self.now) (sym c.ip.ensures) ∙ (sym c.has_active_permission.ensures ∙ c.if-has_active_permission.true) in
-    sym (ap (λ b. if_permitted b c.args.told) is)
+    sym (ap (λ b. if_permitted b c.args.outcome) is)
 
 pub returns : goal.returns
 returns c =
     let is : has_active_permission (socket_ip c.args.peer) c.args.self.now ≡ false =
     ap (λ ip. has_active_permission ip c.args.self.now) (sym c.ip.ensures) ∙ (sym c.has_active_permission.ensures ∙ c.if-has_active_permission.false) in
-    sym (ap (λ b. if_permitted b c.args.told) is)
+    sym (ap (λ b. if_permitted b c.args.outcome) is)

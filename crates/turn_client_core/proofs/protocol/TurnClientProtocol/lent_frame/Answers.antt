@@ -9,11 +9,11 @@ pub returns-clause-answer : goal.returns-clause-answer
 returns-clause-answer g c =
     let bytes : List ℕ = g.T.AsSlice.items c.args.transmit.payload in
     let frame : List ℕ = bytes_in_range bytes c.args.place in
-    let told = c.in_ok-told.told in
-    let part : IsPart frame c.args.self.now c.frame.new.self told =
-    subst (λ (xs : List ℕ). IsPart (bytes_in_range xs c.args.place) c.args.self.now c.frame.new.self told) c.as_slice.ensures c.in_ok-told.ensures.part in
-    let answer : outcome_in frame told ≡ (frame_step c.args.stream frame c.args.now c.args.self.now).0 =
-    subst (λ (xs : List ℕ). outcome_in (bytes_in_range xs c.args.place) told ≡ (frame_step c.args.stream
-    (bytes_in_range xs c.args.place) c.args.now c.args.self.now).0) c.as_slice.ensures c.in_ok-told.ensures.answer in
-    let within : IsRangeWithin frame told = part-IsWithin frame c.args.self.now c.frame.new.self told part in
-    c.lent.ensures.outcome ∙ (lent-outcome bytes c.args.place told c.requires.front c.requires.inside within ∙ answer)
+    let outcome = c.in_ok-outcome.outcome in
+    let part : IsPart frame c.args.self.now c.frame.new.self outcome =
+    subst (λ (xs : List ℕ). IsPart (bytes_in_range xs c.args.place) c.args.self.now c.frame.new.self outcome) c.as_slice.ensures c.in_ok-outcome.ensures.part in
+    let answer : outcome_in frame outcome ≡ (frame_step c.args.stream frame c.args.now c.args.self.now).0 =
+    subst (λ (xs : List ℕ). outcome_in (bytes_in_range xs c.args.place) outcome ≡ (frame_step c.args.stream
+    (bytes_in_range xs c.args.place) c.args.now c.args.self.now).0) c.as_slice.ensures c.in_ok-outcome.ensures.answer in
+    let within : IsRangeWithin frame outcome = part-IsWithin frame c.args.self.now c.frame.new.self outcome part in
+    c.lent.ensures.outcome ∙ (lent-outcome bytes c.args.place outcome c.requires.front c.requires.inside within ∙ answer)

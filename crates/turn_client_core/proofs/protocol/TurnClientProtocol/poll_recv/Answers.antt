@@ -21,12 +21,12 @@ returns-in_err-given-clause-wanted c =
 
 pub returns-in-Some-clause-answer : goal.returns-in-Some-clause-answer
 returns-in-Some-clause-answer c =
-    let told : control_data c.args.self.now ≡ Some (received_payload c.in-Some.given) = (sym c.in_ok-given.ensures.answer ∙ ap (λ o. option_map received_payload o) c.in-Some.is) in
-    ap Some c.into_data.ensures ∙ sym (ap (λ p. p.0) (data-given c.args.now c.args.self.now _ told))
+    let outcome : control_data c.args.self.now ≡ Some (received_payload c.in-Some.given) = (sym c.in_ok-given.ensures.answer ∙ ap (λ o. option_map received_payload o) c.in-Some.is) in
+    ap Some c.into_data.ensures ∙ sym (ap (λ p. p.0) (data-given c.args.now c.args.self.now _ outcome))
 
 pub returns-in-Some-clause-after : goal.returns-in-Some-clause-after
 returns-in-Some-clause-after c =
-    let told : control_data c.args.self.now ≡ Some (received_payload c.in-Some.given) = (sym c.in_ok-given.ensures.answer ∙ ap (λ o. option_map received_payload o) c.in-Some.is) in
+    let outcome : control_data c.args.self.now ≡ Some (received_payload c.in-Some.given) = (sym c.in_ok-given.ensures.answer ∙ ap (λ o. option_map received_payload o) c.in-Some.is) in
     c.in_ok-given.ensures.after
-    ∙ (ap (λ o. option_map_or (λ payload. control_passed c.args.self.now) o c.args.self.now) told
-    ∙ sym (ap (λ p. p.1) (data-given c.args.now c.args.self.now _ told)))
+    ∙ (ap (λ o. option_map_or (λ payload. control_passed c.args.self.now) o c.args.self.now) outcome
+    ∙ sym (ap (λ p. p.1) (data-given c.args.now c.args.self.now _ outcome)))

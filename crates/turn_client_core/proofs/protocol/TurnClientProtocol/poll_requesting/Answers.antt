@@ -10,7 +10,7 @@ use Rattle.turn_client_core.proofs.protocol.TurnClientProtocol.poll_requesting.G
 pub fail_families_first-requires : goal.fail_families_first-requires
 fail_families_first-requires c =
     let requesting = rw (← c.self.view_is) at c.requires in
-    let room = c.self.invariant.told requesting in
+    let room = c.self.invariant.reportable requesting in
     rw c.as_slice.ensures room
 
 pub returns-in-None : goal.returns-in-None

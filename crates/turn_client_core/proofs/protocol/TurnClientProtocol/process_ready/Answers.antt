@@ -35,20 +35,20 @@ loop-stream-preserved c =
     let out : c.take_ready.new.self ≡ with_bytes c.in-Some.stream.local [] c.loop-stream.self = (c.take_ready.ensures.after ∙ ap (λ o. taken_out o c.loop-stream.self) c.in-Some.is) in
     let is : c.process_detached.new.self ≡ (next_frame_step c.in-Some.stream c.args.now c.loop-stream.self).1 =
     c.in-Ok-None.ensures.after ∙ ap (λ t. (detached_frame_step c.in-Some.stream c.args.now t).1) out in
-    let told =
+    let outcome =
     sym (ap (λ t. owned_payload (detached_frame_step c.in-Some.stream c.args.now t).0) out) ∙ (sym c.in-Ok-None.ensures.answer ∙ ap (λ o. option_map received_payload o) c.in-Ok-None.field-0-is) in
     record {
-      rests = rw is (rests-on c.args.now c.args.self.now c.loop-stream.self c.in-Some.stream e told c.loop-stream.invariant.rests);
-      led = rw is (leads-on c.args.now c.args.self.now c.loop-stream.self c.in-Some.stream e told c.loop-stream.invariant.led);
+      rests = rw is (rests-on c.args.now c.args.self.now c.loop-stream.self c.in-Some.stream e outcome c.loop-stream.invariant.rests);
+      led = rw is (leads-on c.args.now c.args.self.now c.loop-stream.self c.in-Some.stream e outcome c.loop-stream.invariant.led);
     }
 
 pub returns-in-Ok-Some-clause-answer : goal.returns-in-Ok-Some-clause-answer
 returns-in-Ok-Some-clause-answer c =
     let e : find is_ready c.loop-stream.self.streams ≡ Some c.in-Some.stream = (sym c.take_ready.ensures.stream ∙ c.in-Some.is) in
     let out : c.take_ready.new.self ≡ with_bytes c.in-Some.stream.local [] c.loop-stream.self = (c.take_ready.ensures.after ∙ ap (λ o. taken_out o c.loop-stream.self) c.in-Some.is) in
-    let told =
+    let outcome =
     sym (ap (λ t. owned_payload (detached_frame_step c.in-Some.stream c.args.now t).0) out) ∙ (sym c.in-Ok-Some.ensures.answer ∙ ap (λ o. option_map received_payload o) c.in-Ok-Some.field-0-is) in
-    ap (λ g. Some (received_payload g)) c.in-Ok-Some.given-is ∙ sym (ap (λ p. p.0) (rests-some c.args.now c.args.self.now c.loop-stream.self c.in-Some.stream _ e told c.loop-stream.invariant.rests))
+    ap (λ g. Some (received_payload g)) c.in-Ok-Some.given-is ∙ sym (ap (λ p. p.0) (rests-some c.args.now c.args.self.now c.loop-stream.self c.in-Some.stream _ e outcome c.loop-stream.invariant.rests))
 
 pub returns-in-Ok-Some-clause-after : goal.returns-in-Ok-Some-clause-after
 returns-in-Ok-Some-clause-after c =
@@ -56,9 +56,9 @@ returns-in-Ok-Some-clause-after c =
     let out : c.take_ready.new.self ≡ with_bytes c.in-Some.stream.local [] c.loop-stream.self = (c.take_ready.ensures.after ∙ ap (λ o. taken_out o c.loop-stream.self) c.in-Some.is) in
     let is : c.process_detached.new.self ≡ (next_frame_step c.in-Some.stream c.args.now c.loop-stream.self).1 =
     c.in-Ok-Some.ensures.after ∙ ap (λ t. (detached_frame_step c.in-Some.stream c.args.now t).1) out in
-    let told =
+    let outcome =
     sym (ap (λ t. owned_payload (detached_frame_step c.in-Some.stream c.args.now t).0) out) ∙ (sym c.in-Ok-Some.ensures.answer ∙ ap (λ o. option_map received_payload o) c.in-Ok-Some.field-0-is) in
-    is ∙ sym (ap (λ p. p.1) (rests-some c.args.now c.args.self.now c.loop-stream.self c.in-Some.stream _ e told c.loop-stream.invariant.rests))
+    is ∙ sym (ap (λ p. p.1) (rests-some c.args.now c.args.self.now c.loop-stream.self c.in-Some.stream _ e outcome c.loop-stream.invariant.rests))
 
 pub returns-in-Err-clause-no_memory : goal.returns-in-Err-clause-no_memory
 returns-in-Err-clause-no_memory c =

@@ -18,7 +18,7 @@ returns-then-is_empty-clause-answer c =
     ∙ (ap (λ n. filter (is_answered n) (purposes_in c.purposes_of.result)) c.method.ensures
     ∙ ap (filter (is_answered (method_in c.args.message.now))) (purposes-are (the_view c.self.inside) c.args.self.now c.args.message.now c.transaction_id-id.result c.table.result.now.listed
     (purposes_in c.purposes_of.result) c.purposes_of.ensures c.table.ensures.listed c.transaction_id-id.ensures c.self.view_is)) in
-    c.told_of.ensures.outcome ∙ ap (outcome_for c.args.message.now) read
+    c.reported_of.ensures.outcome ∙ ap (outcome_for c.args.message.now) read
 
 pub returns-then-is_empty-clause-after : goal.returns-then-is_empty-clause-after
 returns-then-is_empty-clause-after c =
@@ -60,7 +60,7 @@ returns-clause-answer c =
     ∙ (ap (λ n. filter (is_answered n) (purposes_in c.purposes_of.result)) c.method.ensures
     ∙ ap (filter (is_answered (method_in c.args.message.now))) (purposes-are (the_view c.self.inside) c.args.self.now c.args.message.now c.transaction_id-id.result c.table.result.now.listed
     (purposes_in c.purposes_of.result) c.purposes_of.ensures c.table.ensures.listed c.transaction_id-id.ensures c.self.view_is)) in
-    c.told_of-2.ensures.outcome ∙ ap (outcome_for c.args.message.now) read
+    c.reported_of-2.ensures.outcome ∙ ap (outcome_for c.args.message.now) read
 
 pub returns-clause-after : goal.returns-clause-after
 returns-clause-after c =

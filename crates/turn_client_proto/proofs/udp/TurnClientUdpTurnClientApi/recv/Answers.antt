@@ -10,5 +10,5 @@ returns-in-Ok-clause-answer g c =
     let own = sym c.is_from_server.ensures.value ∙ c.if-not-is_from_server.false in
     let packet = c.args.transmit in
     let is = own-datagram packet.transport packet.from packet.to (g.T.AsSlice.items packet.payload) c.args.now c.args.self.now c.is_from_server.ensures.carrier own in
-    let told = subst (λ (bytes : List ℕ). outcome_in bytes c.in-Ok.told ≡ (datagram_step bytes c.args.now c.args.self.now).0) c.as_slice.ensures c.in-Ok.ensures.answer in
-    c.lent.ensures.outcome ∙ (told ∙ ap (λ (r : Outcome × State). r.0) (sym is))
+    let outcome = subst (λ (bytes : List ℕ). outcome_in bytes c.in-Ok.outcome ≡ (datagram_step bytes c.args.now c.args.self.now).0) c.as_slice.ensures c.in-Ok.ensures.answer in
+    c.lent.ensures.outcome ∙ (outcome ∙ ap (λ (r : Outcome × State). r.0) (sym is))

@@ -1,4 +1,4 @@
--- A `poll` tells of what may be told, once.
+-- A `poll` tells of what may be reported, once.
 use Rattle.std.proofs.Common.{◌≡◌, ℕ, Bool, true, false, ◌&&◌, ◌||◌, List, [], ◌∷◌, ◌++◌, map, find, fold, reverse, Option, Some, None, refl, arith, inl, inr}
 use Rattle.std.specs.Prelude.{is_some}
 use Rattle.std.proofs.lemmas.Bool.{and_parts, cases_Bool, eq-eqb}
@@ -25,11 +25,11 @@ use Rattle.turn_client_api.specs.Poll.{timed_out_purposes, timed_out_step, timed
 use Rattle.turn_client_laws.proofs.CaseLemmas.{answer-by, by_found, by_test}
 use Rattle.turn_client_api.proofs.HasLemmas.{Has, cases_Option, has-found, has-unreversed}
 use Rattle.turn_client_api.proofs.ExpirySteps.{expired_in-does}
-use Rattle.turn_client_runs.specs.Told.{is_like, is_to_come}
+use Rattle.turn_client_runs.specs.Reported.{is_like, is_to_come}
 use Rattle.turn_client_runs.proofs.LastingCounts.{passes, passes-append}
-use Rattle.turn_client_runs.proofs.ToldCounts.{passes-reverse}
-use Rattle.turn_client_runs.proofs.ToldLemmas.{IsLosable, Spends, channel-reserved, spends-failed, spends-fold, spends-removed, spends-replaced-first, spends-same, spends-trans}
-use Rattle.turn_client_runs.proofs.ToldAllocates.{all-failed}
+use Rattle.turn_client_runs.proofs.ReportedCounts.{passes-reverse}
+use Rattle.turn_client_runs.proofs.ReportedLemmas.{IsLosable, Spends, channel-reserved, spends-failed, spends-fold, spends-removed, spends-replaced-first, spends-same, spends-trans}
+use Rattle.turn_client_runs.proofs.ReportedAllocates.{all-failed}
 
 -- ---- what fails is no reserved channel
 

@@ -1,4 +1,4 @@
--- An input tells of what may be told, once.
+-- An input tells of what may be reported, once.
 use Rattle.std.proofs.Common.{◌≡◌, ◌∙◌, ℕ, ◌+◌, ◌≤◌, ◌<◌, Bool, true, false, cond, not, ◌&&◌, eqb, ltb, List, [], ◌∷◌, ◌++◌, filter, filter_map, length, map, Option, Some, None, refl, sym}
 use Rattle.std.proofs.Common.{subst, arith, inl, inr}
 use Rattle.std.specs.Prelude.{IfSome, find, is_some}
@@ -44,14 +44,14 @@ use Rattle.turn_client_laws.proofs.EditsOfMessages.{connection-there}
 use Rattle.turn_client_api.proofs.HasLemmas.{Has, cases_Option}
 use Rattle.turn_client_laws.proofs.ListedGrants.{AllHaveGrant}
 use Rattle.turn_client_laws.proofs.OneInputLemmas.{input-by}
-use Rattle.turn_client_runs.specs.Told.{attempts_in, is_like, is_to_come}
+use Rattle.turn_client_runs.specs.Reported.{attempts_in, is_like, is_to_come}
 use Rattle.turn_client_runs.proofs.LastingCounts.{passes, passes-all, passes-append, passes-more}
 use Rattle.turn_client_runs.proofs.LoneConnects.{HasLoneConnects}
-use Rattle.turn_client_runs.proofs.OfferMessages.{Tells, judgement-tells}
-use Rattle.turn_client_runs.proofs.ToldCounts.{passes-over}
-use Rattle.turn_client_runs.proofs.ToldLemmas.{Spends, connected-like, connection-comes, is_of_connection, load, offer-comes, spends-removed, spends-same, spends-told}
-use Rattle.turn_client_runs.proofs.ToldAllocates.{IsSettled, fail-spends}
-use Rattle.turn_client_runs.proofs.ToldReplies.{signed-spends}
+use Rattle.turn_client_runs.proofs.OfferMessages.{Reports, judgement-reports}
+use Rattle.turn_client_runs.proofs.ReportedCounts.{passes-over}
+use Rattle.turn_client_runs.proofs.ReportedLemmas.{Spends, connected-like, connection-comes, is_of_connection, load, offer-comes, spends-removed, spends-same, spends-reported}
+use Rattle.turn_client_runs.proofs.ReportedAllocates.{IsSettled, fail-spends}
+use Rattle.turn_client_runs.proofs.ReportedReplies.{signed-spends}
 use Rattle.turn_client_runs.proofs.UnboundStreams.{ComesUnbound, IsUnbound}
 
 -- ---- attempts of the server
@@ -152,13 +152,13 @@ module _ (e : TurnEvent) where
       → length s.grants < length t.grants → cond (is_to_come e (Offer offer)) 1 0 ≤ attempts e message s t
   offer-fits message peer offer s t method names to more = rw (offer-comes e offer, to) (by e)
     where
-      tells : (to : SocketAddr) → is_attempt to message s t ≡ same_address peer to
-      tells to = rw (method, names, lt-ltb (length s.grants) (length t.grants) more)
+      reports : (to : SocketAddr) → is_attempt to message s t ≡ same_address peer to
+      reports to = rw (method, names, lt-ltb (length s.grants) (length t.grants) more)
           (elim (cases_Bool (same_address peer to)) [ inl f ↦ rw f refl | inr f ↦ rw f refl ])
 
       by : (x : TurnEvent) → cond (is_of_connection x peer) 1 0 ≤ attempts x message s t
-      by (TcpConnected to) = rw (tells to) (omega arith)
-      by (TcpConnectFailed to) = rw (tells to) (omega arith)
+      by (TcpConnected to) = rw (reports to) (omega arith)
+      by (TcpConnectFailed to) = rw (reports to) (omega arith)
       by x = omega arith
 
   offered : (message : List ℕ) (s : State) → method_in message ≡ connection_attempt_method → (id : ℕ) (peer : SocketAddr) (origin : Origin) → peer_in message ≡ Some peer
@@ -173,25 +173,25 @@ module _ (e : TurnEvent) where
       )
 
   pub message-brings : (message : List ℕ) (now : ℕ) (s : State) → IsSettled s → HasLoneConnects s → AllHaveGrant s → Brings message s (message_step message now s).1
-  message-brings message now s settled lone asked = by (judgement_of s message) refl (judgement-tells s message)
+  message-brings message now s settled lone asked = by (judgement_of s message) refl (judgement-reports s message)
     where
       none : Brings message s s
       none = brings message s s (same s)
 
-      by : (j : Judgement) → judgement_of s message ≡ j → Tells s message (judgement_of s message) → Brings message s (message_step message now s).1
-      by (Challenged d) f tells = brings message s (message_step message now s).1 (rw f (challenge-spends message d now s))
-      by Fatal f tells = brings message s (message_step message now s).1 (rw f (wrong-spends s.phase message s))
-      by ConnectionAttempt f tells =
-          let method : method_in message ≡ connection_attempt_method = rw f at tells in
+      by : (j : Judgement) → judgement_of s message ≡ j → Reports s message (judgement_of s message) → Brings message s (message_step message now s).1
+      by (Challenged d) f reports = brings message s (message_step message now s).1 (rw f (challenge-spends message d now s))
+      by Fatal f reports = brings message s (message_step message now s).1 (rw f (wrong-spends s.phase message s))
+      by ConnectionAttempt f reports =
+          let method : method_in message ≡ connection_attempt_method = rw f at reports in
           rw f (by_accepted (Brings message s) (attempt_indicated message s) s
           (indicated-names (Brings message s) message s (λ id peer names. offered message s method id peer ServerIndication names)) none)
-      by SignedRequest f tells =
+      by SignedRequest f reports =
           rw f (by_test (λ (x : Outcome × State). Brings message s x.1) (eqb (method_in message) connection_attempt_method) (Handled, attempt_requested message s) (Ignored, s)
           (λ is. requested-names (Brings message s) message s (λ queue. brings message s (record s { queue = queue }) (spends-same e s (record s { queue = queue }) refl refl refl))
           (λ id peer names. offered message s (eqb-true (method_in message) connection_attempt_method is) id peer (ServerRequest (id_of message)) names)) (λ other. none))
-      by SignedSuccess f tells = brings message s (message_step message now s).1 (rw f (signed-spends e true message now s settled lone asked))
-      by SignedError f tells = brings message s (message_step message now s).1 (rw f (signed-spends e false message now s settled lone asked))
-      by j f tells = rw f none
+      by SignedSuccess f reports = brings message s (message_step message now s).1 (rw f (signed-spends e true message now s settled lone asked))
+      by SignedError f reports = brings message s (message_step message now s).1 (rw f (signed-spends e false message now s settled lone asked))
+      by j f reports = rw f none
 
   -- ---- over a connection that waits to be bound
 
@@ -236,7 +236,7 @@ module _ (e : TurnEvent) where
         → Spends e s t
     unbound-spends =
         let fits : cond (is_like e (TcpConnectFailed c.peer)) 1 0 ≤ cond (is_to_come e (Connection c)) 1 0 = rw comes (omega arith) in
-        spends-told e (is_connection_from c.local) (TcpConnectFailed c.peer) (Connection c) s there (same_address-self c.local) fits
+        spends-reported e (is_connection_from c.local) (TcpConnectFailed c.peer) (Connection c) s there (same_address-self c.local) fits
 
     answered-spends : (message : List ℕ) (now : ℕ) → Spends e s (bind_answered c message now s)
     answered-spends message now = by (bind_judgement s c.local message) refl

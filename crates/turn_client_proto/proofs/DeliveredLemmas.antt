@@ -13,16 +13,16 @@ use Rattle.turn_client_api.specs.declared.call.Call.TheVariants.{PollEvent, Prot
 use Rattle.turn_client_api.proofs.HasLemmas.{Has, has-left, has-right}
 use Rattle.turn_client_laws.proofs.StandLemmas.{contains-has, has-contains}
 use Rattle.turn_client_runs.specs.Inputs.{IsAmong, delivered_by, answered_in, handled_in}
-use Rattle.turn_client_laws.proofs.HandledLemmas.{recv-IsToldBy}
+use Rattle.turn_client_laws.proofs.HandledLemmas.{recv-IsReportedBy}
 use Rattle.turn_client_laws.specs.Handled.{Input, handled, processed}
-use Rattle.turn_client_laws.specs.LawsPeers.{IsToldBy}
-use Rattle.turn_client_runs.specs.Peers.{TellsOfPermitted}
+use Rattle.turn_client_laws.specs.LawsPeers.{IsReportedBy}
+use Rattle.turn_client_runs.specs.Peers.{ReportsOfPermitted}
 use Rattle.turn_client_runs.proofs.InputsOfRuns.{among-left, among-right}
 use Rattle.std.specs.declared.net.socket_addr.SocketAddr.{SocketAddr}
 use Rattle.turn_stun.specs.declared.transport.Transmit.{Transmit}
 use Rattle.turn_stun.specs.declared.transport.TransportType.{TransportType}
 use Rattle.turn_types.specs.declared.attribute.icmp_report.Icmp.{Icmp}
-use Rattle.turn_client_runs.proofs.PeerLemmas.{all-answered, received, tells-permitted}
+use Rattle.turn_client_runs.proofs.PeerLemmas.{all-answered, received, reports-permitted}
 use Rattle.turn_client_proto.specs.Delivered.{AnswersOnlyPermitted, IsDelivered}
 use Rattle.turn_client_proto.specs.Run.{peer_data, poll_recv_reply, recv_reply, reply_of, replies_of}
 use Rattle.turn_client_proto.specs.declared.runs.reply.PeerData.{PeerData}
@@ -92,62 +92,62 @@ same-icmp x y a b d =
     ∙ ap (λ (n : ℕ). record { icmp_type = y.icmp_type; code = y.code; «data» = n }) d)
 
 module _ (transport : TransportType) (peer : SocketAddr) (icmp : Icmp) where
-  abbrev Tells : Reply
-  Tells = Replies.PeerIcmp transport peer icmp.icmp_type icmp.code icmp.data
+  abbrev Reports : Reply
+  Reports = Replies.PeerIcmp transport peer icmp.icmp_type icmp.code icmp.data
 
-  recv-tells : (o : Outcome) → Tells ≡ recv_reply o → o ≡ O.PeerIcmp transport peer icmp
-  recv-tells (O.PeerIcmp other to report) e =
+  recv-reports : (o : Outcome) → Reports ≡ recv_reply o → o ≡ O.PeerIcmp transport peer icmp
+  recv-reports (O.PeerIcmp other to report) e =
       let a : icmp.icmp_type ≡ report.icmp_type = cc in
       let b : icmp.code ≡ report.code = cc in
       let d : icmp.data ≡ report.data = cc in
       let same : icmp ≡ report = same-icmp icmp report a b d in
       cc
-  recv-tells (O.PeerData payload) e = absurd cc
-  recv-tells O.Handled e = absurd cc
-  recv-tells O.Ignored e = absurd cc
+  recv-reports (O.PeerData payload) e = absurd cc
+  recv-reports O.Handled e = absurd cc
+  recv-reports O.Ignored e = absurd cc
 
-  poll-tells : (o : Option Payload) → Tells ≡ poll_recv_reply o → ⊥
-  poll-tells None e = cc
-  poll-tells (Some payload) e = cc
+  poll-reports : (o : Option Payload) → Reports ≡ poll_recv_reply o → ⊥
+  poll-reports None e = cc
+  poll-reports (Some payload) e = cc
 
   abbrev Did : Input → Type 0
-  Did one = ((processed one).0 ≡ O.PeerIcmp transport peer icmp) × TellsOfPermitted one
+  Did one = ((processed one).0 ≡ O.PeerIcmp transport peer icmp) × ReportsOfPermitted one
 
-  packet-tells : (packet : Transmit (List ℕ)) (now : ℕ) (s : State) → (packet_step packet now s).0 ≡ O.PeerIcmp transport peer icmp → IsAmong Did (handled (Recv packet now) s)
-  packet-tells packet now s e = by (subst (λ (o : Outcome). IsToldBy o (Recv packet now) s) e (recv-IsToldBy packet now s))
+  packet-reports : (packet : Transmit (List ℕ)) (now : ℕ) (s : State) → (packet_step packet now s).0 ≡ O.PeerIcmp transport peer icmp → IsAmong Did (handled (Recv packet now) s)
+  packet-reports packet now s e = by (subst (λ (o : Outcome). IsReportedBy o (Recv packet now) s) e (recv-IsReportedBy packet now s))
     where
-      by : IsToldBy (O.PeerIcmp transport peer icmp) (Recv packet now) s → IsAmong Did (handled (Recv packet now) s)
-      by (one, among, (told, exact)) = (one, among, (told, tells-permitted one))
+      by : IsReportedBy (O.PeerIcmp transport peer icmp) (Recv packet now) s → IsAmong Did (handled (Recv packet now) s)
+      by (one, among, (outcome, exact)) = (one, among, (outcome, reports-permitted one))
 
-  call-tells : (call : Call) (s : State) → Tells ≡ reply_of call s → IsAmong Did (handled call s)
-  call-tells (Recv packet now) s e = packet-tells packet now s (recv-tells (packet_step packet now s).0 e)
-  call-tells (PollRecv now) s e = absurd (poll-tells (poll_recv_step now s).0 e)
-  call-tells (Delete now) s e = absurd cc
-  call-tells (CreatePermission other ip now) s e = absurd cc
-  call-tells (BindChannel other to now) s e = absurd cc
-  call-tells (TcpConnect to now) s e = absurd cc
-  call-tells (AllocatedTcpSocket id tuple to local now) s e = absurd cc
-  call-tells (TcpClosed local remote now) s e = absurd cc
-  call-tells (SendTo other to bytes now) s e = absurd cc
-  call-tells (Poll now) s e = absurd cc
-  call-tells (PollTransmit now) s e = absurd cc
-  call-tells PollEvent s e = absurd cc
-  call-tells ProtocolError s e = absurd cc
-  call-tells RelayedAddresses s e = absurd cc
-  call-tells (Permissions other relayed) s e = absurd cc
-  call-tells (HavePermission other to) s e = absurd cc
-  call-tells (SetPermissionKept other ip is_kept) s e = absurd cc
-  call-tells (SetChannelKept other to is_kept) s e = absurd cc
+  call-reports : (call : Call) (s : State) → Reports ≡ reply_of call s → IsAmong Did (handled call s)
+  call-reports (Recv packet now) s e = packet-reports packet now s (recv-reports (packet_step packet now s).0 e)
+  call-reports (PollRecv now) s e = absurd (poll-reports (poll_recv_step now s).0 e)
+  call-reports (Delete now) s e = absurd cc
+  call-reports (CreatePermission other ip now) s e = absurd cc
+  call-reports (BindChannel other to now) s e = absurd cc
+  call-reports (TcpConnect to now) s e = absurd cc
+  call-reports (AllocatedTcpSocket id tuple to local now) s e = absurd cc
+  call-reports (TcpClosed local remote now) s e = absurd cc
+  call-reports (SendTo other to bytes now) s e = absurd cc
+  call-reports (Poll now) s e = absurd cc
+  call-reports (PollTransmit now) s e = absurd cc
+  call-reports PollEvent s e = absurd cc
+  call-reports ProtocolError s e = absurd cc
+  call-reports RelayedAddresses s e = absurd cc
+  call-reports (Permissions other relayed) s e = absurd cc
+  call-reports (HavePermission other to) s e = absurd cc
+  call-reports (SetPermissionKept other ip is_kept) s e = absurd cc
+  call-reports (SetChannelKept other to is_kept) s e = absurd cc
 
-  run-tells : (s : State) (calls : List Call) → Has Tells (replies_of s calls) → IsAmong Did (handled_in s calls)
-  run-tells s [] none = absurd none
-  run-tells s (call ∷ calls) (inl e) = among-left Did (handled call s) (handled_in (state_after call s) calls) (call-tells call s e)
-  run-tells s (call ∷ calls) (inr later) = among-right Did (handled call s) (handled_in (state_after call s) calls) (run-tells (state_after call s) calls later)
+  run-reports : (s : State) (calls : List Call) → Has Reports (replies_of s calls) → IsAmong Did (handled_in s calls)
+  run-reports s [] none = absurd none
+  run-reports s (call ∷ calls) (inl e) = among-left Did (handled call s) (handled_in (state_after call s) calls) (call-reports call s e)
+  run-reports s (call ∷ calls) (inr later) = among-right Did (handled call s) (handled_in (state_after call s) calls) (run-reports (state_after call s) calls later)
 
 pub gives-let-in : (s : State) (calls : List Call) → AnswersOnlyPermitted s calls
 gives-let-in s calls = (
   gives-data s calls,
   λ transport peer icmp there.
-      run-tells transport peer icmp s calls
+      run-reports transport peer icmp s calls
       (contains-has (Replies.PeerIcmp transport peer icmp.icmp_type icmp.code icmp.data) (replies_of s calls) there),
 )

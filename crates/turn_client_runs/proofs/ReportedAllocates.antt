@@ -26,10 +26,10 @@ use Rattle.turn_client_api.specs.Requests.{requested}
 use Rattle.turn_client_laws.proofs.CaseLemmas.{by_found, by_test}
 use Rattle.turn_client_api.proofs.HasLemmas.{Has, has-filter}
 use Rattle.turn_client_laws.proofs.InAllocationLemmas.{any-has, has-any, same_family-true}
-use Rattle.turn_client_runs.specs.Told.{is_awaited_by, is_like, is_to_come}
+use Rattle.turn_client_runs.specs.Reported.{is_awaited_by, is_like, is_to_come}
 use Rattle.turn_client_runs.proofs.LastingCounts.{passes, passes-append, passes-filter, passes-none}
-use Rattle.turn_client_runs.proofs.ToldCounts.{passes-over, passes-without}
-use Rattle.turn_client_runs.proofs.ToldLemmas.{Spends}
+use Rattle.turn_client_runs.proofs.ReportedCounts.{passes-over, passes-without}
+use Rattle.turn_client_runs.proofs.ReportedLemmas.{Spends}
 
 pub allocation-comes : (e : TurnEvent) (a : Relay) → is_to_come e (Allocation a) ≡ false
 allocation-comes e a = grind arith

@@ -1,4 +1,4 @@
--- What a call requests may be told once more.
+-- What a call requests may be reported once more.
 use Rattle.std.proofs.Common.{◌≡◌, ◌⊎◌, ◌∙◌, ℕ, ◌+◌, ◌≤◌, Bool, true, false, cond, not, ◌&&◌, ◌||◌, List, [], ◌∷◌, map, filter_map, Option, Some, None, Result, refl, sym, subst, arith, inl, inr}
 use Rattle.std.specs.Prelude.{is_none, is_some}
 use Rattle.std.specs.List.{list_any}
@@ -36,10 +36,10 @@ use Rattle.turn_client_laws.proofs.CaseLemmas.{by_test}
 use Rattle.turn_client_laws.proofs.DoubleLemmas.{no-permission}
 use Rattle.turn_client_api.proofs.HasLemmas.{Has, filter_map-has, has-right}
 use Rattle.turn_client_laws.proofs.InAllocationLemmas.{any-has, has-any}
-use Rattle.turn_client_runs.specs.Told.{is_about, is_connection, is_request_for, is_to_come, requested_by}
+use Rattle.turn_client_runs.specs.Reported.{is_about, is_connection, is_request_for, is_to_come, requested_by}
 use Rattle.turn_client_runs.proofs.LastingCounts.{passes, passes-append}
-use Rattle.turn_client_runs.proofs.ToldCalls.{in-allocation}
-use Rattle.turn_client_runs.proofs.ToldLemmas.{Spends, load, spends-same}
+use Rattle.turn_client_runs.proofs.ReportedCalls.{in-allocation}
+use Rattle.turn_client_runs.proofs.ReportedLemmas.{Spends, load, spends-same}
 
 clash : (b : Bool) → b ≡ true → b ≡ false → ⊥
 clash b h k = let both : true ≡ false = sym h ∙ k in cc

@@ -5,7 +5,7 @@ use Rattle.std.specs.Option.{option_map_or}
 use Rattle.std.proofs.lemmas.Bool.{cases_Bool}
 use Rattle.std.proofs.lemmas.List.{reverse-append}
 use Rattle.turn_client_api.proofs.HasLemmas.{Has, cases_Option}
-use Rattle.turn_client_runs.specs.Told.{count}
+use Rattle.turn_client_runs.specs.Reported.{count}
 use Rattle.turn_client_runs.proofs.LastingCounts.{passes, passes-append, passes-filter}
 
 pub count-passes : {X : Type 0} (p : X → Bool) (xs : List X) → count p xs ≡ passes p xs

@@ -1,4 +1,4 @@
--- A reply of the server tells of what may be told, once.
+-- A reply of the server tells of what may be reported, once.
 use Rattle.std.proofs.Common.{◌≡◌, ◌∙◌, ℕ, ◌≤◌, Bool, true, false, cond, not, ◌&&◌, ◌||◌, eqb, leb, List, [], ◌∷◌, map, filter, filter_map, fold, Option, Some, None, refl}
 use Rattle.std.proofs.Common.{sym, subst, arith, inl, inr}
 use Rattle.std.specs.Prelude.{is_some}
@@ -48,12 +48,12 @@ use Rattle.turn_client_api.proofs.HasLemmas.{Has, filter-has, first-has, has-fil
 use Rattle.turn_client_laws.proofs.InAllocationLemmas.{any-has, has-any}
 use Rattle.turn_client_laws.proofs.ListedGrants.{AllHaveGrant, HasGrant}
 use Rattle.turn_client_laws.proofs.TwoPurposes.{purpose-with}
-use Rattle.turn_client_runs.specs.Told.{is_like, is_to_come}
+use Rattle.turn_client_runs.specs.Reported.{is_like, is_to_come}
 use Rattle.turn_client_runs.proofs.LoneConnects.{HasLoneConnects}
-use Rattle.turn_client_runs.proofs.ToldAllocates.{IsSettled, allocation-comes, denied-spends, granted-spends}
-use Rattle.turn_client_runs.proofs.ToldLemmas.{IsLosable, Spends, channel-created, channel-failed, channel-reserved, connect-comes, offer-comes, permission-created, permission-failed}
-use Rattle.turn_client_runs.proofs.ToldLemmas.{spends-exchanged, spends-failed-later, spends-fold, spends-mapped, spends-removed}
-use Rattle.turn_client_runs.proofs.ToldLemmas.{spends-replaced, spends-same, spends-told, spends-told-first, spends-trans}
+use Rattle.turn_client_runs.proofs.ReportedAllocates.{IsSettled, allocation-comes, denied-spends, granted-spends}
+use Rattle.turn_client_runs.proofs.ReportedLemmas.{IsLosable, Spends, channel-created, channel-failed, channel-reserved, connect-comes, offer-comes, permission-created, permission-failed}
+use Rattle.turn_client_runs.proofs.ReportedLemmas.{spends-exchanged, spends-failed-later, spends-fold, spends-mapped, spends-removed}
+use Rattle.turn_client_runs.proofs.ReportedLemmas.{spends-replaced, spends-same, spends-reported, spends-reported-first, spends-trans}
 
 -- ---- what is found
 
@@ -106,7 +106,7 @@ module _ (e : TurnEvent) where
           (pending_permission_answered ip was true now s) refl refl refl)
       by (Some (Pending was)) f false =
           rw f
-          (spends-told e (is_permission_of ip) (PermissionCreateFailed over ip) (Permission ip (Pending was)) s (permission-there ip (Pending was) s f) its
+          (spends-reported e (is_permission_of ip) (PermissionCreateFailed over ip) (Permission ip (Pending was)) s (permission-there ip (Pending was) s f) its
           (permission-failed e over ip (Pending was)) (pending_permission_answered ip was false now s) refl refl refl)
       by (Some (Active lease)) f true =
           rw f
@@ -114,7 +114,7 @@ module _ (e : TurnEvent) where
           (active_permission_answered ip true now s) refl refl refl)
       by (Some (Active lease)) f false =
           rw f
-          (spends-told-first e (is_permission_of ip) (PermissionCreateFailed over ip) (Permission ip (Active lease)) s (permission-there ip (Active lease) s f) its
+          (spends-reported-first e (is_permission_of ip) (PermissionCreateFailed over ip) (Permission ip (Active lease)) s (permission-there ip (Active lease) s f) its
           (permission-failed e over ip (Active lease)) (active_permission_answered ip false now s) refl refl refl)
       by o f g = rw f (spends-same e s s refl refl refl)
 
@@ -203,7 +203,7 @@ module _ (e : TurnEvent) where
           let t = wait (ChannelCreateFailed over peer ∷ []) (without_grants (is_channel_of number) s) in
           rw f
           (spends-trans e s t (permission_refused_too (purposes_of id s) t)
-          (spends-told e (is_channel_of number) (ChannelCreateFailed over peer) (Channel number peer (Pending was)) s (channel-there number peer (Pending was) s f) (its-number number)
+          (spends-reported e (is_channel_of number) (ChannelCreateFailed over peer) (Channel number peer (Pending was)) s (channel-there number peer (Pending was) s f) (its-number number)
           (channel-failed e over number peer (Pending was) tt) t refl refl refl)
           (spends-failed-later e (is_asked_permission (purposes_of id s)) (asked-permission (purposes_of id s)) t))
       by (Some (peer, Active lease)) f true =
@@ -227,9 +227,9 @@ module _ (e : TurnEvent) where
       spends-exchanged e (is_connect_to peer) (TcpConnectFailed peer) (Connect peer) s there (same_address-self peer) (Offer offer) fits (connect_answered peer (Some id) s) refl refl refl
   connect-spends peer None s there =
       let fits : cond (is_like e (TcpConnectFailed peer)) 1 0 ≤ cond (is_to_come e (Connect peer)) 1 0 = rw (connect-comes e peer) (omega arith) in
-      spends-told e (is_connect_to peer) (TcpConnectFailed peer) (Connect peer) s there (same_address-self peer) fits (connect_answered peer None s) refl refl refl
+      spends-reported e (is_connect_to peer) (TcpConnectFailed peer) (Connect peer) s there (same_address-self peer) fits (connect_answered peer None s) refl refl refl
 
-  -- ---- refreshes, of which nothing is told
+  -- ---- refreshes, of which nothing is reported
 
   refreshed-spends : (family : AddressFamily) (lifetime : ℕ) (is_granted : Bool) (message : List ℕ) (now : ℕ) (s : State) → Spends e s (refreshed family lifetime is_granted message now s)
   refreshed-spends family lifetime is_granted message now s =
@@ -238,7 +238,7 @@ module _ (e : TurnEvent) where
       (λ g. spends-removed e (λ h. true) s (challenges_reset (all_gone s)) refl refl refl) (λ g. same))
       (λ f. by_test (Spends e s) is_granted _ s
       (λ g. by_found (Spends e s) (λ granted. prolonged family granted now s) (lifetime_in message) s
-      (λ n told. by_test (Spends e s) (leb min_lifetime n) (longer n) s
+      (λ n reported. by_test (Spends e s) (leb min_lifetime n) (longer n) s
       (λ long. spends-mapped e (changed_allocation which (later n)) (changed-comes e which (later n)) s (longer n) refl refl refl) (λ short. same))
       same) (λ g. same))
     where

@@ -1,4 +1,4 @@
--- In each part of a run no cause is told twice.
+-- In each part of a run no cause is reported twice.
 use Rattle.std.proofs.Common.{◌≡◌, ℕ, ◌+◌, ◌≤◌, true, List, [], ◌∷◌, refl, sym, subst, arith, inl, inr, ◌∙◌, false}
 use Rattle.std.specs.List.{list_any}
 use Rattle.std.proofs.lemmas.Bool.{false_from_ne_true}
@@ -31,18 +31,18 @@ use Rattle.turn_client_laws.proofs.ListedGrants.{AllHaveGrant, StayFounded, Stay
 use Rattle.turn_client_laws.proofs.StandLemmas.{has-contains}
 use Rattle.turn_client_laws.proofs.InputChainLemmas.{calls-do}
 use Rattle.turn_client_laws.proofs.InputKeepLemmas.{before-kept}
-use Rattle.turn_client_runs.specs.Told.{CausesAreToldOnce, IsOfGrant, IsToldOncePerRequest, attempts_in, caused_by, due_of, in_calls, is_about, is_awaited_by, is_like, is_to_come, told_by}
+use Rattle.turn_client_runs.specs.Reported.{CausesAreReportedOnce, IsOfGrant, IsReportedOncePerRequest, attempts_in, caused_by, due_of, in_calls, is_about, is_awaited_by, is_like, is_to_come, reported_by}
 use Rattle.turn_client_runs.proofs.LastingCounts.{passes, passes-none}
 use Rattle.turn_client_runs.proofs.LoneCalls.{call-lone, input-lone}
 use Rattle.turn_client_runs.proofs.LoneConnects.{HasLoneConnects}
 use Rattle.turn_client_runs.proofs.QuietLemmas.{calls-keep}
 use Rattle.turn_client_runs.proofs.RunGrants.{Keeps, call-keeps, first-keeps, keeps-signed}
-use Rattle.turn_client_runs.proofs.ToldCalls.{quiet-spends}
-use Rattle.turn_client_runs.proofs.ToldCounts.{count-passes, passes-first}
-use Rattle.turn_client_runs.proofs.ToldInputs.{Suits, gone-spends, lead-brings}
-use Rattle.turn_client_runs.proofs.ToldLemmas.{Spends, load, spends-same, spends-trans}
-use Rattle.turn_client_runs.proofs.ToldAllocates.{IsSettled}
-use Rattle.turn_client_runs.proofs.ToldRequests.{channel-requests, connect-requests, permission-requests}
+use Rattle.turn_client_runs.proofs.ReportedCalls.{quiet-spends}
+use Rattle.turn_client_runs.proofs.ReportedCounts.{count-passes, passes-first}
+use Rattle.turn_client_runs.proofs.ReportedInputs.{Suits, gone-spends, lead-brings}
+use Rattle.turn_client_runs.proofs.ReportedLemmas.{Spends, load, spends-same, spends-trans}
+use Rattle.turn_client_runs.proofs.ReportedAllocates.{IsSettled}
+use Rattle.turn_client_runs.proofs.ReportedRequests.{channel-requests, connect-requests, permission-requests}
 use Rattle.turn_client_runs.proofs.UnboundStreams.{AreUnbound, call-unbound, first-unbound, input-unbound-at}
 
 -- ---- the inputs of a call
@@ -107,27 +107,27 @@ module _ (e : TurnEvent) where
 
   -- ---- a call
 
-  call-tells : (call : Call) (s : State) → Keeps s → KeepsConnections s → NamesOnce s → told_by e call s + load e (state_after call s) ≤ load e s + caused_by e call s
-  call-tells PollEvent s keeps connections names = omega (arith, passes-first (is_like e) s.events)
-  call-tells (CreatePermission transport ip now) s keeps connections names = omega (arith, permission-requests e s transport ip now)
-  call-tells (BindChannel transport peer now) s keeps connections names = omega (arith, channel-requests e s transport peer now)
-  call-tells (TcpConnect peer now) s keeps connections names = omega (arith, connect-requests e s peer now)
-  call-tells (Recv packet now) s keeps connections names = omega (arith, inputs-bring (Recv packet now) s keeps connections names tt)
-  call-tells (PollRecv now) s keeps connections names = omega (arith, inputs-bring (PollRecv now) s keeps connections names tt)
-  call-tells call s keeps connections names = omega (arith, quiet-spends e s call tt)
+  call-reports : (call : Call) (s : State) → Keeps s → KeepsConnections s → NamesOnce s → reported_by e call s + load e (state_after call s) ≤ load e s + caused_by e call s
+  call-reports PollEvent s keeps connections names = omega (arith, passes-first (is_like e) s.events)
+  call-reports (CreatePermission transport ip now) s keeps connections names = omega (arith, permission-requests e s transport ip now)
+  call-reports (BindChannel transport peer now) s keeps connections names = omega (arith, channel-requests e s transport peer now)
+  call-reports (TcpConnect peer now) s keeps connections names = omega (arith, connect-requests e s peer now)
+  call-reports (Recv packet now) s keeps connections names = omega (arith, inputs-bring (Recv packet now) s keeps connections names tt)
+  call-reports (PollRecv now) s keeps connections names = omega (arith, inputs-bring (PollRecv now) s keeps connections names tt)
+  call-reports call s keeps connections names = omega (arith, quiet-spends e s call tt)
 
   -- ---- a run
 
   call-names : (call : Call) (s : State) → NamesOnce s → NamesOnce (state_after call s)
   call-names call s names = rw (call-configured call s) names
 
-  calls-tell : (calls : List Call) (s : State) → Keeps s → KeepsConnections s → NamesOnce s
-      → in_calls (told_by e) s calls + load e (state_after_all s calls) ≤ load e s + in_calls (caused_by e) s calls
-  calls-tell [] s keeps connections names = omega arith
-  calls-tell (call ∷ calls) s keeps connections names = omega (
+  calls-report : (calls : List Call) (s : State) → Keeps s → KeepsConnections s → NamesOnce s
+      → in_calls (reported_by e) s calls + load e (state_after_all s calls) ≤ load e s + in_calls (caused_by e) s calls
+  calls-report [] s keeps connections names = omega arith
+  calls-report (call ∷ calls) s keeps connections names = omega (
     arith,
-    call-tells call s keeps connections names,
-    calls-tell calls (state_after call s) (call-keeps call s keeps) (call-connections call s connections) (call-names call s names),
+    call-reports call s keeps connections names,
+    calls-report calls (state_after call s) (call-keeps call s keeps) (call-connections call s connections) (call-names call s names),
   )
 
   due-load : (s : State) → due_of e s ≡ load e s
@@ -140,27 +140,27 @@ module _ (e : TurnEvent) where
   none-to-come gs none = passes-none (is_to_come e) gs (λ g there. false_from_ne_true (is_to_come e g) (λ is.
       let no : true ≡ false = sym (has-any (is_about e) g gs there (comes-about e g is)) ∙ none in cc))
 
-  once-requested : (calls : List Call) (s : State) → Keeps s → KeepsConnections s → NamesOnce s → IsToldOncePerRequest e s calls
+  once-requested : (calls : List Call) (s : State) → Keeps s → KeepsConnections s → NamesOnce s → IsReportedOncePerRequest e s calls
   once-requested calls s keeps connections names of none few =
       let t = state_after_all s calls in
       omega (
         arith,
         few,
-        calls-tell calls s keeps connections names,
+        calls-report calls s keeps connections names,
         none-to-come s.grants none,
         none-awaited e of s.families,
         count-passes (is_like e) s.events,
         count-passes (is_like e) t.events,
       )
 
-pub causes-told-once : (transport : TransportType) (local remote : SocketAddr) (config : Config) (seed : List ℕ) (calls : List Call)
-    → CausesAreToldOnce (initial transport local remote config seed) calls
-causes-told-once transport local remote config seed calls names earlier middle later split e =
+pub causes-reported-once : (transport : TransportType) (local remote : SocketAddr) (config : Config) (seed : List ℕ) (calls : List Call)
+    → CausesAreReportedOnce (initial transport local remote config seed) calls
+causes-reported-once transport local remote config seed calls names earlier middle later split e =
     let first = initial transport local remote config seed in
     let s = state_after_all first earlier in
     let keeps = calls-keep Keeps call-keeps earlier first (first-keeps transport local remote config seed) in
     let connections = calls-keep KeepsConnections call-connections earlier first ((λ id peer none. absurd none), first-unbound transport local remote config seed) in
     let still = calls-keep NamesOnce (call-names e) earlier first names in (
-      omega (arith, calls-tell e middle s keeps connections still, due-load e s, due-load e (state_after_all s middle)),
+      omega (arith, calls-report e middle s keeps connections still, due-load e s, due-load e (state_after_all s middle)),
       once-requested e middle s keeps connections still,
     )

@@ -41,13 +41,13 @@ use Rattle.turn_client_api.proofs.AddressLemmas.{same_address-true}
 use Rattle.turn_client_laws.proofs.CaseLemmas.{by_found, by_test}
 use Rattle.turn_client_api.proofs.HasLemmas.{filter-none}
 use Rattle.turn_client_laws.proofs.InAllocationLemmas.{has-any}
-use Rattle.turn_client_runs.specs.Told.{is_to_come}
+use Rattle.turn_client_runs.specs.Reported.{is_to_come}
 use Rattle.turn_client_runs.proofs.LastingCounts.{passes, passes-append}
-use Rattle.turn_client_runs.proofs.ToldLemmas.{Spends, connection-comes, is_of_connection, offer-comes, spends-mapped, spends-removed, spends-same, spends-trans}
-use Rattle.turn_client_runs.proofs.ToldInputs.{gone-spends}
-use Rattle.turn_client_runs.proofs.ToldAllocates.{fail-spends}
-use Rattle.turn_client_runs.proofs.ToldReplies.{changed-comes}
-use Rattle.turn_client_runs.proofs.ToldTime.{poll-spends}
+use Rattle.turn_client_runs.proofs.ReportedLemmas.{Spends, connection-comes, is_of_connection, offer-comes, spends-mapped, spends-removed, spends-same, spends-trans}
+use Rattle.turn_client_runs.proofs.ReportedInputs.{gone-spends}
+use Rattle.turn_client_runs.proofs.ReportedAllocates.{fail-spends}
+use Rattle.turn_client_runs.proofs.ReportedReplies.{changed-comes}
+use Rattle.turn_client_runs.proofs.ReportedTime.{poll-spends}
 
 marked-comes : (e : TurnEvent) (is_kept : Bool) (g : Grant) → is_to_come e (marked is_kept g) ≡ is_to_come e g
 marked-comes e is_kept g = grind arith

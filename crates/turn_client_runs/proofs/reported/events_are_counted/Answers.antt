@@ -3,7 +3,7 @@ use Rattle.turn_stun.specs.Attributes.{seen_after}
 use Rattle.turn_stun.specs.Message.{attributes_from, fault_of}
 use Rattle.turn_client_api.specs.Streams.{steps_until_payload}
 use Rattle.turn_client_laws.specs.Handled.{inputs_taken}
-use Rattle.turn_client_runs.proofs.told.events_are_counted.Goals as goal
+use Rattle.turn_client_runs.proofs.reported.events_are_counted.Goals as goal
 
 pub returns-clause-ended : goal.returns-clause-ended
 returns-clause-ended c = λ transport local remote config seed e. rw e refl
@@ -11,8 +11,8 @@ returns-clause-ended c = λ transport local remote config seed e. rw e refl
 pub returns-clause-before : goal.returns-clause-before
 returns-clause-before c = λ s. refl
 
-pub returns-clause-told : goal.returns-clause-told
-returns-clause-told c = λ s. refl
+pub returns-clause-reported : goal.returns-clause-reported
+returns-clause-reported c = λ s. refl
 
 pub returns-clause-requested : goal.returns-clause-requested
 returns-clause-requested c = λ s. refl

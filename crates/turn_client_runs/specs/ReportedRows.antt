@@ -1,4 +1,4 @@
--- Worked runs, in which events are told.
+-- Worked runs, in which events are reported.
 use Rattle.std.specs.Prelude.{List, [], ◌∷◌, None, Some}
 use Rattle.turn_stun.specs.declared.transport.TransportType.TheVariants.{Tcp, Udp}
 use Rattle.turn_client_api.specs.declared.call.Call.{Call}

@@ -19,9 +19,9 @@ use Rattle.turn_client_api.specs.declared.grant.Progress.TheVariants.{Pending, A
 use Rattle.turn_client_api.specs.Grants.{failure_of, failures_among, wait, without_grants}
 use Rattle.turn_client_api.specs.Poll.{failed}
 use Rattle.turn_client_api.proofs.HasLemmas.{Has, has-filter}
-use Rattle.turn_client_runs.specs.Told.{is_awaited_by, is_like, is_to_come}
+use Rattle.turn_client_runs.specs.Reported.{is_awaited_by, is_like, is_to_come}
 use Rattle.turn_client_runs.proofs.LastingCounts.{passes, passes-append, passes-filter}
-use Rattle.turn_client_runs.proofs.ToldCounts.{passes-both, passes-kept, passes-made, passes-reverse, passes-without}
+use Rattle.turn_client_runs.proofs.ReportedCounts.{passes-both, passes-kept, passes-made, passes-reverse, passes-without}
 
 -- ---- a grant that fails
 
@@ -69,8 +69,8 @@ module _ (e : TurnEvent) where
       rw (events, grants, families) (omega (arith, fits, passes-append (is_to_come e) s.grants (g ∷ [])))
 
   -- one event more, which is none like this one
-  pub spends-untold : (x : TurnEvent) → is_like e x ≡ false → (s t : State) → t.events ≡ s.events ++ x ∷ [] → t.grants ≡ s.grants → t.families ≡ s.families → Spends s t
-  spends-untold x none s t events grants families =
+  pub spends-unreported : (x : TurnEvent) → is_like e x ≡ false → (s t : State) → t.events ≡ s.events ++ x ∷ [] → t.grants ≡ s.grants → t.families ≡ s.families → Spends s t
+  spends-unreported x none s t events grants families =
       let fits : cond (is_like e x) 1 0 ≤ 0 = rw none (omega arith) in
       rw (events, grants, families) (omega (arith, fits, passes-append (is_like e) s.events (x ∷ [])))
 
@@ -98,18 +98,18 @@ module _ (e : TurnEvent) where
   spends-failed-later which loses s = omega (arith, failures which loses s, passes-append (is_like e) s.events (failures_among which s))
 
   -- One event more, and grants are removed, of which one is known, and another comes in their place. Of the
-  -- one that is known so much may come as is told, and may come of the other.
+  -- one that is known so much may come as is reported, and may come of the other.
   module _ (which : Grant → Bool) (x : TurnEvent) (g : Grant) (s : State) (there : Has g s.grants) (is : which g ≡ true) where
     left : passes (is_to_come e) (filter (λ h. not (which h)) s.grants) + cond (is_to_come e g) 1 0 ≤ passes (is_to_come e) s.grants
     left = passes-without (is_to_come e) which g s.grants there is
 
-    pub spends-told : cond (is_like e x) 1 0 ≤ cond (is_to_come e g) 1 0
+    pub spends-reported : cond (is_like e x) 1 0 ≤ cond (is_to_come e g) 1 0
         → (t : State) → t.events ≡ s.events ++ x ∷ [] → t.grants ≡ filter (λ h. not (which h)) s.grants → t.families ≡ s.families → Spends s t
-    spends-told fits t events grants families = rw (events, grants, families) (omega (arith, fits, left, passes-append (is_like e) s.events (x ∷ [])))
+    spends-reported fits t events grants families = rw (events, grants, families) (omega (arith, fits, left, passes-append (is_like e) s.events (x ∷ [])))
 
-    pub spends-told-first : cond (is_like e x) 1 0 ≤ cond (is_to_come e g) 1 0
+    pub spends-reported-first : cond (is_like e x) 1 0 ≤ cond (is_to_come e g) 1 0
         → (t : State) → t.events ≡ x ∷ s.events → t.grants ≡ filter (λ h. not (which h)) s.grants → t.families ≡ s.families → Spends s t
-    spends-told-first fits t events grants families = rw (events, grants, families) (omega (arith, fits, left))
+    spends-reported-first fits t events grants families = rw (events, grants, families) (omega (arith, fits, left))
 
     pub spends-replaced : (new : Grant) → cond (is_like e x) 1 0 + cond (is_to_come e new) 1 0 ≤ cond (is_to_come e g) 1 0
         → (t : State) → t.events ≡ s.events ++ x ∷ [] → t.grants ≡ filter (λ h. not (which h)) s.grants ++ new ∷ [] → t.families ≡ s.families → Spends s t

@@ -1,4 +1,4 @@
--- Each cause is told once (RFC 8656, sections 7 to 12; RFC 6062, sections 4.3 and 4.4): an event answers a
+-- Each cause is reported once (RFC 8656, sections 7 to 12; RFC 6062, sections 4.3 and 4.4): an event answers a
 -- request of the caller or an attempt of the server, and none is answered by two events that say the same.
 use Rattle.std.specs.Prelude.{◌≡◌, ◌==◌, ◌+◌, ◌≤◌, ℕ, nat_lt, Bool, true, false, not, ◌&&◌, if◌then◌else◌, List, [], ◌∷◌, length, filter, is_some, ⊤}
 use Rattle.std.specs.List.{list_any}
@@ -136,9 +136,9 @@ abbrev pub caused_by : TurnEvent → Call → State → ℕ
 caused_by event call s = requested_by event call s + attempts_in event (handled call s)
 
 -- the call returns an event like this one
-abbrev pub told_by : TurnEvent → Call → State → ℕ
-told_by event PollEvent s = option_map_or (λ told. if is_like event told then 1 else 0) (event_step s).0 0
-told_by event call s = 0
+abbrev pub reported_by : TurnEvent → Call → State → ℕ
+reported_by event PollEvent s = option_map_or (λ reported. if is_like event reported then 1 else 0) (event_step s).0 0
+reported_by event call s = 0
 
 -- ---- calls that follow each other
 
@@ -150,9 +150,9 @@ in_calls number s (call ∷ calls) = number call s + in_calls number (state_afte
 -- The events like this one that these calls return, and those that wait or may still come after them, are
 -- not more than waited or might come before, and one for each new request and each attempt among the calls. A new
 -- request finds no such grant.
-abbrev pub IsToldOnce : TurnEvent → State → List Call → Type 0
-IsToldOnce event s calls =
-    in_calls (told_by event) s calls + due_of event (state_after_all s calls) ≤ due_of event s + in_calls (caused_by event) s calls
+abbrev pub IsReportedOnce : TurnEvent → State → List Call → Type 0
+IsReportedOnce event s calls =
+    in_calls (reported_by event) s calls + due_of event (state_after_all s calls) ≤ due_of event s + in_calls (caused_by event) s calls
 
 -- the event is of a permission, a channel or a data connection
 abbrev pub IsOfGrant : TurnEvent → Type 0
@@ -167,13 +167,13 @@ IsOfGrant _ = ⊥
 -- If no such grant exists before the first of these calls, and it is caused only once among them, then at most
 -- one event more tells that it was created, and at most one that it failed; of a data connection at most one
 -- tells either. So between two that tell that it was created, it was lost.
-abbrev pub IsToldOncePerRequest : TurnEvent → State → List Call → Type 0
-IsToldOncePerRequest event s calls =
+abbrev pub IsReportedOncePerRequest : TurnEvent → State → List Call → Type 0
+IsReportedOncePerRequest event s calls =
     IsOfGrant event → list_any (is_about event) s.grants ≡ false → in_calls (caused_by event) s calls ≤ 1
-    → in_calls (told_by event) s calls + count (is_like event) (state_after_all s calls).events ≤ count (is_like event) s.events + 1
+    → in_calls (reported_by event) s calls + count (is_like event) (state_after_all s calls).events ≤ count (is_like event) s.events + 1
 
 -- so it is in each part of a run of a client that is configured with each family once at most
-abbrev pub CausesAreToldOnce : State → List Call → Type 0
-CausesAreToldOnce first calls =
+abbrev pub CausesAreReportedOnce : State → List Call → Type 0
+CausesAreReportedOnce first calls =
     is_family_list first.config.address_families ≡ true
-    → InEachPart (λ s middle. (event : TurnEvent) → IsToldOnce event s middle × IsToldOncePerRequest event s middle) first calls
+    → InEachPart (λ s middle. (event : TurnEvent) → IsReportedOnce event s middle × IsReportedOncePerRequest event s middle) first calls
