@@ -19,8 +19,8 @@ use Rattle.turn_c_calls.specs.Operation.{Operation}
 use Rattle.turn_c_calls.specs.Operation as Operations
 use Rattle.turn_c_calls.specs.Step.{Finishes}
 use Rattle.turn_c_calls.specs.declared.answer.Answer.{Answer}
-use Rattle.turn_c_calls.specs.declared.judge.Fault.{Fault}
-use Rattle.turn_c_calls.specs.declared.judge.Fault.TheVariants as Faults
+use Rattle.turn_c_calls.specs.declared.fault.Fault.{Fault}
+use Rattle.turn_c_calls.specs.declared.fault.Fault.TheVariants as Faults
 use Rattle.turn_c_calls.proofs.KeptLemmas.{SameRelays, does_kept, fails_kept}
 use Rattle.turn_c_calls.proofs.MadeLemmas.{bare_made}
 

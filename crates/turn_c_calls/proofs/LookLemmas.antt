@@ -4,7 +4,7 @@ use Rattle.turn_c_calls.specs.Answer.{of_kind}
 use Rattle.turn_c_calls.specs.Judge.{fault_code}
 use Rattle.turn_c_calls.specs.Look.{LacksSight, Looks, look_answer}
 use Rattle.turn_c_calls.specs.declared.answer.Answer.{Answer}
-use Rattle.turn_c_calls.specs.declared.judge.Fault.{Fault}
+use Rattle.turn_c_calls.specs.declared.fault.Fault.{Fault}
 
 pub looked_so : (sight : Result (Answer → Answer) Fault) (a b : Answer) → Looks sight a b → b ≡ look_answer sight a
 looked_so (Ok says) a b h = h

@@ -18,8 +18,8 @@ use Rattle.turn_c_calls.specs.Operation.{Operation}
 use Rattle.turn_c_calls.specs.Request.{call_in, index_in}
 use Rattle.turn_c_calls.specs.Step.{Does, Fails, IsFailed, IsMade}
 use Rattle.turn_c_calls.specs.declared.answer.Answer.{Answer}
-use Rattle.turn_c_calls.specs.declared.judge.Fault.{Fault}
-use Rattle.turn_c_calls.specs.declared.judge.Fault.TheVariants as Faults
+use Rattle.turn_c_calls.specs.declared.fault.Fault.{Fault}
+use Rattle.turn_c_calls.specs.declared.fault.Fault.TheVariants as Faults
 use Rattle.turn_c_calls.specs.declared.code.TheConstants.{PEER_DATA_RANGE}
 
 -- ---- what became of the input

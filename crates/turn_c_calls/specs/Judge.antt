@@ -8,8 +8,8 @@ use Rattle.turn_client_proto.specs.Run.{IsCallable}
 use Rattle.turn_lines.specs.Fault.{needed}
 use Rattle.turn_c_calls.specs.Request.{kind_in, operation_with, time_of}
 use Rattle.turn_c_calls.specs.declared.code.TheConstants.{BAD_CALL, BAD_TIME, BAD_PAYLOAD, OUT_OF_MEMORY, SMALL_BUFFER, UNREAD_BYTES}
-use Rattle.turn_c_calls.specs.declared.judge.Fault.{Fault}
-use Rattle.turn_c_calls.specs.declared.judge.Fault.TheVariants as Faults
+use Rattle.turn_c_calls.specs.declared.fault.Fault.{Fault}
+use Rattle.turn_c_calls.specs.declared.fault.Fault.TheVariants as Faults
 use Rattle.turn_c_calls.specs.Operation.{Operation}
 use Rattle.turn_c_calls.specs.Operation as Operations
 use Rattle.turn_c_calls.specs.declared.request.Kind.{Kind}

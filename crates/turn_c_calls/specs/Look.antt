@@ -9,8 +9,8 @@ use Rattle.turn_c_calls.specs.Held.{Held}
 use Rattle.turn_c_calls.specs.Judge.{fault_code}
 use Rattle.turn_c_calls.specs.Request.{kind_in, peer_ip_of, relayed_of, time_of}
 use Rattle.turn_c_calls.specs.declared.answer.Answer.{Answer}
-use Rattle.turn_c_calls.specs.declared.judge.Fault.{Fault}
-use Rattle.turn_c_calls.specs.declared.judge.Fault.TheVariants as Faults
+use Rattle.turn_c_calls.specs.declared.fault.Fault.{Fault}
+use Rattle.turn_c_calls.specs.declared.fault.Fault.TheVariants as Faults
 use Rattle.turn_c_calls.specs.declared.request.Kind.{Kind}
 use Rattle.turn_c_calls.specs.declared.request.Kind.TheVariants as Kinds
 use Rattle.turn_c_calls.specs.declared.request.Request.{Request}

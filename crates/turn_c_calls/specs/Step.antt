@@ -12,7 +12,7 @@ use Rattle.turn_c_calls.specs.Request.{call_in, index_in}
 use Rattle.turn_c_calls.specs.Buffer.{PointsIfAny, Puts, PutsIfAny}
 use Rattle.turn_c_calls.specs.declared.answer.Answer.{Answer}
 use Rattle.turn_c_calls.specs.declared.code.TheConstants.{BYTES, OUT_OF_MEMORY}
-use Rattle.turn_c_calls.specs.declared.judge.Fault.{Fault}
+use Rattle.turn_c_calls.specs.declared.fault.Fault.{Fault}
 use Rattle.turn_c_calls.specs.Operation.{Operation}
 use Rattle.turn_c_calls.specs.declared.request.Request.{Request}
 

@@ -8,7 +8,7 @@ ghost use Rattle.turn_c_calls.specs.Operation.{PollRecv, PollTransmit};
 ghost use Rattle.turn_c_calls.specs.Request.{peer_ip_of, relayed_of};
 
 use crate::answer::Answer;
-use crate::judge::Fault;
+use crate::fault::Fault;
 use crate::make;
 use crate::request::{
     Kind, Request, allocated_tcp_socket, bind_channel, c_tuple, create_permission, kind_in,

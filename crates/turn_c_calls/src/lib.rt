@@ -18,7 +18,7 @@ pub mod code;
 mod give;
 mod handle;
 pub mod hints;
-mod judge;
+mod fault;
 pub mod library;
 mod make;
 pub mod opening;

@@ -63,7 +63,8 @@ channel_sent s frame =
 
 -- ---- a signed reply to an outstanding request
 
--- a CONNECTION_BIND is answered over its own connection alone
+-- a reply with this method answers a request with this purpose; a CONNECTION_BIND is answered over its own
+-- connection alone
 abbrev pub is_answered : ℕ → Purpose → Bool
 is_answered method (ForBind local peer connection_id) = false
 is_answered method purpose = method_for purpose == method

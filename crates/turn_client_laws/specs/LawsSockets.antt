@@ -11,7 +11,7 @@ use Rattle.turn_client_api.specs.declared.grant.Origin.TheVariants.{ServerIndica
 use Rattle.turn_client_api.specs.Calls.{allocated_tcp_socket_step}
 use Rattle.turn_client_laws.specs.LawsRows.{ip_of_peer}
 use Rattle.turn_client_laws.specs.LawsMessages.{message_with, ms, offer_of, with_connection_id, with_peer}
-use Rattle.turn_client_laws.specs.LawsPieces.{client, over_tcp, server}
+use Rattle.turn_client_laws.specs.LawsReceived.{client, over_tcp, server}
 use Rattle.turn_client_api.specs.declared.error.TcpAllocateError.{TcpAllocateError}
 use Rattle.turn_client_api.specs.declared.poll.Socket5Tuple.{Socket5Tuple}
 use Rattle.turn_client_api.specs.Effect.{granted_until}

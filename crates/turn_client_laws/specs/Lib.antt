@@ -14,8 +14,8 @@ pub mod LawsMessages
 pub mod LawsNumbers
 pub mod LawsOrder
 pub mod LawsPeers
-pub mod LawsPieces
 pub mod LawsPurposes
+pub mod LawsReceived
 pub mod LawsReplies
 pub mod LawsRequests
 pub mod LawsRows

@@ -12,7 +12,7 @@ ghost use Rattle.turn_client_api.specs.Poll.{poll_step};
 ghost use Rattle.turn_client_api.specs.Transmit.{transmit_step};
 ghost use Rattle.turn_client_laws.specs.LawsRows.{peer, relayed_v4};
 ghost use Rattle.turn_client_laws.specs.LawsMessages.{IfSigned, ms, offer_of, after_message};
-ghost use Rattle.turn_client_laws.specs.LawsPieces.{client, data_end, empty_stream, server, with_waiting};
+ghost use Rattle.turn_client_laws.specs.LawsReceived.{client, data_end, empty_stream, server, with_waiting};
 ghost use Rattle.turn_client_laws.specs.LawsSockets.{asked_to_connect, asked_without_peer, attempted, control, offered, opened, permission, relaying_tcp};
 
 /// The effects of a peer's connection to the relayed address (RFC 6062, sections 4.4 and 5.3).

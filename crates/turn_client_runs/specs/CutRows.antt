@@ -4,7 +4,7 @@ use Rattle.std.specs.declared.net.socket_addr.SocketAddr.{SocketAddr}
 use Rattle.turn_auth.specs.declared.validation.Validation.{Validation}
 use Rattle.turn_client_api.specs.State.{State, seconds}
 use Rattle.turn_client_api.specs.Payloads.{Payload}
-use Rattle.turn_client_laws.specs.LawsPieces.{IsJudged, abc, bind_success, data_end, from_peer, hello, relayed, with_waiting}
+use Rattle.turn_client_laws.specs.LawsReceived.{IsJudged, abc, bind_success, data_end, from_peer, hello, relayed, with_waiting}
 use Rattle.turn_client_runs.specs.Cut.{fed_pieces, whole_of}
 
 -- at 1 s

@@ -6,7 +6,7 @@ use Rattle.turn_client_api.specs.declared.call.Call.TheVariants.{CreatePermissio
 use Rattle.turn_client_api.specs.Effect.{without_families}
 use Rattle.turn_client_api.specs.State.{State, seconds}
 use Rattle.turn_client_api.specs.declared.state.Mode.TheVariants.{Bound, Waiting}
-use Rattle.turn_client_laws.specs.LawsPieces.{client, server, with_connection}
+use Rattle.turn_client_laws.specs.LawsReceived.{client, server, with_connection}
 use Rattle.turn_client_laws.specs.LawsRows.{ip_of_peer, peer, with_permission}
 use Rattle.turn_client_laws.specs.LawsSockets.{attempted, permission, relaying_tcp}
 

@@ -12,7 +12,7 @@ use Rattle.turn_client_api.specs.declared.error.SendError.{SendError}
 use Rattle.turn_client_api.specs.Calls.{send_to_step}
 use Rattle.turn_client_api.specs.Steps.{state_after}
 use Rattle.turn_client_api.specs.Transmit.{next_transmit}
-use Rattle.turn_client_laws.specs.LawsPieces.{abc, abc_frame, client, data_end, half_header, hello_message, over_tcp, server, with_channel}
+use Rattle.turn_client_laws.specs.LawsReceived.{abc, abc_frame, client, data_end, half_header, hello_message, over_tcp, server, with_channel}
 use Rattle.turn_client_laws.specs.LawsRows.{peer}
 
 -- one piece of the control connection has two frames and half of a header, and the client is polled once

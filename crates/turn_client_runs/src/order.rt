@@ -3,7 +3,7 @@
 ghost use Rattle.std.specs.Prelude.{◌≡◌, ◌++◌};
 ghost use Rattle.turn_client_api.specs.State.{State};
 ghost use Rattle.turn_client_api.specs.Steps.{state_after_all};
-ghost use Rattle.turn_client_laws.specs.LawsPieces.{abc_frame, client, half_header, hello_message, with_channel};
+ghost use Rattle.turn_client_laws.specs.LawsReceived.{abc_frame, client, half_header, hello_message, with_channel};
 ghost use Rattle.turn_client_runs.specs.Holds.{HoldsOfRuns};
 ghost use Rattle.turn_client_runs.specs.InOrder.{InputsFollow, bytes_out_of, held_at};
 ghost use Rattle.turn_client_runs.specs.Inputs.{handled_in};

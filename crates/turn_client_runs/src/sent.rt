@@ -2,7 +2,7 @@
 
 ghost use Rattle.std.specs.Prelude.{◌≡◌, Ok, Some};
 ghost use Rattle.turn_client_api.specs.State.{State};
-ghost use Rattle.turn_client_laws.specs.LawsPieces.{data_end};
+ghost use Rattle.turn_client_laws.specs.LawsReceived.{data_end};
 ghost use Rattle.turn_client_runs.specs.Holds.{HoldsOfRuns};
 ghost use Rattle.turn_client_runs.specs.Sent.{SendsToPeers, SendsToServer};
 ghost use Rattle.turn_client_runs.specs.SentRows.{abc_frame_sent, abc_sent, sent_next_from, socket_named};

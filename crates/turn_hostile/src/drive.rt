@@ -150,7 +150,7 @@ impl Drive {
         match self.make(client, "poll")? {
             Outcome::Wait(until) => {
                 self.until = until;
-                self.rest(client)
+                self.check_rest(client)
             }
             Outcome::Open(id, peer) => self.open(client, id, peer),
             Outcome::Close(end) => expect(
@@ -188,7 +188,7 @@ impl Drive {
 
     /// The client has reported until when nothing is due. If that is later than now, what has expired by now is gone,
     /// nothing expires before, and nothing is to be sent before.
-    fn rest<C: TurnClientApi>(&mut self, client: &mut C) -> Result<(), Fault> {
+    fn check_rest<C: TurnClientApi>(&mut self, client: &mut C) -> Result<(), Fault> {
         if self.until <= self.now {
             return Ok(());
         }

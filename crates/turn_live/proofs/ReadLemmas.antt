@@ -6,7 +6,7 @@ use Rattle.std.proofs.lemmas.Grind.{flat_map-append}
 use Rattle.std.specs.Io.KnownBytes.{Consumes}
 use Rattle.turn_live.specs.Line.{IsLine, IsTaken, feed_at, missing_at}
 use Rattle.turn_live.specs.Lines.{joined_lines}
-use Rattle.turn_live.specs.Session.{AreRead}
+use Rattle.turn_live.specs.Session.{ReadsLines}
 use Rattle.turn_live.specs.declared.line.LineEnd.{LineEnd}
 use Rattle.turn_live.specs.declared.line.LineEnd.TheVariants.{Feed, Input}
 use Rattle.turn_live.proofs.KnownLemmas.{Consumes-none, Consumes-then}
@@ -28,14 +28,14 @@ one_line line clear zero d low = clear
 one_line line clear (suc k) d low = absurd (omega arith)
 
 -- the bytes of whole lines
-bytes_of_whole : (a b : Option (List ℕ)) (lines : List (List ℕ)) → (r : AreRead a b lines [] Feed) → r.bytes ≡ joined_lines lines
+bytes_of_whole : (a b : Option (List ℕ)) (lines : List (List ℕ)) → (r : ReadsLines a b lines [] Feed) → r.bytes ≡ joined_lines lines
 bytes_of_whole a b lines r = sym (append-nil r.bytes) ∙ sym r.whole ∙ append-nil (joined_lines lines)
 
-pub none_read : (a : Option (List ℕ)) → AreRead a a [] [] Feed
+pub none_read : (a : Option (List ℕ)) → ReadsLines a a [] [] Feed
 none_read a = record { bytes = []; consumed = Consumes-none a; whole = refl; each = no_lines }
 
 -- one more line
-pub more_read : (a b c : Option (List ℕ)) (lines : List (List ℕ)) (line : List ℕ) (end : LineEnd) → AreRead a b lines [] Feed → IsTaken b c line end → AreRead a c (lines ++ line ∷ []) [] end
+pub more_read : (a b c : Option (List ℕ)) (lines : List (List ℕ)) (line : List ℕ) (end : LineEnd) → ReadsLines a b lines [] Feed → IsTaken b c line end → ReadsLines a c (lines ++ line ∷ []) [] end
 more_read a b c lines line end r t =
     let behind = line ++ feed_at end in
     record {
@@ -50,7 +50,7 @@ more_read a b c lines line end r t =
     }
 
 -- some bytes of one more line
-pub rest_read : (a b c : Option (List ℕ)) (lines : List (List ℕ)) (rest : List ℕ) → AreRead a b lines [] Feed → Consumes b c rest → AreRead a c lines rest Feed
+pub rest_read : (a b c : Option (List ℕ)) (lines : List (List ℕ)) (rest : List ℕ) → ReadsLines a b lines [] Feed → Consumes b c rest → ReadsLines a c lines rest Feed
 rest_read a b c lines rest r t =
     record {
       bytes = r.bytes ++ rest;
@@ -60,7 +60,7 @@ rest_read a b c lines rest r t =
     }
 
 -- the end of the input after whole lines
-pub end_read : (a b c : Option (List ℕ)) (lines : List (List ℕ)) (line : List ℕ) → AreRead a b lines [] Feed → line ≡ [] → IsTaken b c line Input → AreRead a c lines [] Feed
+pub end_read : (a b c : Option (List ℕ)) (lines : List (List ℕ)) (line : List ℕ) → ReadsLines a b lines [] Feed → line ≡ [] → IsTaken b c line Input → ReadsLines a c lines [] Feed
 end_read a b c lines line r none t = rest_read a b c lines [] r (subst (Consumes b c) (append-nil line ∙ none) t.consumed)
 
 first_line : (line : List ℕ) (lines : List (List ℕ)) → IsLine line → All IsLine lines → All IsLine (line ∷ lines)
@@ -68,8 +68,8 @@ first_line line lines clear each zero d low = clear
 first_line line lines clear each (suc k) d low = each k d (omega arith)
 
 -- a line, then others
-pub read_behind : (a b c : Option (List ℕ)) (line : List ℕ) (lines : List (List ℕ)) (rest : List ℕ) (end : LineEnd) → IsTaken a b line Feed → AreRead b c lines rest end
-    → AreRead a c (line ∷ lines) rest end
+pub read_behind : (a b c : Option (List ℕ)) (line : List ℕ) (lines : List (List ℕ)) (rest : List ℕ) (end : LineEnd) → IsTaken a b line Feed → ReadsLines b c lines rest end
+    → ReadsLines a c (line ∷ lines) rest end
 read_behind a b c line lines rest end t r =
     let front = line ++ 10 ∷ [] in
     record {

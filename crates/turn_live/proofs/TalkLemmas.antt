@@ -9,7 +9,7 @@ use Rattle.turn_lines.specs.declared.head.Head.{Head}
 use Rattle.turn_live.specs.Line.{IsLine, IsLost, IsTaken, feed_at}
 use Rattle.turn_lines.specs.Configuration.{client_of}
 use Rattle.turn_live.specs.Lines.{after_line, after_lines, calls_said, line_call, line_head, line_said, session_of, session_with}
-use Rattle.turn_live.specs.Session.{AreRead, Goes, Steps, Talks, IsOfOneLine}
+use Rattle.turn_live.specs.Session.{ReadsLines, RunsLines, Steps, Talks, IsOfOneLine}
 use Rattle.turn_live.specs.declared.line.LineEnd.{LineEnd}
 use Rattle.turn_live.specs.declared.line.LineEnd.TheVariants.{Feed, Input}
 use Rattle.turn_live.specs.declared.stop.Stop.{Stop}
@@ -22,7 +22,7 @@ use Rattle.turn_live.proofs.ReadLemmas.{end_read, more_read, none_read, read_beh
 -- the state of a session before its next line is read: all lines that were read are answered
 pub record GoesOn (relays : TransportType) (s now : State) (input left old new : Option (List ℕ)) : Type 0 where
   pub lines : List (List ℕ)
-  pub read : AreRead input left lines [] Feed
+  pub read : ReadsLines input left lines [] Feed
   pub told : Appends old new (calls_said relays s lines).0
   pub state : now ≡ after_lines relays s lines
   pub relaying : now.config.allocation_transport ≡ relays
@@ -62,9 +62,9 @@ cut_more relays s now lines line count w x y state told more =
     subst (λ (text : List ℕ). Appends w y (take (length before + count) text)) (sym (calls_said-more relays s lines line))
     (Appends-cut w x y before one count told here)
 
-goes : (relays : TransportType) (s : State) (a c : Option (List ℕ)) (lines : List (List ℕ)) (rest : List ℕ) (end : LineEnd) → AreRead a c lines rest end
-    → Goes (calls_said relays s) a c lines rest end None
-goes relays s a c lines rest end read = record { read = read; bad_is = refl }
+runs_lines : (relays : TransportType) (s : State) (a c : Option (List ℕ)) (lines : List (List ℕ)) (rest : List ℕ) (end : LineEnd) → ReadsLines a c lines rest end
+    → RunsLines (calls_said relays s) a c lines rest end None
+runs_lines relays s a c lines rest end read = record { read = read; bad_is = refl }
 
 -- ---- one step more
 
@@ -83,14 +83,14 @@ pub ends : (relays : TransportType) (s now after : State) (a b c w x y : Option 
 ends relays s now after a b c w x y k (line, taken, inl none) = (
   k.lines,
   Feed,
-  goes relays s a c k.lines [] Feed (end_read a b c k.lines line k.read none.0 taken),
+  runs_lines relays s a c k.lines [] Feed (end_read a b c k.lines line k.read none.0 taken),
   ends_later a b c k.read.bytes Input k.read.consumed taken.ends,
   kept w x y (calls_said relays s k.lines).0 k.told none.2,
 )
 ends relays s now after a b c w x y k (line, taken, inr answer) = (
   k.lines ++ line ∷ [],
   Input,
-  goes relays s a c (k.lines ++ line ∷ []) [] Input (more_read a b c k.lines line Input k.read taken),
+  runs_lines relays s a c (k.lines ++ line ∷ []) [] Input (more_read a b c k.lines line Input k.read taken),
   ends_later a b c k.read.bytes Input k.read.consumed taken.ends,
   told_more relays s now k.lines line w x y k.state k.told answer.told,
 )
@@ -101,14 +101,14 @@ stops relays s now after a b c w x y (Stops.Bad bad) k wrong = absurd wrong
 stops relays s now after a b c w x y Stops.OutOfMemory k (rest, consumed, one, none) = (
   k.lines,
   rest,
-  goes relays s a c k.lines rest Feed (rest_read a b c k.lines rest k.read consumed),
+  runs_lines relays s a c k.lines rest Feed (rest_read a b c k.lines rest k.read consumed),
   one,
   kept w x y (calls_said relays s k.lines).0 k.told none,
 )
 stops relays s now after a b c w x y Stops.ReadFailed k (rest, consumed, clear, none) = (
   k.lines,
   rest,
-  goes relays s a c k.lines rest Feed (rest_read a b c k.lines rest k.read consumed),
+  runs_lines relays s a c k.lines rest Feed (rest_read a b c k.lines rest k.read consumed),
   clear,
   kept w x y (calls_said relays s k.lines).0 k.told none,
 )
@@ -117,7 +117,7 @@ stops relays s now after a b c w x y Stops.WriteFailed k (line, end, taken, cut)
   line,
   end,
   length (calls_said relays s k.lines).0 + cut.0,
-  goes relays s a c (k.lines ++ line ∷ []) [] end (more_read a b c k.lines line end k.read taken),
+  runs_lines relays s a c (k.lines ++ line ∷ []) [] end (more_read a b c k.lines line end k.read taken),
   ends_later a b c k.read.bytes end k.read.consumed taken.ends,
   cut_more relays s now k.lines line cut.0 w x y k.state k.told cut.1,
 )
@@ -168,7 +168,7 @@ head_alone a b w line head taken says =
 
 -- the lines after a head
 goes_behind : (a b c : Option (List ℕ)) (line : List ℕ) (head : Head) (lines : List (List ℕ)) (rest : List ℕ) (end : LineEnd) (bad : Option BadLine) → IsTaken a b line Feed → line_head line ≡ Ok head
-    → Goes (calls_said head.request.allocation (client_of head)) b c lines rest end bad → Goes session_of a c (line ∷ lines) rest end bad
+    → RunsLines (calls_said head.request.allocation (client_of head)) b c lines rest end bad → RunsLines session_of a c (line ∷ lines) rest end bad
 goes_behind a b c line head lines rest end bad taken says g = record {
   read = read_behind a b c line lines rest end taken g.read;
   bad_is = ap (λ (r : Result Head BadLine). (session_with r lines).1) says ∙ g.bad_is;

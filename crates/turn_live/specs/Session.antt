@@ -65,16 +65,16 @@ Steps relays s after input left old new (Err Stops.WriteFailed) =
 -- ---- many lines
 
 -- These lines were read, and then this much of the next line. The last line may lack its LF.
-pub record AreRead (input left : Option (List ℕ)) (lines : List (List ℕ)) (rest : List ℕ) (end : LineEnd) : Type 0 where
+pub record ReadsLines (input left : Option (List ℕ)) (lines : List (List ℕ)) (rest : List ℕ) (end : LineEnd) : Type 0 where
   pub bytes : List ℕ
   pub consumed : Consumes input left bytes
   pub whole : joined_lines lines ++ rest ≡ bytes ++ missing_at end
   pub each : All IsLine lines
 
 -- the lines were read, and this one of them ends the session
-pub record Goes (said : List (List ℕ) → List ℕ × Option BadLine) (input left : Option (List ℕ)) (lines : List (List ℕ)) (rest : List ℕ) (end : LineEnd)
+pub record RunsLines (said : List (List ℕ) → List ℕ × Option BadLine) (input left : Option (List ℕ)) (lines : List (List ℕ)) (rest : List ℕ) (end : LineEnd)
     (bad : Option BadLine) : Type 0 where
-  pub read : AreRead input left lines rest end
+  pub read : ReadsLines input left lines rest end
   pub bad_is : (said lines).1 ≡ bad
 
 -- A session with these answers to lines, by how it ends.
@@ -82,19 +82,19 @@ abbrev pub Talks : (List (List ℕ) → List ℕ × Option BadLine) → Option (
     → Type 0
 -- at the end of the input, with each line answered
 Talks said input left old new (Ok _) =
-    (lines : List (List ℕ)) × (end : LineEnd) × Goes said input left lines [] end None × OnSome input (IsAtEnd left) × Appends old new (said lines).0
+    (lines : List (List ℕ)) × (end : LineEnd) × RunsLines said input left lines [] end None × OnSome input (IsAtEnd left) × Appends old new (said lines).0
 -- at a first line that ends it, after which nothing was read
 Talks said input left old new (Err (Stops.Bad bad)) =
-    (line : List ℕ) × (end : LineEnd) × Goes said input left (line ∷ []) [] end (Some bad) × EndsSo input left end × Appends old new []
+    (line : List ℕ) × (end : LineEnd) × RunsLines said input left (line ∷ []) [] end (Some bad) × EndsSo input left end × Appends old new []
 -- at a line for which memory allocation failed, with no other line after the answered ones
 Talks said input left old new (Err Stops.OutOfMemory) =
-    (lines : List (List ℕ)) × (rest : List ℕ) × Goes said input left lines rest Feed None × IsOfOneLine rest × Appends old new (said lines).0
+    (lines : List (List ℕ)) × (rest : List ℕ) × RunsLines said input left lines rest Feed None × IsOfOneLine rest × Appends old new (said lines).0
 -- at a line that could not be read to its end
 Talks said input left old new (Err Stops.ReadFailed) =
-    (lines : List (List ℕ)) × (rest : List ℕ) × Goes said input left lines rest Feed None × IsLine rest × Appends old new (said lines).0
+    (lines : List (List ℕ)) × (rest : List ℕ) × RunsLines said input left lines rest Feed None × IsLine rest × Appends old new (said lines).0
 -- at a line whose answer could not be written
 Talks said input left old new (Err Stops.WriteFailed) =
-    (lines : List (List ℕ)) × (line : List ℕ) × (end : LineEnd) × (count : ℕ) × Goes said input left (lines ++ line ∷ []) [] end None
+    (lines : List (List ℕ)) × (line : List ℕ) × (end : LineEnd) × (count : ℕ) × RunsLines said input left (lines ++ line ∷ []) [] end None
     × EndsSo input left end × Appends old new (take count (said (lines ++ line ∷ [])).0)
 
 -- a session from its first line on

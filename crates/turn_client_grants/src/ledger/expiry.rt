@@ -28,12 +28,12 @@ use turn_types::AddressFamily;
 impl GrantLedger {
     /// Processes all that expires at this time or earlier, allocation by allocation in the order in which
     /// the server granted them, and the time-out of this request, if there is one.
-    pub fn expire_grants(&mut self, given: Option<TransactionId>, now: Instant)
-        ensures state { (s : State) → with_ledger self.new s ≡ expired_at given now (with_ledger self.old s) }
+    pub fn expire_grants(&mut self, timed_out: Option<TransactionId>, now: Instant)
+        ensures state { (s : State) → with_ledger self.new s ≡ expired_at timed_out now (with_ledger self.old s) }
         ensures room { SameRoomBut 0 0 self.old self.new }
     {
-        match given {
-            Some(_) => self.expire_each(given, now),
+        match timed_out {
+            Some(_) => self.expire_each(timed_out, now),
             None => self.expire_by_time(now),
         }
     }
@@ -52,22 +52,22 @@ impl GrantLedger {
     }
 
     /// The same, whether or not something is due.
-    fn expire_each(&mut self, given: Option<TransactionId>, now: Instant)
-        ensures state { (s : State) → with_ledger self.new s ≡ expired_at given now (with_ledger self.old s) }
+    fn expire_each(&mut self, timed_out: Option<TransactionId>, now: Instant)
+        ensures state { (s : State) → with_ledger self.new s ≡ expired_at timed_out now (with_ledger self.old s) }
         ensures room { SameRoomBut 0 0 self.old self.new }
     {
-        let purposes = self.timed_out_purposes(&given);
+        let purposes = self.timed_out_purposes(&timed_out);
         let first = self.table.nth_allocation(0);
         let second = self.table.nth_allocation(1);
-        self.expire_one(&first, &given, &purposes, now);
-        self.expire_one(&second, &given, &purposes, now);
+        self.expire_one(&first, &timed_out, &purposes, now);
+        self.expire_one(&second, &timed_out, &purposes, now);
     }
 
     /// The purposes of the request that timed out, if there is one.
-    fn timed_out_purposes(&self, given: &Option<TransactionId>) -> Purposes
-        ensures { (s : State) → purposes_in result ≡ timed_out_purposes given.now (with_ledger self.now s) }
+    fn timed_out_purposes(&self, timed_out: &Option<TransactionId>) -> Purposes
+        ensures { (s : State) → purposes_in result ≡ timed_out_purposes timed_out.now (with_ledger self.now s) }
     {
-        match given {
+        match timed_out {
             Some(id) => self.table.purposes_of(*id),
             None => Purposes::none(),
         }
@@ -77,16 +77,16 @@ impl GrantLedger {
     fn expire_one(
         &mut self,
         relay: &Option<Relay>,
-        given: &Option<TransactionId>,
+        timed_out: &Option<TransactionId>,
         purposes: &Purposes,
         now: Instant,
     )
         ensures state { (s : State) → with_ledger self.new s
-            ≡ expired_each given.now (purposes_in purposes.now) now (with_ledger self.old s) (option_to_list relay.now) }
+            ≡ expired_each timed_out.now (purposes_in purposes.now) now (with_ledger self.old s) (option_to_list relay.now) }
         ensures room { SameRoomBut 0 0 self.old self.new }
     {
         match relay {
-            Some(relay) => self.expire_allocation(relay, given, purposes, now),
+            Some(relay) => self.expire_allocation(relay, timed_out, purposes, now),
             None => {}
         }
     }
@@ -95,18 +95,18 @@ impl GrantLedger {
     fn expire_allocation(
         &mut self,
         relay: &Relay,
-        given: &Option<TransactionId>,
+        timed_out: &Option<TransactionId>,
         purposes: &Purposes,
         now: Instant,
     )
-        ensures state { (s : State) → with_ledger self.new s ≡ expired_allocation given.now (purposes_in purposes.now) now (with_ledger self.old s) relay.now }
+        ensures state { (s : State) → with_ledger self.new s ≡ expired_allocation timed_out.now (purposes_in purposes.now) now (with_ledger self.old s) relay.now }
         ensures room { SameRoomBut 0 0 self.old self.new }
     {
         let goes = self.allocation_expires(relay, purposes, now);
         if goes {
             return self.remove(&GrantFilter::OfFamily(family_of(relay.relayed)));
         }
-        self.expire_in(family_of(relay.relayed), given, purposes, now);
+        self.expire_in(family_of(relay.relayed), timed_out, purposes, now);
     }
 
     /// Whether the allocation is removed: at its expiry, unless it is marked as expired and a request for
@@ -123,11 +123,11 @@ impl GrantLedger {
     fn expire_in(
         &mut self,
         family: AddressFamily,
-        given: &Option<TransactionId>,
+        timed_out: &Option<TransactionId>,
         purposes: &Purposes,
         now: Instant,
     )
-        ensures state { (s : State) → with_ledger self.new s ≡ expired_in family given.now (purposes_in purposes.now) now (with_ledger self.old s) }
+        ensures state { (s : State) → with_ledger self.new s ≡ expired_in family timed_out.now (purposes_in purposes.now) now (with_ledger self.old s) }
         ensures room { SameRoomBut 0 0 self.old self.new }
     {
         self.fail_front(&GrantFilter::PendingChannelsIn(family, *purposes));
@@ -136,7 +136,7 @@ impl GrantLedger {
         self.fail_front(&GrantFilter::ExpiredPermissions(family, now));
         self.fail_front(&GrantFilter::ConnectsIn(family, *purposes));
         self.unbind(&GrantFilter::UnboundIn(family, now, *purposes));
-        self.fail_front(&GrantFilter::OffersIn(family, *given));
+        self.fail_front(&GrantFilter::OffersIn(family, *timed_out));
         self.unlist(&GrantFilter::AskedIn(family, *purposes));
         self.remove(&GrantFilter::FreedChannels(family, now));
     }

@@ -13,5 +13,5 @@ returns c = λ s.
     let second = c.nth_allocation-second.result in
     let read : option_to_list first ++ option_to_list second ≡ allocations (with_ledger c.args.self.now s) =
     rw (← c.self.view_is) (rw (c.nth_allocation-first.ensures.found, c.nth_allocation-second.ensures.found) (sym c.nth_allocation-first.ensures.both)) in
-    rw (c.delete_answered-first_purpose.ensures, c.delete_answered-second_purpose.ensures)
+    rw (c.delete_purpose-first_purpose.ensures, c.delete_purpose-second_purpose.ensures)
     (map-both (λ (a : Relay). ForRefresh (family_of a.relayed) 0) first second ∙ ap (λ relays. map (λ (a : Relay). ForRefresh (family_of a.relayed) 0) relays) read)

@@ -10,7 +10,7 @@ use Rattle.turn_client_grants.proofs.ledger.GrantLedger.expire_each.Goals as goa
 pub returns-clause-state : goal.returns-clause-state
 returns-clause-state c = λ s.
     let purposes = purposes_in c.timed_out_purposes-purposes.result in
-    let f = expired_allocation c.args.given purposes c.args.now in
+    let f = expired_allocation c.args.timed_out purposes c.args.now in
     let first = c.nth_allocation-first.result in
     let second = c.nth_allocation-second.result in
     let start = with_ledger c.args.self.now s in
@@ -20,4 +20,4 @@ returns-clause-state c = λ s.
     ∙ (ap (λ t. fold f t (option_to_list second)) (c.expire_one.ensures.state s)
     ∙ (sym (fold-append f start (option_to_list first) (option_to_list second))
     ∙ (ap (λ relays. fold f start relays) read
-    ∙ ap (λ ps. fold (expired_allocation c.args.given ps c.args.now) start (allocations start)) (c.timed_out_purposes-purposes.ensures s))))
+    ∙ ap (λ ps. fold (expired_allocation c.args.timed_out ps c.args.now) start (allocations start)) (c.timed_out_purposes-purposes.ensures s))))

@@ -13,7 +13,7 @@ returns-clause-state c = λ s.
     c.remove.ensures.state s
     ∙ ap (set_free family now) (c.unlist.ensures.state s
     ∙ ap (refreshes_timed_out family purposes) (c.fail_front-5.ensures.state s
-    ∙ ap (offers_timed_out family c.args.given.now) (c.unbind.ensures.state s
+    ∙ ap (offers_timed_out family c.args.timed_out.now) (c.unbind.ensures.state s
     ∙ ap (connections_unbound family purposes now) (c.fail_front-4.ensures.state s
     ∙ ap (failed_by_timeout family purposes is_connect) (c.fail_front-3.ensures.state s
     ∙ ap (permissions_expired family now) (c.expire_channel.ensures.state s

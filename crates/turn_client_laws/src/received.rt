@@ -1,4 +1,4 @@
-//! Worked pieces of streams.
+//! Worked pieces of streams, and datagrams.
 
 ghost use Rattle.std.specs.Prelude.{true, ◌≡◌, ◌∷◌, ◌++◌, List, [], ℕ, Some, None};
 ghost use Rattle.turn_auth.specs.declared.validation.Validation.TheVariants.{Validated, Refused};
@@ -7,9 +7,9 @@ ghost use Rattle.turn_client_api.specs.State.{State, seconds};
 ghost use Rattle.turn_client_api.specs.declared.event.TurnEvent.TheVariants.{TcpConnected, TcpConnectFailed};
 ghost use Rattle.turn_client_api.specs.Payloads.{Handled, Ignored, PeerData};
 ghost use Rattle.turn_client_laws.specs.LawsRows.{peer};
-ghost use Rattle.turn_client_laws.specs.LawsPieces.{WhenJudged, abc, abc_frame, behind_half, bind_success, client, data_end, datagram_in, from_peer};
-ghost use Rattle.turn_client_laws.specs.LawsPieces.{half_header, hello, hello_message, icmp_message, over_tcp, server_piece_step, poll_recv_at_1_s, relayed};
-ghost use Rattle.turn_client_laws.specs.LawsPieces.{reported, second_peer_message, unknown_message, with_bound, with_channel, with_waiting};
+ghost use Rattle.turn_client_laws.specs.LawsReceived.{WhenJudged, abc, abc_frame, behind_half, bind_success, client, data_end, datagram_in, from_peer};
+ghost use Rattle.turn_client_laws.specs.LawsReceived.{half_header, hello, hello_message, icmp_message, over_tcp, server_piece_step, poll_recv_at_1_s, relayed};
+ghost use Rattle.turn_client_laws.specs.LawsReceived.{reported, second_peer_message, unknown_message, with_bound, with_channel, with_waiting};
 
 /// The effects of pieces of the control stream (RFC 8656, sections 11.4, 11.6, 12.5 and 12.6), each at a
 /// client with a channel to the peer.

@@ -2,7 +2,7 @@ use Rattle.std.proofs.Common.{refl}
 use Rattle.turn_stun.specs.Message.{attributes_from, fault_of}
 use Rattle.turn_stun.specs.Attributes.{seen_after}
 use Rattle.turn_types.specs.Channel.{channel_fault_of}
-use Rattle.turn_client_laws.proofs.pieces.datagrams_are_judged.Goals as goal
+use Rattle.turn_client_laws.proofs.received.datagrams_are_judged.Goals as goal
 
 pub returns : goal.returns
 unfolding fault_of attributes_from seen_after channel_fault_of

@@ -41,7 +41,7 @@ impl Fault {
 
 impl From<AllocError> for Fault {
     ghost use Rattle.std.specs.Prelude.{◌≡◌};
-    ghost use Rattle.turn_c_calls.specs.declared.judge.Fault.TheVariants.{OutOfMemory};
+    ghost use Rattle.turn_c_calls.specs.declared.fault.Fault.TheVariants.{OutOfMemory};
 
     ghost from_gives = { λ error fault. fault ≡ OutOfMemory };
 
