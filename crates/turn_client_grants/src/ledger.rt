@@ -30,8 +30,8 @@ mod answer;
 mod ask;
 mod connect;
 mod data;
-mod keep;
 mod expiry;
+mod keep;
 mod poll;
 mod read;
 

@@ -7,20 +7,20 @@ mod allocates;
 mod bodies;
 mod bound;
 mod doubles;
+mod expiries;
 mod gone;
 mod grant_allocations;
 mod granted;
 mod ids;
 mod inputs;
 mod kept;
-mod expiries;
 mod messages;
 mod numbers;
 mod order;
 mod payloads;
 mod peers;
-mod received;
 mod purposes;
+mod received;
 mod replies;
 mod requests;
 mod rows;
@@ -39,12 +39,12 @@ pub use bodies::{
 };
 pub use bound::only_a_signed_success_binds;
 pub use doubles::grants_are_distinct;
+pub use expiries::grants_expire;
 pub use gone::grants_go_by_kind;
 pub use grant_allocations::grants_have_allocations;
 pub use granted::only_a_signed_success_grants;
 pub use ids::drawn_ids_are_free;
 pub use inputs::{calls_process_inputs, inputs_are_frames, messages_leave_streams};
-pub use expiries::grants_expire;
 pub use messages::{
     allocations_are_answered, challenges_are_answered, connects_are_answered, grants_are_answered,
     refreshes_are_answered,
@@ -53,8 +53,8 @@ pub use numbers::numbers_are_distinct;
 pub use order::clients_fit_their_phase;
 pub use payloads::payloads_are_answered;
 pub use peers::only_permitted;
-pub use received::{connections_are_bound, datagrams_are_judged, pieces_are_cut};
 pub use purposes::requests_have_two_purposes;
+pub use received::{connections_are_bound, datagrams_are_judged, pieces_are_cut};
 pub use replies::{ids_are_drawn, replies_count_once};
 pub use requests::requests_are_made;
 pub use rows::{

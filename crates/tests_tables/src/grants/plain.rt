@@ -278,7 +278,12 @@ impl Plain {
     }
 
     /// Removes the row of this kind and key.
-    pub(crate) fn drop_row(&mut self, kind: Kind, key: u32, reported: Reported) -> Result<(), AllocError> {
+    pub(crate) fn drop_row(
+        &mut self,
+        kind: Kind,
+        key: u32,
+        reported: Reported,
+    ) -> Result<(), AllocError> {
         for row in self.rows.iter_mut() {
             row.goes = row.is(kind, key);
         }
@@ -292,7 +297,11 @@ pub(crate) fn drop_listed(asked: &mut Vec<Asked>, row: &Row) {
 }
 
 /// Queues the failure of the row, if there is one.
-fn report_failure(events: &mut VecDeque<TurnEvent>, row: &Row, reported: Reported) -> Result<(), AllocError> {
+fn report_failure(
+    events: &mut VecDeque<TurnEvent>,
+    row: &Row,
+    reported: Reported,
+) -> Result<(), AllocError> {
     let Some(event) = failure(row) else {
         return Ok(());
     };

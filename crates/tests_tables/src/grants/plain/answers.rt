@@ -1,7 +1,7 @@
 //! What the server answers, and what the caller does, on plain lists.
 
 use crate::grants::plain::{
-    Asked, Kind, Plain, Reason, Row, SECOND, Stage, TRANSPORT, Reported, address, byte_of, family,
+    Asked, Kind, Plain, Reason, Reported, Row, SECOND, Stage, TRANSPORT, address, byte_of, family,
     is_ipv6,
 };
 use std::alloc::AllocError;

@@ -1,7 +1,7 @@
 //! What expires as time passes, on plain lists.
 
 use crate::grants::plain::{
-    Kind, Plain, Reason, Row, Stage, TRANSPORT, Reported, address, byte_of, drop_listed, is_ipv6,
+    Kind, Plain, Reason, Reported, Row, Stage, TRANSPORT, address, byte_of, drop_listed, is_ipv6,
 };
 use std::alloc::AllocError;
 use turn_client_api::TurnEvent;
@@ -106,7 +106,13 @@ impl Plain {
         if relay.until <= now && !is_kept {
             return self.step(relay, Step::All, given, now, Reported::Never);
         }
-        self.step(relay, Step::InVain(Kind::Channel), given, now, Reported::First)?;
+        self.step(
+            relay,
+            Step::InVain(Kind::Channel),
+            given,
+            now,
+            Reported::First,
+        )?;
         self.step(
             relay,
             Step::InVain(Kind::Permission),
@@ -116,7 +122,13 @@ impl Plain {
         )?;
         self.expire_channel(relay, now)?;
         self.step(relay, Step::Expired, given, now, Reported::First)?;
-        self.step(relay, Step::InVain(Kind::Connect), given, now, Reported::First)?;
+        self.step(
+            relay,
+            Step::InVain(Kind::Connect),
+            given,
+            now,
+            Reported::First,
+        )?;
         self.close_unbound(relay, given, now)?;
         self.step(relay, Step::Unbound, given, now, Reported::First)?;
         self.step(relay, Step::Unanswered, given, now, Reported::First)?;
