@@ -1,5 +1,5 @@
 use Rattle.turn_client_runs.proofs.PromiseLemmas.{run-bound, run-cuts, run-events, run-few, run-granted, run-hears, run-held, run-lasts, run-numbers, run-offers, run-order, run-processed, run-realm, run-replies, run-sent, run-short}
-use Rattle.turn_client_runs.proofs.ReportedRuns.{causes-outcome-once}
+use Rattle.turn_client_runs.proofs.ReportedRuns.{causes-reported-once}
 use Rattle.turn_client_api.specs.State.{initial}
 use Rattle.turn_client_proto.proofs.DeliveredLemmas.{gives-let-in}
 use Rattle.turn_client_proto.proofs.RunLemmas.{timely}
@@ -50,7 +50,7 @@ pub returns-clause-events : goal.returns-clause-events
 returns-clause-events c = run-events c.args.transport c.args.local c.args.remote c.args.config c.args.seed c.args.calls.now
 
 pub returns-clause-once : goal.returns-clause-once
-returns-clause-once c = causes-outcome-once c.args.transport c.args.local c.args.remote c.args.config c.args.seed c.args.calls.now
+returns-clause-once c = causes-reported-once c.args.transport c.args.local c.args.remote c.args.config c.args.seed c.args.calls.now
 
 pub returns-clause-short : goal.returns-clause-short
 returns-clause-short c = run-short c.args.transport c.args.local c.args.remote c.args.config c.args.seed c.args.calls.now
