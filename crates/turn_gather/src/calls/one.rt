@@ -1,10 +1,10 @@
 //! One call of a gatherer, of any kind.
 
-ghost use Rattle.std.specs.Prelude.{◌≡◌, ◌≤◌, ◌^◌, IfOk};
+ghost use Rattle.std.specs.Prelude.{◌≡◌, ◌≤◌, ◌^◌, true, is_ok, IfOk, OnErr};
 ghost use Rattle.turn_client_api.specs.Answers.{given_payload};
 ghost use Rattle.turn_gather.specs.Drive.{IsCallable, gathered_reply, peer_payload, step};
 ghost use Rattle.turn_gather.specs.Received.{gathered_of};
-ghost use Rattle.turn_client_api.specs.Calls.{FitsDatagram};
+ghost use Rattle.turn_client_api.specs.Calls.{FitsDatagram, send_to_step};
 
 use crate::calls::{Candidates, GatherCall, GatherReply, PeerPayload};
 use crate::error::GatherError;
@@ -154,7 +154,7 @@ fn create_permission<C: TurnClientApi>(
     }
 }
 
-/// Sends data to a peer: the packet is built at once.
+/// Sends data to a peer: the packet is built at once, and memory is wanted for nothing else.
 fn send_to<C: TurnClientApi>(
     alloc: Global,
     gatherer: &mut Gatherer<C>,
@@ -165,7 +165,8 @@ fn send_to<C: TurnClientApi>(
 ) -> Result<GatherReply, AllocError>
     requires now_in_range { now ≤ 2 ^ 62 }
     requires short { FitsDatagram gatherer.old.client.config.allocation_transport payload.now }
-    ensures { IfOk result (λ reply. (reply, gatherer.new) ≡ step gatherer.old (GatherCall.SendTo transport to payload.now now)) }
+    ensures answer { IfOk result (λ reply. (reply, gatherer.new) ≡ step gatherer.old (GatherCall.SendTo transport to payload.now now)) }
+    ensures wanted { OnErr result (is_ok (send_to_step transport to payload.now now gatherer.old.client).0 ≡ true) }
 {
     match gatherer.send_to(transport, to, payload.as_bytes(), now) {
         Ok(Some(packet)) => Ok(GatherReply::SendTo(Ok(packet.build(alloc)?))),
