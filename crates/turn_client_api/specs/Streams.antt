@@ -1,5 +1,6 @@
 -- The streams of a client over TCP, cut into frames (RFC 8656, section 12.5, and RFC 6062).
-use Rattle.std.specs.Prelude.{◌≢◌, ◌<◌, ℕ, zero, suc, Bool, true, false, not, if◌then◌else◌, List, [], ◌++◌, map, filter, find, sum_by, length, take, drop, Option}
+use Rattle.std.specs.Prelude.{◌≢◌, ◌<◌, ℕ, zero, suc, Bool, true, false, not, if◌then◌else◌}
+use Rattle.std.specs.Prelude.{List, [], ◌++◌, map, filter, find, sum_by, length, take, drop, Option}
 use Rattle.std.specs.Prelude.{Some, None, is_some}
 use Rattle.std.specs.declared.ops.Range.{Range}
 use Rattle.std.specs.declared.net.socket_addr.SocketAddr.{SocketAddr}

@@ -61,7 +61,8 @@ is-other b g is = grind arith
 -- the map leads to the changed grants, if the keys of the only one that changes do
 pub index-one_changed : (change : Change) (rows : List Grant) (find then : Key → Option Grant) (key : Key) (old : Grant) → IsIndex is_found_by find rows → find key ≡ Some old
     → LeavesOthers key change → ((k : Key) → then k ≡ found_after k (find k) (changed change old)) → IsIndex is_found_by then (map (changed change) rows)
-index-one_changed change rows find then key old is found leaves now = index-changed_by change rows find then is (λ k. now k ∙ rw (found-changed change k old) (by k (find k) refl (is_found_by k old) refl))
+index-one_changed change rows find then key old is found leaves now =
+    index-changed_by change rows find then is (λ k. now k ∙ rw (found-changed change k old) (by k (find k) refl (is_found_by k old) refl))
   where
     by : (k : Key) (at : Option Grant) → find k ≡ at → (b : Bool) → is_found_by k old ≡ b → cond (is_found_by k old) (Some (changed change old)) (find k) ≡ option_map (changed change) (find k)
     by k at e true d = rw (d, leads-to rows find key old is found k d) refl

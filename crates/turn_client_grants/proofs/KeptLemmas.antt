@@ -84,7 +84,8 @@ summary-joined was now rows others last listed none are first second end next_ex
       first = first ∙ (summed.first ∙ ap (λ xs. slice_get xs 0) (sym relays));
       second = second ∙ (summed.second ∙ ap (λ xs. slice_get xs 1) (sym relays));
       end = end ∙ (least-joined end_in max_time was.end others last summed.end ∙ ap (λ gs. fold min max_time (filter_map end_in gs)) (sym are));
-      next_expiry = next_expiry ∙ (least-joined (expiry_time_in listed) never was.next_expiry others last summed.next_expiry ∙ ap (λ gs. fold min never (filter_map (expiry_time_in listed) gs)) (sym are));
+      next_expiry = next_expiry
+          ∙ (least-joined (expiry_time_in listed) never was.next_expiry others last summed.next_expiry ∙ ap (λ gs. fold min never (filter_map (expiry_time_in listed) gs)) (sym are));
       keeps_first = keeps_first ∙ (summed.keeps_first ∙ ap (λ xs. option_map_or (is_kept listed) (slice_get xs 0) false) (sym relays));
       keeps_second = keeps_second ∙ (summed.keeps_second ∙ ap (λ xs. option_map_or (is_kept listed) (slice_get xs 1) false) (sym relays));
       permissions = λ s.

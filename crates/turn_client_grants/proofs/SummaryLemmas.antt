@@ -68,7 +68,8 @@ expiry_time-same grants listed s g = grind arith
 pub early-all : (now : ℕ) (grants : List Grant) (listed : List Listing) (s : State) → now < fold min never (filter_map (expiry_time_in listed) grants)
     → All (λ time. now < time) (expiry_times (with_lists grants listed s))
 early-all now grants listed s lt =
-    rw (filter_map-same (expiry_time (with_lists grants listed s)) (expiry_time_in listed) (expiry_time-same grants listed s) grants) (below-all now never (filter_map (expiry_time_in listed) grants) lt)
+    rw (filter_map-same (expiry_time (with_lists grants listed s)) (expiry_time_in listed) (expiry_time-same grants listed s) grants)
+    (below-all now never (filter_map (expiry_time_in listed) grants) lt)
 
 -- ---- before the first refresh
 

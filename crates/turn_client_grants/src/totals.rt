@@ -7,7 +7,8 @@ ghost use Rattle.turn_client_api.specs.State.{State};
 ghost use Rattle.turn_client_api.specs.declared.grant.Grant.TheVariants.{Allocation};
 ghost use Rattle.turn_client_grants.specs.Lists.{with_lists};
 ghost use Rattle.turn_client_grants.specs.Passed.{adds_nothing, is_no_earlier};
-ghost use Rattle.turn_client_grants.specs.Summary.{ReadsAlike, end_in, expiry_by_kind, is_requested, is_reserved, is_unreported, kept_expiry, expiry_time_in, needs_refresh};
+ghost use Rattle.turn_client_grants.specs.Summary.{ReadsAlike, end_in, expiry_by_kind, is_requested};
+ghost use Rattle.turn_client_grants.specs.Summary.{is_reserved, is_unreported, kept_expiry, expiry_time_in, needs_refresh};
 
 use crate::due::{is_in_use, least};
 use crate::listed::has_request;

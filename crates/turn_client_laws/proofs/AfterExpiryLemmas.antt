@@ -20,7 +20,8 @@ use Rattle.turn_client_api.specs.Grants.{is_pending_channel, is_pending_permissi
 use Rattle.turn_client_api.specs.Effect.{reserved, reserved_time}
 use Rattle.turn_client_api.specs.Calls.{is_allocated}
 use Rattle.turn_client_api.specs.Poll.{first_unreported, timed_out_purposes, next_offer, unreported_in, channel_expired, connections_unbound, failed_by_timeout, last_channel_expired, offers_timed_out}
-use Rattle.turn_client_api.specs.Poll.{permissions_expired, refreshes_timed_out, failed, allocation_expires, is_expired_channel, is_expired_permission, is_unbound, expired_at, expired_allocation, expired_in}
+use Rattle.turn_client_api.specs.Poll.{permissions_expired, refreshes_timed_out, failed, allocation_expires, is_expired_channel}
+use Rattle.turn_client_api.specs.Poll.{is_expired_permission, is_unbound, expired_at, expired_allocation, expired_in}
 use Rattle.turn_client_api.specs.Poll.{unbound}
 use Rattle.turn_client_api.specs.declared.event.TurnEvent.{TurnEvent}
 use Rattle.turn_client_api.specs.declared.event.TurnEvent.TheVariants.{ChannelCreateFailed}
@@ -279,7 +280,8 @@ allocation-alive given purposes now (b ∷ bs) s a (inl e) h used =
     stays-alive given purposes now s a (subst (λ x. Has (Allocation a) (expired_allocation given purposes now s x).grants) (sym e) there) used
 
 -- all that remains after time has passed without an event has not expired
-pub expired_at-alive : (given : Option ℕ) (now : ℕ) (s : State) → All (HasAllocation s) s.grants → (expired_at given now s).events ≡ [] → (g : Grant) → Has g (expired_at given now s).grants → Alive now g
+pub expired_at-alive : (given : Option ℕ) (now : ℕ) (s : State) → All (HasAllocation s) s.grants
+    → (expired_at given now s).events ≡ [] → (g : Grant) → Has g (expired_at given now s).grants → Alive now g
 expired_at-alive given now s stand none g h = by g h ((each-shrinks given purposes now (allocations s) s).grants g h)
   where
     purposes : List Purpose

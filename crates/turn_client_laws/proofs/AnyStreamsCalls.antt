@@ -10,8 +10,10 @@ use Rattle.turn_stun.specs.declared.transport.TransportType.TheVariants.{Udp, Tc
 use Rattle.turn_stun.specs.declared.transport.Transmit.{Transmit}
 use Rattle.turn_agent.specs.Agent.{same_address}
 use Rattle.turn_client_api.specs.Answers.{event_step}
-use Rattle.turn_client_api.specs.Calls.{active_channel, bind_channel_step, bound_by, bound_to, can_send_to, channel_kept_step, channel_step, channels_to, connect_step, create_permission_step, delete_step, free_number}
-use Rattle.turn_client_api.specs.Calls.{in_allocation, is_allocated, is_closed, is_in_progress, is_open_to, keep_step, on_channel, on_connection, permission_kept_step, permission_step, protocol_error_step, reserved_from}
+use Rattle.turn_client_api.specs.Calls.{active_channel, bind_channel_step, bound_by, bound_to, can_send_to, channel_kept_step}
+use Rattle.turn_client_api.specs.Calls.{channel_step, channels_to, connect_step, create_permission_step, delete_step, free_number}
+use Rattle.turn_client_api.specs.Calls.{in_allocation, is_allocated, is_closed, is_in_progress, is_open_to, keep_step}
+use Rattle.turn_client_api.specs.Calls.{on_channel, on_connection, permission_kept_step, permission_step, protocol_error_step, reserved_from}
 use Rattle.turn_client_api.specs.Calls.{send_over, send_to_step, tcp_connect_step}
 use Rattle.turn_client_api.specs.Connections.{connection_at, is_connected, is_connecting}
 use Rattle.turn_client_api.specs.Effect.{closed}

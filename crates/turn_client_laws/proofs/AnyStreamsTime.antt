@@ -12,7 +12,8 @@ use Rattle.turn_client_api.specs.Due.{end_of, has_event, has_queued_request, has
 use Rattle.turn_client_api.specs.Effect.{closed, transaction_ended}
 use Rattle.turn_client_api.specs.Grants.{allocations, family_of, is_connect, is_of, is_pending_channel, is_pending_permission}
 use Rattle.turn_client_api.specs.Poll.{allocation_expires, answer_by, answer_step, channel_expired, connections_unbound, failed_by_timeout, is_expired_channel, is_listed_for_allocation, expired_at}
-use Rattle.turn_client_api.specs.Poll.{expired_allocation, expired_in, last_channel_expired, next_offer, offer_step, offers_timed_out, permissions_expired, poll_step, refreshes_timed_out, set_free, timed_out_purposes}
+use Rattle.turn_client_api.specs.Poll.{expired_allocation, expired_in, last_channel_expired, next_offer, offer_step}
+use Rattle.turn_client_api.specs.Poll.{offers_timed_out, permissions_expired, poll_step, refreshes_timed_out, set_free, timed_out_purposes}
 use Rattle.turn_client_api.specs.Poll.{timed_out_step, timed_step}
 use Rattle.turn_client_api.specs.State.{State, agent_of, later_by, max_time}
 use Rattle.turn_client_api.specs.Transmit.{idle_step, is_ranked, is_refresh_due, keepalive_step, next_refresh, queue_step, refresh_purpose, refresh_step, reply_step, transmit_step}

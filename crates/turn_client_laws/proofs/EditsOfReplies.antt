@@ -333,7 +333,8 @@ module _ (HasAccepted : Type 0) (R : State → State → Type 0) (k : KeepsAccep
 
     effect-walk : HasAccepted → (is_granted : Bool) (message : List ℕ) (now method : ℕ) (s : State) (p : Purpose) → R first s → Stay method s → IsAnswered method p
         → R first (effect id is_granted message now s p)
-    effect-walk accepted is_granted message now method s (ForRefresh family lifetime) since stay answers = k.edits.trans first s _ since (refreshed-walk accepted family lifetime is_granted message now s)
+    effect-walk accepted is_granted message now method s (ForRefresh family lifetime) since stay answers =
+        k.edits.trans first s _ since (refreshed-walk accepted family lifetime is_granted message now s)
     effect-walk accepted is_granted message now method s (ForPermission ip) since stay answers = reset accepted s _ since (permission-walk ip is_granted now s)
     effect-walk accepted is_granted message now method s (ForChannel number peer) since stay answers = reset accepted s _ since (channel-walk number id is_granted now s)
     effect-walk accepted is_granted message now method s (ForConnect peer) since stay answers =

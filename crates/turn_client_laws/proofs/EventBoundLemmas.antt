@@ -228,7 +228,8 @@ timed-reports Authenticating None now s other = answer-reports None now s
 timed-reports Authenticating (Some id) now s other =
     by_test (λ (t : State). ReportsOfFailed s (answer_step (Some id) now t).1) (is_listed_for_allocation id s) (closed s) s
     (λ e. reports-then s (closed s) (answer_step (Some id) now (closed s)).1 (reports-self s) (answer-reports (Some id) now (closed s))) (λ e. answer-reports (Some id) now s)
-timed-reports Allocated given now s other = reports-then s (expired_at given now s) (answer_step given now (expired_at given now s)).1 (expired_at-reports given now s) (answer-reports given now (expired_at given now s))
+timed-reports Allocated given now s other =
+    reports-then s (expired_at given now s) (answer_step given now (expired_at given now s)).1 (expired_at-reports given now s) (answer-reports given now (expired_at given now s))
 timed-reports p given now s other = reports-self s
 
 offer-reports : (offer : DataOffer) (s : State) → ReportsOfFailed s (offer_step offer s).1

@@ -188,7 +188,8 @@ framed-reports is_lent stream now t = by (begins_no_frame stream.bytes) (frame_l
 
 fed-reports : (stream : Stream) (piece : List ℕ) (now : ℕ) (t : State) → Reports (frame_taken (is_front stream.bytes) (stream_with_piece stream piece) now t)
     (place_kept stream.bytes (framed_stream_step (stream_with_piece stream piece) now t).0)
-fed-reports stream piece now t = reports-kept stream.bytes _ (framed_stream_step (stream_with_piece stream piece) now t).0 (framed-reports (is_front stream.bytes) (stream_with_piece stream piece) now t)
+fed-reports stream piece now t =
+    reports-kept stream.bytes _ (framed_stream_step (stream_with_piece stream piece) now t).0 (framed-reports (is_front stream.bytes) (stream_with_piece stream piece) now t)
 
 -- what all streams return is no ICMP report
 no-icmp : (o : Option Payload) (p : Outcome) → (IsIcmp p → ⊥) → IsIcmp (option_map_or PeerData o p) → ⊥

@@ -32,8 +32,10 @@ use Rattle.turn_client_laws.specs.LawsGrantAllocations.{asked_family, IsAskedIn,
 use Rattle.turn_client_laws.specs.LawsStates.{is_asked_by}
 use Rattle.turn_client_api.proofs.AddressLemmas.{same_ip-true}
 use Rattle.turn_client_api.proofs.HasLemmas.{Has, all-has, has-all, has-filter, has-filter_map, has-right, cases_Option, first-has}
-use Rattle.turn_client_laws.proofs.InAllocationLemmas.{Backed, AreInAllocations, KeepsInAllocations, Room, Spares, SparesAll, all-spared, any-has, asked-more, has-any, in_allocations-filter, in_allocations-grant, in_allocations-grants}
-use Rattle.turn_client_laws.proofs.InAllocationLemmas.{in_allocations-listings, in_allocations-shaped, in_allocations-without, of-room, room-more, room-of, room-without, same_family-self, same_family-true, shape}
+use Rattle.turn_client_laws.proofs.InAllocationLemmas.{Backed, AreInAllocations, KeepsInAllocations, Room, Spares, SparesAll}
+use Rattle.turn_client_laws.proofs.InAllocationLemmas.{all-spared, any-has, asked-more, has-any, in_allocations-filter, in_allocations-grant, in_allocations-grants}
+use Rattle.turn_client_laws.proofs.InAllocationLemmas.{in_allocations-listings, in_allocations-shaped, in_allocations-without, of-room, room-more}
+use Rattle.turn_client_laws.proofs.InAllocationLemmas.{room-of, room-without, same_family-self, same_family-true, shape}
 use Rattle.turn_client_laws.proofs.TakenOfferLemmas.{no-offer, stays-first, was-first}
 use Rattle.turn_client_laws.proofs.GrantOriginLemmas.{has-mapped}
 use Rattle.turn_client_laws.proofs.Edits.{IsAskable, KeepsAllEdits, KeepsEdits, aged-outlines, outline}
@@ -49,7 +51,8 @@ with_grant-stays_in_allocations : (g : Grant) (s : State) → Room s.grants (fam
 with_grant-stays_in_allocations g s room h = in_allocations-grant s.grants g s.listed h room
 
 -- one of a family that has an allocation replaces these
-replaced-stays_in_allocations : (which : Grant → Bool) → SparesAll which → (g : Grant) (s : State) → (AreInAllocations s.grants s.listed → Room s.grants (family_of_grant g)) → KeepsInAllocations s (with_grant g (without_grants which s))
+replaced-stays_in_allocations : (which : Grant → Bool) → SparesAll which → (g : Grant) (s : State)
+    → (AreInAllocations s.grants s.listed → Room s.grants (family_of_grant g)) → KeepsInAllocations s (with_grant g (without_grants which s))
 replaced-stays_in_allocations which spares g s room h =
     with_grant-stays_in_allocations g (without_grants which s) (room-without which spares s.grants (family_of_grant g) (room h)) (without-stays_in_allocations which (all-spared which spares) s h)
 
@@ -139,7 +142,8 @@ connect-room id peer s listed h =
     subst (λ (f : AddressFamily). Room s.grants f) is (h.stands g here)
 
 -- the server allocates
-allocates-stays_in_allocations : (lifetime now : ℕ) (addresses : List SocketAddr) (s : State) → AreInAllocations s.grants s.listed → AreInAllocations (s.grants ++ map (new_allocation lifetime now) addresses) s.listed
+allocates-stays_in_allocations : (lifetime now : ℕ) (addresses : List SocketAddr) (s : State)
+    → AreInAllocations s.grants s.listed → AreInAllocations (s.grants ++ map (new_allocation lifetime now) addresses) s.listed
 allocates-stays_in_allocations lifetime now addresses s h = in_allocations-grants s.grants made s.listed h own
   where
     made : List Grant
@@ -175,7 +179,8 @@ KeepsInAllocations-KeepsEdits = record {
   channel = λ number peer s phase room none within. with_grant-stays_in_allocations (Channel number peer (Pending true)) s room;
   connect = λ peer s phase room none. with_grant-stays_in_allocations (Connect peer) s room;
   connection = λ id c origin s phase offer none waits h.
-      with_grant-stays_in_allocations (Connection c) (offer_taken id c.peer s) (taken-room id c.peer s (family_of c.peer) (offer-room id c.peer origin s offer h)) (taken-stays_in_allocations id c.peer s h);
+      with_grant-stays_in_allocations (Connection c) (offer_taken id c.peer s)
+      (taken-room id c.peer s (family_of c.peer) (offer-room id c.peer origin s offer h)) (taken-stays_in_allocations id c.peer s h);
   reserves = λ number peer was until s there. replaced-stays_in_allocations (is_channel_of number) (λ a. refl) (Channel number peer (Reserved until)) s (λ h. h.stands (Channel number peer was) there);
 }
 
@@ -234,7 +239,8 @@ initial-GrantsHaveAllocations transport local remote config seed =
     in_allocations-GrantsHaveAllocations s (record { stands = λ g none. absurd none; backed = λ l none. absurd none })
 
 pub leaves-GrantsHaveAllocations : (call : Call) (s t : State) → Leaves call s t → GrantsHaveAllocations s → GrantsHaveAllocations t
-leaves-GrantsHaveAllocations call s t leaves h = in_allocations-GrantsHaveAllocations t (leaves-walk KeepsInAllocations KeepsInAllocations-KeepsAllEdits (λ s streams h. h) call s t leaves (GrantsHaveAllocations-in_allocations s h))
+leaves-GrantsHaveAllocations call s t leaves h =
+    in_allocations-GrantsHaveAllocations t (leaves-walk KeepsInAllocations KeepsInAllocations-KeepsAllEdits (λ s streams h. h) call s t leaves (GrantsHaveAllocations-in_allocations s h))
 
 pub GrantsHaveAllocations-AllHaveAllocation : (s : State) → GrantsHaveAllocations s → AllHaveAllocation s
 GrantsHaveAllocations-AllHaveAllocation s h = h.0

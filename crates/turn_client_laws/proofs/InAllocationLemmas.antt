@@ -113,7 +113,8 @@ asked-more gs hs p more backed family e = let (g, there, for, is) = backed famil
 pub in_allocations-filter : (gs : List Grant) (which : Listing → Bool) (ls : List Listing) → AreInAllocations gs ls → AreInAllocations gs (filter which ls)
 in_allocations-filter gs which ls h = record { stands = h.stands; backed = λ l there. h.backed l (has-filter which l ls there).0 }
 
-pub in_allocations-listings : (gs : List Grant) (ls : List Listing) (id : ℕ) (ps : List Purpose) → AreInAllocations gs ls → ((p : Purpose) → Has p ps → Backed gs p) → AreInAllocations gs (ls ++ listings id ps)
+pub in_allocations-listings : (gs : List Grant) (ls : List Listing) (id : ℕ) (ps : List Purpose)
+    → AreInAllocations gs ls → ((p : Purpose) → Has p ps → Backed gs p) → AreInAllocations gs (ls ++ listings id ps)
 in_allocations-listings gs ls id ps h each = record {
   stands = h.stands;
   backed = λ l there. elim (has-append l ls (listings id ps) there) [

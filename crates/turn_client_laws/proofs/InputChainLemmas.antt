@@ -94,7 +94,8 @@ framed-leads l stream now t = by (begins_no_frame stream.bytes) (frame_len strea
         let one = stream_input l stream (take len stream.bytes) now t in
         (differs-same t, bytes-differs stream.local (drop len stream.bytes) (processed one).1)
 
-detached_in_mode : (m : Mode) (l : Bool) (stream : Stream) (now : ℕ) (t : State) → InputsLead (taken_in l (record stream { mode = m }) now t) t (detached_frame_step (record stream { mode = m }) now t).1
+detached_in_mode : (m : Mode) (l : Bool) (stream : Stream) (now : ℕ) (t : State)
+    → InputsLead (taken_in l (record stream { mode = m }) now t) t (detached_frame_step (record stream { mode = m }) now t).1
 detached_in_mode (Bound peer) l stream now t = (differs-same t, differs-same t)
 detached_in_mode Broken l stream now t = differs-same t
 detached_in_mode m l stream now t = framed-leads l (record stream { mode = m }) now t

@@ -113,7 +113,8 @@ retry-moves Taken message purpose d now s answers = (
 challenge-moves : (Taken : Grant → Type 0) (message : List ℕ) (d : Challenge) (now : ℕ) (s : State) → MovesByMessage Taken message now s (challenge_step message d now s).1
 challenge-moves Taken message d now s = by (ltb s.challenges s.config.max_stale_nonces) refl (retried (purposes_of (id_of message) s)) refl
   where
-    by : (b : Bool) → ltb s.challenges s.config.max_stale_nonces ≡ b → (o : Option Purpose) → retried (purposes_of (id_of message) s) ≡ o → MovesByMessage Taken message now s (challenge_step message d now s).1
+    by : (b : Bool) → ltb s.challenges s.config.max_stale_nonces ≡ b → (o : Option Purpose)
+        → retried (purposes_of (id_of message) s) ≡ o → MovesByMessage Taken message now s (challenge_step message d now s).1
     by false e o f =
         rw e (moves-settled Taken message now s _ (adds-same Never s.transactions, adds-filter Never _ s.listed, loses-same Taken s.grants))
     by true e None f = rw (e, f) (moves_by_message-same Taken message now s)
@@ -183,7 +184,8 @@ error-answers s message e = by (answers_allocate s message) refl
 abbrev TakesFor : Judgement → List ℕ → State → Grant → Type 0
 TakesFor j message s g = IsAccepted j × ((p : Purpose) × IsAnswer message s p × ((is_for p g ≡ true) ⊎ GivesBack p))
 
-reply-moves : (j : Judgement) → IsAccepted j → (is_granted : Bool) (message : List ℕ) (now : ℕ) (s : State) → MovesByMessage (TakesFor j message s) message now s (response_step is_granted message now s).1
+reply-moves : (j : Judgement) → IsAccepted j → (is_granted : Bool) (message : List ℕ) (now : ℕ) (s : State)
+    → MovesByMessage (TakesFor j message s) message now s (response_step is_granted message now s).1
 reply-moves j accepted is_granted message now s =
     moves-settled (TakesFor j message s) message now s (response_step is_granted message now s).1
     (settles-wider (IsFor all) (TakesFor j message s) s (response_step is_granted message now s).1 wider (response-fits is_granted message now s))
@@ -263,13 +265,15 @@ message-moves message now s = by (judgement_of s message) refl
 deadline-grant_identity : (local : SocketAddr) (deadline : Option ℕ) (g : Grant) → grant_identity g ≡ grant_identity (deadline_set local deadline g)
 deadline-grant_identity local deadline g = grind arith
 
-again-moves : (c : DataConnection) (message : List ℕ) (d : Challenge) (now : ℕ) (s : State) → MovesByMessage (λ g. is_connection_from c.local g ≡ true) message now s (bind_again c (id_of message) d now s)
+again-moves : (c : DataConnection) (message : List ℕ) (d : Challenge) (now : ℕ) (s : State)
+    → MovesByMessage (λ g. is_connection_from c.local g ≡ true) message now s (bind_again c (id_of message) d now s)
 again-moves c message d now s = by (find (is_bind_of c.local) (purposes_of (id_of message) s)) refl
   where
     u : State
     u = unlisted (is_connection_from c.local) (with_held d s)
 
-    by : (o : Option Purpose) → find (is_bind_of c.local) (purposes_of (id_of message) s) ≡ o → MovesByMessage (λ g. is_connection_from c.local g ≡ true) message now s (bind_again c (id_of message) d now s)
+    by : (o : Option Purpose) → find (is_bind_of c.local) (purposes_of (id_of message) s) ≡ o
+        → MovesByMessage (λ g. is_connection_from c.local g ≡ true) message now s (bind_again c (id_of message) d now s)
     by None e = rw e (moves_by_message-same _ message now s)
     by (Some purpose) e =
         let answers = found-has (is_bind_of c.local) (purposes_of (id_of message) s) purpose e in
@@ -312,7 +316,8 @@ bind-moves local message now s =
 
 -- ---- datagrams and frames
 
-moves-wider : (Taken Other : Grant → Type 0) (message : List ℕ) (now : ℕ) (s t : State) → ((g : Grant) → Taken g → Other g) → MovesByMessage Taken message now s t → MovesByMessage Other message now s t
+moves-wider : (Taken Other : Grant → Type 0) (message : List ℕ) (now : ℕ) (s t : State)
+    → ((g : Grant) → Taken g → Other g) → MovesByMessage Taken message now s t → MovesByMessage Other message now s t
 moves-wider Taken Other message now s t wider (made, listed, lost) = (made, listed, loses-wider Taken Other s.grants t.grants wider lost)
 
 -- an input that is processed requests this, and removes grants by its message, or since it was received over

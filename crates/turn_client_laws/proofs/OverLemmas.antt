@@ -25,7 +25,8 @@ use Rattle.turn_client_api.specs.Effect.{closed, transaction_ended, reserved_tim
 use Rattle.turn_client_api.specs.Due.{has_event, has_reply}
 use Rattle.turn_client_api.specs.Poll.{answer_step, channel_expired, connections_unbound, timed_out_purposes, timed_out_step, allocation_expires}
 use Rattle.turn_client_api.specs.Poll.{failed_by_timeout, is_timed_out_offer}
-use Rattle.turn_client_api.specs.Poll.{is_expired_channel, is_expired_permission, is_listed_for_allocation, is_over, is_unbound, expired_at, expired_allocation, expired_in, last_channel_expired, next_offer}
+use Rattle.turn_client_api.specs.Poll.{is_expired_channel, is_expired_permission, is_listed_for_allocation, is_over, is_unbound}
+use Rattle.turn_client_api.specs.Poll.{expired_at, expired_allocation, expired_in, last_channel_expired, next_offer}
 use Rattle.turn_client_api.specs.Poll.{offer_step, offers_timed_out, permissions_expired, poll_step, timed_step}
 use Rattle.turn_client_api.specs.Steps.{Leaves}
 use Rattle.turn_client_api.specs.declared.call.Call.TheVariants.{Poll}

@@ -43,7 +43,8 @@ pub fn grants_are_let_go()
     ensures ends { (s : State) → (poll_step 300_100_000_000 (without_permission_kept (with_permission 50_000_000 s))).1.events
         ≡ PermissionCreateFailed Udp ip_of_peer ∷ [] }
     // Kept again when its refresh is late, it is refreshed at once.
-    ensures again { (s : State) → map (λ l. l.purpose) (transmit_step 250_000_000_000 (with_permission_kept (without_permission_kept (with_permission 50_000_000 s)))).1.listed
+    ensures again { (s : State)
+        → map (λ l. l.purpose) (transmit_step 250_000_000_000 (with_permission_kept (without_permission_kept (with_permission 50_000_000 s)))).1.listed
         ≡ ForPermission ip_of_peer ∷ [] }
     // One that is pending is granted, and not kept then.
     ensures pending { (s : State) → (permission_answered ip_of_peer true 100_000_000 (without_permission_kept (asking_at_60_ms s))).grants
@@ -56,10 +57,12 @@ pub fn grants_are_let_go()
         ∷ [] }
     // There is none, or it is reserved, or the allocations relay over another transport.
     ensures none { (s : State) → permission_kept_step Udp ip_of_peer false (granted_at 0 [] s) ≡ (Err NotGranted, granted_at 0 [] s) }
-    ensures reserved { (s : State) → (channel_kept_step Udp peer false (granted_at 0 (Channel 0x4000 peer (Reserved 900_000_000_000) ∷ []) s)).0 ≡ Err NotGranted }
+    ensures reserved { (s : State)
+        → (channel_kept_step Udp peer false (granted_at 0 (Channel 0x4000 peer (Reserved 900_000_000_000) ∷ []) s)).0 ≡ Err NotGranted }
     ensures other { (s : State) → (permission_kept_step Tcp ip_of_peer false (with_permission 50_000_000 s)).0 ≡ Err NotGranted }
     // The next permission is kept.
     ensures anew { (s : State)
-        → (create_permission_step Udp ip_of_peer 300_200_000_000 (poll_step 300_100_000_000 (without_permission_kept (with_permission 50_000_000 s))).1).1.grants
+        → (create_permission_step Udp ip_of_peer 300_200_000_000
+        (poll_step 300_100_000_000 (without_permission_kept (with_permission 50_000_000 s))).1).1.grants
         ≡ new_allocation 1800 50_000_000 relayed_v4 ∷ Permission ip_of_peer (Pending true) ∷ [] }
 {}

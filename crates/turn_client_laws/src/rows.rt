@@ -91,7 +91,8 @@ pub fn refreshes_are_ahead()
         ≡ (if nat_le a.first_lifetime (seconds 120) then a.expiry - a.first_lifetime / 2 else a.expiry - seconds 60) }
     ensures default_permission { (ip : IpAddr) (expiry : ℕ) → refresh_time_by_kind default_refresh_ahead (Permission ip (granted_until expiry true))
         ≡ Some (expiry - seconds 60) }
-    ensures default_channel { (number expiry : ℕ) → refresh_time_by_kind default_refresh_ahead (Channel number peer (granted_until expiry true)) ≡ Some (expiry - seconds 60) }
+    ensures default_channel { (number expiry : ℕ)
+        → refresh_time_by_kind default_refresh_ahead (Channel number peer (granted_until expiry true)) ≡ Some (expiry - seconds 60) }
     // Two minutes ahead: `poll` tells the time of the permission, the first to expire, and it is refreshed then.
     ensures reported { (s : State) → (poll_step 100_000_000 (refreshing_ahead (seconds 120) (with_all 1800 s))).0 ≡ Do.WaitUntil 180_100_000_000 }
     ensures early { (s : State) → next_transmit 180_099_999_999 (refreshing_ahead (seconds 120) (with_all 1800 s)) ≡ None }

@@ -114,7 +114,8 @@ module _ (l : Listing) (wanted : GivesBack l.purpose → ⊥) where
       (lead-asks later (processed one).1 t lead (first-together one later s first together) there)
 
   -- up to one of the inputs
-  front-asks : (front : List Input) (one : Input) (back : List Input) (s t : State) → InputsLead (front ++ one ∷ back) s t → AreTogether s → Has l one.before.listed → Has l s.listed ⊎ AmongInputs front
+  front-asks : (front : List Input) (one : Input) (back : List Input) (s t : State)
+      → InputsLead (front ++ one ∷ back) s t → AreTogether s → Has l one.before.listed → Has l s.listed ⊎ AmongInputs front
   front-asks [] one back s t (first, lead) together there = inl (differs-listed s one.before first there)
   front-asks (x ∷ front) one back s t (first, lead) together there =
       step-asks x front s first together

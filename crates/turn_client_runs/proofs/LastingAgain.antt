@@ -42,7 +42,8 @@ IsOneMore now past later = (since : ℕ) → since ≤ now → extra_since since
 -- ---- a request is retransmitted
 
 module _ (count slots extras delay now : ℕ) (past later : History) (s : State) (k : IsKept count slots extras delay now past s.transactions s) (on : GoesOn s.transactions past later)
-    (more : IsOneMore now past later) (seldom : IsSeldom extras s.config.refresh_ahead now later) (row : s.challenges ≤ later.challenged) (x : Transaction) (found : due (agent_of s) now ≡ Some x) where
+    (more : IsOneMore now past later) (seldom : IsSeldom extras s.config.refresh_ahead now later)
+        (row : s.challenges ≤ later.challenged) (x : Transaction) (found : due (agent_of s) now ≡ Some x) where
   abbrev again : Transaction → Transaction
   again y = cond (eqb y.id x.id) (sent_again now y) y
 
@@ -343,7 +344,8 @@ module _ (count slots extras delay now : ℕ) (past later : History) (s : State)
         | inl early ↦
             early-paced s.config.request_cadence s.config.request_cadence x (length after.queue) (length after.queue) now (due_of s g) slots (used later after (due_of s g))
             refl refl (omega (arith, one-more, fits)) pause (omega (arith, early))
-        | inr late ↦ more-paced s.config.request_cadence x (length s.queue) (length after.queue) (due_of s g) slots (used past s (due_of s g)) (used later after (due_of s g)) one-more (used-more late) was
+        | inr late ↦ more-paced s.config.request_cadence x (length s.queue) (length after.queue)
+            (due_of s g) slots (used past s (due_of s g)) (used later after (due_of s g)) one-more (used-more late) was
       ]
 
       soon : now + s.config.request_cadence * length after.queue ≤ due_of s g + s.config.request_cadence * (1 + slots + used later after (due_of s g))

@@ -73,7 +73,8 @@ pub record AreNew (s : State) (ps : List Purpose) (news : List Grant) : Type 0 w
   pub asked : (g : Grant) → Has g news → (p : Purpose) × Has p ps × (is_for p g ≡ true)
   pub linked : (id : ℕ) → IsRequest (s.grants ++ news) (listings id ps)
 
-module _ (count slots extras delay now : ℕ) (past : History) (s : State) (k : IsKept count slots extras delay now past s.transactions s) (ps : List Purpose) (news : List Grant) (are : AreNew s ps news) (text : List ℕ)
+module _ (count slots extras delay now : ℕ) (past : History) (s : State) (k : IsKept count slots extras delay now past s.transactions s)
+    (ps : List Purpose) (news : List Grant) (are : AreNew s ps news) (text : List ℕ)
     (fresh : past.made (fresh_id s) ≡ now) where
   abbrev id : ℕ
   id = fresh_id s

@@ -1,5 +1,6 @@
 -- What came before in a run, while no grant is lost.
-use Rattle.std.proofs.Common.{◌≡◌, ℕ, zero, suc, ◌+◌, ◌-◌, ◌^◌, ◌<◌, ◌≤◌, min, Bool, true, false, cond, not, ◌&&◌, ◌||◌, leb, eqb, List, [], ◌∷◌, ◌++◌, length, None, refl, inl, inr, ap, sym, subst, ◌∙◌, arith}
+use Rattle.std.proofs.Common.{◌≡◌, ℕ, zero, suc, ◌+◌, ◌-◌, ◌^◌, ◌<◌, ◌≤◌, min, Bool, true, false, cond, not, ◌&&◌}
+use Rattle.std.proofs.Common.{◌||◌, leb, eqb, List, [], ◌∷◌, ◌++◌, length, None, refl, inl, inr, ap, sym, subst, ◌∙◌, arith}
 use Rattle.std.specs.Prelude.{filter, map, nat_le}
 use Rattle.std.specs.List.{list_any}
 use Rattle.std.proofs.lemmas.Bool.{and_parts, and_right, cases_Bool, cases_lt, eq-eqb, eqb-true, le-leb, leb-true, lt-leb, not-true, or_cases, or_left, or_parts, or_right}
@@ -130,7 +131,8 @@ call-goes_on call now past s = record { same = same; more = λ since. by (is_ext
     same : (x : Transaction) → Has x s.transactions → cond (eqb x.id (fresh_id s)) (first_made call now s past) (past.made x.id) ≡ past.made x.id
     same x h = rw (old-apart s x h) refl
 
-    one : (since : ℕ) (b : Bool) → length (filter (λ time. nat_le since time) past.extra) ≤ length (cond b (now ∷ filter (λ time. nat_le since time) past.extra) (filter (λ time. nat_le since time) past.extra))
+    one : (since : ℕ) (b : Bool)
+        → length (filter (λ time. nat_le since time) past.extra) ≤ length (cond b (now ∷ filter (λ time. nat_le since time) past.extra) (filter (λ time. nat_le since time) past.extra))
     one since true = omega arith
     one since false = omega arith
 

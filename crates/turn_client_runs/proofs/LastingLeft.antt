@@ -1,5 +1,6 @@
 -- What expires while no grant is lost: permissions and channels that were let go.
-use Rattle.std.proofs.Common.{◌≡◌, ◌⊎◌, ℕ, ◌+◌, ◌<◌, ◌≤◌, Bool, true, false, not, ◌&&◌, ◌||◌, List, [], ◌∷◌, ◌++◌, length, filter, find, fold, reverse, Option, Some, None, refl, inl, inr, ap, sym, subst, ◌∙◌, arith}
+use Rattle.std.proofs.Common.{◌≡◌, ◌⊎◌, ℕ, ◌+◌, ◌<◌, ◌≤◌, Bool, true, false, not, ◌&&◌, ◌||◌, List, [], ◌∷◌, ◌++◌}
+use Rattle.std.proofs.Common.{length, filter, find, fold, reverse, Option, Some, None, refl, inl, inr, ap, sym, subst, ◌∙◌, arith}
 use Rattle.std.specs.List.{list_any}
 use Rattle.std.specs.declared.net.socket_addr.SocketAddr.{SocketAddr}
 use Rattle.std.proofs.lemmas.Bool.{and_from, and_parts, eq-eqb, leb-true, ltb-true, not_from_false, not-true}
@@ -432,7 +433,8 @@ module _ (now : ℕ) where
     where
       alone : Has (Channel number peer (Active lease)) s.grants → lease.expiry ≤ now → (g : Grant) → Has g s.grants → is_channel_of number g ≡ true → IsGone now g
       alone there late g here e =
-          subst (IsGone now) (passes-same (is_channel_of number) (Channel number peer (Active lease)) g s.grants (tidy.single (ForChannel number peer) tt) there here (eq-eqb number number refl) e) late
+          subst (IsGone now) (passes-same (is_channel_of number) (Channel number peer (Active lease)) g s.grants
+              (tidy.single (ForChannel number peer) tt) there here (eq-eqb number number refl) e) late
   channel-passes o s found tidy = passes-self s tidy
 
   never : (a b : Bool) → (a && b && false) ≡ true → ⊥

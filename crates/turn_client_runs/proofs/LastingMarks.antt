@@ -175,7 +175,8 @@ module _ (count slots extras delay now : ℕ) (past : History) (s : State) (k : 
     | inr (inr loose) ↦ inr (inr (loose-marked g loose))
   ]
     where
-      same : Stands count slots extras delay now past s.transactions s g → (b : Bool) → marked b g ≡ g → Stands count slots extras delay now past s.transactions t (marked b g) ⊎ IsLoose past t (marked b g)
+      same : Stands count slots extras delay now past s.transactions s g → (b : Bool) → marked b g ≡ g
+          → Stands count slots extras delay now past s.transactions t (marked b g) ⊎ IsLoose past t (marked b g)
       same stands b e = inl (subst (Stands count slots extras delay now past s.transactions t) (sym e) (stands-marked g stands))
 
       by : Stands count slots extras delay now past s.transactions s g → (b : Bool) → kept ≡ b → which g ≡ true

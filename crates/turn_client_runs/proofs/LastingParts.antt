@@ -23,7 +23,8 @@ use Rattle.turn_client_runs.specs.Lasting.{with_expiry, IsRequested, RequestsSuc
 use Rattle.turn_client_runs.specs.Lasting.{IsFresh, RunsSteadily, ahead_of, expiry_of}
 use Rattle.turn_client_runs.specs.OnTime.{time_of_all}
 use Rattle.turn_client_runs.specs.History.{History, IsKeptBy, no_history, was_let_go, with_calls}
-use Rattle.turn_client_runs.proofs.LastingStands.{due_of, early-paced, granted-active, leased-active, let_go-became, IsActive, IsLeased, Follows, IsWell, is_waiting, AreSingle, IsGranted, IsKept, IsUnique, Stands, not-waiting}
+use Rattle.turn_client_runs.proofs.LastingStands.{due_of, early-paced, granted-active, leased-active, let_go-became, IsActive, IsLeased, Follows}
+use Rattle.turn_client_runs.proofs.LastingStands.{IsWell, is_waiting, AreSingle, IsGranted, IsKept, IsUnique, Stands, not-waiting}
 use Rattle.turn_client_runs.proofs.LastingStands.{pause-le, stands-early}
 use Rattle.turn_client_runs.proofs.LastingCounts.{passes}
 use Rattle.turn_client_laws.specs.LawsDoubles.{is_double}
@@ -100,7 +101,8 @@ steady-kept count slots extras delay now s is = record {
   single = single-first s.grants is.distinct;
   linked = λ id. rw is.none_listed tt;
   in_range = is.in_range;
-  in_allocations = λ g there. room-of (family_of_grant g) s (has-all (λ g. is_some (Rattle.turn_client_api.specs.Grants.find_allocation (family_of_grant g) s) ≡ true) g s.grants is.in_allocations there);
+  in_allocations = λ g there. room-of (family_of_grant g) s
+      (has-all (λ g. is_some (Rattle.turn_client_api.specs.Grants.find_allocation (family_of_grant g) s) ≡ true) g s.grants is.in_allocations there);
   known = λ g there. (waits g there, λ leased asked. absurd (let no : false ≡ true = sym (unasked g s.listed is.none_listed) ∙ asked in cc));
   each = λ g there. inr (inl (stands g there));
 }
@@ -126,10 +128,12 @@ steady-kept count slots extras delay now s is = record {
           granted = force-granted now g (has-all (IsInForce now) g s.grants is.in_force there);
           room = has-all (λ g. HasRoom count slots extras s.config.request_cadence delay (ahead_of s.config.refresh_ahead g)) g s.grants is.room there;
           long = omega (arith, early);
-          either = inr (record { unasked = unasked g s.listed is.none_listed; near = omega (arith, early); soon = rw none (omega (arith, early)); paused = rw none (omega (arith, early, pause-le now s is.sent_before)) });
+          either = inr (record { unasked = unasked g s.listed is.none_listed; near = omega (arith, early);
+              soon = rw none (omega (arith, early)); paused = rw none (omega (arith, early, pause-le now s is.sent_before)) });
         }
 
-early-of : (count slots extras delay now : ℕ) (past : History) (t : State) → IsKept count slots extras delay now past t.transactions t → (h : Grant) → Has h t.grants → IsGranted h → was_let_go past h ≡ false
+early-of : (count slots extras delay now : ℕ) (past : History) (t : State)
+    → IsKept count slots extras delay now past t.transactions t → (h : Grant) → Has h t.grants → IsGranted h → was_let_go past h ≡ false
     → now < expiry_of h
 early-of count slots extras delay now past t k h here granted none = elim (k.each h here) [
   | inl (waits, pending) ↦ absurd (let no : false ≡ true = sym (not-waiting h (granted-active h granted)) ∙ waits in cc)
@@ -176,7 +180,8 @@ fresh-stands count slots extras delay now past s k g there granted leased fresh 
     unasked true e = let due = (k.known g there).1 leased e in absurd (omega (arith, due, fresh))
 
 -- both parts of a run, of which the second one lets the grant go nowhere
-module _ (count slots extras delay now : ℕ) (s : State) (earlier later : List Call) (steady : IsSteady count slots extras delay now s) (run : RunsSteadily count slots extras delay now (no_history s) s (earlier ++ later))
+module _ (count slots extras delay now : ℕ) (s : State) (earlier later : List Call) (steady : IsSteady count slots extras delay now s)
+    (run : RunsSteadily count slots extras delay now (no_history s) s (earlier ++ later))
     (g : Grant) (there : Contains (state_after_all s earlier).grants g) (kept : IsKeptBy later (time_of_all now earlier) (state_after_all s earlier) g) where
   abbrev between : ℕ
   between = time_of_all now earlier
@@ -204,7 +209,8 @@ module _ (count slots extras delay now : ℕ) (s : State) (earlier later : List 
   here = contains-has g mid.grants there
 
   kept-mid : IsKept count slots extras delay between mid_past mid.transactions mid
-  kept-mid = (all-kept count slots extras delay now (no_history s) s earlier (steady-kept count slots extras delay now s steady) (first-part count slots extras delay now (no_history s) s earlier later run)).0
+  kept-mid = (all-kept count slots extras delay now (no_history s) s earlier (steady-kept count slots extras delay now s steady)
+      (first-part count slots extras delay now (no_history s) s earlier later run)).0
 
   end-spares : was_let_go end_past g ≡ false
   end-spares = none-by later between mid spared g (spared-none g mid_past) kept
@@ -273,12 +279,14 @@ pub requests-succeed : RequestsSucceed
 requests-succeed count slots extras delay now s earlier later steady run g there requested late kept = succeeds count slots extras delay now s earlier later steady run g there kept requested late
 
 -- the same, of the calls of the second part alone
-module _ (count slots extras delay now : ℕ) (s : State) (before after : List Call) (steady : IsSteady count slots extras delay now s) (run : RunsSteadily count slots extras delay now (no_history s) s (before ++ after)) where
+module _ (count slots extras delay now : ℕ) (s : State) (before after : List Call) (steady : IsSteady count slots extras delay now s)
+    (run : RunsSteadily count slots extras delay now (no_history s) s (before ++ after)) where
   pub lasts-through : LastsThrough delay now s before after
   lasts-through g there kept = (
     λ in_force counted. ends (lasts count slots extras delay now s before after steady run g there kept in_force counted),
     λ requested late. ends (succeeds count slots extras delay now s before after steady run g there kept requested late),
   )
     where
-      ends : HasStill g (time_of_all (time_of_all now before) after) (state_after_all s (before ++ after)) → HasStill g (time_of_all (time_of_all now before) after) (state_after_all (state_after_all s before) after)
+      ends : HasStill g (time_of_all (time_of_all now before) after) (state_after_all s (before ++ after))
+          → HasStill g (time_of_all (time_of_all now before) after) (state_after_all (state_after_all s before) after)
       ends = subst (HasStill g (time_of_all (time_of_all now before) after)) (joined s before after)

@@ -72,7 +72,8 @@ polls P now s p all none same each = by (has_event s || has_reply s) refl
 -- ---- what is reported does not count
 
 module _ (count slots extras delay now : ℕ) (past : History) (transactions : List Transaction) (s : State) (ids : Source) (events : List TurnEvent) (closes : List SocketAddr) where
-  stands-aside : (g : Grant) → Stands count slots extras delay now past transactions s g → Stands count slots extras delay now past transactions (record s { ids = ids; events = events; closes = closes }) g
+  stands-aside : (g : Grant) → Stands count slots extras delay now past transactions s g
+      → Stands count slots extras delay now past transactions (record s { ids = ids; events = events; closes = closes }) g
   stands-aside g was = record {
     granted = was.granted;
     room = was.room;

@@ -25,9 +25,12 @@ use Rattle.turn_client_api.proofs.HasLemmas.{Has, filter-has, has-append, has-fi
 use Rattle.turn_client_laws.proofs.InAllocationLemmas.{Room, any-has, has-any, room-more, same_family-true}
 use Rattle.turn_client_runs.specs.History.{History, was_let_go}
 use Rattle.turn_client_runs.specs.Lasting.{as_granted, Answers, Grants, ahead_of, expiry_of, with_expiry}
-use Rattle.turn_client_runs.proofs.LastingCounts.{or_else, or_first, length-without, passes, passes-all, passes-append, passes-filter, passes-map, passes-mapped, passes-none, passes-split, passes-same, passes-two}
+use Rattle.turn_client_runs.proofs.LastingCounts.{or_else, or_first, length-without, passes, passes-all, passes-append}
+use Rattle.turn_client_runs.proofs.LastingCounts.{passes-filter, passes-map, passes-mapped, passes-none, passes-split, passes-same, passes-two}
 use Rattle.turn_client_runs.proofs.LastingStands.{AllRemain, Follows, Goes, IsPending, goes-more, goes-trans, pending-more, AreRequests, Brings, IsRequest, listed_as, IsAsked, IsAwaited}
-use Rattle.turn_client_runs.proofs.LastingStands.{asked-before, kept-changed, granted-active, kept-granted, leased-active, let_go-became, let_go-with, reserved-unserved, IsActive, IsKnown, IsLeased, IsLoose, IsGranted, IsIdle, IsKept, IsRefreshing, Stands, due_of, early-paced, still-paced, is_served, not-waiting, pause-le, IsUnique, IsWell, is_waiting}
+use Rattle.turn_client_runs.proofs.LastingStands.{asked-before, kept-changed, granted-active, kept-granted, leased-active, let_go-became, let_go-with, reserved-unserved, IsActive}
+use Rattle.turn_client_runs.proofs.LastingStands.{IsKnown, IsLeased, IsLoose, IsGranted, IsIdle, IsKept, IsRefreshing, Stands, due_of}
+use Rattle.turn_client_runs.proofs.LastingStands.{early-paced, still-paced, is_served, not-waiting, pause-le, IsUnique, IsWell, is_waiting}
 use Rattle.turn_client_runs.proofs.LastingStands.{served, used, unique-refreshing, unique-spares}
 use Rattle.turn_client_api.specs.Requests.{channel_bind_method, method_for}
 use Rattle.turn_client_api.specs.Judgement.{method_in}
@@ -123,7 +126,8 @@ with-waiting expiry g h = cc
 abbrev left : Purpose → State → List Listing
 left p u = filter (λ l. not (is_shared p u.grants l)) u.listed
 
-module _ (count slots extras delay now : ℕ) (past : History) (transactions : List Transaction) (u : State) (k : IsKept count slots extras delay now past transactions u) (p : Purpose) (refreshing : IsRefreshing p) where
+module _ (count slots extras delay now : ℕ) (past : History) (transactions : List Transaction) (u : State)
+    (k : IsKept count slots extras delay now past transactions u) (p : Purpose) (refreshing : IsRefreshing p) where
   -- what is listed still was listed, and for nothing that is answered
   kept-listing : (l : Listing) → Has l (left p u) → Has l u.listed × (is_shared p u.grants l ≡ false)
   kept-listing l h = let (there, keeps) = has-filter (λ (l : Listing). not (is_shared p u.grants l)) l u.listed h in (there, not-true (is_shared p u.grants l) keeps)
@@ -189,7 +193,8 @@ module _ (count slots extras delay now : ℕ) (past : History) (transactions : L
   -- what is listed under one ID is so still
   linked-left : (hs : List Grant) → ((g : Grant) → Has g u.grants → is_for p g ≡ false → Has g hs) → AreRequests hs (left p u)
   linked-left hs more = requests-left u.grants hs (is_shared p u.grants) u.listed
-      (λ l there e g here for. more g here (others-asked l (filter-has (λ (l : Listing). not (is_shared p u.grants l)) l u.listed there (not_from_false (is_shared p u.grants l) e)) g here for)) k.linked
+      (λ l there e g here for. more g here
+          (others-asked l (filter-has (λ (l : Listing). not (is_shared p u.grants l)) l u.listed there (not_from_false (is_shared p u.grants l) e)) g here for)) k.linked
 
   -- a request for what is not answered awaits its reply still
   pending-other : (until : ℕ) (g : Grant) → is_for p g ≡ false → IsPending until past transactions u.listed g → IsPending until past transactions (left p u) g
@@ -300,7 +305,8 @@ module _ (count slots extras delay now : ℕ) (past : History) (transactions : L
 
 -- ---- a refresh
 
-module _ (count slots extras delay now : ℕ) (past : History) (transactions : List Transaction) (u : State) (k : IsKept count slots extras delay now past transactions u) (p : Purpose) (refreshing : IsRefreshing p) (expiry challenges : ℕ)
+module _ (count slots extras delay now : ℕ) (past : History) (transactions : List Transaction) (u : State)
+    (k : IsKept count slots extras delay now past transactions u) (p : Purpose) (refreshing : IsRefreshing p) (expiry challenges : ℕ)
     (fewer : challenges ≤ u.challenges) (late : now + granted_for p ≤ expiry) (alone : IsForGranted p u) where
   abbrev t : State
   t = renewed_by p expiry challenges u
@@ -360,7 +366,8 @@ module _ (count slots extras delay now : ℕ) (past : History) (transactions : L
 
   loose-renewed : (g : Grant) → IsLoose past u g → IsLoose past t (with_expiry expiry g)
   loose-renewed g (freed, inl leased) = (let_go-with past expiry g ∙ freed, inl (with-leased expiry g leased))
-  loose-renewed g (freed, inr (is, none)) = subst (IsLoose past t) (sym (with-reserved expiry g is)) (loose-other count slots extras delay now past transactions u k p refreshing t refl g (freed, inr (is, none)))
+  loose-renewed g (freed, inr (is, none)) =
+      subst (IsLoose past t) (sym (with-reserved expiry g is)) (loose-other count slots extras delay now past transactions u k p refreshing t refl g (freed, inr (is, none)))
 
   renews-known : (g : Grant) → Has g u.grants → IsKnown now past t (renews p expiry g)
   renews-known g there = by (is_for p g) refl
@@ -481,7 +488,8 @@ module _ (count slots extras delay now : ℕ) (past : History) (transactions : L
 
   -- what is granted, but not kept, was let go
   new-let_go : is_kept new ≡ false → was_let_go past new ≡ true
-  new-let_go loose = let_go-became past anew.waits new anew.becomes ∙ or_else (is_kept anew.waits) (was_let_go past anew.waits) (sym anew.marks ∙ loose) ((k.known anew.waits anew.there).0 anew.waiting)
+  new-let_go loose = let_go-became past anew.waits new anew.becomes
+      ∙ or_else (is_kept anew.waits) (was_let_go past anew.waits) (sym anew.marks ∙ loose) ((k.known anew.waits anew.there).0 anew.waiting)
 
   well-anew : (g : Grant) → Has g after.grants → IsWell count slots extras delay now past transactions after g
   well-anew g h = elim (which g h) [
@@ -602,7 +610,8 @@ one-listed p u l h (g, there, for) e =
     let no : false ≡ true = sym (not-true (is_shared p u.grants l) keeps) ∙ some in
     cc
 
-pub all-known : (count slots extras delay now : ℕ) (past : History) (transactions : List Transaction) (u : State) → IsKept count slots extras delay now past transactions u → (g : Grant) → Has g u.grants
+pub all-known : (count slots extras delay now : ℕ) (past : History) (transactions : List Transaction) (u : State)
+    → IsKept count slots extras delay now past transactions u → (g : Grant) → Has g u.grants
     → IsOfKind u g
 all-known count slots extras delay now past transactions u k g there = elim (k.each g there) [
   | inl (waits, pending) ↦ inl waits
@@ -611,7 +620,8 @@ all-known count slots extras delay now past transactions u k g there = elim (k.e
   | inr (inr (freed, inr reserved)) ↦ inr (inr reserved)
 ]
 
-module _ (count slots extras delay now : ℕ) (past : History) (transactions : List Transaction) (u : State) (k : IsKept count slots extras delay now past transactions u) (p : Purpose) (refreshing : IsRefreshing p) (g : Grant)
+module _ (count slots extras delay now : ℕ) (past : History) (transactions : List Transaction) (u : State)
+    (k : IsKept count slots extras delay now past transactions u) (p : Purpose) (refreshing : IsRefreshing p) (g : Grant)
     (there : Has g u.grants)
     (for : is_for p g ≡ true) where
   left-listed : (l : Listing) → Has l (left p u) → Has l u.listed × (Has l.purpose (p ∷ []) → ⊥)
@@ -636,7 +646,8 @@ module _ (count slots extras delay now : ℕ) (past : History) (transactions : L
   })
 
 -- one purpose is answered after another one
-both-answered : (count slots extras delay now : ℕ) (past : History) (transactions : List Transaction) (p q : Purpose) (u v t : State) → IsAnswered count slots extras delay now past transactions (q ∷ []) u v
+both-answered : (count slots extras delay now : ℕ) (past : History) (transactions : List Transaction) (p q : Purpose) (u v t : State)
+    → IsAnswered count slots extras delay now past transactions (q ∷ []) u v
     → IsAnswered count slots extras delay now past transactions (p ∷ []) v t → IsAnswered count slots extras delay now past transactions (p ∷ q ∷ []) u t
 both-answered count slots extras delay now past transactions p q u v t first last = record {
   kept = last.kept;

@@ -201,7 +201,8 @@ module _ (before now id last : ℕ) (later : List ℕ) (purpose : Purpose) (othe
       fits-next : (past : History) → All (λ x. past.made x.id ≡ x.last_send) (state_after reply u).transactions
       fits-next past = subst (λ (x : State). All (λ (y : Transaction). past.made y.id ≡ y.last_send) x.transactions) (sym after-reply) (fits-r past)
 
-      by : (past : History) → FitsPast past u → RunsSteadily 3 1 0 delay now past u (reply ∷ PollEvent ∷ PollEvent ∷ served last later (state_after PollEvent (state_after PollEvent (state_after reply u))))
+      by : (past : History) → FitsPast past u
+          → RunsSteadily 3 1 0 delay now past u (reply ∷ PollEvent ∷ PollEvent ∷ served last later (state_after PollEvent (state_after PollEvent (state_after reply u))))
       by past fits =
           let next = with_call reply (now + delay) u past in
           let none = no-extra reply (now + delay) u past fits.0 calm refl in (

@@ -1,5 +1,6 @@
 -- No grant is lost by a call.
-use Rattle.std.proofs.Common.{◌≡◌, ◌⊎◌, ℕ, ◌+◌, ◌<◌, ◌≤◌, Bool, true, false, cond, not, ◌&&◌, leb, eqb, List, [], ◌∷◌, ◌++◌, length, drop, Option, Some, None, refl, inl, inr, ap, sym, subst, ◌∙◌, arith}
+use Rattle.std.proofs.Common.{◌≡◌, ◌⊎◌, ℕ, ◌+◌, ◌<◌, ◌≤◌, Bool, true, false, cond, not, ◌&&◌, leb, eqb, List}
+use Rattle.std.proofs.Common.{[], ◌∷◌, ◌++◌, length, drop, Option, Some, None, refl, inl, inr, ap, sym, subst, ◌∙◌, arith}
 use Rattle.std.specs.Prelude.{filter, filter_map, find, is_some, IsSome, nat_lt, Result, Ok, Err}
 use Rattle.std.specs.Net.Socket.{socket_ip}
 use Rattle.turn_stun.specs.declared.transport.TransportType.{TransportType}
@@ -10,7 +11,8 @@ use Rattle.turn_client_api.specs.declared.error.SendError.TheVariants.{NoPermiss
 use Rattle.turn_client_api.specs.Grants.{as_connection}
 use Rattle.turn_client_api.specs.Requests.{to_server}
 use Rattle.turn_types.specs.Channel.{channel_frame}
-use Rattle.turn_client_api.specs.Calls.{channel_kept_step, is_in_progress, is_open_to, keep_step, permission_kept_step, with_marks, active_channel, as_indication, bound_to, can_send_to, on_channel, on_connection, send_over, send_to_step}
+use Rattle.turn_client_api.specs.Calls.{channel_kept_step, is_in_progress, is_open_to, keep_step, permission_kept_step, with_marks, active_channel}
+use Rattle.turn_client_api.specs.Calls.{as_indication, bound_to, can_send_to, on_channel, on_connection, send_over, send_to_step}
 use Rattle.std.specs.List.{list_any}
 use Rattle.std.proofs.lemmas.Bool.{and_parts, eqb-true, eq-eqb, lt-leb, lt-ltb, or_right}
 use Rattle.std.specs.Option.{option_map_or}
@@ -116,7 +118,8 @@ success-ended packet now s p is =
 abbrev pub KeepsAll : ℕ → ℕ → ℕ → ℕ → ℕ → History → History → State → State → Type 0
 KeepsAll count slots extras delay now past later s t = IsKept count slots extras delay now later t.transactions t × Goes past later s.transactions t.transactions s t
 
-module _ (count slots extras delay now : ℕ) (past : History) (s : State) (k : IsKept count slots extras delay now past s.transactions s) (message : List ℕ) (answers : Answers message (purposes_of (id_of message) s)) where
+module _ (count slots extras delay now : ℕ) (past : History) (s : State) (k : IsKept count slots extras delay now past s.transactions s)
+    (message : List ℕ) (answers : Answers message (purposes_of (id_of message) s)) where
   abbrev id : ℕ
   id = id_of message
 
@@ -302,7 +305,8 @@ tidy-of count slots extras delay now past s k = record {
 }
 
 -- the challenge is answered
-challenge-judged : (message : List ℕ) (challenge : Challenge) (s : State) → s.phase ≡ Allocated → class_in message ≡ Error → challenge_in s message ≡ Some challenge → judgement_of s message ≡ Challenged challenge
+challenge-judged : (message : List ℕ) (challenge : Challenge) (s : State) → s.phase ≡ Allocated
+    → class_in message ≡ Error → challenge_in s message ≡ Some challenge → judgement_of s message ≡ Challenged challenge
 challenge-judged message challenge s p c o = rw (p, c, o) refl
 
 -- the request is made again, if it is known
@@ -310,7 +314,8 @@ abbrev retry_step : List ℕ → Challenge → ℕ → State → Outcome × Stat
 retry_step message challenge now s =
     option_map_or (λ purpose. (Handled, state_after_retry s (id_of message) purpose challenge now)) (retried (purposes_of (id_of message) s)) (Ignored, s)
 
-challenged : (packet : Transmit (List ℕ)) (now : ℕ) (past : History) (s : State) (challenge : Challenge) → s.phase ≡ Allocated → s.challenges < s.config.max_stale_nonces → IsChallenge packet now past s → challenge_in s packet.payload ≡ Some challenge
+challenged : (packet : Transmit (List ℕ)) (now : ℕ) (past : History) (s : State) (challenge : Challenge) → s.phase ≡ Allocated
+    → s.challenges < s.config.max_stale_nonces → IsChallenge packet now past s → challenge_in s packet.payload ≡ Some challenge
     → state_after (Recv packet now) s ≡ (retry_step packet.payload challenge now s).1
 challenged packet now past s challenge p few is o = is.message ∙ ap (λ (z : Outcome × State). z.1) (judged ∙ counted)
   where
@@ -334,17 +339,20 @@ module _ (count slots extras delay before : ℕ) (past : History) (s : State) wh
   Seldom c = IsSeldom extras s.config.refresh_ahead (time_of before c) (onward c)
 
   -- with another history all is kept, and so it is after the call
-  calm : (c : Call) (t : State) → Kept (time_of before c) past → Seldom c → s.challenges ≤ (onward c).challenged → (Kept (time_of before c) (onward c) → Keeps (time_of before c) (onward c) (onward c) t) → Keeps (time_of before c) past (onward c) t
+  calm : (c : Call) (t : State) → Kept (time_of before c) past → Seldom c → s.challenges ≤ (onward c).challenged
+      → (Kept (time_of before c) (onward c) → Keeps (time_of before c) (onward c) (onward c) t) → Keeps (time_of before c) past (onward c) t
   calm c t k seldom row step =
       let on = call-goes_on c (time_of before c) past s in
       let (kept, goes) = step (kept-later count slots extras delay (time_of before c) past (onward c) s on seldom row k) in
       (kept, goes-later past (onward c) t.transactions s t on goes)
 
   same-kept : (c : Call) → Kept (time_of before c) past → Seldom c → state_after c s ≡ s → Keeps (time_of before c) past (onward c) (state_after c s)
-  same-kept c k seldom same = subst (Keeps (time_of before c) past (onward c)) (sym same) (calm c s k seldom (same-row c (time_of before c) past s same k.row) (λ k. (k, goes-same (onward c) s s refl refl refl)))
+  same-kept c k seldom same =
+      subst (Keeps (time_of before c) past (onward c)) (sym same) (calm c s k seldom (same-row c (time_of before c) past s same k.row) (λ k. (k, goes-same (onward c) s s refl refl refl)))
 
   asks-kept : (now : ℕ) (later : History) → later.made (fresh_id s) ≡ now → Kept now later → Asks (λ t. IsWithin count slots t → Keeps now later later t) now s
-  asks-kept now later fresh k ps news text are w = (asked-kept count slots extras delay now later s k ps news are text fresh w.0 w.1, asked-goes count slots extras delay now later s k ps news are text fresh)
+  asks-kept now later fresh k ps news text are w =
+      (asked-kept count slots extras delay now later s k ps news are text fresh w.0 w.1, asked-goes count slots extras delay now later s k ps news are text fresh)
 
   transmits-kept : (now : ℕ) → Kept now past → Seldom (PollTransmit now) → Keeps now past (onward (PollTransmit now)) (transmit_step now s).1
   transmits-kept now k seldom = by (due (agent_of s) now) refl
@@ -378,7 +386,8 @@ module _ (count slots extras delay before : ℕ) (past : History) (s : State) wh
     outstanding-there : is_outstanding of_reply s.transactions ≡ true → (x : Transaction) × Has x s.transactions × (x.id ≡ of_reply)
     outstanding-there e = let (x, there, is) = any-has (λ (x : Transaction). eqb x.id of_reply) s.transactions e in (x, there, eqb-true x.id of_reply is)
 
-    retried-kept : (challenge : Challenge) (purpose : Purpose) → state_after (Recv packet now) s ≡ state_after_retry s of_reply purpose challenge now → Keeps now past behind (state_after (Recv packet now) s)
+    retried-kept : (challenge : Challenge) (purpose : Purpose)
+        → state_after (Recv packet now) s ≡ state_after_retry s of_reply purpose challenge now → Keeps now past behind (state_after (Recv packet now) s)
     retried-kept challenge purpose e = subst (Keeps now past behind) (sym e) (
       kept-retried count slots extras delay now past behind s k on more seldom row of_reply purpose challenge fits early answered as-old,
       goes-retried count slots extras delay now past behind s k on more seldom row of_reply purpose challenge fits early answered as-old,
@@ -515,13 +524,15 @@ module _ (count slots extras delay before : ℕ) (past : History) (s : State) wh
           let there = allocation-there a s.grants h in
           lt-leb a.expiry now (stands-early count slots extras delay now past s k (Allocation a) there (allocation-stands count slots extras delay now past s.transactions s k a there))
 
-      expires : (closes : List SocketAddr) → (poll_step now s).1 ≡ record (expired_at None now s) { closes = closes } → Keeps now past (onward (Poll now)) (record (expired_at None now s) { closes = closes })
+      expires : (closes : List SocketAddr) → (poll_step now s).1 ≡ record (expired_at None now s) { closes = closes }
+          → Keeps now past (onward (Poll now)) (record (expired_at None now s) { closes = closes })
       expires closes is =
           let u = expired_at None now s in
           let (alters, (expires_into, tidy)) = expired_at-passes now s early (tidy-of count slots extras delay now past s k) in
           let on = call-goes_on (Poll now) now past s in
           let counts = lost-counts now (record u { closes = closes }) is in
-          let same : record s { grants = u.grants; listed = u.listed; events = u.events; closes = closes } ≡ record u { closes = closes } = ap (λ (x : State). record x { closes = closes }) (sym alters) in
+          let same : record s { grants = u.grants; listed = u.listed; events = u.events; closes = closes } ≡ record u { closes = closes } =
+              ap (λ (x : State). record x { closes = closes }) (sym alters) in
           subst (Keeps now past (onward (Poll now))) same (
             kept-left count slots extras delay now past (onward (Poll now)) s k on seldom k.row u.grants u.listed u.events closes expires_into tidy counts,
             goes-left count slots extras delay now past (onward (Poll now)) s k on seldom k.row u.grants u.listed u.events closes expires_into tidy counts,
@@ -555,7 +566,8 @@ module _ (count slots extras delay before : ℕ) (past : History) (s : State) wh
   call-by (Poll now) k seldom quiet within = polled-kept now k seldom
   call-by (PollTransmit now) k seldom quiet within = transmits-kept now k seldom
   call-by PollEvent k seldom quiet within = calm PollEvent (record s { events = drop 1 s.events }) k seldom k.row (λ k.
-      (kept-aside count slots extras delay before (onward PollEvent) s.transactions s s.ids (drop 1 s.events) s.closes k, goes-same (onward PollEvent) s (record s { events = drop 1 s.events }) refl refl refl))
+      (kept-aside count slots extras delay before (onward PollEvent) s.transactions s s.ids
+          (drop 1 s.events) s.closes k, goes-same (onward PollEvent) s (record s { events = drop 1 s.events }) refl refl refl))
   call-by (SendTo transport peer bytes now) k seldom quiet within = calm (SendTo transport peer bytes now) (send_to_step transport peer bytes now s).1 k seldom k.row (λ k.
       sends (Keeps now (onward (SendTo transport peer bytes now)) (onward (SendTo transport peer bytes now))) transport peer bytes now s
       (λ ids. (

@@ -118,7 +118,8 @@ first-alike : (call : Call) (now : ℕ) (s : State) (past other : History) → (
 first-alike (Recv packet received) now s past other made = rw (made (id_of packet.payload)) refl
 first-alike call now s past other made = refl
 
-call-alike : (call : Call) (now : ℕ) (s : State) (past other : History) → ((id : ℕ) → past.made id ≡ other.made id) → (id : ℕ) → (with_call call now s past).made id ≡ (with_call call now s other).made id
+call-alike : (call : Call) (now : ℕ) (s : State) (past other : History) → ((id : ℕ) → past.made id ≡ other.made id)
+    → (id : ℕ) → (with_call call now s past).made id ≡ (with_call call now s other).made id
 call-alike call now s past other made id = rw (first-alike call now s past other made, made id) refl
 
 row-alike : (call : Call) (now : ℕ) (s : State) (past other : History) → past.challenged ≡ other.challenged → (with_call call now s past).challenged ≡ (with_call call now s other).challenged
@@ -146,7 +147,8 @@ runs-alike count slots extras delay before past other s (call ∷ calls) made ex
       quiet-alike call past other s row quiet,
       within,
       λ since near. subst (λ (times : List ℕ). length (filter (λ time. nat_le since time) times) ≤ extras) more (seldom since near),
-      runs-alike count slots extras delay now (with_call call now s past) (with_call call now s other) (state_after call s) calls (call-alike call now s past other made) more (row-alike call now s past other row) run,
+      runs-alike count slots extras delay now (with_call call now s past) (with_call call now s other)
+          (state_after call s) calls (call-alike call now s past other made) more (row-alike call now s past other row) run,
     )
   where
     answered : (x : Transaction) → Has x s.transactions → time_of before call ≤ other.made x.id + delay
@@ -158,12 +160,14 @@ runs-alike count slots extras delay before past other s (call ∷ calls) made ex
 -- a call lets go what it does, whatever was before
 call-frees : (call : Call) (now : ℕ) (s : State) (past other : History) (g : Grant) → (was_let_go past g ≡ true → was_let_go other g ≡ true) → was_let_go (with_call call now s past) g ≡ true
     → was_let_go (with_call call now s other) g ≡ true
-call-frees call now s past other (Permission ip progress) more e = elim (or_cases (past.permission_let_go ip) _ e) [ inl was ↦ or_left (other.permission_let_go ip) _ (more was) | inr is ↦ or_right (other.permission_let_go ip) _ is ]
+call-frees call now s past other (Permission ip progress) more e =
+    elim (or_cases (past.permission_let_go ip) _ e) [ inl was ↦ or_left (other.permission_let_go ip) _ (more was) | inr is ↦ or_right (other.permission_let_go ip) _ is ]
 call-frees call now s past other (Channel number peer progress) more e =
     elim (or_cases (past.channel_let_go number peer) _ e) [ inl was ↦ or_left (other.channel_let_go number peer) _ (more was) | inr is ↦ or_right (other.channel_let_go number peer) _ is ]
 call-frees call now s past other g more e = cc
 
-calls-free : (calls : List Call) (before : ℕ) (s : State) (past other : History) (g : Grant) → (was_let_go past g ≡ true → was_let_go other g ≡ true) → was_let_go (with_calls calls before s past) g ≡ true
+calls-free : (calls : List Call) (before : ℕ) (s : State) (past other : History) (g : Grant)
+    → (was_let_go past g ≡ true → was_let_go other g ≡ true) → was_let_go (with_calls calls before s past) g ≡ true
     → was_let_go (with_calls calls before s other) g ≡ true
 calls-free [] before s past other g more e = more e
 calls-free (call ∷ calls) before s past other g more e =

@@ -300,7 +300,8 @@ pub record AreKept (count slots extras delay now : ℕ) (past : History) (transa
   pub each : (g : Grant) → Has g s.grants → IsWell count slots extras delay now past transactions s g
 
 -- with other ones the rest stays as it is
-pub kept-changed : (count slots extras delay now : ℕ) (past : History) (transactions : List Transaction) (s : State) → IsKept count slots extras delay now past transactions s → (grants : List Grant) (listed : List Listing)
+pub kept-changed : (count slots extras delay now : ℕ) (past : History) (transactions : List Transaction) (s : State)
+    → IsKept count slots extras delay now past transactions s → (grants : List Grant) (listed : List Listing)
     (events : List TurnEvent) (challenges : ℕ) (ids : Source) (closes : List SocketAddr)
     → let t = record s { grants = grants; listed = listed; events = events; challenges = challenges; ids = ids; closes = closes } in
     AreKept count slots extras delay now past transactions t → IsKept count slots extras delay now past transactions t
@@ -418,7 +419,8 @@ pause-le now s h = by s.last_send h
     by (Some time) h = omega (arith, h)
 
 -- what is granted has not expired
-pub stands-early : (count slots extras delay now : ℕ) (past : History) (s : State) → IsKept count slots extras delay now past s.transactions s → (g : Grant) → Has g s.grants → Stands count slots extras delay now past s.transactions s g
+pub stands-early : (count slots extras delay now : ℕ) (past : History) (s : State) → IsKept count slots extras delay now past s.transactions s
+    → (g : Grant) → Has g s.grants → Stands count slots extras delay now past s.transactions s g
     → now < expiry_of g
 stands-early count slots extras delay now past s k g there stands = elim stands.either [
   | inl a ↦ let late = k.heard a.transaction a.there in let t = a.in_time in omega (arith, late, t)
@@ -426,7 +428,8 @@ stands-early count slots extras delay now past s k g there stands = elim stands.
 ]
 
 -- no allocation is waiting, so each is granted
-pub allocation-stands : (count slots extras delay now : ℕ) (past : History) (transactions : List Transaction) (s : State) → IsKept count slots extras delay now past transactions s → (a : Relay) → Has (Allocation a) s.grants
+pub allocation-stands : (count slots extras delay now : ℕ) (past : History) (transactions : List Transaction) (s : State)
+    → IsKept count slots extras delay now past transactions s → (a : Relay) → Has (Allocation a) s.grants
     → Stands count slots extras delay now past transactions s (Allocation a)
 allocation-stands count slots extras delay now past transactions s k a there = elim (k.each (Allocation a) there) [
   | inl waits ↦ absurd (let no : false ≡ true = waits.0 in cc)

@@ -24,7 +24,8 @@ use Rattle.turn_client_runs.proofs.LastingStands.{granted-active, pending-later,
 use Rattle.turn_client_runs.proofs.LastingSends.{due-sends, is-due, may-refresh, next-sends, transmit-refreshes, transmits}
 
 -- what is refreshed by then is refreshed in time
-pub bound-early : (count slots extras delay now : ℕ) (past : History) (transactions : List Transaction) (s : State) (g : Grant) → IsKept count slots extras delay now past transactions s → Has g s.grants
+pub bound-early : (count slots extras delay now : ℕ) (past : History) (transactions : List Transaction) (s : State) (g : Grant)
+    → IsKept count slots extras delay now past transactions s → Has g s.grants
     → Stands count slots extras delay now past transactions s g → IsIdle slots now past s g → bound slots past s g + delay < expiry_of g
 bound-early count slots extras delay now past transactions s g k there stands idle =
     omega (arith, bound-le count slots extras delay now past transactions s g k there stands.granted idle, stands.room, stands.long)
@@ -75,7 +76,8 @@ module _ (count slots extras delay before now : ℕ) (past : History) (s : State
   ]
 
   -- with the queue, by which it is decided
-  idle-early : (g : Grant) → Has g s.grants → Stands count slots extras delay before past s.transactions s g → IsIdle slots before past s g → (a : Relay) → Has a (allocations s) → is_of (family_of a.relayed) g ≡ true
+  idle-early : (g : Grant) → Has g s.grants → Stands count slots extras delay before past s.transactions s g
+      → IsIdle slots before past s g → (a : Relay) → Has a (allocations s) → is_of (family_of a.relayed) g ≡ true
       → ((time : ℕ) → time < now → time < expiry_of g → time ≤ a.expiry) → now + s.config.request_cadence * length s.queue ≤ bound slots past s g
   idle-early g there stands idle a inside of goes_on = by s.queue refl
     where
@@ -107,7 +109,8 @@ module _ (count slots extras delay before now : ℕ) (past : History) (s : State
       ]
 
   -- a request for it leaves in time, or its reply comes in time
-  early-by : (g : Grant) → Has g s.grants → Stands count slots extras delay before past s.transactions s g → (IsIdle slots before past s g → now + s.config.request_cadence * length s.queue ≤ bound slots past s g)
+  early-by : (g : Grant) → Has g s.grants → Stands count slots extras delay before past s.transactions s g
+      → (IsIdle slots before past s g → now + s.config.request_cadence * length s.queue ≤ bound slots past s g)
       → now < expiry_of g
   early-by g there stands idles = elim stands.either [
     | inl awaited ↦ let late = all-answered awaited.transaction awaited.there in let t = awaited.in_time in omega (arith, late, t)
@@ -123,7 +126,8 @@ module _ (count slots extras delay before now : ℕ) (past : History) (s : State
       early-by (Allocation a) there stands
       (λ idle. idle-early (Allocation a) there stands idle a (there-of a there) (same_family-self (family_of a.relayed) (family_of a.relayed) refl) (λ time early less. omega (arith, less)))
 
-  idles : (g : Grant) → Has g s.grants → Stands count slots extras delay before past s.transactions s g → IsIdle slots before past s g → now + s.config.request_cadence * length s.queue ≤ bound slots past s g
+  idles : (g : Grant) → Has g s.grants → Stands count slots extras delay before past s.transactions s g
+      → IsIdle slots before past s g → now + s.config.request_cadence * length s.queue ≤ bound slots past s g
   idles g there stands idle =
       let (a, here, same) = k.in_allocations g there in
       idle-early g there stands idle a (there-of a here) (same_family-self (family_of_grant g) (family_of a.relayed) (sym same)) (λ time early less. omega (arith, early, allocation-early a here))

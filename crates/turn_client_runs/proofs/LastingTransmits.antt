@@ -33,7 +33,8 @@ use Rattle.turn_client_laws.proofs.AfterExpiryLemmas.{IsReserved}
 use Rattle.turn_client_runs.specs.History.{History}
 use Rattle.turn_client_runs.proofs.LastingCounts.{passes, passes-more, passes-same}
 use Rattle.turn_client_runs.proofs.LastingHistory.{lone-more}
-use Rattle.turn_client_runs.proofs.LastingStands.{Goes, goes-more, granted-active, leased-active, pending-more, IsActive, IsAwaited, IsIdle, IsLeased, IsLoose, IsUnique, IsKept, IsRefreshing, Stands, allocation-stands, stands-early, bound, bound-le, due_of}
+use Rattle.turn_client_runs.proofs.LastingStands.{Goes, goes-more, granted-active, leased-active, pending-more, IsActive, IsAwaited, IsIdle, IsLeased}
+use Rattle.turn_client_runs.proofs.LastingStands.{IsLoose, IsUnique, IsKept, IsRefreshing, Stands, allocation-stands, stands-early, bound, bound-le, due_of}
 use Rattle.turn_client_runs.proofs.LastingStands.{left-paced, one-paced, is_served, is_waiting, kind-due, not-waiting, served, used}
 use Rattle.turn_client_runs.proofs.LastingSends.{due-sends, is-due, may-refresh, queue-idle, transmits}
 use Rattle.turn_client_runs.proofs.LastingListings.{requests-more}
@@ -304,14 +305,16 @@ no-reply_left : (qs : List Queued) → list_any (λ q. not q.is_request) qs ≡ 
 no-reply_left [] none = none
 no-reply_left (q ∷ qs) none = (or_parts (not q.is_request) (list_any (λ q. not q.is_request) qs) none).1
 
-module _ (count slots extras delay now : ℕ) (past : History) (s : State) (k : IsKept count slots extras delay now past s.transactions s) (q : Queued) (qs : List Queued) (front : s.queue ≡ q ∷ qs) where
+module _ (count slots extras delay now : ℕ) (past : History) (s : State)
+    (k : IsKept count slots extras delay now past s.transactions s) (q : Queued) (qs : List Queued) (front : s.queue ≡ q ∷ qs) where
   abbrev v : State
   v = record s { queue = drop 1 s.queue; last_send = Some now }
 
   one-left : length v.queue + 1 ≡ length s.queue
   one-left = rw front (omega arith)
 
-  stands-queued : (g : Grant) → Stands count slots extras delay now past s.transactions s g → Stands count slots extras delay now past s.transactions (record s { queue = drop 1 s.queue; last_send = Some now }) g
+  stands-queued : (g : Grant) → Stands count slots extras delay now past s.transactions s g
+      → Stands count slots extras delay now past s.transactions (record s { queue = drop 1 s.queue; last_send = Some now }) g
   stands-queued g was = record {
     granted = was.granted;
     room = was.room;
@@ -351,7 +354,8 @@ module _ (count slots extras delay now : ℕ) (past : History) (s : State) (k : 
 -- ---- the path is kept alive
 
 -- With nothing to refresh, each refresh is still to come, so a pause that begins now delays none.
-module _ (count slots extras delay now : ℕ) (past : History) (s : State) (k : IsKept count slots extras delay now past s.transactions s) (empty : s.queue ≡ []) (nothing : next_refresh now s ≡ None) where
+module _ (count slots extras delay now : ℕ) (past : History) (s : State)
+    (k : IsKept count slots extras delay now past s.transactions s) (empty : s.queue ≡ []) (nothing : next_refresh now s ≡ None) where
   kept-in_use : (b : Relay) → Has (Allocation b) s.grants → b.is_expired ≡ false
   kept-in_use b h = (allocation-stands count slots extras delay now past s.transactions s k b h).granted
 
@@ -441,7 +445,8 @@ transmit-kept count slots extras delay now past s k fresh none = rw (transmits n
 
     keeps : (b : Bool) → s.queue ≡ [] → next_refresh now s ≡ None
         → Keeps (cond {A = Option (Transmit (List ℕ)) × State} b (Some (to_server s s.local (binding_indication (fresh_id s))), Rattle.turn_client_api.specs.Transmit.sent now (id_used s)) (None, s)).1
-    keeps true empty e = (kept-alive count slots extras delay now past s k empty e, goes-more past s.transactions s.transactions s (record s { ids = (id_used s).ids; last_send = Some now }) refl (λ x h. h) (λ l h. h))
+    keeps true empty e = (kept-alive count slots extras delay now past s k empty e, goes-more past s.transactions s.transactions s
+        (record s { ids = (id_used s).ids; last_send = Some now }) refl (λ x h. h) (λ l h. h))
     keeps false empty e = (k, goes-more past s.transactions s.transactions s s refl (λ x h. h) (λ l h. h))
 
     sends : s.queue ≡ [] → (p : Purpose) (next : IsNext now s p) → IsActive next.grant → Keeps (sent_at_once (request_for s p (fresh_id s)) p now s).1

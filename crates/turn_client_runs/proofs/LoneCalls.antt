@@ -32,7 +32,8 @@ use Rattle.turn_client_api.specs.Connections.{is_connected, is_connecting}
 use Rattle.turn_client_api.specs.Due.{has_event, has_reply, is_paused, keepalive_times}
 use Rattle.turn_client_api.specs.Effect.{closed, transaction_ended}
 use Rattle.turn_client_api.specs.Grants.{allocations, as_connection, family_of, find_allocation_to, has_active_permission, is_of, is_past, is_permission_of, permission_state, same_transport}
-use Rattle.turn_client_api.specs.Poll.{allocation_expires, answer_step, channel_expired, is_expired_channel, is_listed_for_allocation, expired_at, expired_allocation, expired_in, next_offer, poll_step}
+use Rattle.turn_client_api.specs.Poll.{allocation_expires, answer_step, channel_expired, is_expired_channel, is_listed_for_allocation}
+use Rattle.turn_client_api.specs.Poll.{expired_at, expired_allocation, expired_in, next_offer, poll_step}
 use Rattle.turn_client_api.specs.Poll.{timed_out_purposes, timed_out_step, timed_step}
 use Rattle.turn_client_api.specs.Steps.{state_after}
 use Rattle.turn_client_api.specs.Transmit.{idle_step, keepalive_step, queue_step, refreshes_in, reply_step, transmit_step}

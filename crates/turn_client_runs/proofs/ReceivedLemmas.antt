@@ -85,7 +85,8 @@ module _ (Known : SocketAddr → List ℕ → Type 0) (none : (a : SocketAddr) �
       by_test (λ u. AllKnown u.streams) (begins_no_frame stream.bytes) (Handled, broken_at stream.local t) _ (broken-known stream.local t all)
       (framed-known stream now t is all (frame_len stream.bytes))
 
-  detached-known : (m : Mode) (stream : Stream) (now : ℕ) (t : State) → Known stream.local stream.bytes → AllKnown t.streams → AllKnown (detached_frame_step (record stream { mode = m }) now t).1.streams
+  detached-known : (m : Mode) (stream : Stream) (now : ℕ) (t : State) → Known stream.local stream.bytes
+      → AllKnown t.streams → AllKnown (detached_frame_step (record stream { mode = m }) now t).1.streams
   detached-known (Bound peer) stream now t is all = all
   detached-known Broken stream now t is all = all
   detached-known m stream now t is all = front-known (record stream { mode = m }) now t is all

@@ -31,7 +31,8 @@ use Rattle.turn_client_laws.proofs.ListedGrants.{AllHaveGrant, StayFounded, Stay
 use Rattle.turn_client_laws.proofs.StandLemmas.{has-contains}
 use Rattle.turn_client_laws.proofs.InputChainLemmas.{calls-do}
 use Rattle.turn_client_laws.proofs.InputKeepLemmas.{before-kept}
-use Rattle.turn_client_runs.specs.Reported.{CausesAreReportedOnce, IsOfGrant, IsReportedOncePerRequest, attempts_in, caused_by, due_of, in_calls, is_about, is_awaited_by, is_like, is_to_come, reported_by}
+use Rattle.turn_client_runs.specs.Reported.{CausesAreReportedOnce, IsOfGrant, IsReportedOncePerRequest, attempts_in, caused_by, due_of}
+use Rattle.turn_client_runs.specs.Reported.{in_calls, is_about, is_awaited_by, is_like, is_to_come, reported_by}
 use Rattle.turn_client_runs.proofs.LastingCounts.{passes, passes-none}
 use Rattle.turn_client_runs.proofs.LoneCalls.{call-lone, input-lone}
 use Rattle.turn_client_runs.proofs.LoneConnects.{HasLoneConnects}

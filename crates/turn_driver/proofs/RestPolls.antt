@@ -258,7 +258,8 @@ timed-stands Authenticating id now s = answer-stands (Some id) now s _ (by (is_l
 timed-stands Allocated id now s = answer-stands (Some id) now s (expired_at (Some id) now s) (expired_at-ages (Some id) now s).stands
 timed-stands Closed id now s = stands-self s
 
-timed-IsReported : (now : ℕ) (s : State) (x : Transaction) → timed_out_transaction (agent_of s) now ≡ Some x → IsReported (left_to_do now) s (timed_step s.phase (Some x.id) now (transaction_ended x.id s))
+timed-IsReported : (now : ℕ) (s : State) (x : Transaction) → timed_out_transaction (agent_of s) now ≡ Some x
+    → IsReported (left_to_do now) s (timed_step s.phase (Some x.id) now (transaction_ended x.id s))
 timed-IsReported now s x found =
     let t = transaction_ended x.id s in
     let p = timed_step s.phase (Some x.id) now t in

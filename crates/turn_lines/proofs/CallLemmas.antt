@@ -17,7 +17,8 @@ use Rattle.turn_client_api.specs.declared.call.Call.{Call}
 use Rattle.turn_client_api.specs.declared.call.Call.TheVariants as Calls
 use Rattle.turn_client_api.specs.declared.poll.Socket5Tuple.{Socket5Tuple}
 use Rattle.turn_lines.specs.Address.{address_of}
-use Rattle.turn_lines.specs.Arguments.{address_if_any, data_ends_of, one_address_of, packet_of, sending_of, transport_and_address_of, transport_and_grantee_of, transport_and_ip_of, tuple_of, two_addresses_of, way_of, grantee_of}
+use Rattle.turn_lines.specs.Arguments.{address_if_any, data_ends_of, one_address_of, packet_of, sending_of, transport_and_address_of}
+use Rattle.turn_lines.specs.Arguments.{transport_and_grantee_of, transport_and_ip_of, tuple_of, two_addresses_of, way_of, grantee_of}
 use Rattle.turn_lines.specs.Call.{call_of, call_with, if_short, is_short, instant_of, kept_call, kept_of, name_of}
 use Rattle.turn_lines.specs.Fault.{needed}
 use Rattle.turn_lines.specs.Field.{bytes_of, is_lower_hex, transport_of}

@@ -237,7 +237,8 @@ impl GrantLedger {
     /// A pending channel is refused, and so is the permission that was requested with it.
     fn channel_refused(&mut self, number: u16, peer: SocketAddr, id: TransactionId)
         requires { 9 ≤ self.old.event_room }
-        ensures state { (s : State) (is_kept : Bool) (now : ℕ) → with_ledger self.new s ≡ pending_channel_answered number peer is_kept id false now (with_ledger self.old s) }
+        ensures state { (s : State) (is_kept : Bool) (now : ℕ)
+            → with_ledger self.new s ≡ pending_channel_answered number peer is_kept id false now (with_ledger self.old s) }
         ensures room { SameRoomBut 0 9 self.old self.new }
     {
         let transport = self.transport();

@@ -99,7 +99,8 @@ impl GrantLedger {
         purposes: &Purposes,
         now: Instant,
     )
-        ensures state { (s : State) → with_ledger self.new s ≡ expired_allocation timed_out.now (purposes_in purposes.now) now (with_ledger self.old s) relay.now }
+        ensures state { (s : State)
+            → with_ledger self.new s ≡ expired_allocation timed_out.now (purposes_in purposes.now) now (with_ledger self.old s) relay.now }
         ensures room { SameRoomBut 0 0 self.old self.new }
     {
         let goes = self.allocation_expires(relay, purposes, now);

@@ -1,7 +1,8 @@
 use Rattle.std.proofs.Common.{arith, ◌<◌, ◌^◌}
 use Rattle.turn_agent.proofs.ScheduleLemmas.{IsDoubling-more, IsDoubling-none, IsDoubling-greatest, IsDoubling-far}
 use Rattle.turn_agent.proofs.schedule.sum_of_doubled.Goals as goal
-use Rattle.turn_agent.proofs.schedule.sum_of_doubled.Goals.{else-loop-round-test, then-loop-round-test+then-left-eq0, then-left-eq0-via-then-left-eq0, then-left-eq0-via-else-left-eq0+then-wait-greatest}
+use Rattle.turn_agent.proofs.schedule.sum_of_doubled.Goals.{else-loop-round-test, then-loop-round-test+then-left-eq0}
+use Rattle.turn_agent.proofs.schedule.sum_of_doubled.Goals.{then-left-eq0-via-then-left-eq0, then-left-eq0-via-else-left-eq0+then-wait-greatest}
 
 pub loop-round-preserved : goal.loop-round-preserved
 loop-round-preserved c =
