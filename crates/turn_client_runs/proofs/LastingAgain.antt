@@ -43,7 +43,7 @@ IsOneMore now past later = (since : ℕ) → since ≤ now → extra_since since
 
 module _ (count slots extras delay now : ℕ) (past later : History) (s : State) (k : IsKept count slots extras delay now past s.transactions s) (on : GoesOn s.transactions past later)
     (more : IsOneMore now past later) (seldom : IsSeldom extras s.config.refresh_ahead now later)
-        (row : s.challenges ≤ later.challenged) (x : Transaction) (found : due (agent_of s) now ≡ Some x) where
+    (row : s.challenges ≤ later.challenged) (x : Transaction) (found : due (agent_of s) now ≡ Some x) where
   abbrev again : Transaction → Transaction
   again y = cond (eqb y.id x.id) (sent_again now y) y
 

@@ -53,7 +53,7 @@ gone-unserved now since s near g gone = absurd gone
 
 module _ (count slots extras delay now : ℕ) (past later : History) (s : State) (k : IsKept count slots extras delay now past s.transactions s) (on : GoesOn s.transactions past later)
     (seldom : IsSeldom extras s.config.refresh_ahead now later) (row : s.challenges ≤ later.challenged)
-        (grants : List Grant) (listed : List Listing) (events : List TurnEvent) (closes : List SocketAddr)
+    (grants : List Grant) (listed : List Listing) (events : List TurnEvent) (closes : List SocketAddr)
     (expires_into : ExpiresInto now s.grants s.listed grants listed) (tidy : IsTidy grants listed)
     (counts : (since : ℕ) → since ≤ now → extra_since since past + passes (is_lost s.listed listed) s.grants ≤ extra_since since later) where
   abbrev t : State

@@ -434,7 +434,7 @@ module _ (now : ℕ) where
       alone : Has (Channel number peer (Active lease)) s.grants → lease.expiry ≤ now → (g : Grant) → Has g s.grants → is_channel_of number g ≡ true → IsGone now g
       alone there late g here e =
           subst (IsGone now) (passes-same (is_channel_of number) (Channel number peer (Active lease)) g s.grants
-              (tidy.single (ForChannel number peer) tt) there here (eq-eqb number number refl) e) late
+          (tidy.single (ForChannel number peer) tt) there here (eq-eqb number number refl) e) late
   channel-passes o s found tidy = passes-self s tidy
 
   never : (a b : Bool) → (a && b && false) ≡ true → ⊥

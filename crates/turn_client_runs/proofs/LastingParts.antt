@@ -128,8 +128,12 @@ steady-kept count slots extras delay now s is = record {
           granted = force-granted now g (has-all (IsInForce now) g s.grants is.in_force there);
           room = has-all (λ g. HasRoom count slots extras s.config.request_cadence delay (ahead_of s.config.refresh_ahead g)) g s.grants is.room there;
           long = omega (arith, early);
-          either = inr (record { unasked = unasked g s.listed is.none_listed; near = omega (arith, early);
-              soon = rw none (omega (arith, early)); paused = rw none (omega (arith, early, pause-le now s is.sent_before)) });
+          either = inr (record {
+            unasked = unasked g s.listed is.none_listed;
+            near = omega (arith, early);
+            soon = rw none (omega (arith, early));
+            paused = rw none (omega (arith, early, pause-le now s is.sent_before));
+          });
         }
 
 early-of : (count slots extras delay now : ℕ) (past : History) (t : State)

@@ -194,7 +194,7 @@ module _ (count slots extras delay now : ℕ) (past : History) (transactions : L
   linked-left : (hs : List Grant) → ((g : Grant) → Has g u.grants → is_for p g ≡ false → Has g hs) → AreRequests hs (left p u)
   linked-left hs more = requests-left u.grants hs (is_shared p u.grants) u.listed
       (λ l there e g here for. more g here
-          (others-asked l (filter-has (λ (l : Listing). not (is_shared p u.grants l)) l u.listed there (not_from_false (is_shared p u.grants l) e)) g here for)) k.linked
+      (others-asked l (filter-has (λ (l : Listing). not (is_shared p u.grants l)) l u.listed there (not_from_false (is_shared p u.grants l) e)) g here for)) k.linked
 
   -- a request for what is not answered awaits its reply still
   pending-other : (until : ℕ) (g : Grant) → is_for p g ≡ false → IsPending until past transactions u.listed g → IsPending until past transactions (left p u) g

@@ -532,7 +532,7 @@ module _ (count slots extras delay before : ℕ) (past : History) (s : State) wh
           let on = call-goes_on (Poll now) now past s in
           let counts = lost-counts now (record u { closes = closes }) is in
           let same : record s { grants = u.grants; listed = u.listed; events = u.events; closes = closes } ≡ record u { closes = closes } =
-              ap (λ (x : State). record x { closes = closes }) (sym alters) in
+          ap (λ (x : State). record x { closes = closes }) (sym alters) in
           subst (Keeps now past (onward (Poll now))) same (
             kept-left count slots extras delay now past (onward (Poll now)) s k on seldom k.row u.grants u.listed u.events closes expires_into tidy counts,
             goes-left count slots extras delay now past (onward (Poll now)) s k on seldom k.row u.grants u.listed u.events closes expires_into tidy counts,
@@ -565,9 +565,11 @@ module _ (count slots extras delay before : ℕ) (past : History) (s : State) wh
   call-by : (c : Call) → Kept (time_of before c) past → Seldom c → IsQuiet c past s → IsWithin count slots (state_after c s) → Keeps (time_of before c) past (onward c) (state_after c s)
   call-by (Poll now) k seldom quiet within = polled-kept now k seldom
   call-by (PollTransmit now) k seldom quiet within = transmits-kept now k seldom
-  call-by PollEvent k seldom quiet within = calm PollEvent (record s { events = drop 1 s.events }) k seldom k.row (λ k.
-      (kept-aside count slots extras delay before (onward PollEvent) s.transactions s s.ids
-          (drop 1 s.events) s.closes k, goes-same (onward PollEvent) s (record s { events = drop 1 s.events }) refl refl refl))
+  call-by PollEvent k seldom quiet within = calm PollEvent (record s { events = drop 1 s.events }) k seldom k.row (λ k. (
+    kept-aside count slots extras delay before (onward PollEvent) s.transactions s s.ids
+        (drop 1 s.events) s.closes k,
+    goes-same (onward PollEvent) s (record s { events = drop 1 s.events }) refl refl refl,
+  ))
   call-by (SendTo transport peer bytes now) k seldom quiet within = calm (SendTo transport peer bytes now) (send_to_step transport peer bytes now s).1 k seldom k.row (λ k.
       sends (Keeps now (onward (SendTo transport peer bytes now)) (onward (SendTo transport peer bytes now))) transport peer bytes now s
       (λ ids. (

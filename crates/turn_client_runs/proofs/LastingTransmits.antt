@@ -445,8 +445,11 @@ transmit-kept count slots extras delay now past s k fresh none = rw (transmits n
 
     keeps : (b : Bool) → s.queue ≡ [] → next_refresh now s ≡ None
         → Keeps (cond {A = Option (Transmit (List ℕ)) × State} b (Some (to_server s s.local (binding_indication (fresh_id s))), Rattle.turn_client_api.specs.Transmit.sent now (id_used s)) (None, s)).1
-    keeps true empty e = (kept-alive count slots extras delay now past s k empty e, goes-more past s.transactions s.transactions s
-        (record s { ids = (id_used s).ids; last_send = Some now }) refl (λ x h. h) (λ l h. h))
+    keeps true empty e = (
+      kept-alive count slots extras delay now past s k empty e,
+      goes-more past s.transactions s.transactions s
+          (record s { ids = (id_used s).ids; last_send = Some now }) refl (λ x h. h) (λ l h. h),
+    )
     keeps false empty e = (k, goes-more past s.transactions s.transactions s s refl (λ x h. h) (λ l h. h))
 
     sends : s.queue ≡ [] → (p : Purpose) (next : IsNext now s p) → IsActive next.grant → Keeps (sent_at_once (request_for s p (fresh_id s)) p now s).1

@@ -225,7 +225,7 @@ module _ (local remote : SocketAddr) (config : Config) (seed : List ℕ) where
       (H.h3 local remote config seed) drives-3
       refl (H.reached local remote config seed) sleeps-2
       (goes-reported (λ t. t ≡ reported) Allocation 200_000_000 540_200_000_000
-          (allocation_packet (H.h3 local remote config seed)) (H.h3 local remote config seed) (H.done local remote config seed) reported []
+      (allocation_packet (H.h3 local remote config seed)) (H.h3 local remote config seed) (H.done local remote config seed) reported []
       refl allocated-after sleeps-3 (tt, refl)))
 
   pub after-handshake : Goes IsRefreshed (bound (client_after first drives_of_handshake)) drives_until_700_s

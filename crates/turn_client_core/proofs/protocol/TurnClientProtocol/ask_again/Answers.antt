@@ -52,7 +52,7 @@ returns-clause-ok c = λ challenge is.
     let written : text ≡ request_for t purpose fresh = c.in_ok-signed.ensures.text t (sym (ap (with_challenge given) own)) ∙ ap (λ u. request_for u purpose fresh) all in
     rw (c.accept.ensures.taken, c.in_ok-challenge.ensures.challenge, c.after_challenge-self-inside.ensures)
     (ap (λ o. with_ledger c.ask_again.new.self (with_outbox o t))
-        (c.end.ensures ∙ ap (λ (o : Outgoing). record o { transactions = without_transaction id o.transactions }) c.in_ok-challenge.ensures.ok)
+    (c.end.ensures ∙ ap (λ (o : Outgoing). record o { transactions = without_transaction id o.transactions }) c.in_ok-challenge.ensures.ok)
     ∙ (ap (λ ts. queued true from text (with_ledger c.ask_again.new.self (record (id_used t) { transactions = ts }))) (without-other id new s.transactions other)
     ∙ (ap (queued true from text) (c.ask_again.ensures.state t text now ∙ ap (λ u. request_started fresh text (purposes_of id u) now u) (c.queue_again.ensures.same t))
     ∙ (again-is s id fresh from text purpose given now written c.local_addr-from.ensures (c.fresh_id-fresh.ensures.id ∙ ap fresh_id (sym c.self.view_is))

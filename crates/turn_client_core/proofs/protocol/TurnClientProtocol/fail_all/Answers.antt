@@ -9,7 +9,7 @@ use Rattle.turn_client_core.proofs.protocol.TurnClientProtocol.fail_all.Goals as
 pub returns-then-is_empty-clause-ok : goal.returns-then-is_empty-clause-ok
 returns-then-is_empty-clause-ok c =
     let none : c.args.self.now.families ≡ [] = sym (ap (λ (s : State). s.families) c.self.view_is)
-        ∙ (sym c.as_slice.ensures ∙ nil-from c.as_slice.result.now (sym c.is_empty.ensures ∙ c.if-is_empty.true)) in
+    ∙ (sym c.as_slice.ensures ∙ nil-from c.as_slice.result.now (sym c.is_empty.ensures ∙ c.if-is_empty.true)) in
     sym (fail-none c.args.self.now none)
 
 pub returns-in_err-reserve-clause-err : goal.returns-in_err-reserve-clause-err

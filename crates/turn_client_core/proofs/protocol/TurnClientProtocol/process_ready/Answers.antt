@@ -49,7 +49,7 @@ returns-in-Ok-Some-clause-answer c =
     let outcome =
     sym (ap (λ t. owned_payload (detached_frame_step c.in-Some.stream c.args.now t).0) out) ∙ (sym c.in-Ok-Some.ensures.answer ∙ ap (λ o. option_map received_payload o) c.in-Ok-Some.field-0-is) in
     ap (λ g. Some (received_payload g)) c.in-Ok-Some.given-is
-        ∙ sym (ap (λ p. p.0) (rests-some c.args.now c.args.self.now c.loop-stream.self c.in-Some.stream _ e outcome c.loop-stream.invariant.rests))
+    ∙ sym (ap (λ p. p.0) (rests-some c.args.now c.args.self.now c.loop-stream.self c.in-Some.stream _ e outcome c.loop-stream.invariant.rests))
 
 pub returns-in-Ok-Some-clause-after : goal.returns-in-Ok-Some-clause-after
 returns-in-Ok-Some-clause-after c =
