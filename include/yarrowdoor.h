@@ -18,8 +18,8 @@
    What the caller owes, since nothing checks it:
    - A client is a pointer that yarrowdoor_new has put there, and that was not passed to yarrowdoor_free.
    - One call of a client at a time, and the memory behind its pointer is neither read nor written.
-   - No pointer is null, except those to bytes and buffers of length 0, and the client of yarrowdoor_free. All behind a
-     pointer is readable and initialised, and what is not const is writable.
+   - No pointer is null, except those to bytes and buffers of length 0, to the data of a head, and the client of
+     yarrowdoor_free. All behind a pointer is readable and initialised, and what is not const is writable.
    - What a call writes (its buffer, its answer) overlaps nothing else that is passed to it, and until it returns nothing
      else touches what it was passed. The calls that only look may share a client (yarrowdoor_look).
 
@@ -92,7 +92,8 @@ enum yarrowdoor_anonymous {
 /* A buffer of so many bytes holds every packet of yarrowdoor_poll_transmit: each is shorter. */
 #define YARROWDOOR_MAX_PACKET ((size_t)65556)
 
-/* What the packet of yarrowdoor_send_to may have beyond its data, in bytes: its buffer needs as much more. */
+/* What the packet of yarrowdoor_send_to may have beyond its data, in bytes: its buffer needs as much more, and that of
+   yarrowdoor_send_head as much. */
 #define YARROWDOOR_MAX_OVERHEAD ((size_t)64)
 
 /* The most data of yarrowdoor_send_to where the allocation relays over UDP, in bytes. */
@@ -114,7 +115,7 @@ enum yarrowdoor_kind {
     YARROWDOOR_BAD_CALL = 3,     /* there is no such call, it lacks a transport or an address, or a reserved byte is not 0 */
     YARROWDOOR_BAD_PAYLOAD = 4,  /* the data has over 65,504 bytes, and the allocation relays over UDP */
     YARROWDOOR_UNREAD_BYTES = 5, /* yarrowdoor_read has to read the rest of an earlier answer first */
-    YARROWDOOR_SMALL_BUFFER = 6, /* the buffer of yarrowdoor_send_to is too small */
+    YARROWDOOR_SMALL_BUFFER = 6, /* the buffer of yarrowdoor_send_to or yarrowdoor_send_head is too small */
 
     /* A memory allocation failed. The client is valid, and may have ended: poll it. */
     YARROWDOOR_OUT_OF_MEMORY = 1,
@@ -131,8 +132,9 @@ enum yarrowdoor_kind {
     YARROWDOOR_TCP_CLOSE = 12,           /* close the connection from `from` to `to` */
     YARROWDOOR_CLOSED = 13,              /* the client has ended: it makes no more requests */
 
-    /* of yarrowdoor_poll_transmit and yarrowdoor_send_to */
-    YARROWDOOR_PACKET = 14, /* send the len bytes in the buffer over transport, from `from` to `to`; first read left more */
+    /* of yarrowdoor_poll_transmit, yarrowdoor_send_to and yarrowdoor_send_head */
+    YARROWDOOR_PACKET = 14, /* send the len bytes in the buffer over transport, from `from` to `to`; first read left more; of a
+                               head, behind it the data and start bytes of 0 */
 
     /* of yarrowdoor_recv and yarrowdoor_poll_recv */
     YARROWDOOR_HANDLED = 15,         /* the bytes were for the client itself */
@@ -462,7 +464,8 @@ enum yarrowdoor_request_kind {
     YARROWDOOR_CALL_HAVE_PERMISSION = 16,
     YARROWDOOR_CALL_READ = 17,
     YARROWDOOR_CALL_SET_PERMISSION_KEPT = 18,
-    YARROWDOOR_CALL_SET_CHANNEL_KEPT = 19
+    YARROWDOOR_CALL_SET_CHANNEL_KEPT = 19,
+    YARROWDOOR_CALL_SEND_HEAD = 20 /* the data is counted and not read: bytes may be null, whatever bytes_len is */
 };
 
 /* ---- the functions that make them */
@@ -543,6 +546,18 @@ YARROWDOOR_INLINE enum yarrowdoor_kind yarrowdoor_send_to(yarrowdoor *client, ui
                                                           const yarrowdoor_address *peer, const uint8_t *data,
                                                           size_t data_len, uint64_t now, uint8_t *buffer,
                                                           size_t buffer_len, yarrowdoor_answer *answer);
+
+/* Makes what precedes data_len bytes of data in the packet that yarrowdoor_send_to makes, for a caller that sends the data
+   from where it lies: by sendmsg with three parts, or in one buffer with room before the data, as for GSO.
+   YARROWDOOR_PACKET: send as one packet the answer->len bytes in the buffer (4 to a peer with a channel, else 36 to an IPv4
+   and 48 to an IPv6 address, and over TCP none), the data, and answer->start bytes of 0, of which there are up to three. Each
+   call is a send of its own: a head serves one packet, and one to a peer with a channel each packet of as many bytes of data
+   while the channel lasts. Otherwise as yarrowdoor_send_to, but YARROWDOOR_SMALL_BUFFER: the buffer has under
+   YARROWDOOR_MAX_OVERHEAD bytes. It takes no memory. */
+YARROWDOOR_INLINE enum yarrowdoor_kind yarrowdoor_send_head(yarrowdoor *client, uint32_t transport,
+                                                            const yarrowdoor_address *peer, size_t data_len,
+                                                            uint64_t now, uint8_t *buffer, size_t buffer_len,
+                                                            yarrowdoor_answer *answer);
 
 /* Requests a permission for the IP address of `peer`, whatever its port (RFC 8656, section 9): data may be sent to
    it and received from it. YARROWDOOR_DONE: an event YARROWDOOR_PERMISSION_CREATED or
@@ -817,6 +832,18 @@ YARROWDOOR_INLINE enum yarrowdoor_kind yarrowdoor_send_to(yarrowdoor *client, ui
     request.transport = transport;
     request.peer = *peer;
     return yarrowdoor_call_bytes(client, &request, data, data_len, buffer, buffer_len, answer);
+}
+
+YARROWDOOR_INLINE enum yarrowdoor_kind yarrowdoor_send_head(yarrowdoor *client, uint32_t transport,
+                                                            const yarrowdoor_address *peer, size_t data_len,
+                                                            uint64_t now, uint8_t *buffer, size_t buffer_len,
+                                                            yarrowdoor_answer *answer)
+{
+    yarrowdoor_request request;
+    yarrowdoor_begin(&request, YARROWDOOR_CALL_SEND_HEAD, now);
+    request.transport = transport;
+    request.peer = *peer;
+    return yarrowdoor_call_bytes(client, &request, NULL, data_len, buffer, buffer_len, answer);
 }
 
 YARROWDOOR_INLINE enum yarrowdoor_kind yarrowdoor_create_permission(yarrowdoor *client, uint32_t transport,

@@ -59,6 +59,7 @@ export const CALL: Readonly<{
     READ: 17;
     SET_PERMISSION_KEPT: 18;
     SET_CHANNEL_KEPT: 19;
+    SEND_HEAD: 20;
 }>;
 /** The reasons of a refusal, by their numbers from 1 on. */
 export const REASONS: readonly string[];

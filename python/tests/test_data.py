@@ -1,9 +1,11 @@
 """Data of peers and to peers, of many lengths, and addresses that were packed before."""
 import os
+import socket
+import struct
 import unittest
 from typing import Any, List
 
-from yarrowdoor import Address, TurnClient, address
+from yarrowdoor import Address, Refused, TurnClient, address
 from yarrowdoor import client as sans_io
 from yarrowdoor.kept import MOST, Kept
 
@@ -41,6 +43,41 @@ class Data(unittest.TestCase):
             for given in (data, bytearray(data)):
                 for packet in (client.send_to(self.peer, given, now).data, client.data_to(self.peer, given, now)):
                     self.assertEqual((len(packet), packet[36:36 + size]), (36 + (size + 3) // 4 * 4, data))
+
+    def test_what_stands_around_the_data(self) -> None:
+        """The head, the data and the padding are what `data_to` makes, but for the transaction ID (RFC 8489, section 5)."""
+        client, now = self.network.client, self.network.now
+        for size in (0, 1, 2, 3, 4, 1200, 2047, 2048, 65_504):
+            data = os.urandom(size)
+            head, padding = client.head_to(self.peer, size, now)
+            packet = client.data_to(self.peer, data, now)
+            whole = head + data + padding
+            self.assertEqual((len(head), whole[:8], whole[20:]), (36, packet[:8], packet[20:]))
+            self.assertNotEqual(whole[8:20], packet[8:20])
+        for size in (-1, 65_505, 1 << 63):
+            with self.assertRaises(ValueError):
+                client.head_to(self.peer, size, now)
+        with self.assertRaises(ValueError):
+            client.head_to(self.peer, 1, -1)
+        with self.assertRaises(Refused) as caught:
+            client.head_to(("10.1.0.2", 9), 1, now)
+        self.assertEqual(caught.exception.reason, "no-permission")
+
+    def test_a_head_of_a_channel(self) -> None:
+        """ChannelData has four bytes of header (RFC 8656, section 12.4). The three parts leave a socket as one datagram."""
+        client, now = self.network.client, self.network.now
+        client.bind_channel(self.peer, now)
+        self.network.run(3)
+        now = self.network.now
+        with socket.socket(socket.AF_INET, socket.SOCK_DGRAM) as out, socket.socket(socket.AF_INET, socket.SOCK_DGRAM) as into:
+            into.bind(("127.0.0.1", 0))
+            out.connect(into.getsockname())
+            for data in (b"", b"hello", b"four", bytes(1201)):
+                head, padding = client.head_to(self.peer, len(data), now)
+                out.sendmsg((head, data, padding))
+                came = into.recv(2000)
+                self.assertEqual(came, client.data_to(self.peer, data, now))
+                self.assertEqual(came[:4], struct.pack(">HH", 0x4000, len(data)))
 
     def test_what_comes(self) -> None:
         """`data_from` says what `recv` does, and gives data as a tuple."""

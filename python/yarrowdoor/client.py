@@ -11,7 +11,8 @@ The caller passes in bytes and times, and gets packets to send, data of peers, e
         ...                                         # wait for a packet up to then
         answer = client.recv(sock.recv(65536), now())
 
-With one socket, the one to the server, `data_to` and `data_from` take less time than `send_to` and `recv`.
+With one socket, the one to the server, `data_to` and `data_from` take less time than `send_to` and `recv`; `head_to` leaves the
+data where it lies, for `socket.sendmsg`.
 
 Times are nanoseconds of a clock that never goes back, from 0 to 2^62. An address is what sockets have: `(IP, port)`, and for
 IPv6 `(IP, port, flow, scope)` where one of the two is not 0. Transports are `"udp"` and `"tcp"`.
@@ -88,6 +89,7 @@ class Client:
         self._local_name, self._remote_name = socket_address(self._local), socket_address(self._remote)
         self._receive = self._handle.receiving(self._way, self._remote, self._local)
         self._send = self._handle.sending(self._relay_way)
+        self._head = self._handle.heading(self._relay_way)
 
     def close(self) -> None:
         """Frees the client. It sends nothing: `delete` gives the allocation back to the server before."""
@@ -162,6 +164,19 @@ class Client:
         if sent is None:
             raise _refusal(self._handle)
         return sent
+
+    def head_to(self, peer: AddressLike, size: int, now: int) -> Tuple[bytes, bytes]:
+        """What stands before and behind `size` bytes of data in the bytes of `data_to`, so that the data is not copied:
+
+            head, padding = client.head_to(peer, len(data), now)
+            sock.sendmsg((head, data, padding))
+
+        Each call is a send of its own. `Refused` and `ValueError` as for `send_to`.
+        """
+        made = self._head(now, packed(peer), size)
+        if made is None:
+            raise _refusal(self._handle)
+        return made
 
     # Requests
 

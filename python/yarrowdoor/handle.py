@@ -13,16 +13,18 @@ from typing import Callable, List, NoReturn, Optional, Protocol, Tuple, Union, c
 from .errors import Busy
 from .layout import (
     ANSWER, Answer, BAD_TIME, fail, FOUND, LENGTHS, MAX_OVERHEAD, MAX_PACKET, NO_ADDRESS, PACKET, PEER_DATA, PEER_DATA_RANGE,
-    PEER_PLACE, READ, RECV, REQUEST, SEND_TO, SMALL_BUFFER,
+    PEER_PLACE, READ, RECV, REQUEST, SEND_HEAD, SEND_TO, SMALL_BUFFER,
 )
 
-__all__ = ["Buffer", "Calls", "Handle", "Receive", "Send", "memory_of"]
+__all__ = ["Buffer", "Calls", "Handle", "Head", "Receive", "Send", "memory_of"]
 
 Buffer = Union[bytes, bytearray, memoryview]
 # The call RECV, of a time and bytes: kind, length, start and peer, of which the last three count where the kind is PEER_DATA_RANGE.
 Receive = Callable[[int, Buffer], Tuple[int, int, int, bytes]]
 # The call SEND_TO, of a time, a peer and data: the bytes to send, or None where `Handle.last` says why there are none.
 Send = Callable[[int, bytes, Buffer], Optional[bytes]]
+# The call SEND_HEAD, of a time, a peer and a length of data: what precedes the data and what follows it, or None as for SEND_TO.
+Head = Callable[[int, bytes, int], Optional[Tuple[bytes, bytes]]]
 
 
 class Calls(Protocol):
@@ -135,7 +137,7 @@ class Handle:
             pieces.append(bytes(self._room.view[:size]))
         return b"".join(pieces) if len(pieces) > 1 else pieces[0]
 
-    # Each packet goes through one of these two, which have at hand what they need: to look it up takes longer. They do what `_make`
+    # Each packet goes through one of these three, which have at hand what they need: to look it up takes longer. They do what `_make`
     # does by themselves, and set no answer to 0 before: of the fields only those are read that the kind has. An answer of another
     # kind than theirs is to be read by `last`.
 
@@ -206,6 +208,36 @@ class Handle:
 
         return send
 
+    def heading(self, transport: int) -> Head:
+        """The call SEND_HEAD for data that goes to peers over a transport. The library does not see the data."""
+        request = bytearray(REQUEST.pack(0, SEND_HEAD, 0, transport, 0, *_NOWHERE))
+        time, place, request_at = memoryview(request).cast("Q"), memoryview(request)[PEER_PLACE], memory_of(request)
+        take, give, refusal, call = self._take, self._give, self._refusal, self._call
+        room, room_at, room_size, answer_at = self._room.view, self._room.at, self._room.size, self._answer_at
+        lengths = memoryview(self._answer).cast("Q")
+
+        def head(now: int, peer: bytes, size: int) -> Optional[Tuple[bytes, bytes]]:
+            if not 0 <= size < 1 << 63:
+                raise ValueError(f"data has from 0 to 2^63 bytes: {size}")
+            try:
+                client = take()
+            except IndexError:
+                raise refusal() from None
+            try:
+                time[0] = now
+                place[:] = peer
+                passed = _USUAL[size] if size < _MANY else _passed(size)
+                kind = call(client, request_at, None, passed, room_at, room_size, answer_at)
+                if kind == PACKET:
+                    return room[:lengths[_LEN]].tobytes(), _PADDING[lengths[_START]]
+            except (TypeError, ValueError) as error:
+                _fail_time(now, error)
+            finally:
+                give(client)
+            return fail(kind) if kind <= SMALL_BUFFER else None
+
+        return head
+
     def _send_long(self, now: int, transport: int, peer: bytes, data: Buffer) -> Optional[bytes]:
         """The call SEND_TO for data that the buffer does not hold."""
         given, room = bytes(data), Room(memoryview(data).nbytes + MAX_OVERHEAD)
@@ -219,8 +251,9 @@ class Handle:
 
 _NO_ANSWER, _NOWHERE = bytes(ANSWER.size), (NO_ADDRESS,) * 4
 _unpack_found = cast(Callable[[bytearray], Tuple[int, int, int, bytes]], FOUND.unpack_from)
-# Where the length of what is in the buffer stands in an answer, in steps of eight bytes.
-_LEN = 2
+# Where the length of what is in the buffer stands in an answer, in steps of eight bytes, and behind it of a head the padding.
+_LEN, _START = 2, 3
+_PADDING = [bytes(it) for it in range(4)]
 
 
 def memory_of(buffer: bytearray) -> object:

@@ -32,6 +32,7 @@
 mod config;
 mod error;
 mod event;
+mod head;
 mod receive;
 mod send;
 
@@ -44,6 +45,7 @@ pub use error::{
     TcpConnectError,
 };
 pub use event::{Socket5Tuple, TurnEvent, TurnPollRet};
+pub use head::PacketHead;
 pub use receive::{DataRangeOrOwned, TurnPeerData, TurnRecvRet};
 pub use send::{DelayedMessageOrChannelSend, DelayedTransmit};
 

@@ -7,9 +7,10 @@ pub use crate::api::{
 use crate::tcp::TurnClientTcp;
 use crate::udp::TurnClientUdp;
 
-/// Gives a client the calls that keep grants or let them go. They stand beside the trait, which is the original's, so that
-/// nothing that implements it breaks: `$call` is the macro that makes them, and `$each` says of which value.
-macro_rules! keep_calls {
+/// Gives a client the calls that the original has not: those that keep grants or let them go, and the head of a packet. They
+/// stand beside the trait, which is the original's, so that nothing that implements it breaks: `$call` is the macro that makes
+/// them, and `$each` says of which value.
+macro_rules! own_calls {
     ($name:ty, $self:ident, $call:ident => $each:tt) => {
         impl $name {
             /// Says whether the permission for this IP address is kept, as it is at first: refreshed until the allocation ends.
@@ -48,11 +49,32 @@ macro_rules! keep_calls {
             ) -> Result<(), $crate::api::KeepError> {
                 $crate::$call!($each, $self, set_channel_kept(transport, peer_addr, is_kept))
             }
+
+            /// Sends data of `len` bytes to this peer, as `send_to` does, but makes only what stands around the data: what
+            /// precedes it and what follows it. The data is sent between them from where it lies, and not copied. Each call is a
+            /// send of its own, with a transaction ID of its own where the peer has no channel.
+            ///
+            /// # Errors
+            ///
+            /// As for `send_to`.
+            ///
+            /// # Panics
+            ///
+            /// The time is not from 0 to 2^62 ns.
+            pub fn send_head(
+                &mut $self,
+                transport: $crate::types::TransportType,
+                to: ::core::net::SocketAddr,
+                len: usize,
+                now: $crate::types::Instant,
+            ) -> Result<$crate::api::Transmit<$crate::api::PacketHead>, $crate::api::SendError> {
+                $crate::$call!($each, $self, send_head(transport, to, len, now))
+            }
         }
     };
 }
 
-pub(crate) use keep_calls;
+pub(crate) use own_calls;
 
 /// Implements [`TurnClientApi`](crate::api::TurnClientApi) for a type, by the same calls of other values: `$call` is the
 /// macro that makes them, and `$each` says of which.
@@ -261,4 +283,4 @@ macro_rules! impl_client {
 }
 
 impl_client!(pub TurnClient, (Udp, TurnClientUdp), (Tcp, TurnClientTcp));
-keep_calls!(TurnClient, self, __of_variant => (Udp, Tcp));
+own_calls!(TurnClient, self, __of_variant => (Udp, Tcp));

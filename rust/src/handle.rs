@@ -70,8 +70,44 @@ impl Handle {
         buffer: &mut [u8],
         answer: &mut sys::Answer,
     ) {
-        // SAFETY: the pointer and the length are those of a slice, which is borrowed mutably.
-        unsafe { self.call_at(request, bytes, buffer.as_mut_ptr(), buffer.len(), answer) }
+        // SAFETY: each pointer and its length are those of a slice, and the buffer is borrowed mutably.
+        unsafe {
+            self.call_at(
+                request,
+                bytes.as_ptr(),
+                bytes.len(),
+                buffer.as_mut_ptr(),
+                buffer.len(),
+                answer,
+            )
+        }
+    }
+
+    /// Makes the call that only counts its data, of which there are `len` bytes anywhere.
+    ///
+    /// # Panics
+    ///
+    /// The request is another one, or its time is not from 0 to 2^62 ns.
+    pub(crate) fn call_counting(
+        &mut self,
+        request: &sys::Request,
+        len: usize,
+        buffer: &mut [u8],
+        answer: &mut sys::Answer,
+    ) {
+        assert_eq!(request.kind, sys::CALL_SEND_HEAD);
+        // SAFETY: the pointer and the length of the buffer are those of a slice, which is borrowed mutably. A request of this
+        // kind reads nothing of its data, so there need be none at its pointer.
+        unsafe {
+            self.call_at(
+                request,
+                ptr::null(),
+                len,
+                buffer.as_mut_ptr(),
+                buffer.len(),
+                answer,
+            )
+        }
     }
 
     /// Makes a call that only looks: one for which the client is the same afterwards.
@@ -96,9 +132,18 @@ impl Handle {
         answer: &mut sys::Answer,
     ) -> Vec<u8> {
         let mut written = Vec::with_capacity(room);
-        // SAFETY: the pointer is that of the vector's memory, of `room` bytes or more. The library writes there, and what
-        // stood there before is in nothing that it answers.
-        unsafe { self.call_at(request, bytes, written.as_mut_ptr(), room, answer) };
+        // SAFETY: the bytes are those of a slice. The other pointer is that of the vector's memory, of `room` bytes or more. The
+        // library writes there, and what stood there before is in nothing that it answers.
+        unsafe {
+            self.call_at(
+                request,
+                bytes.as_ptr(),
+                bytes.len(),
+                written.as_mut_ptr(),
+                room,
+                answer,
+            )
+        };
         if answer.kind == sys::PACKET {
             // SAFETY: the library has written so many bytes from the start on, and not more than `room`.
             unsafe { written.set_len(answer.len) };
@@ -110,24 +155,26 @@ impl Handle {
     ///
     /// # Safety
     ///
-    /// The `len` bytes at `buffer` may be written, and overlap nothing else that is passed.
+    /// The `bytes_len` bytes at `bytes` may be read, unless the request only counts them. The `len` bytes at `buffer` may be
+    /// written, and overlap nothing else that is passed.
     unsafe fn call_at(
         &mut self,
         request: &sys::Request,
-        bytes: &[u8],
+        bytes: *const u8,
+        bytes_len: usize,
         buffer: *mut u8,
         len: usize,
         answer: &mut sys::Answer,
     ) {
         // SAFETY: the client came from `yarrowdoor_new` and is freed only by `drop`. This is the only call of it: `self` is
-        // borrowed mutably, and the library calls nothing back. Each other pointer is that of a reference or a slice, or
-        // `buffer`, so it is not null, and is valid for its length; `answer` is borrowed mutably, so it overlaps nothing.
+        // borrowed mutably, and the library calls nothing back. `bytes` and `buffer` are as the caller promises. Each other
+        // pointer is that of a reference, so it is not null; `answer` is borrowed mutably, so it overlaps nothing.
         unsafe {
             sys::yarrowdoor_call(
                 self.client.as_ptr(),
                 request,
-                bytes.as_ptr(),
-                bytes.len(),
+                bytes,
+                bytes_len,
                 buffer,
                 len,
                 answer,

@@ -5,8 +5,8 @@ mod lists;
 
 use crate::api::{
     BindChannelError, CreatePermissionError, Data, DataRangeOrOwned, DelayedMessageOrChannelSend,
-    DeleteError, KeepError, SendError, Socket5Tuple, TcpAllocateError, TcpConnectError, Transmit,
-    TransmitBuild, TurnConfig, TurnEvent, TurnPeerData, TurnPollRet, TurnRecvRet,
+    DeleteError, KeepError, PacketHead, SendError, Socket5Tuple, TcpAllocateError, TcpConnectError,
+    Transmit, TransmitBuild, TurnConfig, TurnEvent, TurnPeerData, TurnPollRet, TurnRecvRet,
 };
 use crate::convert::{
     address, instant, ip_address, nanos, settings, socket, transport, transport_code,
@@ -226,6 +226,35 @@ impl Protocol {
                 socket(&answer.from),
                 socket(&answer.to),
             ))),
+            sys::BAD_PAYLOAD => Err(SendError::PayloadTooLong),
+            sys::REFUSED => Err(answers::send_error(&answer)),
+            _ => unexpected(&answer),
+        }
+    }
+
+    pub(crate) fn send_head(
+        &mut self,
+        relayed: TransportType,
+        to: SocketAddr,
+        len: usize,
+        now: Instant,
+    ) -> Result<Transmit<PacketHead>, SendError> {
+        let request = sys::Request {
+            transport: transport_code(relayed),
+            peer: address(to),
+            ..request(sys::CALL_SEND_HEAD, now)
+        };
+        let mut head = [0; sys::MAX_OVERHEAD];
+        let mut answer = sys::Answer::default();
+        self.handle
+            .call_counting(&request, len, &mut head, &mut answer);
+        match answer.kind {
+            sys::PACKET => Ok(Transmit::new(
+                PacketHead::new(head, answer.len, answer.start),
+                transport(answer.transport),
+                socket(&answer.from),
+                socket(&answer.to),
+            )),
             sys::BAD_PAYLOAD => Err(SendError::PayloadTooLong),
             sys::REFUSED => Err(answers::send_error(&answer)),
             _ => unexpected(&answer),

@@ -29,7 +29,7 @@ numbers! {
 
     /// What the buffer of `poll_transmit` needs, in bytes: every packet is shorter.
     MAX_PACKET: usize = 65_556;
-    /// What the packet of `send_to` may have beyond its data, in bytes.
+    /// What the packet of `send_to` may have beyond its data, in bytes, and what the buffer of a head needs.
     MAX_OVERHEAD: usize = 64;
 
     CALL_DELETE: u32 = 1;
@@ -51,6 +51,8 @@ numbers! {
     CALL_READ: u32 = 17;
     CALL_SET_PERMISSION_KEPT: u32 = 18;
     CALL_SET_CHANNEL_KEPT: u32 = 19;
+    /// The data is counted and not read: its pointer may be null.
+    CALL_SEND_HEAD: u32 = 20;
 
     OUT_OF_MEMORY: u32 = 1;
     BAD_TIME: u32 = 2;

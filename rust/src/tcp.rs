@@ -71,4 +71,4 @@ impl TurnClientTcp {
 }
 
 crate::__delegate!(TurnClientTcp, self, __of_field => (protocol));
-crate::client::keep_calls!(TurnClientTcp, self, __of_field => (protocol));
+crate::client::own_calls!(TurnClientTcp, self, __of_field => (protocol));

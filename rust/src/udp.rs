@@ -77,4 +77,4 @@ impl TurnClientUdp {
 }
 
 crate::__delegate!(TurnClientUdp, self, __of_field => (protocol));
-crate::client::keep_calls!(TurnClientUdp, self, __of_field => (protocol));
+crate::client::own_calls!(TurnClientUdp, self, __of_field => (protocol));

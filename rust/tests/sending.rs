@@ -4,7 +4,9 @@ mod server;
 
 use server::{allocate, at, grant, next};
 use std::net::SocketAddr;
-use yarrowdoor::api::{DelayedMessageOrChannelSend, TransmitBuild, TurnConfig};
+use yarrowdoor::api::{
+    DelayedMessageOrChannelSend, PacketHead, SendError, TransmitBuild, TurnConfig,
+};
 use yarrowdoor::prelude::*;
 use yarrowdoor::types::{TransportType, TurnCredentials};
 use yarrowdoor::udp::TurnClientUdp;
@@ -94,4 +96,77 @@ fn a_data_connection_gets_the_data() {
     assert_eq!(bytes_of(packet), DATA);
     let built = send(&mut client, TransportType::Tcp).build();
     assert_eq!(built.data, DATA);
+}
+
+/// What is sent where the data stays where it lies.
+fn in_parts(head: &PacketHead) -> Vec<u8> {
+    [head.as_bytes(), DATA, head.padding()].concat()
+}
+
+#[test]
+fn a_head_the_data_and_the_padding_are_the_packet() {
+    let mut client = client();
+    let (ip, over) = (peer().ip(), TransportType::Udp);
+    let refused = client.send_head(over, peer(), DATA.len(), at(2));
+    assert_eq!(refused.unwrap_err(), SendError::NoPermission);
+    client.create_permission(over, ip, at(2)).unwrap();
+    let request = next(&mut client, at(2)).unwrap();
+    grant(&mut client, &request, &[], at(2));
+
+    let head = client.send_head(over, peer(), DATA.len(), at(9)).unwrap();
+    let packet = send(&mut client, over).build();
+    assert_eq!(
+        (head.transport, head.from, head.to),
+        (packet.transport, packet.from, packet.to)
+    );
+    assert_eq!(
+        (head.data.as_bytes().len(), head.data.padding().len()),
+        (36, 3)
+    );
+    // each has a transaction ID of its own
+    let parts = in_parts(&head.data);
+    assert_eq!(
+        (&parts[..8], &parts[20..]),
+        (&packet.data[..8], &packet.data[20..])
+    );
+    assert_ne!(parts[8..20], packet.data[8..20]);
+
+    let long = client.send_head(over, peer(), 65_505, at(9));
+    assert_eq!(long.unwrap_err(), SendError::PayloadTooLong);
+}
+
+#[test]
+fn a_head_of_a_channel_has_four_bytes() {
+    let mut client = client();
+    client
+        .bind_channel(TransportType::Udp, peer(), at(2))
+        .unwrap();
+    let request = next(&mut client, at(2)).unwrap();
+    grant(&mut client, &request, &[], at(2));
+    let head = |client: &mut TurnClientUdp, len| {
+        let head = client.send_head(TransportType::Udp, peer(), len, at(9));
+        head.unwrap().data
+    };
+    assert_eq!(
+        in_parts(&head(&mut client, 5)),
+        b"\x40\x00\x00\x05hello\0\0\0"
+    );
+    // whole words need no padding, and the length is that of the data alone
+    for (len, padding) in [(0, 0), (1, 3), (2, 2), (3, 1), (4, 0), (65_504, 0)] {
+        let head = head(&mut client, len);
+        let [high, low] = u16::try_from(len).unwrap().to_be_bytes();
+        assert_eq!(head.as_ref(), [0x40, 0, high, low]);
+        assert_eq!(head.padding(), vec![0; padding]);
+    }
+}
+
+#[test]
+fn a_data_connection_has_no_head() {
+    let mut client = server::tcp::client();
+    let bind = server::tcp::bind(&mut client);
+    grant(&mut client, &bind, &[], at(4));
+    let head = client.send_head(TransportType::Tcp, peer(), 1 << 20, at(9));
+    let (head, packet) = (head.unwrap(), send(&mut client, TransportType::Tcp));
+    assert_eq!((head.from, head.to), (packet.from, packet.to));
+    assert_eq!(in_parts(&head.data), DATA);
 }

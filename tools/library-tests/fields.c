@@ -88,6 +88,7 @@ static int needs(uint32_t kind, yarrowdoor_request *r, yarrowdoor_address *field
     case YARROWDOOR_CALL_HAVE_PERMISSION:
     case YARROWDOOR_CALL_SET_PERMISSION_KEPT:
     case YARROWDOOR_CALL_SET_CHANNEL_KEPT:
+    case YARROWDOOR_CALL_SEND_HEAD:
         fields[count++] = &r->peer;
         break;
     case YARROWDOOR_CALL_ALLOCATED_TCP_SOCKET:
@@ -115,7 +116,7 @@ static int has_transport(uint32_t kind)
            kind == YARROWDOOR_CALL_ALLOCATED_TCP_SOCKET || kind == YARROWDOOR_CALL_SEND_TO ||
            kind == YARROWDOOR_CALL_RECV || kind == YARROWDOOR_CALL_PERMISSIONS ||
            kind == YARROWDOOR_CALL_HAVE_PERMISSION || kind == YARROWDOOR_CALL_SET_PERMISSION_KEPT ||
-           kind == YARROWDOOR_CALL_SET_CHANNEL_KEPT;
+           kind == YARROWDOOR_CALL_SET_CHANNEL_KEPT || kind == YARROWDOOR_CALL_SEND_HEAD;
 }
 
 static void bad_times_and_kinds(yarrowdoor *client)
@@ -130,10 +131,10 @@ static void bad_times_and_kinds(yarrowdoor *client)
     }
     for (int i = 0; i < DRAWS; i++) {
         uint32_t kind = (uint32_t)draw();
-        yarrowdoor_request r = whole(kind < 20 ? 0 : kind);
+        yarrowdoor_request r = whole(kind <= YARROWDOOR_CALL_SEND_HEAD ? 0 : kind);
         refused(client, &r, 0, BUFFER, YARROWDOOR_BAD_CALL, "a kind of no call");
     }
-    for (uint32_t kind = 20; kind < 300; kind++) {
+    for (uint32_t kind = YARROWDOOR_CALL_SEND_HEAD + 1; kind < 300; kind++) {
         yarrowdoor_request r = whole(kind);
         refused(client, &r, 0, BUFFER, YARROWDOOR_BAD_CALL, "a kind of no call");
     }
@@ -141,7 +142,7 @@ static void bad_times_and_kinds(yarrowdoor *client)
 
 static void bad_addresses(yarrowdoor *client)
 {
-    for (uint32_t kind = 1; kind < 20; kind++) {
+    for (uint32_t kind = 1; kind <= YARROWDOOR_CALL_SEND_HEAD; kind++) {
         yarrowdoor_request r = whole(kind);
         yarrowdoor_address *fields[4];
         int count = needs(kind, &r, fields);
@@ -171,7 +172,7 @@ static void bad_addresses(yarrowdoor *client)
 /* Each reserved byte that a call reads, and no other number than 0 and 1 for what is kept. */
 static void bad_reserved(yarrowdoor *client)
 {
-    for (uint32_t kind = 1; kind < 20; kind++) {
+    for (uint32_t kind = 1; kind <= YARROWDOOR_CALL_SEND_HEAD; kind++) {
         yarrowdoor_request r = whole(kind);
         yarrowdoor_address *fields[4];
         int count = needs(kind, &r, fields);
@@ -232,6 +233,12 @@ static void bad_sizes(yarrowdoor *client)
     yarrowdoor_request r = whole(YARROWDOOR_CALL_SEND_TO);
     refused(client, &r, 65505, sizeof buffer, YARROWDOOR_BAD_PAYLOAD, "65,505 bytes for a peer");
     refused(client, &r, 65504, 65504 + YARROWDOOR_MAX_OVERHEAD - 1, YARROWDOOR_SMALL_BUFFER, "65,504 bytes");
+    r = whole(YARROWDOOR_CALL_SEND_HEAD);
+    refused(client, &r, 65505, BUFFER, YARROWDOOR_BAD_PAYLOAD, "a head of 65,505 bytes");
+    refused(client, &r, SIZE_MAX, BUFFER, YARROWDOOR_BAD_PAYLOAD, "a head of as many bytes as a number can say");
+    for (size_t size = 0; size < YARROWDOOR_MAX_OVERHEAD; size++) {
+        refused(client, &r, 5, size, YARROWDOOR_SMALL_BUFFER, "a small buffer for a head");
+    }
 }
 
 static void bad_requests(yarrowdoor *client)
@@ -359,7 +366,43 @@ static uint32_t call_both(uint32_t kind, uint64_t now)
     yarrowdoor_request r = yarrowdoor_request_of(kind, now);
     r.peer = yarrowdoor_ipv4(10, 0, 0, 3, 9000);
     r.from = yarrowdoor_ipv4(10, 0, 0, 4, 40000);
-    return both(&r, (const uint8_t *)"hello", kind == YARROWDOOR_CALL_SEND_TO ? 5 : 0, BUFFER);
+    return both(&r, (const uint8_t *)"hello", kind == YARROWDOOR_CALL_SEND_TO || kind == YARROWDOOR_CALL_SEND_HEAD ? 5 : 0, BUFFER);
+}
+
+/* The head of so many bytes of data, of which there are none, and the packet of one client with the data: both clients have
+   sent alike before, so head, data and padding have to be the packet. */
+static void head_alike(size_t len, uint64_t now)
+{
+    yarrowdoor_answer head, packet;
+    yarrowdoor_address peer = yarrowdoor_ipv4(10, 0, 0, 3, 9000);
+    static const uint8_t zeros[3];
+    memset(buffer, 0xdd, YARROWDOOR_MAX_OVERHEAD);
+    check("a head", yarrowdoor_send_head(teased, YARROWDOOR_UDP, &peer, len, now, buffer, YARROWDOOR_MAX_OVERHEAD, &head),
+          YARROWDOOR_PACKET);
+    check("a packet", yarrowdoor_send_to(plain, YARROWDOOR_UDP, &peer, payload, len, now, other_buffer, sizeof other_buffer,
+                                         &packet), YARROWDOOR_PACKET);
+    check("the length of a head", (uint32_t)(head.len + len + head.start), (uint32_t)packet.len);
+    check("a head", (uint32_t)(memcmp(buffer, other_buffer, head.len) != 0), 0);
+    check("the data behind it", (uint32_t)(memcmp(other_buffer + head.len, payload, len) != 0), 0);
+    check("the padding", head.start > 3 || memcmp(other_buffer + head.len + len, zeros, head.start) != 0, 0);
+    for (size_t i = head.len; i < YARROWDOOR_MAX_OVERHEAD; i++) {
+        check("a byte behind a head", buffer[i], 0xdd);
+    }
+    packet.len = head.len;
+    packet.start = head.start;
+    check("the other fields of a head", (uint32_t)(memcmp(&head, &packet, sizeof head) != 0), 0);
+}
+
+static void heads(uint64_t now)
+{
+    memset(payload, 0xaa, sizeof payload);
+    for (size_t len = 0; len < 300; len++) {
+        head_alike(len, now);
+    }
+    for (size_t len = 65500; len <= YARROWDOOR_MAX_PAYLOAD; len++) {
+        head_alike(len, now);
+    }
+    memset(payload, 0, sizeof payload);
 }
 
 /* What looks says what the call says. */
@@ -402,6 +445,8 @@ static void exchange(const yarrowdoor_settings *s)
     check("event", call_both(YARROWDOOR_CALL_POLL_EVENT, now), YARROWDOOR_PERMISSION_CREATED);
     check("data in", receive_both(s, 3, now), YARROWDOOR_PEER_DATA_RANGE);
     check("data out", call_both(YARROWDOOR_CALL_SEND_TO, now), YARROWDOOR_PACKET);
+    check("a head", call_both(YARROWDOOR_CALL_SEND_HEAD, now), YARROWDOOR_PACKET);
+    heads(now);
     check("relayed", call_both(YARROWDOOR_CALL_RELAYED_ADDRESSES, now), YARROWDOOR_ADDRESS);
     check("permissions", call_both(YARROWDOOR_CALL_PERMISSIONS, now), YARROWDOOR_ADDRESS);
     check("have", call_both(YARROWDOOR_CALL_HAVE_PERMISSION, now), YARROWDOOR_YES);

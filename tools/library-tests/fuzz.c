@@ -231,6 +231,21 @@ static void send_data(struct run *run, struct input *in)
     free(data);
 }
 
+/* A head of data that is not there, so the sanitizer sees whether a byte of it is read. */
+static void send_head(struct run *run, struct input *in)
+{
+    yarrowdoor_answer answer;
+    size_t len = take(in), room = YARROWDOOR_MAX_OVERHEAD - (take(in) & 1);
+    uint32_t kind;
+    prepare(&answer, room);
+    kind = yarrowdoor_send_head(run->client, run->settings.allocation_transport, &run->peer, len, run->now, buffer, room,
+                                &answer);
+    EXPECT(kind, &answer, room, YARROWDOOR_PACKET, YARROWDOOR_REFUSED, YARROWDOOR_SMALL_BUFFER);
+    expect(kind != YARROWDOOR_OUT_OF_MEMORY, "a call that takes no memory has none");
+    expect((kind == YARROWDOOR_SMALL_BUFFER) == (room < YARROWDOOR_MAX_OVERHEAD), "a buffer is too small, or is not");
+    expect(kind != YARROWDOOR_PACKET || (answer.len <= 48 && answer.start <= 3 && answer.left == 0), "a head that is too long");
+}
+
 static void read_rest(struct run *run, size_t room)
 {
     yarrowdoor_answer answer;
@@ -325,7 +340,7 @@ static void step(struct run *run, struct input *in)
     case 5: receive(run, in, 0); break;
     case 6: receive(run, in, 1); break;
     case 7: hint(in); break;
-    case 8: send_data(run, in); break;
+    case 8: (take(in) & 1 ? send_head : send_data)(run, in); break;
     case 9: read_rest(run, room); break;
     case 10: poll_data(run, room); break;
     case 11: case 12: request(run, take(in)); break;

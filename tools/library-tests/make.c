@@ -1,5 +1,8 @@
 /* Requests to calls, each by the function of the header that is its own. */
 #include "trace.h"
+#include <string.h>
+
+int sends_heads;
 
 uint32_t make_client(const struct head *h, yarrowdoor **client)
 {
@@ -13,6 +16,23 @@ uint32_t make_look(yarrowdoor *client, const yarrowdoor_request *r, uint32_t ind
         return yarrowdoor_permission(client, r->transport, &r->from, index, answer);
     }
     return yarrowdoor_relayed_address(client, index, answer);
+}
+
+/* Sends data to a peer by its head. The library does not see the data, which is put behind the head here. */
+static uint32_t make_head(yarrowdoor *client, const struct call *call, uint8_t *buffer, yarrowdoor_answer *answer)
+{
+    const yarrowdoor_request *r = &call->request;
+    uint32_t kind = yarrowdoor_send_head(client, r->transport, &r->peer, call->len, r->time, buffer,
+                                         YARROWDOOR_MAX_OVERHEAD, answer);
+    if (kind == YARROWDOOR_PACKET) {
+        if (call->len > 0) {
+            memcpy(buffer + answer->len, call->bytes, call->len);
+        }
+        memset(buffer + answer->len + call->len, 0, answer->start);
+        answer->len += call->len + answer->start;
+        answer->start = 0;
+    }
+    return kind;
 }
 
 /* A call that takes or gives bytes, or 0 where it is none. */
@@ -29,6 +49,9 @@ static uint32_t make_bytes_call(yarrowdoor *client, const struct call *call, uin
     case YARROWDOOR_CALL_POLL_RECV:
         return yarrowdoor_poll_recv(client, r->time, buffer, data_len, answer);
     case YARROWDOOR_CALL_SEND_TO:
+        if (sends_heads) {
+            return make_head(client, call, buffer, answer);
+        }
         return yarrowdoor_send_to(client, r->transport, &r->peer, call->bytes, call->len, r->time, buffer,
                                   call->len + YARROWDOOR_MAX_OVERHEAD, answer);
     default:

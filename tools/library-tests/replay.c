@@ -1,10 +1,11 @@
-/* usage: replay [-r ROOM] [OUT FILE..]
+/* usage: replay [-s] [-r ROOM] [OUT FILE..]
 
    Runs a client by the calls of a trace, and prints the answer of each call, as turn_replay does: the trace of standard
    input, or of each FILE, whose answers go into a file of its name in the folder OUT. Its status is that of turn_replay,
    0, 2 or 3. With files it is 0, or 4 where one could not be answered.
 
-   With -r only so many bytes of what a peer sent are taken at a time, and the others are read. */
+   With -s each packet for a peer is put together of its head, the data and zeros. With -r only so many bytes of what a peer
+   sent are taken at a time, and the others are read. */
 #include "trace.h"
 #include <inttypes.h>
 #include <stdlib.h>
@@ -162,9 +163,13 @@ static int run_named(const char *folder, const char *name)
 int main(int argc, char **argv)
 {
     int first = 1;
-    if (argc > 2 && strcmp(argv[1], "-r") == 0) {
-        buffer_len = strtoul(argv[2], NULL, 10);
-        first = 3;
+    if (argc > first && strcmp(argv[first], "-s") == 0) {
+        sends_heads = 1;
+        first++;
+    }
+    if (argc > first + 1 && strcmp(argv[first], "-r") == 0) {
+        buffer_len = strtoul(argv[first + 1], NULL, 10);
+        first += 2;
     }
     if (first == argc) {
         return run_file(stdin, stdout);

@@ -75,7 +75,12 @@ def exchange():
     check("have_permission", call("have_permission", client, 0, ref(peer), ref(answer)), N.YES)
     check("recv", (recv(3, 100_000_000), answer.start, answer.len), (N.PEER_DATA_RANGE, 36, 5))
     sent = call("send_to", client, 0, ref(peer), b"hello", ctypes.c_size_t(5), u64(100_000_000), *room, ref(answer))
-    check("send_to", (sent, bytes(buffer[:2]), b"hello" in bytes(buffer[: answer.len])), (N.PACKET, b"\0\x16", True))
+    packet = bytes(buffer[: answer.len])
+    check("send_to", (sent, packet[:2], b"hello" in packet), (N.PACKET, b"\0\x16", True))
+    sent = call("send_head", client, 0, ref(peer), ctypes.c_size_t(5), u64(100_000_000), *room, ref(answer))
+    check("send_head", (sent, answer.len, answer.start), (N.PACKET, 36, 3))
+    # each send has a transaction ID of its own
+    check("send_head", bytes(buffer[:8]) + packet[8:20] + bytes(buffer[20:36]) + b"hello\0\0\0", packet)
 
 
 def others():

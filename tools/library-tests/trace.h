@@ -44,6 +44,9 @@ const char *parse_trace(struct trace *trace, struct text text, size_t *number);
 /* Makes a client by a head, as yarrowdoor_new does. */
 uint32_t make_client(const struct head *head, yarrowdoor **client);
 
+/* Whether make_call puts each packet for a peer together of its head, the data and zeros. */
+extern int sends_heads;
+
 /* Makes a call by the function of the header that is its own, with a buffer for packets and one for data of peers. Of a
    list it looks at the first address. */
 uint32_t make_call(yarrowdoor *client, const struct call *call, uint8_t *buffer, size_t packet_len, size_t data_len,

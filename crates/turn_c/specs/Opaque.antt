@@ -1,5 +1,5 @@
 -- A session to which a C program has a pointer.
-use Rattle.std.specs.Prelude.{◌≡◌, ℕ, List}
+use Rattle.std.specs.Prelude.{◌≡◌, ℕ, List, if◌then◌else◌}
 use Prim.Native.Nat.{zero, suc}
 use mir.Syntax.{Ty}
 use base.Fraction.{full_share}
@@ -9,9 +9,9 @@ use denote.RawPtr.{Ptr, block_ptr, null_ptr}
 use Rattle.std.specs.Box.Ownership.{box_owns}
 use Rattle.std.specs.declared.alloc.Global.{Global}
 use Rattle.std.specs.contracts.impls.GlobalAllocator.TheImpl.{ghosts}
+use Rattle.turn_c_calls.specs.Head.{Responds, asks_for_head}
 use Rattle.turn_c_calls.specs.Held.{Held}
 use Rattle.turn_c_calls.specs.Look.{LooksAt}
-use Rattle.turn_c_calls.specs.Step.{Steps}
 use Rattle.turn_c_calls.specs.declared.answer.Answer.{Answer}
 use Rattle.turn_c_calls.specs.declared.request.Request.{Request}
 use Rattle.turn_c_calls.specs.declared.settings.Settings.{Settings}
@@ -59,25 +59,29 @@ pub record Passed : Type 0 where
   pub given : Given
   pub buffer : List ℕ
 
--- what a request does, and the kind of its answer
-abbrev pub CallDoes : Request → List ℕ → Held → Held → List ℕ → List ℕ → Answer → Answer → ℕ → Type 0
-CallDoes request bytes was now buffer after a b kind = Steps request bytes was now buffer after a b × (kind ≡ b.kind)
+-- how many bytes of the data a request reads: for a head it only counts them
+abbrev pub read_len : Request → ℕ → ℕ
+read_len request len = if asks_for_head request then 0 else len
+
+-- what a request does with these bytes, of data of this length, and the kind of its answer
+abbrev pub CallDoes : Request → List ℕ → ℕ → Held → Held → List ℕ → List ℕ → Answer → Answer → ℕ → Type 0
+CallDoes request bytes len was now buffer after a b kind = Responds request bytes len was now buffer after a b × (kind ≡ b.kind)
 
 -- the same box, at what the request makes of its value
-abbrev pub kept_at : Ptr → Held → Request → List ℕ → List ℕ → List ℕ → Answer → Answer → ℕ → Fml
-kept_at p was request bytes buffer after a b kind =
-    fex Held (λ now. fsep (holds_at p now) (fex (CallDoes request bytes was now buffer after a b kind) (λ _. ftrue)))
+abbrev pub kept_at : Ptr → Held → Request → List ℕ → ℕ → List ℕ → List ℕ → Answer → Answer → ℕ → Fml
+kept_at p was request bytes len buffer after a b kind =
+    fex Held (λ now. fsep (holds_at p now) (fex (CallDoes request bytes len was now buffer after a b kind) (λ _. ftrue)))
 
 -- the bytes and the buffer, each at its pointer
 abbrev pub passed_at : Ptr → ℕ → Ptr → ℕ → Passed → Fml
 passed_at bytes bytes_len buffer buffer_len was =
     fsep (bytes_at was.given.share bytes bytes_len was.given.bytes) (bytes_at full_share buffer buffer_len was.buffer)
 
--- the same box and the same bytes, and the buffer with what was written
+-- the same box and the same bytes, as far as they are read, and the buffer with what was written
 abbrev pub called_at : Ptr → Ptr → ℕ → Ptr → ℕ → Request → Passed → Answer → Answer → ℕ → Fml
 called_at p bytes bytes_len buffer buffer_len request was a b kind =
-    fex (List ℕ) (λ after. fsep (kept_at p was.session request was.given.bytes was.buffer after a b kind)
-    (passed_at bytes bytes_len buffer buffer_len (record was { buffer = after })))
+    fex (List ℕ) (λ after. fsep (kept_at p was.session request was.given.bytes bytes_len was.buffer after a b kind)
+    (passed_at bytes (read_len request bytes_len) buffer buffer_len (record was { buffer = after })))
 
 -- a session that may be freed, or at null none
 abbrev pub held_at : Ptr → Held → Fml

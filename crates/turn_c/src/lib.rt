@@ -2,7 +2,8 @@
 //! looks at it, and one frees it. Two read packets without a client. All else is in `turn_c_calls`; `include/yarrowdoor.h`
 //! declares these functions.
 //!
-//! Bytes and buffers are passed by a pointer and a length; where the length is 0, the pointer says nothing, and may be null.
+//! Bytes and buffers are passed by a pointer and a length; where the length is 0, the pointer says nothing, and may be null. So
+//! may the pointer to the data of a head, whose length alone counts.
 //!
 //! What nothing here can check is the C program's to keep: the pointer is one that [`yarrowdoor_new`] wrote and that was
 //! not freed, no two arguments overlap, nothing else touches the session's memory, or the bytes and the buffer of a call,
@@ -14,12 +15,13 @@ ghost use types.Logic.{sem};
 ghost use Rattle.turn_c_calls.specs.Held.{Held};
 ghost use Rattle.turn_c_calls.specs.Hints.{SaysFirst, SaysPlace};
 ghost use Rattle.turn_c.specs.Bytes.{Given, bytes_at, place_of};
-ghost use Rattle.turn_c.specs.Opaque.{LookDoes, Named, Passed, called_at, held_at, holds_at, kept_at, named_at, new_at, passed_at};
+ghost use Rattle.turn_c.specs.Opaque.{LookDoes, Named, Passed, called_at, held_at, holds_at, kept_at, named_at, new_at, passed_at, read_len};
 ghost use Rattle.turn_c.specs.Starts.{Starts};
 
 use std::alloc::Global;
 use std::slice;
 use turn_c_calls::answer::Answer;
+use turn_c_calls::code::SEND_HEAD;
 use turn_c_calls::hints::{Hints, read_attribute, read_message};
 use turn_c_calls::library::{finish, look, start, step};
 use turn_c_calls::request::Request;
@@ -31,6 +33,13 @@ fn place_of(at: *const u8, len: usize, other: *const u8) -> *const u8
     ensures { result ≡ place_of at len other }
 {
     if len == 0 { other } else { at }
+}
+
+/// How many bytes of the data a request reads: none if it asks for a head, which only counts them.
+fn read_len(request: &Request, len: usize) -> usize
+    ensures { result ≡ read_len request.now len }
+{
+    if request.kind == SEND_HEAD { 0 } else { len }
 }
 
 /// Makes a session with a new client, and writes its pointer to `place`. Returns 0.
@@ -105,7 +114,8 @@ fn put(place: &mut *mut u8, at: *mut u8)
     *place = at;
 }
 
-/// Answers a request with its data, and returns the kind of the answer. Bytes of the answer are written to the buffer.
+/// Answers a request with its data, and returns the kind of the answer. Bytes of the answer are written to the buffer. For a
+/// head the data is only counted: nothing need lie at `bytes`.
 ///
 /// # Errors
 ///
@@ -122,16 +132,17 @@ pub unsafe extern "C" fn yarrowdoor_call(
     answer: &mut Answer,
 ) -> u32
     ghost was: { Passed }
-    requires* { sem 𝓛 (holds_at session was.session) ∗ sem 𝓛 (passed_at bytes bytes_len buffer buffer_len was) }
+    requires* { sem 𝓛 (holds_at session was.session) ∗ sem 𝓛 (passed_at bytes (read_len request.now bytes_len) buffer buffer_len was) }
     ensures* { sem 𝓛 (called_at session bytes bytes_len buffer buffer_len request.now was answer.old answer.new result) }
 {
+    let len = read_len(request, bytes_len);
     let other = &raw const *request as *const u8;
-    let bytes = slice::from_raw_parts(place_of(bytes, bytes_len, other), bytes_len);
+    let bytes = slice::from_raw_parts(place_of(bytes, len, other), len);
     let buffer = slice::from_raw_parts_mut(
         place_of(buffer, buffer_len, other) as *mut u8,
         buffer_len,
     );
-    answer_request(session, alloc, request, bytes, buffer, answer)
+    answer_request(session, alloc, request, bytes, bytes_len, buffer, answer)
 }
 
 /// The same, for bytes and a buffer that are lent.
@@ -140,18 +151,20 @@ unsafe fn answer_request(
     alloc: Global,
     request: &Request,
     bytes: &[u8],
+    len: usize,
     buffer: &mut [u8],
     answer: &mut Answer,
 ) -> u32
     ghost was: { Held }
     requires* { sem 𝓛 (holds_at session was) }
-    ensures* { sem 𝓛 (kept_at session was request.now bytes.now buffer.old buffer.new answer.old answer.new result) }
+    ensures* { sem 𝓛 (kept_at session was request.now bytes.now len buffer.old buffer.new answer.old answer.new result) }
 {
     step(
         &mut *(session as *mut Session),
         alloc,
         request,
         bytes,
+        len,
         buffer,
         answer,
     )

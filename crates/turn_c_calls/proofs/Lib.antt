@@ -1,5 +1,7 @@
 pub mod AddressLemmas
 pub mod EndLemmas
+pub mod HeadEndLemmas
+pub mod HeadLemmas
 pub mod KeptLemmas
 pub mod LookLemmas
 pub mod MadeLemmas

@@ -2,6 +2,7 @@ pub mod Address
 pub mod Answer
 pub mod Arms
 pub mod Buffer
+pub mod Head
 pub mod Held
 pub mod Hints
 pub mod Judge

@@ -78,6 +78,10 @@ pub const SET_PERMISSION_KEPT: u32 = 18;
 /// `set_channel_kept` for the channel to `peer`, over `transport`: kept if `id` is 1, and let go if it is 0.
 pub const SET_CHANNEL_KEPT: u32 = 19;
 
+/// `send_to` of data of a length to `peer`, over `transport`, for a caller that sends the data from where it lies: what precedes
+/// the data in the packet is written to the buffer, which holds at least 64 bytes.
+pub const SEND_HEAD: u32 = 20;
+
 // ---- the kinds of answers: the call was not made, or failed
 
 /// A memory allocation failed. The client may have ended: the state is the one that the call leaves then.
@@ -95,7 +99,7 @@ pub const BAD_PAYLOAD: u32 = 4;
 /// Bytes of an earlier answer are left, and are to be read first. Nothing has changed.
 pub const UNREAD_BYTES: u32 = 5;
 
-/// The buffer is too small for the packet of a `send_to`. Nothing has changed.
+/// The buffer is too small for the packet of a `send_to`, or for its head. Nothing has changed.
 pub const SMALL_BUFFER: u32 = 6;
 
 /// The method returned the error `error`. For [`ERROR_EXPIRED`] the channel is reserved until `time`.
@@ -122,7 +126,8 @@ pub const TCP_CLOSE: u32 = 12;
 /// The client has ended. Events may be left, and its data connections are to be closed.
 pub const CLOSED: u32 = 13;
 
-/// The bytes are a packet to send over `transport`, from `from` to `to`.
+/// The bytes are a packet to send over `transport`, from `from` to `to`. For [`SEND_HEAD`] they are what precedes the data in it,
+/// and `start` zeros follow the data.
 pub const PACKET: u32 = 14;
 
 /// The input was for the client.

@@ -18,6 +18,7 @@ pub mod code;
 mod fault;
 mod give;
 mod handle;
+mod head;
 pub mod hints;
 pub mod library;
 mod make;

@@ -1,11 +1,12 @@
 //! What the C library exports, but for the pointers.
 
 ghost use Rattle.std.specs.Prelude.{◌≡◌, Ok, IfErr, IfOk};
+ghost use Rattle.turn_c_calls.specs.Head.{Responds};
 ghost use Rattle.turn_c_calls.specs.Look.{LooksAt};
 ghost use Rattle.turn_c_calls.specs.Open.{Refuses, session_of};
-ghost use Rattle.turn_c_calls.specs.Step.{Steps};
 
 use crate::answer::Answer;
+use crate::code::SEND_HEAD;
 use crate::opening::{OpenError, new_session};
 use crate::request::Request;
 use crate::session::Session;
@@ -34,19 +35,25 @@ pub fn start(
     }
 }
 
-/// Answers a request with its data, and returns the kind of the answer. Bytes of the answer are written to the buffer.
+/// Answers a request with its data, or for a head with the length of the data alone, and returns the kind of the answer.
+/// Bytes of the answer are written to the buffer.
 pub fn step(
     session: &mut Session,
     alloc: Global,
     request: &Request,
     bytes: &[u8],
+    len: usize,
     buffer: &mut [u8],
     answer: &mut Answer,
 ) -> u32
-    ensures step { Steps request.now bytes.now session.old session.new buffer.old buffer.new answer.old answer.new }
+    ensures step { Responds request.now bytes.now len session.old session.new buffer.old buffer.new answer.old answer.new }
     ensures kind { result ≡ answer.new.kind }
 {
-    session.answer(alloc, request, bytes, buffer, answer);
+    if request.kind == SEND_HEAD {
+        session.send_head(request, len, buffer, answer);
+    } else {
+        session.answer(alloc, request, bytes, buffer, answer);
+    }
     answer.kind
 }
 

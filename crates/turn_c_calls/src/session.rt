@@ -2,6 +2,7 @@
 
 use crate::answer::Answer;
 use crate::handle::{handle, look};
+use crate::head::send_head;
 use crate::request::Request;
 use crate::unread::Unread;
 use std::alloc::Global;
@@ -33,6 +34,7 @@ impl Model for Session {
 impl Session {
     ghost use Rattle.std.specs.Prelude.{◌≡◌, []};
     ghost use Rattle.turn_client_proto.specs.Client.{state_of};
+    ghost use Rattle.turn_c_calls.specs.Head.{HeadSteps};
     ghost use Rattle.turn_c_calls.specs.Held.{held};
     ghost use Rattle.turn_c_calls.specs.Look.{look_answer, looked};
     ghost use Rattle.turn_c_calls.specs.Step.{Steps};
@@ -72,6 +74,23 @@ impl Session {
             buffer,
             answer,
         ) {
+            Ok(()) => {}
+            Err(fault) => answer.kind = fault.code(),
+        }
+    }
+
+    /// Answers a request for the head of a packet that carries so many bytes.
+    pub fn send_head(
+        &mut self,
+        request: &Request,
+        len: usize,
+        buffer: &mut [u8],
+        answer: &mut Answer,
+    )
+        ensures { HeadSteps request.now len self.old self.new buffer.old buffer.new answer.old answer.new }
+    {
+        let client = &mut self.client;
+        match send_head(client, self.relays, request, len, buffer, answer) {
             Ok(()) => {}
             Err(fault) => answer.kind = fault.code(),
         }

@@ -1,6 +1,6 @@
 //! Packets for a peer, built when they are sent.
 
-ghost use Rattle.std.specs.Prelude.{◌≡◌, ◌≤◌, length, slice_range};
+ghost use Rattle.std.specs.Prelude.{◌≡◌, ◌≤◌, ◌++◌, length, replicate, slice_range};
 ghost use Rattle.turn_client_api.specs.Range.{part_of};
 ghost use Rattle.turn_client_api.specs.Delayed.{delayed_part, delayed_send_bytes};
 
@@ -58,6 +58,60 @@ pub enum DelayedMessageOrChannelSend<T: AsSlice<u8>> {
     Data(T),
     /// Bytes that are already built.
     OwnedData(Vec<u8>),
+}
+
+impl<T: AsSlice<u8>> DelayedMessageOrChannelSend<T> {
+    ghost use Rattle.turn_client_api.specs.Delayed.{delayed_send_head, delayed_send_payload};
+
+    /// The data, which is sent behind the head and before the padding.
+    pub fn payload(&self) -> &[u8]
+        ensures { result.now ≡ delayed_send_payload self.now }
+    {
+        match self {
+            DelayedMessageOrChannelSend::Channel(channel) => channel.payload(),
+            DelayedMessageOrChannelSend::Message(message) => message.payload(),
+            DelayedMessageOrChannelSend::Data(data) => data.as_slice(),
+            DelayedMessageOrChannelSend::OwnedData(bytes) => bytes.as_slice(),
+        }
+    }
+
+    /// How many bytes precede the data in the packet: 4 over a channel, 36 or 48 in a Send indication to a
+    /// peer of IPv4 or IPv6, and else none.
+    pub fn head_len(&self) -> usize
+        ensures { result ≡ length (delayed_send_head self.now) }
+    {
+        match self {
+            DelayedMessageOrChannelSend::Channel(_) => 4,
+            DelayedMessageOrChannelSend::Message(message) => message.head_len(),
+            DelayedMessageOrChannelSend::Data(_) | DelayedMessageOrChannelSend::OwnedData(_) => 0,
+        }
+    }
+
+    /// Writes what precedes the data in the packet into a slice of exactly its length, `head_len`. Who sends
+    /// the head, the data from where it lies, and `padding_len` zeros as one packet, as by `sendmsg`, copies
+    /// no data.
+    pub fn write_head(&self, place: &mut [u8])
+        requires { length place.old ≡ length (delayed_send_head self.now) }
+        ensures { place.new ≡ delayed_send_head self.now }
+    {
+        match self {
+            DelayedMessageOrChannelSend::Channel(channel) => channel.write_head(place),
+            DelayedMessageOrChannelSend::Message(message) => message.write_head(place),
+            DelayedMessageOrChannelSend::Data(_) | DelayedMessageOrChannelSend::OwnedData(_) => {}
+        }
+    }
+
+    /// How many zeros follow the data in the packet, up to three: head, data and padding are the bytes that
+    /// `write_into` writes.
+    pub fn padding_len(&self) -> usize
+        ensures { delayed_send_bytes self.now ≡ delayed_send_head self.now ++ delayed_send_payload self.now ++ replicate result 0 }
+    {
+        match self {
+            DelayedMessageOrChannelSend::Channel(channel) => channel.padding_len(),
+            DelayedMessageOrChannelSend::Message(message) => message.padding_len(),
+            DelayedMessageOrChannelSend::Data(_) | DelayedMessageOrChannelSend::OwnedData(_) => 0,
+        }
+    }
 }
 
 impl<T: AsSlice<u8> + Drop> DelayedTransmitBuild for DelayedMessageOrChannelSend<T> {

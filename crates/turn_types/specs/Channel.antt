@@ -1,5 +1,6 @@
 -- What a ChannelData message is (RFC 8656, section 12.4).
 use Rattle.std.specs.Prelude.{◌≡◌, ℕ, Bool, ◌+◌, ◌^◌, ◌<◌, ◌≤◌, ◌&&◌, nat_le, nat_lt, not, if◌then◌else◌, List, ◌++◌, length, take, drop, Option, Some, None}
+use Rattle.std.specs.Int.{w16, to_be_bytes}
 use Rattle.turn_stun.specs.Writer.{attribute_bytes}
 use Rattle.turn_stun.specs.Number.{u16_at}
 use Rattle.turn_types.specs.declared.error.ChannelParseError.{ChannelParseError}
@@ -49,3 +50,7 @@ pub record IsHeldChannel (id : ℕ) (payload : List ℕ) : Type 0 where
 -- requires it over a stream and allows it over datagrams).
 abbrev pub channel_frame : ℕ → List ℕ → List ℕ
 channel_frame id payload = attribute_bytes id payload
+
+-- what precedes a payload of this length in it: the channel number and the length
+abbrev pub channel_head : ℕ → ℕ → List ℕ
+channel_head id len = to_be_bytes w16 id ++ to_be_bytes w16 len

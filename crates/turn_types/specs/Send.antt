@@ -1,5 +1,6 @@
 -- The Send indication, with which a client sends to a peer (RFC 8656, section 11.1).
 use Rattle.std.specs.Prelude.{ℕ, ◌+◌, List, [], ◌∷◌, ◌++◌, length}
+use Rattle.std.specs.Int.{w16, to_be_bytes}
 use Rattle.std.specs.declared.net.socket_addr.SocketAddr.{SocketAddr}
 use Rattle.turn_stun.specs.Message.{Attribute, padded_len}
 use Rattle.turn_stun.specs.MessageType.{type_number}
@@ -24,6 +25,13 @@ send_indication peer payload id =
     with_length (8 + xor_value_len peer + padded_len (length payload)) (header_of send_type id)
     ++ attribute_bytes peer_kind (xor_value peer id)
     ++ attribute_bytes data_kind payload
+
+-- what precedes a payload of this length in it: all but the payload and the padding
+abbrev pub send_head : SocketAddr → ℕ → ℕ → List ℕ
+send_head peer len id =
+    with_length (8 + xor_value_len peer + padded_len len) (header_of send_type id)
+    ++ attribute_bytes peer_kind (xor_value peer id)
+    ++ (to_be_bytes w16 data_kind ++ to_be_bytes w16 len)
 
 -- the attributes of a Send indication, with their places
 abbrev pub send_attributes : SocketAddr → List ℕ → ℕ → List Attribute

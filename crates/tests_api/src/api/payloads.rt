@@ -88,16 +88,33 @@ fn a_part_is_sent_as_it_is(rt: HostRuntime) {
     check(&rt, nothing.is_empty());
 }
 
+/// Compares what stands around `payload` in a packet.
+fn goes_in_parts(
+    rt: &impl Abort,
+    alloc: Global,
+    send: &DelayedMessageOrChannelSend<&'static [u8]>,
+    head: &[u8],
+    payload: &[u8],
+    padding: usize,
+) {
+    let mut place = vec![in alloc; 0xaa; send.head_len()].expect(rt, "memory");
+    send.write_head(place.as_mut_slice());
+    same_bytes(rt, place.as_slice(), head);
+    same_bytes(rt, send.payload(), payload);
+    same(rt, send.padding_len(), padding);
+}
+
 // The four ways to send to a peer, each with the bytes that it sends.
 
 #[test]
 fn data_goes_over_a_channel(rt: HostRuntime) {
     let frame = [0x40, 0, 0, 5, 0x68, 0x65, 0x6c, 0x6c, 0x6f, 0, 0, 0];
-    let channel = || -> DelayedMessageOrChannelSend<&[u8]> {
+    let channel = || -> DelayedMessageOrChannelSend<&'static [u8]> {
         DelayedMessageOrChannelSend::Channel(DelayedChannel::new(0x4000, b"hello"))
     };
     builds(&rt, rt.alloc(), channel(), &frame);
     writes(&rt, rt.alloc(), channel(), &frame);
+    goes_in_parts(&rt, rt.alloc(), &channel(), &frame[..4], b"hello", 3);
 }
 
 /// A Send indication with `hello`.
@@ -113,6 +130,7 @@ fn data_goes_in_an_indication(rt: HostRuntime) {
     want[1] = 0x16;
     builds(&rt, rt.alloc(), indication(), &want);
     writes(&rt, rt.alloc(), indication(), &want);
+    goes_in_parts(&rt, rt.alloc(), &indication(), &want[..36], b"hello", 3);
 }
 
 #[test]
@@ -122,6 +140,8 @@ fn data_goes_as_it_is(rt: HostRuntime) {
     builds(&rt, rt.alloc(), plain, &sevens);
     let plain = DelayedMessageOrChannelSend::Data(sevens.as_slice());
     writes(&rt, rt.alloc(), plain, &sevens);
+    let plain = DelayedMessageOrChannelSend::Data(b"hello".as_slice());
+    goes_in_parts(&rt, rt.alloc(), &plain, b"", b"hello", 0);
 }
 
 /// Seven bytes that the packet owns.
@@ -133,4 +153,6 @@ fn owned_sevens(rt: &impl Abort, alloc: Global) -> DelayedMessageOrChannelSend<&
 fn owned_data_goes_as_it_is(rt: HostRuntime) {
     builds(&rt, rt.alloc(), owned_sevens(&rt, rt.alloc()), &[7; 7]);
     writes(&rt, rt.alloc(), owned_sevens(&rt, rt.alloc()), &[7; 7]);
+    let sevens = owned_sevens(&rt, rt.alloc());
+    goes_in_parts(&rt, rt.alloc(), &sevens, b"", &[7; 7], 0);
 }

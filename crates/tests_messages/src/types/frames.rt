@@ -124,6 +124,17 @@ fn messages_are_written(rt: HostRuntime) {
     is_written(&rt, rt.alloc(), message, &NOTHING_TO_IPV6);
 }
 
+// Without data it is all of the message.
+#[test]
+fn a_head_to_ipv6_has_48_bytes(rt: HostRuntime) {
+    let message = DelayedMessage::for_server(ipv6(), b"".as_slice(), first_id());
+    let mut place = [0xaa; 48];
+    assert!(rt; message.head_len() == place.len());
+    message.write_head(&mut place);
+    same(&rt, place, NOTHING_TO_IPV6);
+    same(&rt, message.padding_len(), 0);
+}
+
 #[test]
 fn messages_are_read_again(rt: HostRuntime) {
     let parsed = Message::from_bytes(&TO_LOCALHOST).expect(&rt, "a message");

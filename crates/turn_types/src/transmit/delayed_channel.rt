@@ -1,6 +1,6 @@
 //! A ChannelData message that is built late (RFC 8656, section 12.5).
 
-ghost use Rattle.std.specs.Prelude.{◌≡◌, ◌-◌, ◌^◌, ◌<◌, ◌≤◌, length, replicate};
+ghost use Rattle.std.specs.Prelude.{◌≡◌, ◌-◌, ◌^◌, ◌<◌, ◌≤◌, ◌++◌, length, replicate};
 
 use crate::transmit::{DelayedTransmitBuild, framing};
 use std::alloc::{AllocError, Global};
@@ -23,7 +23,7 @@ pub struct DelayedChannel<T: AsSlice<u8>> {
 impl<T: AsSlice<u8>> DelayedChannel<T> {
     ghost use Rattle.turn_stun.specs.Message.{padded_len};
     ghost use Rattle.turn_types.specs.Channel.{IsChannel, channel_frame};
-    ghost use Rattle.turn_types.specs.Delayed.{delayed_channel_bytes};
+    ghost use Rattle.turn_types.specs.Delayed.{delayed_channel_bytes, delayed_channel_head, delayed_channel_payload};
 
     /// The message that carries this payload, of at most 65,535 bytes, over the channel with this number,
     /// from 0x4000 to 0x7fff.
@@ -36,6 +36,28 @@ impl<T: AsSlice<u8>> DelayedChannel<T> {
             (replicate (padded_len (length (T.items payload)) - length (T.items payload)) 0) }
     {
         DelayedChannel { id, payload }
+    }
+
+    /// The payload.
+    pub fn payload(&self) -> &[u8]
+        ensures { result.now ≡ delayed_channel_payload self.now }
+    {
+        self.payload.as_slice()
+    }
+
+    /// Writes what precedes the payload in the message: the number and the length of the payload, in four bytes.
+    pub fn write_head(&self, place: &mut [u8])
+        requires { length place.old ≡ 4 }
+        ensures { place.new ≡ delayed_channel_head self.now }
+    {
+        place.copy_from_slice(&framing::header(self.id, self.payload.as_slice().len()));
+    }
+
+    /// How many zeros follow the payload: up to three.
+    pub fn padding_len(&self) -> usize
+        ensures { delayed_channel_bytes self.now ≡ delayed_channel_head self.now ++ delayed_channel_payload self.now ++ replicate result 0 }
+    {
+        framing::padding_len(self.payload.as_slice().len())
     }
 }
 

@@ -1,6 +1,6 @@
 //! A Send indication that is built late (RFC 8656, section 11.1).
 
-ghost use Rattle.std.specs.Prelude.{◌≡◌, ◌+◌, ◌^◌, ◌<◌, ◌≤◌, ◌++◌, length, Some, OnOk};
+ghost use Rattle.std.specs.Prelude.{◌≡◌, ◌+◌, ◌^◌, ◌<◌, ◌≤◌, ◌++◌, length, replicate, Some, OnOk};
 ghost use Rattle.std.specs.Int.{w16, to_be_bytes};
 ghost use Rattle.turn_stun.specs.Message.{IsMessage};
 ghost use Rattle.turn_stun.specs.Attributes.{seen_of};
@@ -29,7 +29,7 @@ pub struct DelayedMessage<T: AsSlice<u8>> {
 }
 
 impl<T: AsSlice<u8>> DelayedMessage<T> {
-    ghost use Rattle.turn_types.specs.Delayed.{delayed_message_bytes};
+    ghost use Rattle.turn_types.specs.Delayed.{delayed_message_bytes, delayed_message_head, delayed_message_payload};
 
     /// The message that makes a server send the payload to the peer. The payload has at most 65,504
     /// bytes, so that the message has room for it beside an IPv6 address.
@@ -48,6 +48,42 @@ impl<T: AsSlice<u8>> DelayedMessage<T> {
             payload,
             id,
         }
+    }
+
+    /// The payload.
+    pub fn payload(&self) -> &[u8]
+        ensures { result.now ≡ delayed_message_payload self.now }
+    {
+        self.payload.as_slice()
+    }
+
+    /// How many bytes precede the payload in the message: 36 for a peer of IPv4, 48 for one of IPv6.
+    pub fn head_len(&self) -> usize
+        ensures { result ≡ length (delayed_message_head self.now) }
+    {
+        28 + self.peer.value_len()
+    }
+
+    /// Writes what precedes the payload in the message: its header, the peer, and the length of the payload.
+    pub fn write_head(&self, place: &mut [u8])
+        requires { length place.old ≡ length (delayed_message_head self.now) }
+        ensures { place.new ≡ delayed_message_head self.now }
+    {
+        let len = self.payload.as_slice().len();
+        let peer_len = self.peer.value_len();
+        let (front, behind) = place.split_at_mut(20);
+        front.copy_from_slice(&header(self.id, 8 + peer_len + framing::padded_len(len)));
+        let (peer, data) = behind.split_at_mut(4 + peer_len);
+        write_peer(peer, self.peer, self.id);
+        data.copy_from_slice(&framing::header(Data::TYPE.value, len));
+    }
+
+    /// How many zeros follow the payload: up to three.
+    #[tactic(auto, using(std::proofs::lemmas::List::append_assoc))]
+    pub fn padding_len(&self) -> usize
+        ensures { delayed_message_bytes self.now ≡ delayed_message_head self.now ++ delayed_message_payload self.now ++ replicate result 0 }
+    {
+        framing::padding_len(self.payload.as_slice().len())
     }
 }
 

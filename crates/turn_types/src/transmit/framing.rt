@@ -1,6 +1,6 @@
 //! Attributes and ChannelData messages, written in place.
 
-ghost use Rattle.std.specs.Prelude.{◌≡◌, ◌+◌, ◌^◌, ◌<◌, ◌≤◌, ◌++◌, length, replicate, OnOk};
+ghost use Rattle.std.specs.Prelude.{◌≡◌, ◌+◌, ◌-◌, ◌^◌, ◌<◌, ◌≤◌, ◌++◌, length, replicate, OnOk};
 ghost use Rattle.std.specs.Int.{w16, to_be_bytes};
 ghost use Rattle.turn_stun.specs.Message.{padded_len};
 ghost use Rattle.turn_stun.specs.Writer.{attribute_bytes};
@@ -26,6 +26,14 @@ pub(super) fn header(number: u16, len: usize) -> [u8; 4]
     [a, b, c, d]
 }
 
+/// How many zeros follow a value of this length, up to a multiple of four bytes.
+pub(super) fn padding_len(len: usize) -> usize
+    requires { len < 2 ^ 16 }
+    ensures { result ≡ padded_len len - len }
+{
+    padded_len(len) - len
+}
+
 /// Writes a number, the length of the value, the value, and zeros up to a multiple of four bytes.
 /// The value is copied once.
 pub(super) fn write(place: &mut [u8], number: u16, value: &[u8])
@@ -49,7 +57,7 @@ pub(super) fn append(out: &mut Vec<u8>, number: u16, value: &[u8]) -> Result<(),
     let header = header(number, value.len());
     out.extend_from_slice(&header)?;
     out.extend_from_slice(value)?;
-    append_padding(out, padded_len(value.len()) - value.len())
+    append_padding(out, padding_len(value.len()))
 }
 
 /// Appends up to three zeros.
