@@ -9,8 +9,8 @@ use Rattle.turn_client_api.specs.Calls.{can_send_to, permissions_of}
 use Rattle.turn_client_api.specs.State.{State}
 use Rattle.turn_client_api.specs.declared.call.Call.{Call}
 use Rattle.turn_client_api.specs.declared.call.Call.TheVariants as Calls
-use Rattle.turn_client_proto.specs.declared.runs.reply.Reply.TheVariants as Replies
-use Rattle.turn_lines.specs.Fault.{needed}
+use Rattle.turn_client_calls.specs.Checks.{needed}
+use Rattle.turn_client_calls.specs.declared.reply.Reply.TheVariants as Replies
 use Rattle.turn_c_calls.specs.Answer.{of_kind}
 use Rattle.turn_c_calls.specs.Arms.{Ends, EndsLook, EndsPlain, Lacks, LacksLook, LacksPlain, have_permission_answer, permissions_answer}
 use Rattle.turn_c_calls.specs.Held.{held}

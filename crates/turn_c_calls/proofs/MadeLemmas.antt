@@ -12,14 +12,14 @@ use Rattle.turn_client_api.specs.Transmit.{transmit_step}
 use Rattle.turn_client_api.specs.declared.call.Call.{Call}
 use Rattle.turn_client_api.specs.declared.call.Call.TheVariants as Calls
 use Rattle.turn_client_api.specs.declared.error.SendError.{SendError}
-use Rattle.turn_client_proto.specs.Run.{poll_recv_reply, recv_reply, reply_of, step}
-use Rattle.turn_client_proto.specs.declared.runs.reply.Reply.{Reply}
-use Rattle.turn_client_proto.specs.declared.runs.reply.Reply.TheVariants as Replies
+use Rattle.turn_client_calls.specs.Plain.{IsPlainCall}
+use Rattle.turn_client_calls.specs.Run.{poll_recv_reply, recv_reply, reply_of, step}
+use Rattle.turn_client_calls.specs.declared.reply.Reply.TheVariants as Replies
+use Rattle.turn_client_calls.specs.declared.reply.Reply.{Reply}
 use Rattle.turn_c_calls.specs.Answer.{IsPlain, answer_to, reply_bytes}
 use Rattle.turn_c_calls.specs.Arms.{MakesPlain}
 use Rattle.turn_c_calls.specs.Buffer.{PutsIfAny}
 use Rattle.turn_c_calls.specs.Held.{held}
-use Rattle.turn_c_calls.specs.Judge.{IsPlainCall}
 use Rattle.turn_c_calls.specs.Step.{IsMade, Shows, passed_in}
 use Rattle.turn_c_calls.specs.declared.answer.Answer.{Answer}
 

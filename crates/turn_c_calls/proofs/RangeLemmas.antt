@@ -17,7 +17,7 @@ use Rattle.turn_client_api.specs.declared.receive.data_range.DataRange.{DataRang
 use Rattle.turn_client_api.specs.declared.receive.TurnPeerData.{TurnPeerData}
 use Rattle.turn_client_api.specs.declared.receive.TurnRecvRet.{TurnRecvRet}
 use Rattle.turn_client_api.specs.declared.receive.TurnRecvRet.TheVariants as Recv
-use Rattle.turn_client_proto.specs.Run.{recv_reply}
+use Rattle.turn_client_calls.specs.Run.{recv_reply}
 use Rattle.turn_c_calls.specs.Answer.{data_answer}
 use Rattle.turn_c_calls.specs.Arms.{IsPointed, Reports}
 use Rattle.turn_c_calls.specs.Buffer.{Points}

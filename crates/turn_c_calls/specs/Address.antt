@@ -4,13 +4,13 @@ use Rattle.std.specs.Option.{option_map}
 use Rattle.std.specs.Net.Addr.{ipv4_octets, ipv6_octets, segments_of}
 use Rattle.std.specs.Net.Socket.{socket_ip, v4_ip, v4_port, v6_flowinfo, v6_ip, v6_port, v6_scope_id}
 use Rattle.std.specs.declared.net.ip_addr.IpAddr.{IpAddr}
+use Rattle.std.specs.declared.net.ip_addr.IpAddr.TheVariants as Ip
 use Rattle.std.specs.declared.net.socket_addr.SocketAddr.{SocketAddr}
 use Rattle.std.specs.declared.net.socket_addr.SocketAddr.TheVariants.{V4, V6}
 use Rattle.std.specs.declared.net.socket_addr.SocketAddrV4.{SocketAddrV4}
 use Rattle.std.specs.declared.net.socket_addr.SocketAddrV6.{SocketAddrV6}
 use Rattle.turn_stun.specs.declared.transport.TransportType.{TransportType}
 use Rattle.turn_stun.specs.declared.transport.TransportType.TheVariants.{Udp, Tcp}
-use Rattle.turn_lines.specs.Address.{with_port}
 use Rattle.turn_c_calls.specs.declared.address.Address.{Address}
 use Rattle.turn_c_calls.specs.declared.code.TheConstants.{IPV4, IPV6, NO_FAMILY, TCP, UDP}
 
@@ -38,7 +38,8 @@ c_address (V6 a) = record {
 
 -- with the port 0
 abbrev pub address_of_ip : IpAddr → Address
-address_of_ip ip = c_address (with_port ip 0)
+address_of_ip (Ip.V4 ip) = c_address (V4 (record { ip = ip; port = 0 }))
+address_of_ip (Ip.V6 ip) = c_address (V6 (record { ip = ip; port = 0; flowinfo = 0; scope_id = 0 }))
 
 abbrev pub v4_at : Address → SocketAddrV4
 v4_at a = record {

@@ -11,12 +11,12 @@ use Rattle.turn_client_api.specs.declared.event.TurnEvent.TheVariants.{Permissio
 use Rattle.turn_client_api.specs.declared.event.TurnEvent.TheVariants.{TcpConnectFailed}
 use Rattle.turn_client_api.specs.declared.poll.TurnPollRet.{TurnPollRet}
 use Rattle.turn_client_api.specs.declared.poll.TurnPollRet.TheVariants.{WaitUntil, AllocateTcpSocket, TcpClose, Closed}
-use Rattle.turn_client_proto.specs.declared.runs.reply.Reply.{Reply}
-use Rattle.turn_client_proto.specs.declared.runs.reply.Reply.TheVariants as Replies
-use Rattle.turn_lines.specs.Refusal.{send_refusal, create_permission_refusal, bind_channel_refusal, tcp_connect_refusal}
-use Rattle.turn_lines.specs.Refusal.{tcp_allocate_refusal, delete_refusal, keep_refusal}
-use Rattle.turn_lines.specs.declared.refusal.Refusal.{Refusal}
-use Rattle.turn_lines.specs.declared.refusal.Refusal.TheVariants as Refused
+use Rattle.turn_client_calls.specs.Refusal.{send_refusal, create_permission_refusal, bind_channel_refusal, tcp_connect_refusal}
+use Rattle.turn_client_calls.specs.Refusal.{tcp_allocate_refusal, delete_refusal, keep_refusal}
+use Rattle.turn_client_calls.specs.declared.refusal.Refusal.TheVariants as Refused
+use Rattle.turn_client_calls.specs.declared.refusal.Refusal.{Refusal}
+use Rattle.turn_client_calls.specs.declared.reply.Reply.TheVariants as Replies
+use Rattle.turn_client_calls.specs.declared.reply.Reply.{Reply}
 use Rattle.turn_c_calls.specs.Address.{c_address, address_of_ip, transport_code}
 use Rattle.turn_c_calls.specs.declared.address.Address.{Address}
 use Rattle.turn_c_calls.specs.declared.answer.Answer.{Answer}

@@ -8,9 +8,9 @@ use Rattle.turn_client_api.specs.Calls.{can_send_to, permissions_of}
 use Rattle.turn_client_api.specs.Payloads.{Outcome}
 use Rattle.turn_client_api.specs.Payloads as O
 use Rattle.turn_client_api.specs.State.{State}
-use Rattle.turn_client_proto.specs.Wanted.{EndsForMemory}
 use Rattle.turn_client_api.specs.declared.call.Call.{Call}
-use Rattle.turn_client_proto.specs.Run.{recv_reply}
+use Rattle.turn_client_calls.specs.Run.{recv_reply}
+use Rattle.turn_client_calls.specs.Wanted.{EndsForMemory}
 use Rattle.turn_c_calls.specs.Answer.{answer_to, reply_bytes, data_answer, found_answer, permission_answer}
 use Rattle.turn_c_calls.specs.Buffer.{PutsIfAny}
 use Rattle.turn_c_calls.specs.Held.{held}

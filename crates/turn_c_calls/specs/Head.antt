@@ -8,8 +8,8 @@ use Rattle.turn_stun.specs.declared.transport.TransportType.{TransportType}
 use Rattle.turn_client_api.specs.Calls.{send_to_step}
 use Rattle.turn_client_api.specs.State.{State}
 use Rattle.turn_client_api.specs.declared.error.SendError.{SendError}
-use Rattle.turn_lines.specs.Fault.{needed}
-use Rattle.turn_lines.specs.Refusal.{send_refusal}
+use Rattle.turn_client_calls.specs.Checks.{needed}
+use Rattle.turn_client_calls.specs.Refusal.{send_refusal}
 use Rattle.turn_c_calls.specs.Answer.{packet_answer, refusal_answer}
 use Rattle.turn_c_calls.specs.Held.{Held}
 use Rattle.turn_c_calls.specs.Judge.{fault_code, is_udp}

@@ -1,11 +1,11 @@
 -- Which requests are made.
-use Rattle.std.specs.Prelude.{ℕ, ◌+◌, nat_lt, Bool, true, false, ◌&&◌, if◌then◌else◌, Result, Ok, Err, ⊤}
+use Rattle.std.specs.Prelude.{ℕ, ◌+◌, nat_lt, Bool, true, false, ◌&&◌, if◌then◌else◌, Result, Ok, Err}
 use Rattle.turn_stun.specs.declared.transport.TransportType.{TransportType}
 use Rattle.turn_stun.specs.declared.transport.TransportType.TheVariants.{Udp, Tcp}
 use Rattle.turn_client_api.specs.declared.call.Call.{Call}
-use Rattle.turn_client_api.specs.declared.call.Call.TheVariants as Calls
-use Rattle.turn_client_proto.specs.Run.{IsCallable}
-use Rattle.turn_lines.specs.Fault.{needed}
+use Rattle.turn_client_calls.specs.Checks.{needed}
+use Rattle.turn_client_calls.specs.Plain.{IsPlainCall}
+use Rattle.turn_client_calls.specs.Run.{IsCallable}
 use Rattle.turn_c_calls.specs.Request.{kind_in, operation_with, time_of}
 use Rattle.turn_c_calls.specs.declared.code.TheConstants.{BAD_CALL, BAD_TIME, BAD_PAYLOAD, OUT_OF_MEMORY, SMALL_BUFFER, UNREAD_BYTES}
 use Rattle.turn_c_calls.specs.declared.fault.Fault.{Fault}
@@ -51,19 +51,6 @@ fault_code Faults.Unread = UNREAD_BYTES
 fault_code Faults.Buffer = SMALL_BUFFER
 fault_code Faults.OutOfMemory = OUT_OF_MEMORY
 
--- a call whose reply has neither bytes nor a list
-abbrev pub IsPlainCall : Call → Type 0
-IsPlainCall (Calls.Delete now) = ⊤
-IsPlainCall (Calls.CreatePermission transport peer now) = ⊤
-IsPlainCall (Calls.BindChannel transport peer now) = ⊤
-IsPlainCall (Calls.TcpConnect peer now) = ⊤
-IsPlainCall (Calls.AllocatedTcpSocket id tuple peer local now) = ⊤
-IsPlainCall (Calls.TcpClosed local remote now) = ⊤
-IsPlainCall Calls.ProtocolError = ⊤
-IsPlainCall (Calls.SetPermissionKept transport peer is_kept) = ⊤
-IsPlainCall (Calls.SetChannelKept transport peer is_kept) = ⊤
-IsPlainCall _ = ⊥
-
--- which can be made on any client
+-- a call whose reply has neither bytes nor a list, and which can be made on any client
 abbrev pub IsPossible : Call → Type 0
 IsPossible call = ((relays : TransportType) → IsCallable relays call) × IsPlainCall call

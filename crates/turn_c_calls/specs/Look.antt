@@ -2,7 +2,7 @@
 use Rattle.std.specs.Prelude.{◌≡◌, slice_get, Result, Ok, Err}
 use Rattle.turn_client_api.specs.Calls.{relayed_addresses_of}
 use Rattle.turn_client_api.specs.State.{State}
-use Rattle.turn_lines.specs.Fault.{needed}
+use Rattle.turn_client_calls.specs.Checks.{needed}
 use Rattle.turn_c_calls.specs.Answer.{of_kind, relayed_answer}
 use Rattle.turn_c_calls.specs.Arms.{have_permission_answer, permissions_answer}
 use Rattle.turn_c_calls.specs.Held.{Held}

@@ -4,9 +4,8 @@ use Rattle.std.specs.Option.{option_map}
 use Rattle.turn_auth.specs.Credentials.{Credentials}
 use Rattle.turn_client_api.specs.Config.{Config, least_keepalive, least_refresh_ahead}
 use Rattle.turn_client_api.specs.State.{State, initial}
-use Rattle.turn_lines.specs.Configuration.{config_with}
-use Rattle.turn_lines.specs.Fault.{needed}
-use Rattle.turn_lines.specs.Head.{credentials_with}
+use Rattle.turn_client_calls.specs.Checks.{needed}
+use Rattle.turn_client_calls.specs.Settings.{config_with, credentials_with}
 use Rattle.turn_c_calls.specs.Held.{Held, held}
 use Rattle.turn_c_calls.specs.Settings.{plan_of}
 use Rattle.turn_c_calls.specs.declared.code.TheConstants.{BAD_CREDENTIALS, BAD_SEED, BAD_SETTINGS, OUT_OF_MEMORY}

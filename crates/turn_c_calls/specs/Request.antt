@@ -8,7 +8,7 @@ use Rattle.turn_stun.specs.declared.transport.Transmit.{Transmit}
 use Rattle.turn_stun.specs.declared.transport.TransportType.{TransportType}
 use Rattle.turn_client_api.specs.declared.call.Call.{Call}
 use Rattle.turn_client_api.specs.declared.call.Call.TheVariants as Calls
-use Rattle.turn_lines.specs.Parts.{◌>>=◌}
+use Rattle.turn_client_calls.specs.Checks.{◌>>=◌}
 use Rattle.turn_c_calls.specs.Address.{ip_at, socket_at, c_transport}
 use Rattle.turn_c_calls.specs.declared.address.Address.{Address}
 use Rattle.turn_c_calls.specs.declared.code.TheConstants.{BIND_CHANNEL, TCP_CLOSED, TCP_CONNECT, DELETE, POLL_EVENT, PROTOCOL_ERROR, HAVE_PERMISSION}

@@ -7,11 +7,11 @@ use Rattle.turn_auth.specs.declared.feature.Feature.{Feature}
 use Rattle.turn_auth.specs.declared.feature.Feature.TheVariants.{Auto, Disabled, Required}
 use Rattle.turn_auth.specs.declared.integrity.IntegrityAlgorithm.{IntegrityAlgorithm}
 use Rattle.turn_auth.specs.declared.integrity.IntegrityAlgorithm.TheVariants.{Sha1, Sha256}
-use Rattle.turn_lines.specs.Head.{relayed_for}
-use Rattle.turn_lines.specs.Parts.{◌>>=◌}
-use Rattle.turn_lines.specs.declared.head.Ends.{Ends}
-use Rattle.turn_lines.specs.declared.head.Request.{Request}
-use Rattle.turn_lines.specs.declared.head.waits.Waits.{Waits}
+use Rattle.turn_client_calls.specs.Checks.{◌>>=◌}
+use Rattle.turn_client_calls.specs.Settings.{relayed_for}
+use Rattle.turn_client_calls.specs.declared.settings.Ends.{Ends}
+use Rattle.turn_client_calls.specs.declared.settings.Request.{Request}
+use Rattle.turn_client_calls.specs.declared.settings.Waits.{Waits}
 use Rattle.turn_c_calls.specs.Address.{socket_at, c_transport}
 use Rattle.turn_c_calls.specs.declared.code.TheConstants.{AUTO, DISABLED, NO_PAUSE, NONE, REQUIRED, SHA1, SHA256, VERSION_4, VERSION_6}
 use Rattle.turn_c_calls.specs.declared.settings.Plan.{Plan}

@@ -1,10 +1,10 @@
 -- What a session does with a request.
 use Rattle.std.specs.Prelude.{◌≡◌, ◌⊎◌, ℕ, nat_lt, List, [], length, Option, Some, None, Result, Ok, Err}
-use Rattle.turn_client_proto.specs.Wanted.{EndsForMemory}
 use Rattle.turn_client_api.specs.declared.call.Call.{Call}
 use Rattle.turn_client_api.specs.declared.call.Call.TheVariants as Calls
-use Rattle.turn_client_proto.specs.Run.{step}
-use Rattle.turn_client_proto.specs.declared.runs.reply.Reply.{Reply}
+use Rattle.turn_client_calls.specs.Run.{step}
+use Rattle.turn_client_calls.specs.Wanted.{EndsForMemory}
+use Rattle.turn_client_calls.specs.declared.reply.Reply.{Reply}
 use Rattle.turn_c_calls.specs.Answer.{answer_to, reply_bytes, of_kind}
 use Rattle.turn_c_calls.specs.Held.{Held}
 use Rattle.turn_c_calls.specs.Judge.{fault_code, request_judged}

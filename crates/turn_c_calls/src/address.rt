@@ -2,7 +2,6 @@
 
 ghost use Rattle.std.specs.Prelude.{◌≡◌, Some};
 ghost use Rattle.std.specs.Net.Addr.{IsIpv6Addr, ipv6_octets};
-ghost use Rattle.turn_lines.specs.Address.{with_port};
 ghost use Rattle.turn_c_calls.specs.Address.{c_address, address_of_ip, ip_at, no_address, socket_at, transport_code, c_transport};
 
 use crate::code::{IPV4, IPV6, NO_FAMILY, TCP, UDP};

@@ -11,8 +11,7 @@ use crate::code::{
 };
 use std::net::{IpAddr, SocketAddr};
 use turn_client_api::{TurnEvent, TurnPollRet};
-use turn_client_proto::runs::Reply;
-use turn_lines::refusal::Refusal;
+use turn_client_calls::{Refusal, Reply};
 use turn_stun::transport::TransportType;
 use turn_types::AddressFamily;
 

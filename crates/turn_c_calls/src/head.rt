@@ -9,7 +9,7 @@ use crate::fault::Fault;
 use crate::request::{Request, peer_of, time_of};
 use std::net::SocketAddr;
 use turn_client_api::TurnClientApi;
-use turn_lines::refusal::Refusal;
+use turn_client_calls::Refusal;
 use turn_stun::instant::Instant;
 use turn_stun::transport::TransportType;
 use turn_types::transmit::DelayedTransmitBuild;

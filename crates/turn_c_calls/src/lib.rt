@@ -23,7 +23,6 @@ pub mod hints;
 pub mod library;
 mod make;
 pub mod opening;
-mod plain;
 pub mod request;
 pub mod session;
 pub mod settings;

@@ -2,23 +2,22 @@
 
 ghost use Rattle.std.specs.Prelude.{◌≡◌, ◌≤◌, ◌^◌, ◌+◌, [], length, slice_get, OnOk, OnErr};
 ghost use Rattle.turn_client_api.specs.Calls.{can_send_to, permissions_of, relayed_addresses_of, FitsDatagram};
-ghost use Rattle.turn_client_proto.specs.Wanted.{EndsForMemory};
-ghost use Rattle.turn_client_proto.specs.Run.{IsCallable};
+ghost use Rattle.turn_client_calls.specs.Plain.{IsPlainCall};
+ghost use Rattle.turn_client_calls.specs.Run.{IsCallable};
+ghost use Rattle.turn_client_calls.specs.Wanted.{EndsForMemory};
 ghost use Rattle.turn_c_calls.specs.Answer.{found_answer, of_kind, permission_answer, relayed_answer};
 ghost use Rattle.turn_c_calls.specs.Arms.{Makes, MakesAside, MakesPlain, Stops};
 ghost use Rattle.turn_c_calls.specs.Buffer.{Puts};
-ghost use Rattle.turn_c_calls.specs.Judge.{IsPlainCall};
 ghost use Rattle.turn_c_calls.specs.Request.{recv_call};
 
 use crate::answer::Answer;
 use crate::code::{BYTES, NO, NOTHING, YES};
 use crate::give::{deliver, give, report, write};
-use crate::plain::reply_to;
 use crate::unread::{Kept, Unread};
 use std::alloc::{AllocError, Global};
 use std::net::{IpAddr, SocketAddr};
-use turn_client_api::{Call, Socket5Tuple, TurnClientApi};
-use turn_lines::refusal::Refusal;
+use turn_client_api::{Socket5Tuple, TurnClientApi};
+use turn_client_calls::{Call, Refusal, plain_reply_to};
 use turn_stun::instant::Instant;
 use turn_stun::transport::{Transmit, TransportType};
 
@@ -34,7 +33,7 @@ pub fn plain<C: TurnClientApi>(
     ensures err { OnErr result (EndsForMemory call.now (C.state client.old) (C.state client.new)) }
     ensures same { OnErr result (answer.new ≡ answer.old) }
 {
-    let reply = reply_to(client, call)?;
+    let reply = plain_reply_to(client, call)?;
     answer.set_reply(&reply);
     Ok(())
 }

@@ -1,9 +1,9 @@
 //! A new session.
 
 ghost use Rattle.std.specs.Prelude.{◌≡◌, None, Ok, Some, IfOk, IfErr};
+ghost use Rattle.turn_client_calls.specs.Settings.{credentials_with};
 ghost use Rattle.turn_client_proto.specs.Client.{state_of};
 ghost use Rattle.turn_stun.specs.declared.transport.TransportType.TheVariants.{Udp};
-ghost use Rattle.turn_lines.specs.Head.{credentials_with};
 ghost use Rattle.turn_c_calls.specs.Open.{IsNoUser, Refuses, config_of, limited, new_client, paced, c_seed, session_of};
 
 use crate::code::{BAD_CREDENTIALS, BAD_SEED, BAD_SETTINGS, OUT_OF_MEMORY};
@@ -14,9 +14,8 @@ use std::num::NonZeroU16;
 use std::time::Duration;
 use turn_auth::credentials::{CredentialsError, TurnCredentials};
 use turn_client_api::TurnConfig;
+use turn_client_calls::settings::{Ends, configuration};
 use turn_client_proto::client::TurnClient;
-use turn_client_proto::runs::replay;
-use turn_lines::configuration::configuration;
 
 /// Why there is no session: the first of these that holds. A memory allocation may also fail before the seed is tested.
 #[derive(Clone, Copy, Debug, PartialEq, Eq)]
@@ -148,16 +147,10 @@ fn new_client(
     ensures { IfOk result (λ client. state_of client ≡ new_client plan credentials seed) }
 {
     let config = config_of(alloc, plan, credentials);
-    let ends = plan.ends;
-    // After no calls the client of a run is a new one.
-    let replayed = replay(
-        alloc,
-        ends.transport,
-        ends.local,
-        ends.remote,
-        config,
-        seed,
-        &[],
-    )?;
-    Ok(replayed.client)
+    let Ends {
+        transport,
+        local,
+        remote,
+    } = plan.ends;
+    TurnClient::allocate(alloc, transport, local, remote, config, seed)
 }

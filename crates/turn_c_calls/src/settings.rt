@@ -9,8 +9,7 @@ use crate::address::{Address, c_transport, socket_at};
 use crate::code::{AUTO, DISABLED, NO_PAUSE, NONE, REQUIRED, SHA1, SHA256, VERSION_4, VERSION_6};
 use turn_auth::feature::Feature;
 use turn_auth::integrity::IntegrityAlgorithm;
-use turn_lines::head::{Ends, Request, Waits};
-use turn_stun::transport::TransportType;
+use turn_client_calls::settings::{Ends, Request, Waits, relayed_for};
 use turn_types::AddressFamily;
 
 /// The settings of a new client: all but its user and its seed. [`code`](crate::code) has the numbers.
@@ -89,18 +88,16 @@ pub fn plan_of(settings: &Settings) -> Option<Plan>
     }
     let ends = c_ends(settings)?;
     let request = c_requested(settings)?;
-    match (ends.transport, request.allocation) {
-        (TransportType::Udp, TransportType::Tcp) => None,
-        _ => Some(Plan {
-            ends,
-            request,
-            waits: c_waits(settings),
-            max_stale_nonces: settings.max_stale_nonces,
-            request_cadence: c_cadence(settings.request_cadence),
-            keepalive: unless_zero(settings.keepalive),
-            refresh_ahead: unless_zero(settings.refresh_ahead),
-        }),
-    }
+    relayed_for(ends.transport, request.allocation)?;
+    Some(Plan {
+        ends,
+        request,
+        waits: c_waits(settings),
+        max_stale_nonces: settings.max_stale_nonces,
+        request_cadence: c_cadence(settings.request_cadence),
+        keepalive: unless_zero(settings.keepalive),
+        refresh_ahead: unless_zero(settings.refresh_ahead),
+    })
 }
 
 /// Whether the reserved places are 0, but for those of the addresses.

@@ -23,11 +23,11 @@ use Rattle.turn_stun.specs.declared.transport.Transmit.{Transmit}
 use Rattle.turn_stun.specs.declared.transport.TransportType.{TransportType}
 use Rattle.turn_types.specs.declared.attribute.icmp_report.Icmp.{Icmp}
 use Rattle.turn_client_runs.proofs.PeerLemmas.{all-answered, received, reports-permitted}
+use Rattle.turn_client_calls.specs.Run.{peer_data, poll_recv_reply, recv_reply, reply_of, replies_of}
+use Rattle.turn_client_calls.specs.declared.reply.PeerData.{PeerData}
+use Rattle.turn_client_calls.specs.declared.reply.Reply.TheVariants as Replies
+use Rattle.turn_client_calls.specs.declared.reply.Reply.{Reply}
 use Rattle.turn_client_proto.specs.Delivered.{AnswersOnlyPermitted, IsDelivered}
-use Rattle.turn_client_proto.specs.Run.{peer_data, poll_recv_reply, recv_reply, reply_of, replies_of}
-use Rattle.turn_client_proto.specs.declared.runs.reply.PeerData.{PeerData}
-use Rattle.turn_client_proto.specs.declared.runs.reply.Reply.{Reply}
-use Rattle.turn_client_proto.specs.declared.runs.reply.Reply.TheVariants as Replies
 use Rattle.turn_client_api.specs.declared.call.Call.TheVariants.{SetPermissionKept, SetChannelKept}
 
 -- one of these payloads has the data

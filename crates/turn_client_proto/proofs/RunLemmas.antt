@@ -11,7 +11,7 @@ use Rattle.turn_client_api.specs.declared.call.Call.{Call}
 use Rattle.turn_client_api.specs.declared.call.Call.TheVariants.{Poll}
 use Rattle.turn_client_runs.specs.Sleeps.{IsPolledInTime, SleepsThroughNothing}
 use Rattle.turn_client_runs.proofs.SleepLemmas.{run-sleeps}
-use Rattle.turn_client_proto.specs.Run.{IsCallable}
+use Rattle.turn_client_calls.specs.Run.{IsCallable}
 use Rattle.turn_client_proto.proofs.CarrierLemmas.{leaves-SameCarriers}
 
 -- no call changes the transport over which the allocations relay

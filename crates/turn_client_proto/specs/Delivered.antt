@@ -11,9 +11,9 @@ use Rattle.turn_client_laws.specs.Handled.{processed}
 use Rattle.turn_client_runs.specs.Inputs.{IsAmong, handled_in}
 use Rattle.turn_client_api.specs.declared.call.Call.{Call}
 use Rattle.turn_client_runs.specs.Peers.{IsDeliveredIn, ReportsOfPermitted}
-use Rattle.turn_client_proto.specs.Run.{peer_data, replies_of}
-use Rattle.turn_client_proto.specs.declared.runs.reply.PeerData.{PeerData}
-use Rattle.turn_client_proto.specs.declared.runs.reply.Reply.TheVariants as Replies
+use Rattle.turn_client_calls.specs.Run.{peer_data, replies_of}
+use Rattle.turn_client_calls.specs.declared.reply.PeerData.{PeerData}
+use Rattle.turn_client_calls.specs.declared.reply.Reply.TheVariants as Replies
 
 -- it is the payload of an input of the calls, whose peer was permitted when the input was processed
 abbrev pub IsDelivered : PeerData → State → List Call → Type 0

@@ -9,13 +9,13 @@ use Rattle.turn_client_api.specs.Payloads as O
 use Rattle.turn_client_api.specs.Streams.{payload_in, poll_recv_step}
 use Rattle.turn_client_api.specs.Steps.{packet_step}
 use Rattle.turn_client_api.specs.declared.call.Call.TheVariants as Calls
+use Rattle.turn_client_calls.specs.declared.reply.PeerData.{PeerData}
 use Rattle.turn_gather.specs.Gathering.{Gathering, is_checked_in}
 use Rattle.turn_gather.specs.Received.{gathered, passed_or_dropped}
 use Rattle.turn_gather.specs.Drive.{after, all_replies, checked_payloads, client_after, gathered_reply, if_checked, passed_up, payload_given, polled_reply, reply_of, step}
 use Rattle.turn_gather.specs.declared.calls.call.GatherCall.{GatherCall}
 use Rattle.turn_gather.specs.declared.calls.call.GatherCall.TheVariants.{Candidates, IsChecked, Check, Recv, PollRecv, CreatePermission, SendTo, Poll, PollTransmit, PollEvent}
 use Rattle.turn_gather.specs.declared.calls.reply.GatherReply.{GatherReply}
-use Rattle.turn_gather.specs.declared.calls.reply.PeerPayload.{PeerPayload}
 use Rattle.turn_client_laws.proofs.ConfiguredLemmas.{call-configured}
 
 -- no call changes what the client's allocations relay over
@@ -39,7 +39,7 @@ step-relays s t call reply e =
 -- ---- the payloads passed up
 
 -- the payload that an answer passes up, as a list
-abbrev one_passed : GatherReply → List PeerPayload
+abbrev one_passed : GatherReply → List PeerData
 one_passed reply = filter_map passed_up (reply ∷ [])
 
 given_up-passed : (b : Bool) (payload : Payload) (pairs : List (TransportType × SocketAddr)) → is_checked_in payload.transport payload.peer pairs ≡ b
@@ -73,10 +73,10 @@ reply_of-passed PollEvent s = refl
 filter_map-first : (reply : GatherReply) (replies : List GatherReply) → filter_map passed_up (reply ∷ replies) ≡ one_passed reply ++ filter_map passed_up replies
 filter_map-first reply replies = by (passed_up reply)
   where
-    rest : List PeerPayload
+    rest : List PeerData
     rest = filter_map passed_up replies
 
-    by : (o : Option PeerPayload) → cons_option o rest ≡ cons_option o [] ++ rest
+    by : (o : Option PeerData) → cons_option o rest ≡ cons_option o [] ++ rest
     by None = refl
     by (Some payload) = refl
 

@@ -1,8 +1,7 @@
 -- Lists of calls: each call is its own step, in order.
-use Rattle.std.specs.Prelude.{◌≡◌, ℕ, ◌≤◌, ◌^◌, List, [], ◌∷◌, ◌++◌, length, Option, Some, None, ⊤, if◌then◌else◌}
+use Rattle.std.specs.Prelude.{◌≤◌, ◌^◌, List, [], ◌∷◌, ◌++◌, Option, Some, None, ⊤, if◌then◌else◌}
 use Rattle.std.specs.declared.net.socket_addr.SocketAddr.{SocketAddr}
 use Rattle.turn_stun.specs.declared.transport.TransportType.{TransportType}
-use Rattle.turn_stun.specs.declared.transport.TransportType.TheVariants.{Udp}
 use Rattle.turn_client_api.specs.State.{State}
 use Rattle.turn_client_api.specs.Payloads.{Payload}
 use Rattle.turn_client_api.specs.Streams.{payload_in, poll_recv_step}
@@ -11,27 +10,24 @@ use Rattle.turn_client_api.specs.Poll.{poll_step}
 use Rattle.turn_client_api.specs.Transmit.{transmit_step}
 use Rattle.turn_client_api.specs.Answers.{event_step}
 use Rattle.turn_client_api.specs.Steps.{packet_step}
+use Rattle.turn_client_calls.specs.Run.{peer_data}
+use Rattle.turn_client_calls.specs.declared.reply.PeerData.{PeerData}
 use Rattle.turn_gather.specs.Gathering.{Gathering, check_step, is_checked_in}
 use Rattle.turn_gather.specs.Received.{Gathered, gathered, gathered_poll}
 use Rattle.turn_gather.specs.Received as G
 use Rattle.turn_gather.specs.declared.calls.call.GatherCall.{GatherCall}
 use Rattle.turn_gather.specs.declared.calls.call.GatherCall.TheVariants.{Candidates, IsChecked, Check, Recv, PollRecv, CreatePermission, SendTo, Poll}
 use Rattle.turn_gather.specs.declared.calls.call.GatherCall.TheVariants.{PollTransmit, PollEvent}
-use Rattle.turn_gather.specs.declared.calls.reply.PeerPayload.{PeerPayload}
 use Rattle.turn_gather.specs.declared.calls.reply.GatherReply.{GatherReply}
 use Rattle.turn_gather.specs.declared.calls.reply.GatherReply.TheVariants as Replies
 
 -- ---- one call
 
--- what a peer sent, by value: no matter who owns the bytes
-abbrev pub peer_payload : Payload → PeerPayload
-peer_payload payload = record { transport = payload.transport; peer = payload.peer; «data» = payload.bytes }
-
 -- the answer of `recv`
 abbrev pub gathered_reply : Gathered → GatherReply
 gathered_reply G.Handled = Replies.Handled
 gathered_reply G.Ignored = Replies.Ignored
-gathered_reply (G.PassedUp payload) = Replies.Payload (peer_payload payload)
+gathered_reply (G.PassedUp payload) = Replies.Payload (peer_data payload)
 gathered_reply G.Dropped = Replies.Dropped
 
 -- the answer of `poll_recv`
@@ -115,7 +111,7 @@ after_all s (call ∷ calls) = after_all (after call s) calls
 -- ---- the payloads passed up
 
 -- the payload that an answer passes up
-abbrev pub passed_up : GatherReply → Option PeerPayload
+abbrev pub passed_up : GatherReply → Option PeerData
 passed_up (Replies.Payload payload) = Some payload
 passed_up _ = None
 
@@ -126,12 +122,12 @@ payload_given (PollRecv now) s = (poll_recv_step now s).0
 payload_given _ s = None
 
 -- this payload alone, if its pair is in the list
-abbrev pub if_checked : List (TransportType × SocketAddr) → Option Payload → List PeerPayload
+abbrev pub if_checked : List (TransportType × SocketAddr) → Option Payload → List PeerData
 if_checked pairs None = []
 if_checked pairs (Some payload) =
-    if is_checked_in payload.transport payload.peer pairs then peer_payload payload ∷ [] else []
+    if is_checked_in payload.transport payload.peer pairs then peer_data payload ∷ [] else []
 
 -- the payloads that the client delivers in these calls, from peers whose pairs were checked before
-abbrev pub checked_payloads : Gathering → List GatherCall → List PeerPayload
+abbrev pub checked_payloads : Gathering → List GatherCall → List PeerData
 checked_payloads s [] = []
 checked_payloads s (call ∷ calls) = if_checked s.checked (payload_given call s.client) ++ checked_payloads (after call s) calls

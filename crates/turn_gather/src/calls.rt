@@ -10,7 +10,7 @@ mod reply;
 use crate::calls::one::reply_to;
 use crate::gatherer::Gatherer;
 pub use call::GatherCall;
-pub use reply::{Candidates, GatherReply, PeerPayload};
+pub use reply::GatherReply;
 use std::alloc::{AllocError, Global};
 use turn_client_api::TurnClientApi;
 

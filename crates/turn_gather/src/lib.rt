@@ -28,7 +28,7 @@ mod error;
 mod gatherer;
 mod receive;
 
-pub use calls::{Candidates, Driven, GatherCall, GatherReply, PeerPayload, drive};
+pub use calls::{Driven, GatherCall, GatherReply, drive};
 pub use error::GatherError;
 pub use gatherer::Gatherer;
 pub use receive::GatherRecv;

@@ -1,14 +1,14 @@
 //! A run over TCP with its streams in other pieces: the same payloads.
 
 ghost use Rattle.std.specs.Prelude.{◌≤◌, ◌^◌};
-ghost use Rattle.turn_client_proto.specs.Run.{IsCallable};
 ghost use Rattle.turn_stun.specs.declared.transport.TransportType.TheVariants.{Udp};
+ghost use Rattle.turn_client_calls.specs.Run.{IsCallable};
 
 use crate::session::{call_of, head_of};
 use std::alloc::Global;
 use std::net::SocketAddr;
 use turn_client_api::{Call, TurnClientApi, TurnRecvRet};
-use turn_client_proto::runs::reply_to;
+use turn_client_calls::reply_to;
 use turn_hostile_net::draws::Draws;
 use turn_hostile_net::fault::{Fault, expect};
 use turn_hostile_net::world::{Kind, number_of};

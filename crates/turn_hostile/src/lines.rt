@@ -11,7 +11,7 @@ use crate::words::{permissions_words, recv_words};
 use std::alloc::Global;
 use std::slice;
 use turn_client_api::{Call, TurnClientApi, TurnPollRet};
-use turn_client_proto::runs::Reply;
+use turn_client_calls::Reply;
 use turn_hostile_net::draws::Draws;
 use turn_hostile_net::fault::Fault;
 use turn_hostile_net::world::Kind;

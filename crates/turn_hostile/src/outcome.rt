@@ -3,7 +3,7 @@
 use crate::acts::Act;
 use std::net::SocketAddr;
 use turn_client_api::{TurnEvent, TurnPollRet};
-use turn_client_proto::runs::Reply;
+use turn_client_calls::Reply;
 use turn_hostile_net::facts::{Fact, Facts};
 use turn_hostile_net::fault::{Fault, expect};
 use turn_hostile_net::model::Model;

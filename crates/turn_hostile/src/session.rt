@@ -1,8 +1,8 @@
 //! The lines of all calls that were made on a client, and a replay of them.
 
 ghost use Rattle.std.specs.Prelude.{◌≡◌, All, IfOk};
-ghost use Rattle.turn_client_proto.specs.Run.{IsCallable};
 ghost use Rattle.turn_stun.specs.declared.transport.TransportType.TheVariants.{Udp};
+ghost use Rattle.turn_client_calls.specs.Run.{IsCallable};
 
 use crate::numbers::number_in;
 use crate::outcome::{Outcome, outcome_of};
@@ -13,7 +13,7 @@ use turn_auth::credentials::TurnCredentials;
 use turn_auth::feature::Feature;
 use turn_auth::integrity::IntegrityAlgorithm;
 use turn_client_api::{Call, TurnClientApi};
-use turn_client_proto::runs::{Reply, reply_to};
+use turn_client_calls::{Reply, reply_to};
 use turn_hostile_net::fault::Fault;
 use turn_hostile_net::world::{Kind, local, server};
 use turn_lines::call::parse_call;

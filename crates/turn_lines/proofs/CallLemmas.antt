@@ -1,9 +1,9 @@
 -- Parsing the line of a call gives that call.
 use Rattle.std.proofs.Common.{◌≡◌, ℕ, ◌-◌, ◌^◌, ◌<◌, ◌≤◌, Bool, true, false, List, [], ◌∷◌, length, Option, Some, None, Result, Ok, Err, cond, not, refl, sym, ap, subst, ◌∙◌, arith}
-use Rattle.std.specs.Prelude.{◌==◌, nat_le, decimal, codes}
+use Rattle.std.specs.Prelude.{◌==◌, decimal, codes}
 use Rattle.std.specs.List.{list_all}
 use Rattle.std.proofs.lemmas.Bool.{le-leb, ne_eqb}
-use Rattle.std.specs.Option.{option_map, option_or}
+use Rattle.std.specs.Option.{option_map}
 use Rattle.std.specs.Result.{result_ok}
 use Rattle.std.specs.Str.{bytes_eq}
 use Rattle.hex.specs.Hex.{encode_with, encode_lower, decode_of, IsBytes}
@@ -16,14 +16,20 @@ use Rattle.turn_stun.specs.declared.transport.Transmit.{Transmit}
 use Rattle.turn_client_api.specs.declared.call.Call.{Call}
 use Rattle.turn_client_api.specs.declared.call.Call.TheVariants as Calls
 use Rattle.turn_client_api.specs.declared.poll.Socket5Tuple.{Socket5Tuple}
+use Rattle.turn_client_calls.specs.Checks.{needed, ◌>>=◌}
 use Rattle.turn_lines.specs.Address.{address_of}
+<<<<<<< ours
 use Rattle.turn_lines.specs.Arguments.{address_if_any, data_ends_of, one_address_of, packet_of, sending_of, transport_and_address_of}
 use Rattle.turn_lines.specs.Arguments.{transport_and_grantee_of, transport_and_ip_of, tuple_of, two_addresses_of, way_of, grantee_of}
 use Rattle.turn_lines.specs.Call.{call_of, call_with, if_short, is_short, instant_of, kept_call, kept_of, name_of}
 use Rattle.turn_lines.specs.Fault.{needed}
+=======
+use Rattle.turn_lines.specs.Arguments.{address_if_any, data_ends_of, one_address_of, packet_of, sending_of, transport_and_address_of, transport_and_grantee_of, transport_and_ip_of, tuple_of, two_addresses_of, way_of, grantee_of}
+use Rattle.turn_lines.specs.Call.{call_of, call_with, if_short, is_short, instant_of, kept_call, name_of}
+>>>>>>> theirs
 use Rattle.turn_lines.specs.Field.{bytes_of, is_lower_hex, transport_of}
 use Rattle.turn_lines.specs.Line.{call_line, HasLine, IsIp, IsSpelled, IsSpelledIfAny, IsTuple, keep_name, text_if_any, tuple_fields}
-use Rattle.turn_lines.specs.Parts.{parts_of, next, ◌>>=◌}
+use Rattle.turn_lines.specs.Parts.{parts_of, next}
 use Rattle.turn_lines.specs.Text.{address_text, bytes_text, fields_text, ip_text, transport_text}
 use Rattle.turn_lines.specs.declared.call.arguments.Grantee.{Grantee}
 use Rattle.turn_lines.specs.declared.call.arguments.Grantee.TheVariants as Grantees

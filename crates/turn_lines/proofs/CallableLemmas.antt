@@ -1,7 +1,6 @@
--- Each parsed call is allowed on a client whose allocation is over the transport for which it was parsed. One that is
--- parsed for UDP is allowed on any client, since its payload is short.
-use Rattle.std.proofs.Common.{◌≡◌, ℕ, ◌^◌, ◌≤◌, Bool, true, false, List, [], ◌∷◌, length, Option, Some, Ok, refl, subst}
-use Rattle.std.specs.Prelude.{◌&&◌, All, nat_le}
+-- Each parsed call is allowed on a client whose allocation is over the transport for which it was parsed.
+use Rattle.std.proofs.Common.{◌≡◌, ℕ, ◌^◌, ◌≤◌, Bool, true, false, List, [], ◌∷◌, length, Option, Some, Ok, subst}
+use Rattle.std.specs.Prelude.{◌&&◌, nat_le}
 use Rattle.std.specs.Option.{option_map, option_and_then}
 use Rattle.std.specs.Str.Parse.{digits_value}
 use Rattle.std.proofs.lemmas.Bool.{leb-true}
@@ -9,10 +8,10 @@ use Rattle.turn_stun.specs.declared.transport.TransportType.{TransportType}
 use Rattle.turn_stun.specs.declared.transport.TransportType.TheVariants.{Udp, Tcp}
 use Rattle.turn_client_api.specs.declared.call.Call.{Call}
 use Rattle.turn_client_api.specs.declared.call.Call.TheVariants as Calls
-use Rattle.turn_client_proto.specs.Run.{IsCallable}
+use Rattle.turn_client_calls.specs.Checks.{needed}
+use Rattle.turn_client_calls.specs.Run.{IsCallable}
 use Rattle.turn_lines.specs.Arguments.{data_ends_of, one_address_of, packet_of, sending_of, transport_and_address_of, transport_and_grantee_of, transport_and_ip_of, tuple_of, two_addresses_of}
 use Rattle.turn_lines.specs.Call.{call_of, call_with, has_short_payload, if_short, is_short, instant_of, kept_call, name_of}
-use Rattle.turn_lines.specs.Fault.{needed}
 use Rattle.turn_lines.specs.Number.{decimal_up_to, is_decimal}
 use Rattle.turn_lines.specs.Parts.{ends, next, parts_of}
 use Rattle.turn_lines.specs.declared.call.arguments.Grantee.{Grantee}
@@ -94,28 +93,3 @@ callable_line relays line call h =
     let kept = of_then (has_short_payload relays made.0) Bad.Payload made.0 call made.2 in
     let low : at.0.0 ≤ 2 ^ 62 = low_time (parts_of 32 line) at.0 at.1 in
     subst (IsCallable relays) kept.1 (callable_with relays at.0.0 name.0.0 name.0.1 made.0 low made.1 kept.0)
-
--- ---- any client
-
-pub callable_anywhere : (relays : TransportType) (call : Call) → IsCallable Udp call → IsCallable relays call
-callable_anywhere relays (Calls.Delete now) h = h
-callable_anywhere relays (Calls.CreatePermission transport peer now) h = h
-callable_anywhere relays (Calls.BindChannel transport peer now) h = h
-callable_anywhere relays (Calls.TcpConnect peer now) h = h
-callable_anywhere relays (Calls.AllocatedTcpSocket id tuple peer local now) h = h
-callable_anywhere relays (Calls.TcpClosed local remote now) h = h
-callable_anywhere relays (Calls.SendTo transport peer bytes now) h = (h.0, λ over. h.1 refl)
-callable_anywhere relays (Calls.Recv packet now) h = h
-callable_anywhere relays (Calls.PollRecv now) h = h
-callable_anywhere relays (Calls.Poll now) h = h
-callable_anywhere relays (Calls.PollTransmit now) h = h
-callable_anywhere relays Calls.PollEvent h = h
-callable_anywhere relays Calls.ProtocolError h = h
-callable_anywhere relays Calls.RelayedAddresses h = h
-callable_anywhere relays (Calls.Permissions transport relayed) h = h
-callable_anywhere relays (Calls.HavePermission transport to) h = h
-callable_anywhere relays (Calls.SetPermissionKept transport peer is_kept) h = h
-callable_anywhere relays (Calls.SetChannelKept transport peer is_kept) h = h
-
-pub all_callable_anywhere : (relays : TransportType) (calls : List Call) → All (IsCallable Udp) calls → All (IsCallable relays) calls
-all_callable_anywhere relays calls all = λ k d low. callable_anywhere relays _ (all k d low)

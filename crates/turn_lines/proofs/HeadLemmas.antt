@@ -4,13 +4,15 @@ use Rattle.std.specs.Option.{option_and_then}
 use Rattle.turn_stun.specs.declared.transport.TransportType.{TransportType}
 use Rattle.turn_stun.specs.declared.transport.TransportType.TheVariants.{Udp, Tcp}
 use Rattle.turn_auth.specs.Credentials.{Credentials}
+use Rattle.turn_client_calls.specs.Checks.{◌>>=◌}
+use Rattle.turn_client_calls.specs.Settings.{relayed_for}
+use Rattle.turn_client_calls.specs.declared.settings.Ends.{Ends}
+use Rattle.turn_client_calls.specs.declared.settings.Request.{Request}
+use Rattle.turn_client_calls.specs.declared.settings.Waits.{Waits}
 use Rattle.turn_lines.specs.Field.{seed_of}
-use Rattle.turn_lines.specs.Head.{credentials_of, ends_of, head_of, last_of, relayed_for, request_of}
-use Rattle.turn_lines.specs.Parts.{next, parts_of, ◌>>=◌}
-use Rattle.turn_lines.specs.declared.head.Ends.{Ends}
+use Rattle.turn_lines.specs.Head.{credentials_of, ends_of, head_of, last_of, request_of}
+use Rattle.turn_lines.specs.Parts.{next, parts_of}
 use Rattle.turn_lines.specs.declared.head.Head.{Head}
-use Rattle.turn_lines.specs.declared.head.Request.{Request}
-use Rattle.turn_lines.specs.declared.head.waits.Waits.{Waits}
 use Rattle.turn_lines.proofs.StepLemmas.{of_and_then, some_is}
 
 abbrev pub IsMade : Head → Type 0

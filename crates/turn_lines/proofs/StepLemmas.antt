@@ -1,7 +1,8 @@
 -- Steps of a parser that succeeded: each of them gave a value.
 use Rattle.std.proofs.Common.{◌≡◌, cond, Bool, true, false, Option, Some, None, Result, Ok, Err, refl}
 use Rattle.std.specs.Option.{option_map, option_and_then}
-use Rattle.turn_lines.specs.Fault.{needed, ◌>>=◌}
+use Rattle.turn_client_calls.specs.Checks.{needed}
+use Rattle.turn_lines.specs.Fault.{◌>>=◌}
 
 pub of_map : {A B : Type 0} → (f : A → B) (o : Option A) (b : B) → option_map f o ≡ Some b → (a : A) × (o ≡ Some a) × (f a ≡ b)
 of_map f None b h = cc

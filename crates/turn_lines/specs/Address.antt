@@ -10,9 +10,10 @@ use Rattle.std.specs.declared.net.ipv6_addr.Ipv6Addr.{Ipv6Addr}
 use Rattle.std.specs.declared.net.socket_addr.SocketAddr.{SocketAddr}
 use Rattle.std.specs.declared.net.socket_addr.SocketAddr.TheVariants.{V4, V6}
 use Rattle.hex.specs.Hex.{decode_sized}
+use Rattle.turn_client_calls.specs.Checks.{◌>>=◌}
 use Rattle.turn_lines.specs.Field.{is_lower_hex}
 use Rattle.turn_lines.specs.Number.{decimal_up_to}
-use Rattle.turn_lines.specs.Parts.{parts_of, next, ends, ◌>>=◌}
+use Rattle.turn_lines.specs.Parts.{parts_of, next, ends}
 
 abbrev pub octet_of : List ℕ → Option ℕ
 octet_of = decimal_up_to 255

@@ -1,8 +1,8 @@
 -- The answers of a client to calls, as text.
 use Rattle.std.specs.Prelude.{ℕ, List}
-use Rattle.turn_client_proto.specs.Run.{run}
 use Rattle.turn_client_api.specs.declared.call.Call.{Call}
-use Rattle.turn_lines.specs.Configuration.{config_with}
+use Rattle.turn_client_calls.specs.Run.{run}
+use Rattle.turn_client_calls.specs.Settings.{config_with}
 use Rattle.turn_lines.specs.Text.{answers_text}
 use Rattle.turn_lines.specs.declared.head.Head.{Head}
 

@@ -7,12 +7,13 @@ use Rattle.std.specs.declared.net.socket_addr.SocketAddr.{SocketAddr}
 use Rattle.turn_stun.specs.declared.transport.TransportType.{TransportType}
 use Rattle.turn_stun.specs.declared.transport.Transmit.{Transmit}
 use Rattle.turn_client_api.specs.declared.poll.Socket5Tuple.{Socket5Tuple}
+use Rattle.turn_client_calls.specs.Checks.{◌>>=◌}
 use Rattle.turn_lines.specs.Address.{address_of, ip_of}
 use Rattle.turn_lines.specs.declared.call.arguments.Grantee.{Grantee}
 use Rattle.turn_lines.specs.declared.call.arguments.Grantee.TheVariants.{Ip, Peer}
 use Rattle.turn_lines.specs.Field.{transport_of, bytes_of}
 use Rattle.turn_lines.specs.Number.{decimal_up_to}
-use Rattle.turn_lines.specs.Parts.{next, ends, ◌>>=◌}
+use Rattle.turn_lines.specs.Parts.{next, ends}
 
 -- T FROM TO
 unfoldable pub way_of : List (List ℕ) → Option ((TransportType × SocketAddr × SocketAddr) × List (List ℕ))

@@ -7,11 +7,11 @@ use Rattle.turn_stun.specs.declared.transport.TransportType.{TransportType}
 use Rattle.turn_stun.specs.declared.transport.TransportType.TheVariants.{Udp, Tcp}
 use Rattle.turn_client_api.specs.declared.call.Call.{Call}
 use Rattle.turn_client_api.specs.declared.call.Call.TheVariants as Calls
+use Rattle.turn_client_calls.specs.Checks.{needed, ◌>>=◌}
 use Rattle.turn_lines.specs.Arguments.{packet_of, sending_of, transport_and_ip_of, transport_and_address_of, one_address_of, two_addresses_of, tuple_of}
 use Rattle.turn_lines.specs.Arguments.{data_ends_of, transport_and_grantee_of}
-use Rattle.turn_lines.specs.Fault.{needed}
 use Rattle.turn_lines.specs.Number.{decimal_up_to}
-use Rattle.turn_lines.specs.Parts.{parts_of, next, ends, ◌>>=◌}
+use Rattle.turn_lines.specs.Parts.{parts_of, next, ends}
 use Rattle.turn_lines.specs.declared.call.arguments.Grantee.{Grantee}
 use Rattle.turn_lines.specs.declared.call.arguments.Grantee.TheVariants.{Ip, Peer}
 use Rattle.turn_lines.specs.declared.call.name.CallName.{CallName}

@@ -1,14 +1,9 @@
 -- The result of a parser, which may be an error, or that memory allocation failed.
-use Rattle.std.specs.Prelude.{◌≡◌, ℕ, Option, Some, None, Result, Ok, Err, ⊤}
+use Rattle.std.specs.Prelude.{◌≡◌, ℕ, Result, Ok, Err, ⊤}
 use Rattle.turn_lines.specs.declared.fault.BadKind.{BadKind}
 use Rattle.turn_lines.specs.declared.fault.BadLine.{BadLine}
 use Rattle.turn_lines.specs.declared.fault.ReadError.{ReadError}
 use Rattle.turn_lines.specs.declared.fault.ReadError.TheVariants.{Bad, OutOfMemory}
-
--- continue with the value, or return the error if there is none
-abbrev pub needed : {A B E : Type 0} → Option A → E → (A → Result B E) → Result B E
-needed None fault go_on = Err fault
-needed (Some value) fault go_on = go_on value
 
 -- the second step, if the first succeeded
 infixl 10 ◌>>=◌

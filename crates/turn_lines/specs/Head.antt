@@ -1,8 +1,6 @@
 -- The first line of a trace: the client and its server.
-use Rattle.std.specs.Prelude.{ℕ, ◌-◌, ◌^◌, ◌&&◌, nat_le, if◌then◌else◌, List, [], ◌∷◌, length, codes, Option, Some, None}
+use Rattle.std.specs.Prelude.{ℕ, ◌-◌, ◌^◌, if◌then◌else◌, List, [], ◌∷◌, codes, Option, Some, None}
 use Rattle.std.specs.Str.{bytes_eq}
-use Rattle.turn_stun.specs.declared.transport.TransportType.{TransportType}
-use Rattle.turn_stun.specs.declared.transport.TransportType.TheVariants.{Udp, Tcp}
 use Rattle.turn_types.specs.declared.family.AddressFamily.{AddressFamily}
 use Rattle.turn_types.specs.declared.family.AddressFamily.TheVariants.{IPV4, IPV6}
 use Rattle.turn_auth.specs.Credentials.{Credentials}
@@ -10,14 +8,16 @@ use Rattle.turn_auth.specs.declared.feature.Feature.{Feature}
 use Rattle.turn_auth.specs.declared.feature.Feature.TheVariants.{Auto, Disabled, Required}
 use Rattle.turn_auth.specs.declared.integrity.IntegrityAlgorithm.{IntegrityAlgorithm}
 use Rattle.turn_auth.specs.declared.integrity.IntegrityAlgorithm.TheVariants.{Sha1, Sha256}
+use Rattle.turn_client_calls.specs.Checks.{◌>>=◌}
+use Rattle.turn_client_calls.specs.Settings.{credentials_with, relayed_for}
+use Rattle.turn_client_calls.specs.declared.settings.Ends.{Ends}
+use Rattle.turn_client_calls.specs.declared.settings.Request.{Request}
+use Rattle.turn_client_calls.specs.declared.settings.Waits.{Waits}
 use Rattle.turn_lines.specs.Address.{address_of}
 use Rattle.turn_lines.specs.Field.{bytes_of, seed_of, transport_of}
 use Rattle.turn_lines.specs.Number.{decimal_up_to}
-use Rattle.turn_lines.specs.Parts.{parts_of, next, ends, ◌>>=◌}
-use Rattle.turn_lines.specs.declared.head.Ends.{Ends}
+use Rattle.turn_lines.specs.Parts.{parts_of, next, ends}
 use Rattle.turn_lines.specs.declared.head.Head.{Head}
-use Rattle.turn_lines.specs.declared.head.Request.{Request}
-use Rattle.turn_lines.specs.declared.head.waits.Waits.{Waits}
 
 -- one family or both, in this order
 abbrev pub families_of : List ℕ → Option (AddressFamily × Option AddressFamily)
@@ -60,17 +60,6 @@ request_of fields = do
   algorithms ← next algorithms_of families.1
   anonymous ← next feature_of algorithms.1
   Some (record { allocation = allocation.0; families = families.0; algorithms = algorithms.0; anonymous = anonymous.0 }, anonymous.1)
-
--- an allocation over TCP needs a client over TCP (RFC 6062, section 4.1)
-abbrev pub relayed_for : TransportType → TransportType → Option (Unit {0})
-relayed_for Udp Tcp = None
-relayed_for _ _ = Some tt
-
--- a user name of 1 to 508 bytes, and a password of at most 65,535
-abbrev pub credentials_with : List ℕ → List ℕ → Option Credentials
-credentials_with user password =
-    if nat_le 1 (length user) && nat_le (length user) 508 && nat_le (length password) 65535
-    then Some (record { user = user; password = password }) else None
 
 -- USER PASS
 unfoldable pub credentials_of : List (List ℕ) → Option (Credentials × List (List ℕ))

@@ -2,14 +2,13 @@ pub mod Address
 pub mod Answered
 pub mod Arguments
 pub mod Call
-pub mod Configuration
+pub mod Client
 pub mod Fault
 pub mod Field
 pub mod Head
 pub mod Line
 pub mod Number
 pub mod Parts
-pub mod Refusal
 pub mod Status
 pub mod Text
 pub mod Write

@@ -1,7 +1,7 @@
 -- A text split into parts, and how each part is parsed.
 use Rattle.std.specs.Prelude.{ℕ, ◌==◌, List, [], ◌∷◌, Option, Some, None}
 use Rattle.std.specs.List.{slice_split}
-use Rattle.std.specs.Option.{option_map, option_and_then}
+use Rattle.std.specs.Option.{option_map}
 
 -- the parts between the separators; a text without a separator is one part
 abbrev pub parts_of : ℕ → List ℕ → List (List ℕ)
@@ -11,11 +11,6 @@ parts_of separator text = slice_split (λ byte. byte == separator) text
 abbrev pub parts_left : ℕ → Option (List ℕ) → List (List ℕ)
 parts_left separator None = []
 parts_left separator (Some text) = parts_of separator text
-
--- the second step, if the first gave a value
-infixl 10 ◌>>=◌
-abbrev pub ◌>>=◌ : {A B : Type 0} → Option A → (A → Option B) → Option B
-o >>= f = option_and_then f o
 
 -- the value of the next part, and the remaining parts
 abbrev pub next : {A : Type 0} → (List ℕ → Option A) → List (List ℕ) → Option (A × List (List ℕ))

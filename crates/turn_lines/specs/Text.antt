@@ -20,16 +20,16 @@ use Rattle.turn_client_api.specs.declared.event.TurnEvent.TheVariants.{ChannelCr
 use Rattle.turn_client_api.specs.declared.poll.Socket5Tuple.{Socket5Tuple}
 use Rattle.turn_client_api.specs.declared.poll.TurnPollRet.{TurnPollRet}
 use Rattle.turn_client_api.specs.declared.poll.TurnPollRet.TheVariants.{WaitUntil, AllocateTcpSocket, TcpClose, Closed}
-use Rattle.turn_client_proto.specs.declared.runs.reply.PeerData.{PeerData}
-use Rattle.turn_client_proto.specs.declared.runs.reply.Reply.{Reply}
-use Rattle.turn_client_proto.specs.declared.runs.reply.Reply.TheVariants as Replies
-use Rattle.turn_lines.specs.Refusal.{send_refusal, create_permission_refusal, bind_channel_refusal, tcp_connect_refusal, tcp_allocate_refusal, delete_refusal}
-use Rattle.turn_lines.specs.Refusal.{keep_refusal}
+use Rattle.turn_client_calls.specs.Refusal.{send_refusal, create_permission_refusal, bind_channel_refusal, tcp_connect_refusal}
+use Rattle.turn_client_calls.specs.Refusal.{tcp_allocate_refusal, delete_refusal, keep_refusal}
+use Rattle.turn_client_calls.specs.declared.refusal.Refusal.TheVariants as Refused
+use Rattle.turn_client_calls.specs.declared.refusal.Refusal.{Refusal}
+use Rattle.turn_client_calls.specs.declared.reply.PeerData.{PeerData}
+use Rattle.turn_client_calls.specs.declared.reply.Reply.TheVariants as Replies
+use Rattle.turn_client_calls.specs.declared.reply.Reply.{Reply}
 use Rattle.turn_lines.specs.declared.fault.BadKind.{BadKind}
 use Rattle.turn_lines.specs.declared.fault.BadKind.TheVariants as Bad
 use Rattle.turn_lines.specs.declared.fault.BadLine.{BadLine}
-use Rattle.turn_lines.specs.declared.refusal.Refusal.{Refusal}
-use Rattle.turn_lines.specs.declared.refusal.Refusal.TheVariants as Refused
 
 abbrev pub transport_text : TransportType → List ℕ
 transport_text Udp = codes "udp"

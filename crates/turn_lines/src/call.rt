@@ -20,7 +20,7 @@ use crate::field::FieldError;
 use crate::number::parse_decimal;
 use crate::parts::Parts;
 use std::alloc::Global;
-use turn_client_proto::runs::Call;
+use turn_client_calls::Call;
 use turn_stun::instant::Instant;
 use turn_types::TransportType;
 

@@ -2,11 +2,11 @@
 
 ghost use Rattle.std.specs.Prelude.{◌≡◌, IfOk};
 ghost use Rattle.turn_client_proto.specs.Client.{state_of};
-ghost use Rattle.turn_lines.specs.Configuration.{client_of};
+ghost use Rattle.turn_lines.specs.Client.{client_of};
 
-use crate::configuration::configuration;
 use crate::head::Head;
 use std::alloc::{AllocError, Global};
+use turn_client_calls::settings::configuration;
 use turn_client_proto::client::TurnClient;
 use turn_types::TransportType;
 

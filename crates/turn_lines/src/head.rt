@@ -7,19 +7,16 @@ ghost use Rattle.turn_lines.specs.Head.{head_of, ends_of, request_of, credential
 use crate::address::parse_address;
 use crate::field::{FieldError, parse_bytes, parse_seed, parse_transport};
 use crate::head::waits::take_waits;
-use crate::head::words::{parse_algorithms, parse_families, parse_feature, relayed_for};
+use crate::head::words::{parse_algorithms, parse_families, parse_feature};
 use crate::parts::Parts;
 use std::alloc::Global;
-use std::net::SocketAddr;
 use turn_auth::credentials::{CredentialsError, TurnCredentials};
-use turn_auth::feature::Feature;
-use turn_auth::integrity::IntegrityAlgorithm;
-use turn_types::{AddressFamily, TransportType};
+use turn_client_calls::settings::relayed_for;
 
 mod waits;
 mod words;
 
-pub use waits::Waits;
+pub use turn_client_calls::settings::{Ends, Request, Waits};
 
 /// The client and its server, as the first line describes them.
 #[derive(Debug, Drop)]
@@ -34,30 +31,6 @@ pub struct Head {
     pub seed: [u8; 32],
     /// The retransmission times, or `None` for the default ones.
     pub waits: Option<Waits>,
-}
-
-/// The addresses of the client and its server.
-#[derive(Clone, Copy, Debug, PartialEq, Eq)]
-pub struct Ends {
-    /// The transport between them.
-    pub transport: TransportType,
-    /// The client's address.
-    pub local: SocketAddr,
-    /// The server's address.
-    pub remote: SocketAddr,
-}
-
-/// The allocation that a client requests, and how.
-#[derive(Clone, Copy, Debug, PartialEq, Eq)]
-pub struct Request {
-    /// The transport between the server and peers. It is UDP if the client reaches its server over UDP.
-    pub allocation: TransportType,
-    /// The address family that is requested first, and the second if it is requested too.
-    pub families: (AddressFamily, Option<AddressFamily>),
-    /// The algorithms that are supported, one or two: their order has no effect.
-    pub algorithms: (IntegrityAlgorithm, Option<IntegrityAlgorithm>),
-    /// Whether the user name is hidden from observers (USERHASH; RFC 8489, section 14.4).
-    pub anonymous: Feature,
 }
 
 /// The client and its server.

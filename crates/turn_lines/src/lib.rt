@@ -24,7 +24,6 @@
 pub mod address;
 pub mod call;
 pub mod client;
-pub mod configuration;
 pub mod fault;
 pub mod field;
 pub mod head;
@@ -32,6 +31,5 @@ mod laws;
 pub mod number;
 pub mod parts;
 pub mod print;
-pub mod refusal;
 pub mod status;
 pub mod write;

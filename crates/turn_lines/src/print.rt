@@ -1,7 +1,7 @@
 //! The text of a run: a line for each answer.
 
 ghost use Rattle.std.specs.Prelude.{◌≡◌, ◌++◌, All, IfOk, OnOk, string_bytes};
-ghost use Rattle.turn_client_proto.specs.Run.{IsCallable};
+ghost use Rattle.turn_client_calls.specs.Run.{IsCallable};
 ghost use Rattle.turn_lines.specs.Answered.{answered_text};
 ghost use Rattle.turn_lines.specs.Text.{answers_text, bad_text, kind_text};
 
@@ -11,12 +11,13 @@ mod list;
 mod poll;
 mod reply;
 
-use crate::configuration::configuration;
 use crate::fault::{BadKind, BadLine};
 use crate::head::Head;
 use crate::print::reply::reply_text;
 use std::alloc::{AllocError, Global};
-use turn_client_proto::runs::{Call, Reply, replay};
+use turn_client_calls::settings::configuration;
+use turn_client_calls::{Call, Reply};
+use turn_client_proto::replay;
 use turn_types::TransportType;
 
 /// The lines that answer these calls on a new client, as [`replay`] answers them.

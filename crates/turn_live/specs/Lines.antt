@@ -5,11 +5,12 @@ use Rattle.turn_stun.specs.declared.transport.TransportType.{TransportType}
 use Rattle.turn_client_api.specs.declared.call.Call.{Call}
 use Rattle.turn_client_api.specs.State.{State}
 use Rattle.turn_client_api.specs.Steps.{state_after}
-use Rattle.turn_client_proto.specs.Run.{reply_of}
-use Rattle.turn_client_proto.specs.declared.runs.reply.Reply.{Reply}
+use Rattle.turn_client_calls.specs.Checks.{needed}
+use Rattle.turn_client_calls.specs.Run.{reply_of}
+use Rattle.turn_client_calls.specs.declared.reply.Reply.{Reply}
 use Rattle.turn_lines.specs.Call.{call_of}
-use Rattle.turn_lines.specs.Configuration.{client_of}
-use Rattle.turn_lines.specs.Fault.{bad_line, needed}
+use Rattle.turn_lines.specs.Client.{client_of}
+use Rattle.turn_lines.specs.Fault.{bad_line}
 use Rattle.turn_lines.specs.Head.{head_of}
 use Rattle.turn_lines.specs.Text.{kind_text, line_text, reply_fields}
 use Rattle.turn_lines.specs.declared.fault.BadKind.{BadKind}

@@ -10,7 +10,7 @@ use crate::stop::Stop;
 use std::alloc::Global;
 use std::io::{BufRead, Write};
 use turn_client_api::TurnClientApi;
-use turn_client_proto::runs::{Call, reply_to};
+use turn_client_calls::{Call, reply_to};
 use turn_lines::call::parse_call;
 use turn_lines::client::new_client;
 use turn_lines::fault::{BadKind, BadLine, ReadError};

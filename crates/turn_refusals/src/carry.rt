@@ -6,13 +6,10 @@ ghost use Rattle.turn_stun.specs.declared.transport.TransportType.TheVariants.{U
 
 use crate::signal::signal;
 use std::alloc::{AllocError, Global};
-use std::convert::AsSlice;
 use std::io::Write;
 use std::net::SocketAddr;
-use turn_client_api::{
-    DelayedMessageOrChannelSend, SendError, TransmitBuild, TurnClientApi, TurnPeerData, TurnRecvRet,
-};
-use turn_client_proto::runs::{PeerData, Reply};
+use turn_client_api::{DelayedMessageOrChannelSend, SendError, TransmitBuild, TurnClientApi};
+use turn_client_calls::{Reply, drained, received};
 use turn_stun::data::Data;
 use turn_stun::instant::Instant;
 use turn_stun::transport::{Transmit, TransportType};
@@ -72,30 +69,8 @@ pub fn recv<C: TurnClientApi, W: Write>(
     let answer = client.recv(packet, now);
     signal(writer);
     match answer {
-        Ok(received) => Ok(Some(reply_of(alloc, received)?)),
+        Ok(returned) => Ok(Some(received(alloc, returned)?)),
         Err(_) => Ok(None),
-    }
-}
-
-/// What was received, with a copy of a peer's data.
-fn reply_of(alloc: Global, received: TurnRecvRet<&[u8]>) -> Result<Reply, AllocError> {
-    match received {
-        TurnRecvRet::Handled => Ok(Reply::Handled),
-        TurnRecvRet::Ignored(_) => Ok(Reply::Ignored),
-        TurnRecvRet::PeerData(given) => copied(alloc, &given),
-        TurnRecvRet::PeerIcmp {
-            transport,
-            peer,
-            icmp_type,
-            icmp_code,
-            icmp_data,
-        } => Ok(Reply::PeerIcmp {
-            transport,
-            peer,
-            icmp_type,
-            icmp_code,
-            icmp_data,
-        }),
     }
 }
 
@@ -116,18 +91,7 @@ pub fn poll_recv<C: TurnClientApi, W: Write>(
     let answer = client.poll_recv(now);
     signal(writer);
     match answer {
-        Ok(Some(given)) => Ok(Some(copied(alloc, &given)?)),
-        Ok(None) => Ok(Some(Reply::NoData)),
+        Ok(returned) => Ok(Some(drained(alloc, returned)?)),
         Err(_) => Ok(None),
     }
-}
-
-/// Data of a peer, with a copy of its bytes.
-fn copied<T: AsSlice<u8>>(alloc: Global, given: &TurnPeerData<T>) -> Result<Reply, AllocError> {
-    let bytes = Vec::from_slice(alloc, given.data())?;
-    Ok(Reply::PeerData(PeerData {
-        transport: given.transport,
-        peer: given.peer,
-        data: Data::from(bytes),
-    }))
 }

@@ -6,7 +6,7 @@ use crate::seen::{Seen, Stop};
 use std::alloc::{AllocError, Global};
 use std::io::Write;
 use turn_client_api::TurnClientApi;
-use turn_client_proto::runs::Reply;
+use turn_client_calls::Reply;
 use turn_lines::parts::Parts;
 use turn_lines::print::answers_text;
 

@@ -1,7 +1,7 @@
 //! One call of a row.
 
-ghost use Rattle.turn_client_proto.specs.Run.{IsCallable};
 ghost use Rattle.turn_stun.specs.declared.transport.TransportType.TheVariants.{Udp};
+ghost use Rattle.turn_client_calls.specs.Run.{IsCallable};
 
 use crate::carry::{poll_recv, recv, send_to};
 use crate::list::{permissions, relayed_addresses};
@@ -9,7 +9,7 @@ use crate::signal::signal;
 use std::alloc::{AllocError, Global};
 use std::io::Write;
 use turn_client_api::TurnClientApi;
-use turn_client_proto::runs::{Call, Reply, reply_to};
+use turn_client_calls::{Call, Reply, reply_to};
 
 /// What came of a call.
 #[derive(Drop)]

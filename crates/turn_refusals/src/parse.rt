@@ -1,12 +1,12 @@
 //! The call of a line.
 
 ghost use Rattle.std.specs.Prelude.{IfOk};
-ghost use Rattle.turn_client_proto.specs.Run.{IsCallable};
 ghost use Rattle.turn_stun.specs.declared.transport.TransportType.TheVariants.{Udp};
+ghost use Rattle.turn_client_calls.specs.Run.{IsCallable};
 
 use crate::seen::Stop;
 use std::alloc::Global;
-use turn_client_proto::runs::Call;
+use turn_client_calls::Call;
 use turn_lines::call::parse_call;
 use turn_lines::fault::ReadError;
 use turn_types::TransportType;

@@ -3,7 +3,7 @@ use Rattle.std.proofs.Common.{◌≡◌, ℕ, zero, suc, ◌+◌, List, [], ◌�
 use Rattle.std.specs.Prelude.{All, nat_lt}
 use Rattle.turn_stun.specs.declared.transport.TransportType.{TransportType}
 use Rattle.turn_client_api.specs.declared.call.Call.{Call}
-use Rattle.turn_client_proto.specs.Run.{IsCallable}
+use Rattle.turn_client_calls.specs.Run.{IsCallable}
 use Rattle.turn_lines.specs.Head.{head_of}
 use Rattle.turn_lines.specs.Call.{call_of}
 use Rattle.turn_lines.specs.Fault.{at_line, bad_line, ◌>>=◌}

@@ -2,8 +2,9 @@
 use Rattle.std.specs.Prelude.{ℕ, ◌+◌, ◌-◌, ◌==◌, ◌&&◌, nat_lt, if◌then◌else◌, List, [], ◌∷◌, length, take, slice_index, Result, Ok, Err}
 use Rattle.turn_stun.specs.declared.transport.TransportType.{TransportType}
 use Rattle.turn_client_api.specs.declared.call.Call.{Call}
+use Rattle.turn_client_calls.specs.Checks.{needed}
 use Rattle.turn_lines.specs.Call.{call_of}
-use Rattle.turn_lines.specs.Fault.{at_line, bad_line, needed, ◌>>=◌}
+use Rattle.turn_lines.specs.Fault.{at_line, bad_line, ◌>>=◌}
 use Rattle.turn_lines.specs.Head.{head_of}
 use Rattle.turn_lines.specs.Parts.{parts_of}
 use Rattle.turn_lines.specs.declared.fault.BadKind.TheVariants as Bad

@@ -1,7 +1,7 @@
 //! The answer to a trace.
 
 ghost use Rattle.std.specs.Prelude.{◌≡◌, All, IfOk, string_bytes};
-ghost use Rattle.turn_client_proto.specs.Run.{IsCallable};
+ghost use Rattle.turn_client_calls.specs.Run.{IsCallable};
 ghost use Rattle.turn_lines.specs.Answered.{answered_text};
 ghost use Rattle.turn_replay.specs.Answer.{answer_to};
 

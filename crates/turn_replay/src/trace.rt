@@ -6,7 +6,7 @@ ghost use Rattle.turn_lines.specs.Fault.{Reads};
 ghost use Rattle.turn_replay.specs.Trace.{trace_of, calls_of, head_line_of, numbered_call_of, without_last_feed};
 
 use std::alloc::Global;
-use turn_client_proto::runs::Call;
+use turn_client_calls::Call;
 use turn_lines::call::parse_call;
 use turn_lines::fault::{BadKind, BadLine, ReadError};
 use turn_lines::field::FieldError;

@@ -3,7 +3,7 @@
 use crate::fixture::same_bytes;
 use std::net::{Ipv6Addr, SocketAddr, SocketAddrV6};
 use std::test::Fail;
-use turn_client_proto::runs::{PeerData, RelayedAddresses, Reply};
+use turn_client_calls::{PeerData, RelayedAddresses, Reply};
 use turn_lines::print::answers_text;
 use turn_stun::data::Data;
 use turn_types::TransportType;

@@ -1,7 +1,7 @@
 //! A client, its server and their packets.
 
 ghost use Rattle.std.specs.Prelude.{◌≡◌, ◌≤◌, ◌^◌, All, IfOk};
-ghost use Rattle.turn_client_proto.specs.Run.{IsCallable};
+ghost use Rattle.turn_client_calls.specs.Run.{IsCallable};
 
 use crate::fixture::{check, config};
 use std::alloc::{AllocError, Global};

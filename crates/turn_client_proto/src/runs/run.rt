@@ -2,6 +2,7 @@
 
 ghost use Rattle.std.specs.Prelude.{◌≡◌, All, IfOk, OnOk};
 ghost use Rattle.turn_client_api.specs.State.{initial};
+ghost use Rattle.turn_client_calls.specs.Run.{IsCallable, replies_of, run};
 ghost use Rattle.turn_client_proto.specs.Client.{state_of};
 ghost use Rattle.turn_client_runs.specs.InOrder.{InputsFollow};
 ghost use Rattle.turn_client_runs.specs.Processed.{CallsProcessInputs};
@@ -15,7 +16,6 @@ ghost use Rattle.turn_client_runs.specs.Short.{StreamsAreShort};
 ghost use Rattle.turn_client_runs.specs.Sleeps.{SleepsThroughNothing};
 ghost use Rattle.turn_client_runs.specs.Reported.{CausesAreReportedOnce};
 ghost use Rattle.turn_client_proto.specs.Delivered.{AnswersOnlyPermitted};
-ghost use Rattle.turn_client_proto.specs.Run.{IsCallable, replies_of, run};
 ghost use Rattle.turn_client_api.specs.Steps.{state_after_all};
 
 use crate::client::TurnClient;

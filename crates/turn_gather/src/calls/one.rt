@@ -1,12 +1,17 @@
 //! One call of a gatherer, of any kind.
 
+<<<<<<< ours
 ghost use Rattle.std.specs.Prelude.{◌≡◌, ◌≤◌, ◌^◌, true, is_ok, IfOk, OnErr};
 ghost use Rattle.turn_client_api.specs.Answers.{given_payload};
 ghost use Rattle.turn_gather.specs.Drive.{IsCallable, gathered_reply, peer_payload, step};
+=======
+ghost use Rattle.std.specs.Prelude.{◌≡◌, ◌≤◌, ◌^◌, IfOk};
+ghost use Rattle.turn_gather.specs.Drive.{IsCallable, gathered_reply, step};
+>>>>>>> theirs
 ghost use Rattle.turn_gather.specs.Received.{gathered_of};
 ghost use Rattle.turn_client_api.specs.Calls.{FitsDatagram, send_to_step};
 
-use crate::calls::{Candidates, GatherCall, GatherReply, PeerPayload};
+use crate::calls::{GatherCall, GatherReply};
 use crate::error::GatherError;
 use crate::gatherer::Gatherer;
 use crate::receive::GatherRecv;
@@ -14,7 +19,8 @@ use std::alloc::{AllocError, Global};
 use std::convert::AsSlice;
 use std::fmt::Debug;
 use std::net::{IpAddr, SocketAddr};
-use turn_client_api::{CreatePermissionError, TurnClientApi, TurnPeerData};
+use turn_client_api::{CreatePermissionError, TurnClientApi};
+use turn_client_calls::{PeerData, RelayedAddresses};
 use turn_stun::data::Data;
 use turn_stun::instant::Instant;
 use turn_stun::transport::{Transmit, TransportType};
@@ -63,7 +69,7 @@ fn candidates<C: TurnClientApi>(
 ) -> Result<GatherReply, AllocError>
     ensures { IfOk result (λ reply. (reply, gatherer.now) ≡ step gatherer.now GatherCall.Candidates) }
 {
-    Ok(GatherReply::Candidates(Candidates::from(gatherer.candidates(alloc)?)))
+    Ok(GatherReply::Candidates(RelayedAddresses::from(gatherer.candidates(alloc)?)))
 }
 
 /// Marks the pair as checked.
@@ -121,21 +127,9 @@ fn as_reply<T: AsSlice<u8> + Debug + Drop>(
     match given {
         GatherRecv::Handled => Ok(GatherReply::Handled),
         GatherRecv::Ignored(_) => Ok(GatherReply::Ignored),
-        GatherRecv::Payload(given) => Ok(GatherReply::Payload(owned(alloc, given)?)),
+        GatherRecv::Payload(given) => Ok(GatherReply::Payload(PeerData::copy_of(alloc, given)?)),
         GatherRecv::Dropped => Ok(GatherReply::Dropped),
     }
-}
-
-/// The data of a peer, with its own copy of the bytes.
-fn owned<T: AsSlice<u8>>(alloc: Global, given: &TurnPeerData<T>) -> Result<PeerPayload, AllocError>
-    ensures { IfOk result (λ owned. owned ≡ peer_payload (given_payload given.now)) }
-{
-    let bytes = Vec::from_slice(alloc, given.data())?;
-    Ok(PeerPayload {
-        transport: given.transport,
-        peer: given.peer,
-        data: Data::from(bytes),
-    })
 }
 
 /// Requests a permission.

@@ -1,64 +1,16 @@
 //! The answer of a call of a gatherer, as a value.
 
-ghost use Rattle.std.specs.Prelude.{◌≡◌};
-
 use crate::error::GatherError;
-use std::marker::Model;
-use std::net::SocketAddr;
 use turn_client_api::{CreatePermissionError, SendError, TurnEvent, TurnPollRet};
+use turn_client_calls::{PeerData, RelayedAddresses};
 use turn_stun::data::Data;
-use turn_stun::transport::{Transmit, TransportType};
-
-/// The relayed addresses of a client with their transports, in the order in which the server granted
-/// them. Contracts see the list of them.
-#[derive(Debug, Drop)]
-pub struct Candidates {
-    addresses: Vec<(TransportType, SocketAddr)>,
-}
-
-impl Model for Candidates {
-    ghost use Rattle.std.specs.Prelude.{List};
-    ghost use Rattle.std.specs.declared.net.socket_addr.SocketAddr.{SocketAddr};
-    ghost use Rattle.turn_stun.specs.declared.transport.TransportType.{TransportType};
-
-    ghost Value = { List (TransportType × SocketAddr) };
-
-    ghost view = { λ candidates. candidates.addresses.items };
-}
-
-impl Candidates {
-    /// The addresses.
-    pub fn as_slice(&self) -> &[(TransportType, SocketAddr)]
-        ensures { result.now ≡ self.now }
-    {
-        self.addresses.as_slice()
-    }
-}
-
-impl From<Vec<(TransportType, SocketAddr)>> for Candidates {
-    ghost from_gives = { λ addresses candidates. candidates ≡ addresses.items };
-
-    fn from(addresses: Vec<(TransportType, SocketAddr)>) -> Candidates {
-        Candidates { addresses }
-    }
-}
-
-/// Data from the peer of a checked pair.
-#[derive(Debug, Drop)]
-pub struct PeerPayload {
-    /// The transport between the peer and the server.
-    pub transport: TransportType,
-    /// The peer that sent it.
-    pub peer: SocketAddr,
-    /// The bytes that the peer sent.
-    pub data: Data,
-}
+use turn_stun::transport::Transmit;
 
 /// The answer of a [`GatherCall`](crate::GatherCall).
 #[derive(Debug, Drop)]
 pub enum GatherReply {
     /// `candidates` returned these addresses.
-    Candidates(Candidates),
+    Candidates(RelayedAddresses),
     /// `is_checked` returned whether the pair is checked.
     IsChecked(bool),
     /// `check` accepted the pair, or returned an error.
@@ -68,7 +20,7 @@ pub enum GatherReply {
     /// `recv`: the packet, over TCP its first frame, was not for the client.
     Ignored,
     /// `recv` or `poll_recv` passed up data from the peer of a checked pair.
-    Payload(PeerPayload),
+    Payload(PeerData),
     /// `recv` or `poll_recv` dropped data from a peer whose pair is not checked, or `recv` dropped an
     /// ICMP report.
     Dropped,

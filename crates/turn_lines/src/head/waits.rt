@@ -5,19 +5,7 @@ ghost use Rattle.turn_lines.specs.Head.{waits_of, last_of};
 
 use crate::number::parse_decimal;
 use crate::parts::Parts;
-
-/// When requests are retransmitted and time out (RFC 8489, section 6.2.1). All times are in nanoseconds.
-#[derive(Clone, Copy, Debug, PartialEq, Eq)]
-pub struct Waits {
-    /// The time after the first transmission.
-    pub initial: u64,
-    /// The longest time between two transmissions.
-    pub max: u64,
-    /// The number of transmissions, with the first.
-    pub count: u32,
-    /// The time after the last transmission.
-    pub last: u64,
-}
+use turn_client_calls::settings::Waits;
 
 /// The retransmission times from the last field, `Some(None)` if no field is left, or `None` if the field
 /// is malformed or not the last.

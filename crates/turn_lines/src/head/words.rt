@@ -1,11 +1,11 @@
 //! Fields of the head with a few possible values.
 
 ghost use Rattle.std.specs.Prelude.{◌≡◌};
-ghost use Rattle.turn_lines.specs.Head.{families_of, algorithms_of, feature_of, relayed_for};
+ghost use Rattle.turn_lines.specs.Head.{families_of, algorithms_of, feature_of};
 
 use turn_auth::feature::Feature;
 use turn_auth::integrity::IntegrityAlgorithm;
-use turn_types::{AddressFamily, TransportType};
+use turn_types::AddressFamily;
 
 /// `4`, `6`, or both in either order.
 pub fn parse_families(text: &[u8]) -> Option<(AddressFamily, Option<AddressFamily>)>
@@ -53,15 +53,4 @@ pub fn parse_feature(text: &[u8]) -> Option<Feature>
         return Some(Feature::Disabled);
     }
     None
-}
-
-/// Whether a client over this transport may request this allocation: an allocation over TCP needs a client
-/// over TCP (RFC 6062, section 4.1).
-pub fn relayed_for(transport: TransportType, allocation: TransportType) -> Option<()>
-    ensures { result ≡ relayed_for transport allocation }
-{
-    match (transport, allocation) {
-        (TransportType::Udp, TransportType::Tcp) => None,
-        _ => Some(()),
-    }
 }

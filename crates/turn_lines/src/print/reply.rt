@@ -1,7 +1,7 @@
 //! The answer of a call as text.
 
 ghost use Rattle.std.specs.Prelude.{◌≡◌, IfOk, string_bytes};
-ghost use Rattle.turn_client_proto.specs.declared.runs.reply.PeerData.{PeerData};
+ghost use Rattle.turn_client_calls.specs.declared.reply.PeerData.{PeerData};
 ghost use Rattle.turn_lines.specs.Text.{data_fields, fields_text, icmp_fields, packet_fields, refusal_fields};
 ghost use Rattle.turn_lines.specs.Text.{reply_fields, yes_or_no};
 
@@ -9,10 +9,9 @@ use crate::print::event::event_text;
 use crate::print::field::{address_text, bytes_text, transport_text};
 use crate::print::list::{ips_text, relayed_text};
 use crate::print::poll::poll_text;
-use crate::refusal::Refusal;
 use std::alloc::{AllocError, Global};
 use std::net::SocketAddr;
-use turn_client_proto::runs::{PeerData, Reply};
+use turn_client_calls::{PeerData, Refusal, Reply};
 use turn_stun::data::Data;
 use turn_stun::transport::{Transmit, TransportType};
 

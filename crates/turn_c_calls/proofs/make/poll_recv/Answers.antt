@@ -3,8 +3,8 @@ use Rattle.std.specs.Option.{option_map}
 use Rattle.std.specs.Prelude.{Some, None}
 use Rattle.turn_client_api.specs.Answers.{given_payload}
 use Rattle.turn_client_api.specs.declared.call.Call.TheVariants as Calls
-use Rattle.turn_client_proto.specs.Run.{peer_data}
-use Rattle.turn_client_proto.specs.declared.runs.reply.Reply.TheVariants as Replies
+use Rattle.turn_client_calls.specs.Run.{peer_data}
+use Rattle.turn_client_calls.specs.declared.reply.Reply.TheVariants as Replies
 use Rattle.turn_c_calls.proofs.MadeLemmas.{made, drained}
 use Rattle.turn_c_calls.proofs.make.poll_recv.Goals as goal
 

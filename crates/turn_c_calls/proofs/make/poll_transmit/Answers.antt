@@ -1,7 +1,7 @@
 use Rattle.std.proofs.Common.{refl, sym, ◌∙◌}
 use Rattle.std.specs.Prelude.{Some, None}
 use Rattle.turn_client_api.specs.declared.call.Call.TheVariants as Calls
-use Rattle.turn_client_proto.specs.declared.runs.reply.Reply.TheVariants as Replies
+use Rattle.turn_client_calls.specs.declared.reply.Reply.TheVariants as Replies
 use Rattle.turn_c_calls.proofs.MadeLemmas.{made, transmitted}
 use Rattle.turn_c_calls.proofs.make.poll_transmit.Goals as goal
 

@@ -1,8 +1,8 @@
 use Rattle.std.proofs.Common.{arith, refl, sym, ap, ◌∙◌}
 use Rattle.std.specs.Prelude.{Err}
 use Rattle.turn_client_api.specs.declared.call.Call.TheVariants as Calls
-use Rattle.turn_client_proto.specs.declared.runs.reply.Reply.TheVariants as Replies
-use Rattle.turn_lines.specs.declared.refusal.Refusal.{Refusal}
+use Rattle.turn_client_calls.specs.declared.refusal.Refusal.{Refusal}
+use Rattle.turn_client_calls.specs.declared.reply.Reply.TheVariants as Replies
 use Rattle.turn_c_calls.specs.Answer.{refusal_answer}
 use Rattle.turn_c_calls.proofs.MadeLemmas.{made, sent}
 use Rattle.turn_c_calls.proofs.SendLemmas.{send_short, sent_short}

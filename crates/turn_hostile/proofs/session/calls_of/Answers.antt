@@ -1,6 +1,6 @@
 use Rattle.std.proofs.lemmas.List.Elements.{All-push}
 use Rattle.turn_stun.specs.declared.transport.TransportType.TheVariants.{Udp}
-use Rattle.turn_client_proto.specs.Run.{IsCallable}
+use Rattle.turn_client_calls.specs.Run.{IsCallable}
 use Rattle.turn_hostile.proofs.session.calls_of.Goals as goal
 
 pub loop-line-preserved : goal.loop-line-preserved

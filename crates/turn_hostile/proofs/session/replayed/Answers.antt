@@ -1,4 +1,4 @@
-use Rattle.turn_lines.proofs.CallableLemmas.{all_callable_anywhere}
+use Rattle.turn_client_calls.proofs.CallableLemmas.{all_callable_anywhere}
 use Rattle.turn_hostile.proofs.session.replayed.Goals as goal
 
 pub replayed_text-requires-clause-callable : goal.replayed_text-requires-clause-callable

@@ -1,7 +1,7 @@
 use Rattle.std.proofs.Common.{◌≡◌, IfOk, List, ap, subst, ◌∙◌, string_bytes}
-use Rattle.turn_client_proto.specs.Run.{run}
-use Rattle.turn_client_proto.specs.declared.runs.reply.Reply.{Reply}
-use Rattle.turn_lines.specs.Configuration.{config_with}
+use Rattle.turn_client_calls.specs.Run.{run}
+use Rattle.turn_client_calls.specs.Settings.{config_with}
+use Rattle.turn_client_calls.specs.declared.reply.Reply.{Reply}
 use Rattle.turn_lines.specs.Text.{answers_text}
 use Rattle.turn_lines.proofs.print.replayed_text.Goals as goal
 

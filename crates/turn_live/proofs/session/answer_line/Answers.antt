@@ -1,6 +1,6 @@
 use Rattle.std.proofs.Common.{sym, subst}
 use Rattle.turn_stun.specs.declared.transport.TransportType.{TransportType}
-use Rattle.turn_client_proto.specs.Run.{IsCallable}
+use Rattle.turn_client_calls.specs.Run.{IsCallable}
 use Rattle.turn_live.proofs.CallsLemmas.{line_is_callable}
 use Rattle.turn_live.proofs.session.answer_line.Goals as goal
 

@@ -1,4 +1,4 @@
-use Rattle.turn_lines.proofs.CallableLemmas.{callable_anywhere}
+use Rattle.turn_client_calls.proofs.CallableLemmas.{callable_anywhere}
 use Rattle.turn_refusals.proofs.make.ask.Goals as goal
 
 pub reply_to-requires : goal.reply_to-requires

@@ -1,7 +1,7 @@
 use Rattle.std.proofs.Common.{ap, arith, ◌∙◌}
 use Rattle.std.proofs.lemmas.Grind.{common_steps}
 use Rattle.turn_client_api.specs.State.{State}
-use Rattle.turn_client_proto.specs.declared.runs.reply.Reply.{Reply}
+use Rattle.turn_client_calls.specs.declared.reply.Reply.{Reply}
 use Rattle.turn_client_proto.proofs.RunLemmas.{relays_stay}
 use Rattle.turn_client_proto.proofs.runs.run.replies_to.Goals as goal
 

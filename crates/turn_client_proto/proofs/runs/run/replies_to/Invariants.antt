@@ -1,5 +1,5 @@
 use Rattle.std.proofs.Common.{◌≡◌, ◌++◌, drop}
-use Rattle.turn_client_proto.specs.Run.{replies_of}
+use Rattle.turn_client_calls.specs.Run.{replies_of}
 use Rattle.turn_client_proto.proofs.runs.run.replies_to.Given as goal
 use Rattle.turn_client_api.specs.Steps.{state_after_all}
 
