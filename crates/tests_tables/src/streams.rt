@@ -65,7 +65,8 @@ fn passes(
 }
 
 fn gives_frames(rt: &impl Abort, streams: &mut Streams) -> Result<(), Fail> {
-    streams.open(end(1001))?;
+    streams.reserve()?;
+    streams.open(end(1001));
     feed(streams, end(1001), &MESSAGE)?;
     feed(streams, end(1000), &CHANNEL_FRAME[..3])?;
     passes(rt, streams, end(1001), &MESSAGE)?;
@@ -85,7 +86,8 @@ fn streams_have_their_turns_in_the_order_of_their_opening(rt: HostRuntime) -> Re
 }
 
 fn gives_data(rt: &impl Abort, streams: &mut Streams) -> Result<(), Fail> {
-    streams.open(end(1001))?;
+    streams.reserve()?;
+    streams.open(end(1001));
     feed(streams, end(1001), &MESSAGE)?;
     feed(streams, end(1001), &[0xff, 0x00])?;
     let mut stream = ready(streams)?;

@@ -1,5 +1,5 @@
 -- Data connections that are bound, or whose binding fails (RFC 6062, section 4.3).
-use Rattle.std.proofs.Common.{◌≡◌, ℕ, Bool, true, false, List, [], ◌∷◌, Some, refl}
+use Rattle.std.proofs.Common.{◌≡◌, ℕ, Bool, true, false, List, [], ◌∷◌, Some, None, refl, inl, inr}
 use Rattle.std.specs.List.{list_any}
 use Rattle.std.specs.Prelude.{find, is_some}
 use Rattle.std.specs.declared.net.socket_addr.SocketAddr.{SocketAddr}
@@ -14,6 +14,9 @@ use Rattle.turn_client_api.specs.State.{State}
 use Rattle.turn_client_api.specs.declared.grant.DataConnection.{DataConnection}
 use Rattle.turn_client_api.specs.declared.grant.Purpose.{Purpose}
 use Rattle.turn_client_grants.specs.Asked.{bind_retried}
+use Rattle.turn_client_laws.specs.StreamEffects.{binds_if}
+use Rattle.turn_client_api.proofs.HasLemmas.{cases_Option}
+use Rattle.turn_client_core.specs.Apart.{with_streams_of}
 use Rattle.turn_client_core.specs.Judged.{kind_of}
 use Rattle.turn_client_core.specs.declared.protocol.incoming.judge.Judged.TheVariants.{Challenged, SignedSuccess, SignedError}
 
@@ -33,6 +36,11 @@ pub bind-asked : (s : State) (d : DataConnection) (id fresh : ℕ) (from : Socke
     → queued true from text (request_started fresh text (purpose ∷ []) now (bind_retried d.local now (with_held challenge s))) ≡ bind_again d id challenge now s
 bind-asked s d id fresh from text purpose challenge now found is sent next = rw (found, is, sent, next) refl
 
+-- the stream stays as it was
+pub again-streams : (d : DataConnection) (id : ℕ) (challenge : Challenge) (now : ℕ) (s : State)
+    → bind_again d id challenge now s ≡ with_streams_of s (bind_again d id challenge now s)
+again-streams d id challenge now s = elim (cases_Option (find (is_bind_of d.local) (purposes_of id s))) [ inl f ↦ rw f refl | inr (purpose, f) ↦ rw f refl ]
+
 -- ---- a message that does not bind the connection ends it
 
 pub not_bound-otherwise : (d : DataConnection) (message : List ℕ) (now : ℕ) (s : State) → (kind_of (bind_judgement s d.local message) ≡ Challenged → ⊥)
@@ -46,3 +54,8 @@ not_bound-otherwise d message now s = by (bind_judgement s d.local message) refl
     by J.SignedSuccess e = rw e (λ a b c. absurd (b refl))
     by J.SignedError e = rw e (λ a b c. absurd (c refl))
     by j e = rw e (λ a b c. refl)
+
+-- and binds nothing
+pub binds-otherwise : (d : DataConnection) (j : Judgement) → (kind_of j ≡ SignedSuccess → ⊥) → binds_if d j ≡ None
+binds-otherwise d J.SignedSuccess other = absurd (other refl)
+binds-otherwise d j other = refl

@@ -1,13 +1,12 @@
 //! A TURN client, independent of its transport (RFC 8656, 6062 and 6156). No IO.
 //!
 //! ```text
-//!  a client over UDP or TCP
-//!    | datagram, piece      ^ packets, events, wake-up times
+//!  a client over UDP, or turn_client_tcp
+//!    | datagram, message    ^ packets, events, wake-up times
 //!    v                      |
 //!  TurnClientProtocol ------+
 //!    | its signature, the request it answers:  turn_auth, turn_agent
 //!    | what is active and what is pending:     turn_client_grants
-//!    | the buffered bytes of streams:          turn_client_streams
 //!    | the bytes of requests:                  turn_client_requests
 //! ```
 //!
@@ -32,7 +31,6 @@ mod indication;
 mod outbox;
 mod protocol;
 mod protocol_recv;
-mod received;
 mod reply;
 
 pub use protocol::TurnClientProtocol;

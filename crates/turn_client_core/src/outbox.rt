@@ -4,9 +4,6 @@ ghost use Rattle.std.specs.Prelude.{◌≡◌, ◌≤◌, ◌<◌, [], None, fal
 ghost use Rattle.turn_agent.specs.Agent.{is_outstanding, without_transaction};
 ghost use Rattle.turn_agent.specs.TransactionIds.{next_id};
 ghost use Rattle.turn_client_core.specs.Outgoing.{answering, request_queued, asked_over, begun, outbox_id_used, packet_of, waiting, with_room};
-ghost use Rattle.turn_client_api.specs.Calls.{with_stream};
-ghost use Rattle.turn_client_api.specs.State.{State};
-ghost use Rattle.turn_client_streams.specs.Held.{with_streams};
 
 mod due;
 mod queue;
@@ -19,7 +16,6 @@ use std::net::SocketAddr;
 use turn_agent::agent::StunAgent;
 use turn_agent::number_source::NumberSource;
 use turn_client_api::RequestTimers;
-use turn_client_streams::Streams;
 use turn_stun::data::Data;
 use turn_stun::instant::Instant;
 use turn_stun::transaction::TransactionId;
@@ -247,7 +243,6 @@ impl Outbox {
     /// `AllocError` if memory allocation fails. Only the room may change then.
     pub(crate) fn ask_over(
         &mut self,
-        streams: &mut Streams,
         reply: Option<Data>,
         id: TransactionId,
         text: Data,
@@ -256,23 +251,13 @@ impl Outbox {
     ) -> Result<(), AllocError>
         requires { is_outstanding id self.old.transactions ≡ false }
         ensures sent { OnOk result (self.new ≡ with_room self.new.room (asked_over reply id local text now self.old)) }
-        ensures opened { OnOk result ((s : State) → with_streams streams.new s ≡ with_stream local (with_streams streams.old s)) }
         ensures err { OnErr result (self.new ≡ with_room self.new.room self.old) }
-        ensures kept { OnErr result (streams.new ≡ streams.old) }
     {
         self.reserve(2)?;
         let packet = self.begin(id, text, local, now)?;
-        match streams.open(local) {
-            Ok(()) => {
-                self.draw();
-                self.wait_both(reply, packet);
-                Ok(())
-            }
-            Err(error) => {
-                self.end(id);
-                Err(error)
-            }
-        }
+        self.draw();
+        self.wait_both(reply, packet);
+        Ok(())
     }
 
     /// Queues the reply over the control connection, if there is one, and then the request. `reserve`

@@ -1,14 +1,13 @@
 //! A client, independent of its transport.
 //!
-//! Its methods stand in four rooms. A datagram, or a frame that `streams` takes out of a stream, goes to
-//! `incoming`: `message` parses it, `judge` decides what it is and whether its signature counts, and then
-//! `response`, `challenge`, `peer_data` or `connection_attempt` changes the client. `calls` has what the
-//! caller requests, and `time` what is due: `poll`, the next wake-up time and the next packet.
+//! Its methods stand in three rooms. A datagram, or a message that was cut out of a stream, goes to
+//! `incoming`: `judge` decides what it is and whether its signature counts, and then `response`,
+//! `challenge`, `peer_data`, `connection_attempt` or `connection_bind` changes the client. `calls` has what
+//! the caller requests, and `time` what is due: `poll`, the next wake-up time and the next packet.
 
 mod calls;
 mod incoming;
 mod new;
-mod streams;
 mod time;
 
 use crate::outbox::Outbox;
@@ -18,11 +17,11 @@ use std::marker::Model;
 use turn_auth::long_term::LongTermClientAuth;
 use turn_client_api::{Phase, TurnConfig};
 use turn_client_grants::GrantLedger;
-use turn_client_streams::Streams;
 use turn_types::AddressFamily;
 
-/// A client, independent of its transport: it processes whole messages and the bytes of streams, and
-/// returns packets, events and the next wake-up time. Contracts describe it by its `State`.
+/// A client, independent of its transport: it processes whole messages, and returns packets, events and the
+/// next wake-up time. Contracts describe it by its `State`, which has no streams: who reads a client's
+/// streams holds them beside it.
 #[derive(Debug, Drop)]
 pub struct TurnClientProtocol {
     alloc: Global,
@@ -36,10 +35,10 @@ pub struct TurnClientProtocol {
     /// Challenges answered since a signed reply last reset the count. It stops a server that always
     /// challenges.
     challenges: u32,
-    streams: Streams,
 }
 
 impl Model for TurnClientProtocol {
+    ghost use Rattle.std.specs.Prelude.{[]};
     ghost use Rattle.turn_client_api.specs.State.{State};
     ghost use Rattle.turn_client_core.specs.Kept.{IsWhole};
 
@@ -62,7 +61,7 @@ impl Model for TurnClientProtocol {
       challenges = c.challenges;
       events = c.ledger.events;
       closes = c.ledger.closes;
-      streams = c.streams;
+      streams = [];
     } };
 
     ghost invariant = { λ c. IsWhole c.config c.auth c.outbox.timers c.phase c.families.items c.ledger.event_room };

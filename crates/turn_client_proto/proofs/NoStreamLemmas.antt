@@ -16,7 +16,7 @@ use Rattle.turn_client_api.specs.declared.call.Call.{Call}
 use Rattle.turn_client_api.specs.declared.call.Call.TheVariants.{AllocatedTcpSocket, Delete, HavePermission, Permissions, Poll, PollEvent, PollRecv, PollTransmit, ProtocolError, Recv}
 use Rattle.turn_client_api.specs.declared.call.Call.TheVariants.{RelayedAddresses, SendTo, TcpClosed}
 use Rattle.turn_client_api.specs.declared.state.Stream.{Stream}
-use Rattle.turn_client_core.specs.Lent.{IsReadIfAny, Returns}
+use Rattle.turn_client_tcp.specs.Lent.{IsReadIfAny, Returns}
 use Rattle.turn_client_laws.proofs.EditsOfCalls.{delete-walk, quiet-walk}
 use Rattle.turn_client_laws.proofs.StreamMessageLemmas.{Same, Same-KeepsEdits, message-same}
 use Rattle.turn_client_api.specs.declared.call.Call.TheVariants.{SetPermissionKept, SetChannelKept}

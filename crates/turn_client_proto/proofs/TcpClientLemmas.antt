@@ -15,7 +15,7 @@ use Rattle.turn_client_api.specs.declared.state.Stream.{Stream}
 use Rattle.turn_client_api.proofs.AddressLemmas.{same_address-self}
 use Rattle.turn_client_laws.proofs.InAllocation.{leaves-GrantsHaveAllocations}
 use Rattle.turn_client_laws.proofs.SendOrderLemmas.{leaves-steadies}
-use Rattle.turn_client_core.specs.StreamSteps.{piece_at, piece_takes_none}
+use Rattle.turn_client_tcp.specs.StreamSteps.{piece_at, piece_takes_none}
 use Rattle.turn_client_proto.specs.OverTcp.{IsTcpClient}
 use Rattle.turn_client_proto.proofs.CarrierLemmas.{leaves-SameCarriers}
 

@@ -1,15 +1,19 @@
 -- What holds for a client over UDP holds after each call.
-use Rattle.std.proofs.Common.{◌≡◌, ◌∙◌, ℕ, List, Result, Ok, Err, OnErr, OnOk, ap, inl, inr, refl}
+use Rattle.std.proofs.Common.{◌≡◌, ◌∙◌, ℕ, List, Option, Result, Ok, Err, OnErr, OnOk, ap, inl, inr, refl}
+use Rattle.std.specs.declared.net.socket_addr.SocketAddr.{SocketAddr}
 use Rattle.turn_stun.specs.declared.transport.TransportType.TheVariants.{Udp}
+use Rattle.turn_client_api.specs.Calls.{allocated_tcp_socket_step}
 use Rattle.turn_client_api.specs.Effect.{closed}
 use Rattle.turn_client_api.specs.Payloads.{Outcome, datagram_step}
 use Rattle.turn_client_api.specs.Receive.{recv_step}
 use Rattle.turn_client_api.specs.State.{State}
 use Rattle.turn_client_api.specs.Steps.{Leaves}
 use Rattle.turn_client_api.specs.declared.call.Call.{Call}
+use Rattle.turn_client_api.specs.declared.poll.Socket5Tuple.{Socket5Tuple}
 use Rattle.turn_client_api.proofs.AddressLemmas.{same_address-self}
 use Rattle.turn_client_laws.proofs.InAllocation.{leaves-GrantsHaveAllocations}
 use Rattle.turn_client_laws.proofs.SendOrderLemmas.{leaves-steadies}
+use Rattle.turn_client_core.specs.Apart.{apart_from_streams}
 use Rattle.turn_client_proto.specs.OverUdp.{IsUdpClient}
 use Rattle.turn_client_proto.proofs.CarrierLemmas.{leaves-SameCarriers}
 use Rattle.turn_client_proto.proofs.NoStreamLemmas.{leaves-no_streams}
@@ -24,6 +28,13 @@ leaves-IsUdpClient call s t leaves h =
       fits_phase = leaves-steadies call s t leaves h.fits_phase;
       have_allocations = leaves-GrantsHaveAllocations call s t leaves h.have_allocations;
     }
+
+-- ---- a data connection
+
+-- it has none: the call is refused, whatever is said of streams
+pub refused-socket : (id : ℕ) (tuple : Socket5Tuple) (peer : SocketAddr) (local : Option SocketAddr) (now : ℕ) (s : State) → s.config.allocation_transport ≡ Udp
+    → apart_from_streams s (allocated_tcp_socket_step id tuple peer local now s) ≡ allocated_tcp_socket_step id tuple peer local now s
+refused-socket id tuple peer local now s relays = rw relays refl
 
 -- ---- a datagram
 

@@ -4,7 +4,7 @@ ghost use Rattle.std.specs.Prelude.{◌≡◌, All, IfOk, IsNone, IsOk, OnErr, O
 ghost use Rattle.turn_client_api.specs.Answers.{EndsAfterSteps};
 ghost use Rattle.turn_client_api.specs.State.{initial};
 ghost use Rattle.turn_client_api.specs.Streams.{HoldsLittle, poll_recv_step};
-ghost use Rattle.turn_client_core.specs.Lent.{IsLentInPlace, IsReadIfAny};
+ghost use Rattle.turn_client_tcp.specs.Lent.{IsLentInPlace, IsReadIfAny};
 ghost use Rattle.turn_client_proto.specs.Client.{state_of};
 
 use crate::tcp::TurnClientTcp;

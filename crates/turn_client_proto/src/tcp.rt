@@ -7,7 +7,7 @@ ghost use Rattle.turn_client_api.specs.Poll.{poll_step};
 ghost use Rattle.turn_client_api.specs.Receive.{is_from_server};
 ghost use Rattle.turn_client_api.specs.State.{initial};
 ghost use Rattle.turn_client_api.specs.Streams.{HoldsLittle, poll_recv_step};
-ghost use Rattle.turn_client_core.specs.Lent.{IsLentInPlace, IsReadIfAny};
+ghost use Rattle.turn_client_tcp.specs.Lent.{IsLentInPlace, IsReadIfAny};
 
 use std::alloc::{AllocError, Global};
 use std::convert::AsSlice;
@@ -22,7 +22,7 @@ use turn_client_api::{
     DelayedMessageOrChannelSend, PermissionAddressesIter, RelayedAddressesIter, Socket5Tuple,
     TransmitBuild, TurnClientApi, TurnConfig, TurnPeerData,
 };
-use turn_client_core::TurnClientProtocol;
+use turn_client_tcp::TurnClientTcpProtocol;
 use turn_stun::data::Data;
 use turn_stun::instant::Instant;
 use turn_stun::transport::{Transmit, TransportType};
@@ -31,7 +31,7 @@ use turn_stun::transport::{Transmit, TransportType};
 /// by its `State`.
 #[derive(Debug, Drop)]
 pub struct TurnClientTcp {
-    core: TurnClientProtocol,
+    core: TurnClientTcpProtocol,
 }
 
 impl Model for TurnClientTcp {
@@ -65,7 +65,7 @@ impl TurnClientTcp {
     ) -> Result<TurnClientTcp, AllocError>
         ensures { IfOk result (λ client. client ≡ initial TransportType.Tcp local remote config seed) }
     {
-        let core = TurnClientProtocol::new(alloc, TransportType::Tcp, local, remote, config, seed)?;
+        let core = TurnClientTcpProtocol::new(alloc, local, remote, config, seed)?;
         Ok(TurnClientTcp { core })
     }
 

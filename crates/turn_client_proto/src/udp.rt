@@ -11,7 +11,7 @@ ghost use Rattle.turn_client_api.specs.Poll.{poll_step};
 ghost use Rattle.turn_client_api.specs.Receive.{is_from_server};
 ghost use Rattle.turn_client_api.specs.State.{initial};
 ghost use Rattle.turn_client_api.specs.Streams.{HoldsLittle, poll_recv_step};
-ghost use Rattle.turn_client_core.specs.Lent.{IsReadIfAny};
+ghost use Rattle.turn_client_tcp.specs.Lent.{IsReadIfAny};
 ghost use Rattle.turn_client_core.specs.ProtocolRecv.{outcome_in, IsRangeWithin};
 
 use std::alloc::{AllocError, Global};

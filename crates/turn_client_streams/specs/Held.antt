@@ -1,5 +1,5 @@
 -- The streams of a client, and the state of a client that has them.
-use Rattle.std.specs.Prelude.{List, [], ◌∷◌, map, if◌then◌else◌, Option, Some, None}
+use Rattle.std.specs.Prelude.{ℕ, List, [], ◌∷◌, map, if◌then◌else◌, Option, Some, None}
 use Rattle.std.specs.Option.{option_map_or}
 use Rattle.std.specs.List.{IsDistinct}
 use Rattle.turn_agent.specs.Agent.{same_address}
@@ -7,6 +7,11 @@ use Rattle.turn_client_api.specs.State.{State}
 use Rattle.turn_client_api.specs.Streams.{with_bytes}
 use Rattle.turn_client_api.specs.declared.state.Stream.{Stream}
 use Rattle.turn_client_streams.specs.Buffered.{is_control_mode, passed}
+
+-- the streams, and for how many more there is room
+pub record Held : Type 0 where
+  pub list : List Stream
+  pub room : ℕ
 
 -- the client with these streams
 abbrev pub with_streams : List Stream → State → State

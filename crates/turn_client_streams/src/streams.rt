@@ -1,6 +1,6 @@
 //! The list of a client's streams.
 
-ghost use Rattle.std.specs.Prelude.{◌≡◌, All, IsNone, find, OnOk, OnErr, IfOk, IsOk, Some, option_copied, option_map};
+ghost use Rattle.std.specs.Prelude.{◌≡◌, ◌<◌, All, IsNone, find, OnOk, IfOk, IsOk, Some, option_copied, option_map};
 ghost use Rattle.std.specs.List.{position};
 ghost use Rattle.turn_agent.specs.Agent.{same_address};
 ghost use Rattle.turn_stun.specs.declared.transport.TransportType.TheVariants.{Udp};
@@ -30,13 +30,12 @@ pub struct Streams {
 }
 
 impl Model for Streams {
-    ghost use Rattle.std.specs.Prelude.{List};
-    ghost use Rattle.turn_client_api.specs.declared.state.Stream.{Stream};
-    ghost use Rattle.turn_client_streams.specs.Held.{HasOwnEnds};
+    ghost use Rattle.std.specs.Prelude.{◌-◌, vec_capacity, vec_len};
+    ghost use Rattle.turn_client_streams.specs.Held.{HasOwnEnds, Held};
 
-    ghost Value = { List Stream };
+    ghost Value = { Held };
 
-    ghost view = { λ s. s.list.items };
+    ghost view = { λ s. record { list = s.list.items; room = vec_capacity s.list - vec_len s.list } };
 
     ghost invariant = { λ s. HasOwnEnds s.list.items };
 }
@@ -67,7 +66,7 @@ impl Streams {
         transport: TransportType,
         local: SocketAddr,
     ) -> Result<Streams, AllocError>
-        ensures first { IfOk result (λ streams. streams ≡ first_streams transport local) }
+        ensures first { IfOk result (λ streams. streams.list ≡ first_streams transport local) }
         ensures udp { transport ≡ Udp → IsOk result }
     {
         let mut list = Vec::new(alloc);
@@ -79,7 +78,7 @@ impl Streams {
 
     /// The stream at this local address.
     pub fn get(&self, local: SocketAddr) -> Option<&BufferedStream>
-        ensures { (s : State) → option_copied result ≡ stream_at local (with_streams self.now s) }
+        ensures { (s : State) → option_copied result ≡ stream_at local (with_streams self.now.list s) }
     {
         let Some(place) = place_at(self.list.as_slice(), local) else {
             return None;
@@ -90,7 +89,7 @@ impl Streams {
     /// The stream of the control connection, if it is the first one and not broken. If it can be processed, it
     /// is the first one that can.
     pub fn control(&self) -> Option<&BufferedStream>
-        ensures { option_copied result ≡ control_stream self.now }
+        ensures { option_copied result ≡ control_stream self.now.list }
     {
         let Some(first) = self.list.first() else {
             return None;
@@ -103,17 +102,17 @@ impl Streams {
 
     /// Drops the first frame of that stream, which is whole and has so many bytes. Allocates no memory.
     pub fn pass_control(&mut self, len: usize)
-        requires { option_map (λ stream. frame_len stream.bytes) (control_stream self.old) ≡ Some (Some len) }
-        ensures { (s : State) → with_streams self.new s ≡ control_passed (with_streams self.old s) }
+        requires { option_map (λ stream. frame_len stream.bytes) (control_stream self.old.list) ≡ Some (Some len) }
+        ensures { (s : State) → with_streams self.new.list s ≡ control_passed (with_streams self.old.list s) }
     {
         self.list[0].pass_front(len);
     }
 
     /// Takes out the first stream that can be processed.
     pub fn take_ready(&mut self) -> Option<BufferedStream>
-        ensures stream { result ≡ find is_ready self.old }
-        ensures little { IsNone result → All HoldsLittle self.new }
-        ensures after { (s : State) → with_streams self.new s ≡ taken_out result (with_streams self.old s) }
+        ensures stream { result ≡ find is_ready self.old.list }
+        ensures little { IsNone result → All HoldsLittle self.new.list }
+        ensures after { (s : State) → with_streams self.new.list s ≡ taken_out result (with_streams self.old.list s) }
     {
         let Some(place) = ready_place(self.list.as_slice()) else {
             return None;
@@ -123,8 +122,8 @@ impl Streams {
 
     /// Takes out the stream at this local address.
     pub fn take_at(&mut self, local: SocketAddr) -> Option<BufferedStream>
-        ensures stream { (s : State) → result ≡ stream_at local (with_streams self.old s) }
-        ensures after { (s : State) → with_streams self.new s ≡ taken_out result (with_streams self.old s) }
+        ensures stream { (s : State) → result ≡ stream_at local (with_streams self.old.list s) }
+        ensures after { (s : State) → with_streams self.new.list s ≡ taken_out result (with_streams self.old.list s) }
     {
         let Some(place) = place_at(self.list.as_slice(), local) else {
             return None;
@@ -135,7 +134,7 @@ impl Streams {
     /// Puts the bytes of this stream, which was taken out, back into the one at the same local address.
     /// The mode in the list counts; if the stream is no longer there, the bytes are dropped.
     pub fn put(&mut self, stream: BufferedStream)
-        ensures { (s : State) → with_streams self.new s ≡ with_bytes stream.local stream.bytes (with_streams self.old s) }
+        ensures { (s : State) → with_streams self.new.list s ≡ with_bytes stream.local stream.bytes (with_streams self.old.list s) }
     {
         if let Some(place) = place_at(self.list.as_slice(), stream.local()) {
             self.list[place].hold(stream);
@@ -145,7 +144,7 @@ impl Streams {
     /// Breaks the stream at this local address: its buffered bytes are dropped, and nothing more is read
     /// from it.
     pub fn break_at(&mut self, local: SocketAddr)
-        ensures { (s : State) → with_streams self.new s ≡ broken_at local (with_streams self.old s) }
+        ensures { (s : State) → with_streams self.new.list s ≡ broken_at local (with_streams self.old.list s) }
     {
         if let Some(place) = place_at(self.list.as_slice(), local) {
             self.list[place].break_off();
@@ -155,7 +154,7 @@ impl Streams {
     /// From now on the bytes of the stream at this local address have this mode, also the buffered ones:
     /// once the server has bound a data connection, they are its peer's (RFC 6062, section 4.3).
     pub fn set_mode(&mut self, local: SocketAddr, mode: Mode)
-        ensures { (s : State) → with_streams self.new s ≡ with_mode local mode (with_streams self.old s) }
+        ensures { (s : State) → with_streams self.new.list s ≡ with_mode local mode (with_streams self.old.list s) }
     {
         if let Some(place) = place_at(self.list.as_slice(), local) {
             self.list[place].set_mode(mode);
@@ -164,25 +163,31 @@ impl Streams {
 
     /// Removes the stream at this local address, with its buffered bytes.
     pub fn remove(&mut self, local: SocketAddr)
-        ensures { (s : State) → with_streams self.new s ≡ without_stream local (with_streams self.old s) }
+        ensures { (s : State) → with_streams self.new.list s ≡ without_stream local (with_streams self.old.list s) }
     {
         self.list.retain(|stream| stream.local() != local);
     }
 
-    /// Opens the stream of a data connection that waits to be bound, after all others and in place of any
-    /// at this local address (RFC 6062, section 4.3).
+    /// Makes room for one more stream.
     ///
     /// # Errors
     ///
-    /// `AllocError` if memory allocation fails. All stays as it was.
-    pub fn open(&mut self, local: SocketAddr) -> Result<(), AllocError>
-        ensures ok { OnOk result ((s : State) → with_streams self.new s ≡ with_stream local (with_streams self.old s)) }
-        ensures err { OnErr result (self.new ≡ self.old) }
+    /// `AllocError` if memory allocation fails. Only the room may change then.
+    pub fn reserve(&mut self) -> Result<(), AllocError>
+        ensures list { self.new.list ≡ self.old.list }
+        ensures room { OnOk result (0 < self.new.room) }
     {
-        self.list.reserve(1)?;
+        self.list.reserve(1)
+    }
+
+    /// Opens the stream of a data connection that waits to be bound, after all others and in place of any
+    /// at this local address (RFC 6062, section 4.3). `reserve` makes room.
+    pub fn open(&mut self, local: SocketAddr)
+        requires { 0 < self.old.room }
+        ensures { (s : State) → with_streams self.new.list s ≡ with_stream local (with_streams self.old.list s) }
+    {
         self.list.retain(|stream| stream.local() != local);
         self.list
             .push_reserved(BufferedStream::new(self.alloc, local, Mode::Waiting));
-        Ok(())
     }
 }

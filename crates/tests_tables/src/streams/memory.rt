@@ -24,8 +24,11 @@ fn a_piece_that_finds_no_memory_breaks_its_stream(rt: HostRuntime) {
 }
 
 fn opens_or_stays(rt: &impl Abort, streams: &mut Streams) {
-    let is_open = streams.open(end(1001)).is_ok();
-    same(rt, streams.get(end(1001)).is_some(), is_open);
+    let has_room = streams.reserve().is_ok();
+    if has_room {
+        streams.open(end(1001));
+    }
+    same(rt, streams.get(end(1001)).is_some(), has_room);
 }
 
 #[test]

@@ -3,9 +3,11 @@
 mod allocate_success;
 pub(crate) mod challenge;
 mod connection_attempt;
+mod connection_bind;
 mod datagram;
 mod fatal;
 pub(crate) mod judge;
+mod judge_bind;
 mod message;
 mod peer_data;
 mod response;

@@ -1,6 +1,6 @@
 //! A new client.
 
-ghost use Rattle.std.specs.Prelude.{◌≡◌, ◌≢◌, ◌≤◌, ◌<◌, length, AllPairs, IfOk, Some, None};
+ghost use Rattle.std.specs.Prelude.{◌≡◌, ◌≢◌, ◌≤◌, ◌<◌, [], length, AllPairs, IfOk, Some, None};
 ghost use Rattle.turn_client_api.specs.State.{initial};
 
 use crate::outbox::Outbox;
@@ -12,7 +12,6 @@ use turn_auth::integrity::IntegrityAlgorithm;
 use turn_auth::long_term::LongTermClientAuth;
 use turn_client_api::{Phase, TurnConfig};
 use turn_client_grants::GrantLedger;
-use turn_client_streams::Streams;
 use turn_stun::transport::TransportType;
 
 impl TurnClientProtocol {
@@ -33,11 +32,10 @@ impl TurnClientProtocol {
         config: TurnConfig,
         seed: [u8; 32],
     ) -> Result<TurnClientProtocol, AllocError>
-        ensures { IfOk result (λ client. client ≡ initial transport local remote config seed) }
+        ensures { IfOk result (λ client. client ≡ record (initial transport local remote config seed) { streams = [] }) }
     {
         let auth = auth_for(alloc, &config)?;
         let families = SmallVec::from_slice(alloc, config.address_families())?;
-        let streams = Streams::new(alloc, transport, local)?;
         let timers = config.request_timers();
         Ok(TurnClientProtocol {
             alloc,
@@ -47,7 +45,6 @@ impl TurnClientProtocol {
             ledger: GrantLedger::new(config.allocation_transport(), alloc),
             outbox: Outbox::new(alloc, transport, local, remote, timers, seed),
             challenges: 0,
-            streams,
             config,
         })
     }

@@ -1,13 +1,8 @@
 //! One call of a gatherer, of any kind.
 
-<<<<<<< ours
 ghost use Rattle.std.specs.Prelude.{◌≡◌, ◌≤◌, ◌^◌, true, is_ok, IfOk, OnErr};
 ghost use Rattle.turn_client_api.specs.Answers.{given_payload};
 ghost use Rattle.turn_gather.specs.Drive.{IsCallable, gathered_reply, peer_payload, step};
-=======
-ghost use Rattle.std.specs.Prelude.{◌≡◌, ◌≤◌, ◌^◌, IfOk};
-ghost use Rattle.turn_gather.specs.Drive.{IsCallable, gathered_reply, step};
->>>>>>> theirs
 ghost use Rattle.turn_gather.specs.Received.{gathered_of};
 ghost use Rattle.turn_client_api.specs.Calls.{FitsDatagram, send_to_step};
 

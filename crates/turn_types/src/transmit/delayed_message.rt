@@ -73,8 +73,8 @@ impl<T: AsSlice<u8>> DelayedMessage<T> {
         let peer_len = self.peer.value_len();
         let (front, behind) = place.split_at_mut(20);
         front.copy_from_slice(&header(self.id, 8 + peer_len + framing::padded_len(len)));
-        let (peer, data) = behind.split_at_mut(4 + peer_len);
-        write_peer(peer, self.peer, self.id);
+        let (attribute, data) = behind.split_at_mut(4 + peer_len);
+        write_peer(attribute, self.peer, self.id);
         data.copy_from_slice(&framing::header(Data::TYPE.value, len));
     }
 

@@ -8,8 +8,10 @@ ghost use Rattle.turn_client_api.specs.Calls.{socket_step};
 ghost use Rattle.turn_client_api.specs.Connections.{connection_at};
 ghost use Rattle.turn_client_api.specs.Grants.{same_transport};
 ghost use Rattle.turn_client_api.specs.Requests.{accepted_reply, connection_timed_out, refused_reply};
+ghost use Rattle.turn_client_core.specs.Apart.{apart_from_streams, with_streams_of};
 ghost use Rattle.turn_client_core.specs.Opened.{answer_to, opened_with};
 ghost use Rattle.turn_client_api.specs.Receive.{connection_gone, tcp_closed_step};
+ghost use Rattle.turn_client_laws.specs.StreamEffects.{opens_at};
 ghost use Rattle.turn_agent.specs.Agent.{same_address};
 
 use crate::protocol::TurnClientProtocol;
@@ -42,7 +44,8 @@ impl TurnClientProtocol {
         local_addr: Option<SocketAddr>,
         now: Instant,
     ) -> Result<(), TcpAllocateError>
-        ensures step { TakesSocket result self.old self.new (allocated_tcp_socket_step id five_tuple peer_addr local_addr now self.old) }
+        ensures step { TakesSocket result self.old self.new
+            (apart_from_streams self.old (allocated_tcp_socket_step id five_tuple peer_addr local_addr now self.old)) }
     {
         if !self.takes_sockets(&five_tuple) {
             return Err(TcpAllocateError::NoAllocation);
@@ -54,6 +57,28 @@ impl TurnClientProtocol {
             Some(local) => self.take_socket(id, peer_addr, local, &origin, now),
             None => self.refuse_socket(id, peer_addr, &origin),
         }
+    }
+
+    /// The local address of the stream that `allocated_tcp_socket` adds to those of the client if it is called
+    /// with these values and not refused, or none. Who holds the streams makes room for it before that call,
+    /// so that a refusal leaves all as it was, and opens it after.
+    pub fn opens_at(
+        &self,
+        id: u32,
+        five_tuple: &Socket5Tuple,
+        peer_addr: SocketAddr,
+        local_addr: Option<SocketAddr>,
+    ) -> Option<SocketAddr>
+        ensures { result ≡ opens_at id five_tuple.now peer_addr local_addr self.now }
+    {
+        if !self.takes_sockets(five_tuple) || self.offer_origin(id, peer_addr).is_none() {
+            return None;
+        }
+        let local = local_addr?;
+        if self.is_local_taken(local) {
+            return None;
+        }
+        Some(local)
     }
 
     /// Whether the client accepts data connections to the server of this control connection.
@@ -111,7 +136,7 @@ impl TurnClientProtocol {
         now: Instant,
     ) -> Result<(), TcpAllocateError>
         requires { IsSome self.old.held }
-        ensures step { TakesSocket result self.old self.new (socket_step id peer (Some local) origin.now now self.old) }
+        ensures step { TakesSocket result self.old self.new (apart_from_streams self.old (socket_step id peer (Some local) origin.now now self.old)) }
     {
         if self.is_local_taken(local) {
             return Err(TcpAllocateError::AlreadyExists);
@@ -130,7 +155,7 @@ impl TurnClientProtocol {
         origin: &Origin,
     ) -> Result<(), TcpAllocateError>
         requires { IsSome self.old.held }
-        ensures step { TakesSocket result self.old self.new (socket_step id peer None origin.now 0 self.old) }
+        ensures step { TakesSocket result self.old self.new (apart_from_streams self.old (socket_step id peer None origin.now 0 self.old)) }
     {
         match self.drop_offer(id, peer, origin) {
             Ok(()) => Ok(()),
@@ -153,7 +178,7 @@ impl TurnClientProtocol {
     ) -> Result<(), AllocError>
         requires held { IsSome self.old.held }
         requires free { is_local_taken local self.old ≡ false }
-        ensures ok { OnOk result (self.new ≡ socket_opened id peer local origin.now now self.old) }
+        ensures ok { OnOk result (self.new ≡ with_streams_of self.old (socket_opened id peer local origin.now now self.old)) }
         ensures err { OnErr result (self.new ≡ self.old) }
     {
         let reply = self.acceptance(origin)?;
@@ -176,15 +201,14 @@ impl TurnClientProtocol {
     ) -> Result<(), AllocError>
         requires held { IsSome self.old.held }
         requires free { is_local_taken local self.old ≡ false }
-        ensures ok { OnOk result (self.new ≡ opened_with reply id peer local now self.old) }
+        ensures ok { OnOk result (self.new ≡ with_streams_of self.old (opened_with reply id peer local now self.old)) }
         ensures err { OnErr result (self.new ≡ self.old) }
     {
         let request = self.fresh_id();
         let text = self.text_for(&Purpose::ForBind(local, peer, id), request)?;
         // Keeps the room for the failure events of families that are still requested.
         self.ledger.reserve(1, 2, self.families.len())?;
-        self.outbox
-            .ask_over(&mut self.streams, reply, request, text, local, now)?;
+        self.outbox.ask_over(reply, request, text, local, now)?;
         self.ledger.opened(id, peer, local, request, now);
         Ok(())
     }
@@ -276,7 +300,7 @@ impl TurnClientProtocol {
 
     /// Removes the connection from this local address, if there is one: the caller is to close its end
     /// before all others that it is to close.
-    pub(crate) fn connection_gone(&mut self, local: SocketAddr)
+    pub fn connection_gone(&mut self, local: SocketAddr)
         ensures { self.new ≡ connection_gone local self.old }
     {
         self.ledger.connection_gone(local);

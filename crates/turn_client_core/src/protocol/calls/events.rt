@@ -86,7 +86,7 @@ impl TurnClientProtocol {
     }
 
     /// Ends the client: no response to an ALLOCATE is awaited any more.
-    pub(crate) fn close(&mut self)
+    pub fn close(&mut self)
         ensures { self.new ≡ closed self.old }
     {
         self.phase = Phase::Closed;

@@ -1,12 +1,12 @@
 //! What can be read from a client.
 
 ghost use Rattle.std.specs.List.{list_any};
-ghost use Rattle.std.specs.Prelude.{◌≡◌, ◌&&◌, ◌||◌, false, filter_map, nat_le, nat_lt, slice_get, true, IfSome};
+ghost use Rattle.std.specs.Prelude.{◌≡◌, ◌&&◌, ◌||◌, false, filter_map, nat_le, nat_lt, option_copied, slice_get, true, IfSome};
 ghost use Rattle.turn_client_api.specs.Addresses.{permitted_left, relayed_left};
 ghost use Rattle.turn_client_api.specs.Calls.{channels_to, free_number, can_send_to, is_in_progress, is_number_taken, permissions_of, relayed_addresses_of};
 ghost use Rattle.turn_client_api.specs.Calls.{reserved_from};
 ghost use Rattle.turn_client_api.specs.Connections.{is_connected, is_connecting};
-ghost use Rattle.turn_client_api.specs.Grants.{has_active_permission, permission_state};
+ghost use Rattle.turn_client_api.specs.Grants.{channel_peer, first_in, has_active_permission, permission_state};
 
 use crate::protocol::TurnClientProtocol;
 use std::net::{IpAddr, SocketAddr};
@@ -34,6 +34,20 @@ impl TurnClientProtocol {
         ensures { result ≡ self.now.remote }
     {
         self.outbox.remote_addr()
+    }
+
+    /// The transport over which its allocations relay.
+    pub fn allocation_transport(&self) -> TransportType
+        ensures { result ≡ self.now.config.allocation_transport }
+    {
+        self.ledger.transport()
+    }
+
+    /// The peer of the active channel with this number, if there is one (RFC 8656, section 12.6).
+    pub fn channel_peer(&self, number: u16) -> Option<&SocketAddr>
+        ensures { option_copied result ≡ first_in (channel_peer number) self.now }
+    {
+        self.ledger.table().channel_peer(number)
     }
 
     /// The relayed addresses of the client with their transports, in the order in which the server

@@ -82,7 +82,7 @@ impl TurnClientProtocol {
     /// The result of the ChannelData message at the start of these bytes: data of the peer whose active
     /// channel has the number, in any phase. Allocates no memory.
     #[inline(always)]
-    pub(crate) fn channel_sent(&self, bytes: &[u8], frame: &ChannelData<'_>) -> TurnProtocolRecv
+    pub fn channel_sent(&self, bytes: &[u8], frame: &ChannelData<'_>) -> TurnProtocolRecv
         requires frame { frame.now ≡ channel_data_at bytes.now }
         requires whole { 4 + length frame.now.payload ≤ length bytes.now }
         ensures outcome { outcome_in bytes.now result ≡ channel_sent self.now bytes.now }

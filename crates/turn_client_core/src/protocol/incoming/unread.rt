@@ -73,7 +73,7 @@ impl TurnClientProtocol {
     ///
     /// If memory allocation fails. Nothing changes then. A Data indication allocates none, nor does any
     /// other message that requires no action.
-    pub(crate) fn message_unless_ignored(
+    pub fn message_unless_ignored(
         &mut self,
         message: &Message<'_>,
         now: Instant,

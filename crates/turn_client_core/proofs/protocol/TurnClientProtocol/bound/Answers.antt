@@ -2,8 +2,8 @@ use Rattle.std.proofs.Common.{◌∙◌, ap}
 use Rattle.turn_client_api.specs.Connections.{bound}
 use Rattle.turn_client_api.specs.Effect.{transaction_ended}
 use Rattle.turn_client_grants.specs.Ledger.{with_ledger}
-use Rattle.turn_client_streams.specs.Held.{with_streams}
 use Rattle.turn_stun.specs.Message.{id_of}
+use Rattle.turn_client_core.specs.Apart.{with_streams_of}
 use Rattle.turn_client_core.specs.contracts.protocol.TurnClientProtocol.{the_view}
 use Rattle.turn_client_core.proofs.AskLemmas.{with_outbox}
 use Rattle.turn_client_core.proofs.ResultLemmas.{on-err}
@@ -17,9 +17,8 @@ returns-clause-ok c =
     let s = the_view c.self.inside in
     let d = c.args.connection.now in
     let e = transaction_ended c.transaction_id.result s in
-    ap (λ o. with_ledger c.bound.new.self (with_streams c.set_mode.new.self (with_outbox o s))) c.end.ensures
-    ∙ (ap (with_ledger c.bound.new.self) (c.set_mode.ensures e)
-    ∙ (c.bound.ensures.state e
-    ∙ (ap (bound d) (c.reserve.ensures.same e)
-    ∙ (ap (λ i. bound d (transaction_ended i s)) c.transaction_id.ensures
-    ∙ ap (λ u. bound d (transaction_ended (id_of c.args.message.now) u)) c.self.view_is))))
+    ap (λ o. with_ledger c.bound.new.self (with_outbox o s)) c.end.ensures
+    ∙ (ap (with_streams_of e) (c.bound.ensures.state e)
+    ∙ (ap (λ u. with_streams_of e (bound d u)) (c.reserve.ensures.same e)
+    ∙ (ap (λ i. with_streams_of s (bound d (transaction_ended i s))) c.transaction_id.ensures
+    ∙ ap (λ u. with_streams_of u (bound d (transaction_ended (id_of c.args.message.now) u))) c.self.view_is)))

@@ -5,7 +5,7 @@ use Rattle.turn_client_api.specs.Connections.{connection_at}
 use Rattle.turn_client_api.specs.Requests.{fresh_id, request_for}
 use Rattle.turn_client_api.specs.declared.grant.Purpose.TheVariants.{ForBind}
 use Rattle.turn_client_grants.specs.Ledger.{with_ledger}
-use Rattle.turn_client_streams.specs.Held.{with_streams}
+use Rattle.turn_client_core.specs.Apart.{with_streams_of}
 use Rattle.turn_client_core.specs.Opened.{opened_with}
 use Rattle.turn_client_core.specs.contracts.protocol.TurnClientProtocol.{the_view}
 use Rattle.turn_client_core.proofs.AskLemmas.{with_outbox}
@@ -18,7 +18,7 @@ returns-in_err-reserve-clause-err c = on-err _ (c.reserve.ensures.same (the_view
 
 pub returns-in_err-ask_over-clause-err : goal.returns-in_err-ask_over-clause-err
 returns-in_err-ask_over-clause-err c =
-    rw (c.in_err-ask_over.ensures.err, c.in_err-ask_over.ensures.kept) (on-err _ (c.reserve.ensures.same (the_view c.self.inside) ∙ c.self.view_is))
+    rw c.in_err-ask_over.ensures.err (on-err _ (c.reserve.ensures.same (the_view c.self.inside) ∙ c.self.view_is))
 
 pub opened-requires-clause-new : goal.opened-requires-clause-new
 opened-requires-clause-new c =
@@ -38,11 +38,10 @@ returns-clause-ok c =
     let request = c.fresh_id-request.result in
     let text = c.in_ok-text.text in
     let purpose = ForBind c.args.local c.args.peer c.args.id in
-    ap (λ o. with_ledger c.opened.new.self (with_streams c.ask_over.new.streams (with_outbox o s))) c.in_ok-ask_over.ensures.sent
-    ∙ (opens-is s c.reserve.new.self c.opened.new.self c.ask_over.new.streams c.args.reply c.args.id request c.args.peer c.args.local text c.args.now
+    ap (λ o. with_ledger c.opened.new.self (with_outbox o s)) c.in_ok-ask_over.ensures.sent
+    ∙ (opens-is s c.reserve.new.self c.opened.new.self c.args.reply c.args.id request c.args.peer c.args.local text c.args.now
     (c.reserve.ensures.same s)
-    (c.in_ok-ask_over.ensures.opened s)
     (c.opened.ensures.state s text)
     (c.in_ok-text.ensures ∙ ap (λ t. request_for t purpose request) (sym c.self.view_is))
     (c.fresh_id-request.ensures.id ∙ ap fresh_id (sym c.self.view_is))
-    ∙ ap (opened_with c.args.reply c.args.id c.args.peer c.args.local c.args.now) c.self.view_is)
+    ∙ ap (λ t. with_streams_of t (opened_with c.args.reply c.args.id c.args.peer c.args.local c.args.now t)) c.self.view_is)

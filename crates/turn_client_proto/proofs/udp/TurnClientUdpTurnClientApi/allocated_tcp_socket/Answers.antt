@@ -1,7 +1,22 @@
+use Rattle.std.proofs.Common.{subst}
+use Rattle.turn_client_api.specs.Answers.{TakesSocket}
 use Rattle.turn_client_proto.proofs.CallLemmas.{socket-keeps}
-use Rattle.turn_client_proto.proofs.UdpClientLemmas.{leaves-IsUdpClient}
+use Rattle.turn_client_proto.proofs.UdpClientLemmas.{leaves-IsUdpClient, refused-socket}
 use Rattle.turn_client_proto.proofs.udp.TurnClientUdpTurnClientApi.allocated_tcp_socket.Goals as goal
 
 pub invariant_of-self : goal.invariant_of-self
 invariant_of-self c =
-    socket-keeps leaves-IsUdpClient _ _ c.allocated_tcp_socket.result c.args.id c.args.five_tuple c.args.peer_addr c.args.local_addr c.args.now c.allocated_tcp_socket.ensures.step c.self.invariant
+    let s = c.self.inside.core in
+    let t = c.allocated_tcp_socket.new.self in
+    let a = c.args in
+    let same = refused-socket a.id a.five_tuple a.peer_addr a.local_addr a.now s c.self.invariant.relays in
+    socket-keeps leaves-IsUdpClient s t c.allocated_tcp_socket.result a.id a.five_tuple a.peer_addr a.local_addr a.now
+    (subst (TakesSocket c.allocated_tcp_socket.result s t) same c.allocated_tcp_socket.ensures.step) c.self.invariant
+
+pub returns : goal.returns
+returns c =
+    let s = c.self.inside.core in
+    let t = c.allocated_tcp_socket.new.self in
+    let a = c.args in
+    let same = refused-socket a.id a.five_tuple a.peer_addr a.local_addr a.now s c.self.invariant.relays in
+    record { step = rw (← c.self.view_is) (subst (TakesSocket c.allocated_tcp_socket.result s t) same c.allocated_tcp_socket.ensures.step) }

@@ -1,0 +1,46 @@
+use Rattle.std.proofs.Common.{◌≡◌, ◌∙◌, ap, subst, sym, true}
+use Rattle.std.proofs.lemmas.Result.{IfOk-weaker, on_ok_weaker, on_err_weaker}
+use Rattle.std.specs.Prelude.{IfOk, OnErr, OnOk}
+use Rattle.turn_client_api.specs.Payloads.{Outcome, message_step}
+use Rattle.turn_client_api.specs.State.{State}
+use Rattle.turn_client_core.specs.ProtocolRecv.{outcome_in}
+use Rattle.turn_client_laws.proofs.AnyStreamsLemmas.{message-alike, with_streams}
+use Rattle.turn_client_tcp.proofs.CallLemmas.{memory-alike, part-with}
+use Rattle.turn_client_tcp.proofs.protocol.TurnClientTcpProtocol.message.Goals as goal
+
+-- each clause of the control machine, with the streams beside it
+pub returns-clause-answer : goal.returns-clause-answer
+returns-clause-answer c =
+    let x = c.self.inside.streams.list in
+    let was = c.self.inside.control in
+    let m = c.args.message.now in
+    rw (← c.self.view_is)
+    (subst (λ (p : Outcome × State). IfOk c.message_unless_ignored.result (λ reported. outcome_in m reported ≡ p.0))
+    (sym (message-alike x m c.args.now was)) c.message_unless_ignored.ensures.answer)
+
+pub returns-clause-after : goal.returns-clause-after
+returns-clause-after c =
+    let x = c.self.inside.streams.list in
+    let was = c.self.inside.control in
+    let m = c.args.message.now in
+    rw (← c.self.view_is)
+    (on_ok_weaker c.message_unless_ignored.result
+    (λ e. ap (with_streams x) e ∙ sym (ap (λ (p : Outcome × State). p.1) (message-alike x m c.args.now was))) c.message_unless_ignored.ensures.after)
+
+pub returns-clause-err : goal.returns-clause-err
+returns-clause-err c =
+    rw (← c.self.view_is) (on_err_weaker c.message_unless_ignored.result (ap (with_streams c.self.inside.streams.list)) c.message_unless_ignored.ensures.err)
+
+pub returns-clause-part : goal.returns-clause-part
+returns-clause-part c =
+    let x = c.self.inside.streams.list in
+    let was = c.self.inside.control in
+    let r = c.message_unless_ignored.result in
+    rw (← c.self.view_is)
+    (IfOk-weaker r _ _ (part-with x was c.message_unless_ignored.new.self c.args.message.now) c.message_unless_ignored.ensures.part)
+
+pub returns-clause-wanted : goal.returns-clause-wanted
+returns-clause-wanted c =
+    let x = c.self.inside.streams.list in
+    rw (← c.self.view_is)
+    (on_err_weaker c.message_unless_ignored.result (λ e. memory-alike x c.args.message.now c.self.inside.control ∙ e) c.message_unless_ignored.ensures.wanted)

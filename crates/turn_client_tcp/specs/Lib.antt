@@ -1,0 +1,4 @@
+pub mod ControlData
+pub mod Lent
+pub mod StreamSteps
+pub mod Wanted

@@ -1,0 +1,103 @@
+//! ChannelData messages of the control connection, read where they are buffered (RFC 8656, sections 12.5 and
+//! 12.6).
+
+ghost use Rattle.std.specs.Prelude.{◌≡◌, IfOk, IfSome, IsSome, OnErr, OnOk, Some, option_map};
+ghost use Rattle.turn_client_tcp.specs.ControlData.{IsControlFront, control_data, control_ended, data_passed, data_from};
+ghost use Rattle.turn_client_tcp.specs.StreamSteps.{received_payload};
+ghost use Rattle.turn_client_streams.specs.Held.{control_passed};
+
+use crate::protocol::TurnClientTcpProtocol;
+use crate::received::Received;
+use std::alloc::AllocError;
+use std::net::SocketAddr;
+use turn_types::channel::ChannelData;
+
+/// A ChannelData message of an active channel, at the front of the control stream.
+pub(super) struct ChannelFrame<'a> {
+    /// The peer of the channel.
+    pub(super) peer: &'a SocketAddr,
+    /// What the peer sent.
+    pub(super) payload: &'a [u8],
+    /// How many bytes the frame has, with its padding.
+    pub(super) len: usize,
+}
+
+impl TurnClientTcpProtocol {
+    /// Returns the data of the first frame of the control stream, if that is a ChannelData message of an
+    /// active channel. It is copied from where the frame is buffered, and the frame is dropped. If there is
+    /// no such frame, nothing changes.
+    ///
+    /// # Errors
+    ///
+    /// If memory allocation for the data fails. The control stream is broken then, and the client has
+    /// ended.
+    pub(crate) fn take_control_data(&mut self) -> Result<Option<Received>, AllocError>
+        ensures answer { IfOk result (λ given. option_map received_payload given ≡ control_data self.old) }
+        ensures after { OnOk result (self.new ≡ data_passed self.old) }
+        ensures no_memory { OnErr result (self.new ≡ control_ended self.old) }
+        ensures wanted { OnErr result (IsSome (control_data self.old)) }
+    {
+        let Some(frame) = self.channel_frame() else {
+            return Ok(None);
+        };
+        let ChannelFrame { peer, payload, len } = frame;
+        let peer = *peer;
+        let transport = self.control.allocation_transport();
+        match Vec::from_slice(self.alloc, payload) {
+            Ok(bytes) => {
+                self.pass_control(len);
+                Ok(Some(Received {
+                    transport,
+                    peer,
+                    bytes,
+                }))
+            }
+            Err(refusal) => {
+                self.end_control();
+                Err(refusal)
+            }
+        }
+    }
+
+    /// The first frame of the control stream, if it is such a message.
+    pub(super) fn channel_frame(&self) -> Option<ChannelFrame<'_>>
+        ensures payload { option_map (λ frame. data_from self.now frame.peer.now frame.payload.now) result ≡ control_data self.now }
+        ensures front { IfSome result (λ frame. IsControlFront frame.len self.now) }
+    {
+        let Some(stream) = self.streams.control() else {
+            return None;
+        };
+        let Some(frame) = stream.front() else {
+            return None;
+        };
+        let Ok(channel) = ChannelData::parse(frame) else {
+            return None;
+        };
+        let Some(peer) = self.control.channel_peer(channel.id()) else {
+            return None;
+        };
+        Some(ChannelFrame {
+            peer,
+            payload: channel.data(),
+            len: frame.len(),
+        })
+    }
+
+    /// Drops the first frame of the control stream, which is whole and has so many bytes.
+    pub(super) fn pass_control(&mut self, len: usize)
+        requires { IsControlFront len self.old }
+        ensures { self.new ≡ control_passed self.old }
+    {
+        self.streams.pass_control(len);
+    }
+
+    /// Breaks the control stream and ends the client: memory allocation for the stream failed.
+    fn end_control(&mut self)
+        ensures { self.new ≡ control_ended self.old }
+    {
+        if let Some(stream) = self.streams.control() {
+            let local = stream.local();
+            self.end_at(local);
+        }
+    }
+}

@@ -1,0 +1,182 @@
+//! Whole frames of a client's streams (RFC 8656, section 12.5; RFC 6062, section 4.3).
+
+ghost use Rattle.std.specs.Prelude.{◌≡◌, [], IfOk, IsOk, OnErr, OnOk, Some, length, true};
+ghost use Rattle.turn_client_api.specs.Answers.{datagram_takes_none, is_data_indication};
+ghost use Rattle.turn_client_api.specs.Memory.{bind_takes_memory, message_takes_memory, packet_takes_memory, waiting_takes_memory};
+ghost use Rattle.turn_client_api.specs.Connections.{bind_step};
+ghost use Rattle.turn_client_api.specs.Payloads.{message_step};
+ghost use Rattle.turn_client_api.specs.Streams.{control_frame_step, waiting_frame_step};
+ghost use Rattle.turn_client_core.specs.ProtocolRecv.{IsPart, outcome_in};
+ghost use Rattle.turn_client_laws.specs.StreamEffects.{with_stream_bound};
+ghost use Rattle.turn_types.specs.Frames.{begins_message, frame_len};
+
+use crate::protocol::TurnClientTcpProtocol;
+use std::alloc::AllocError;
+use std::net::SocketAddr;
+use turn_client_api::{Mode, Phase};
+use turn_client_core::TurnProtocolRecv;
+use turn_stun::instant::Instant;
+use turn_stun::message::Message;
+use turn_types::channel::ChannelData;
+
+impl TurnClientTcpProtocol {
+    /// Processes a whole frame of the control connection: a STUN message, or a ChannelData message,
+    /// which is data of its channel's peer. A frame that begins like a STUN message but is none is
+    /// dropped.
+    ///
+    /// # Errors
+    ///
+    /// If memory allocation fails for an action that a message requires. Nothing changes then. A
+    /// ChannelData message and a Data indication allocate no memory, nor does a message that requires
+    /// no action.
+    pub(crate) fn control_frame(
+        &mut self,
+        frame: &[u8],
+        now: Instant,
+    ) -> Result<TurnProtocolRecv, AllocError>
+        requires whole { frame_len frame.now ≡ Some (length frame.now) }
+        requires before { self.old.phase ≡ Phase.Authenticating → self.old.grants ≡ [] }
+        ensures answer { IfOk result (λ reported. outcome_in frame.now reported ≡ (control_frame_step frame.now now self.old).0) }
+        ensures part { IfOk result (IsPart frame.now self.old self.new) }
+        ensures after { OnOk result (self.new ≡ (control_frame_step frame.now now self.old).1) }
+        ensures err { OnErr result (self.new ≡ self.old) }
+        ensures free { datagram_takes_none frame.now ≡ true → IsOk result }
+        ensures wanted { OnErr result (packet_takes_memory frame.now self.old ≡ true) }
+    {
+        match ChannelData::parse(frame) {
+            Ok(channel) => Ok(self.control.channel_sent(frame, &channel)),
+            Err(_) => self.control_message(frame, now),
+        }
+    }
+
+    /// Processes a frame of the control connection that begins like a STUN message.
+    ///
+    /// # Errors
+    ///
+    /// If memory allocation fails. Nothing changes then. A Data indication allocates none.
+    fn control_message(
+        &mut self,
+        frame: &[u8],
+        now: Instant,
+    ) -> Result<TurnProtocolRecv, AllocError>
+        requires begins { begins_message frame.now ≡ true }
+        requires before { self.old.phase ≡ Phase.Authenticating → self.old.grants ≡ [] }
+        ensures answer { IfOk result (λ reported. outcome_in frame.now reported ≡ (control_frame_step frame.now now self.old).0) }
+        ensures part { IfOk result (IsPart frame.now self.old self.new) }
+        ensures after { OnOk result (self.new ≡ (control_frame_step frame.now now self.old).1) }
+        ensures err { OnErr result (self.new ≡ self.old) }
+        ensures free { datagram_takes_none frame.now ≡ true → IsOk result }
+        ensures wanted { OnErr result (packet_takes_memory frame.now self.old ≡ true) }
+    {
+        match Message::from_bytes(frame) {
+            Ok(message) => self.message(&message, now),
+            Err(_) => Ok(TurnProtocolRecv::Handled),
+        }
+    }
+
+    /// Processes a whole frame of the data connection from this local address, which waits to be bound:
+    /// only STUN messages are processed there (RFC 6062, section 4.3).
+    ///
+    /// # Errors
+    ///
+    /// If memory allocation fails for an action that a message requires. Nothing changes then. Only a
+    /// message that keeps the connection allocates memory.
+    pub(crate) fn waiting_frame(
+        &mut self,
+        local: SocketAddr,
+        frame: &[u8],
+        now: Instant,
+    ) -> Result<TurnProtocolRecv, AllocError>
+        requires { frame_len frame.now ≡ Some (length frame.now) }
+        ensures answer { IfOk result (λ reported. outcome_in frame.now reported ≡ (waiting_frame_step local frame.now now self.old).0) }
+        ensures part { IfOk result (IsPart frame.now self.old self.new) }
+        ensures after { OnOk result (self.new ≡ (waiting_frame_step local frame.now now self.old).1) }
+        ensures err { OnErr result (self.new ≡ self.old) }
+        ensures wanted { OnErr result (waiting_takes_memory local frame.now self.old ≡ true) }
+    {
+        match ChannelData::parse(frame) {
+            Ok(_) => Ok(TurnProtocolRecv::Ignored),
+            Err(_) => self.waiting_message(local, frame, now),
+        }
+    }
+
+    /// Processes a frame of such a data connection that begins like a STUN message.
+    ///
+    /// # Errors
+    ///
+    /// If memory allocation fails. Nothing changes then.
+    fn waiting_message(
+        &mut self,
+        local: SocketAddr,
+        frame: &[u8],
+        now: Instant,
+    ) -> Result<TurnProtocolRecv, AllocError>
+        requires { begins_message frame.now ≡ true }
+        ensures answer { IfOk result (λ reported. outcome_in frame.now reported ≡ (waiting_frame_step local frame.now now self.old).0) }
+        ensures part { IfOk result (IsPart frame.now self.old self.new) }
+        ensures after { OnOk result (self.new ≡ (waiting_frame_step local frame.now now self.old).1) }
+        ensures err { OnErr result (self.new ≡ self.old) }
+        ensures wanted { OnErr result (waiting_takes_memory local frame.now self.old ≡ true) }
+    {
+        match Message::from_bytes(frame) {
+            Ok(message) => {
+                // `Handled` whatever its effect (our choice): the bytes were those of the connection.
+                self.bind_step(local, &message, now)?;
+                Ok(TurnProtocolRecv::Handled)
+            }
+            Err(_) => Ok(TurnProtocolRecv::Handled),
+        }
+    }
+
+    /// Processes a message on the data connection from this local address: the server may bind it, and then
+    /// what follows on its stream is data of the peer.
+    ///
+    /// # Errors
+    ///
+    /// If memory allocation fails. Nothing changes then.
+    fn bind_step(
+        &mut self,
+        local: SocketAddr,
+        message: &Message<'_>,
+        now: Instant,
+    ) -> Result<(), AllocError>
+        ensures ok { OnOk result (self.new ≡ bind_step local message.now now self.old) }
+        ensures err { OnErr result (self.new ≡ self.old) }
+        ensures wanted { OnErr result (bind_takes_memory local message.now self.old ≡ true) }
+    {
+        let peer = self.control.bind_step(local, message, now)?;
+        self.bind_stream(local, &peer);
+        Ok(())
+    }
+
+    /// Processes a message of the control connection, which changes no stream.
+    ///
+    /// # Errors
+    ///
+    /// If memory allocation fails. Nothing changes then.
+    fn message(
+        &mut self,
+        message: &Message<'_>,
+        now: Instant,
+    ) -> Result<TurnProtocolRecv, AllocError>
+        requires before { self.old.phase ≡ Phase.Authenticating → self.old.grants ≡ [] }
+        ensures answer { IfOk result (λ reported. outcome_in message.now reported ≡ (message_step message.now now self.old).0) }
+        ensures part { IfOk result (IsPart message.now self.old self.new) }
+        ensures after { OnOk result (self.new ≡ (message_step message.now now self.old).1) }
+        ensures err { OnErr result (self.new ≡ self.old) }
+        ensures free { is_data_indication message.now ≡ true → IsOk result }
+        ensures wanted { OnErr result (message_takes_memory message.now self.old ≡ true) }
+    {
+        self.control.message_unless_ignored(message, now)
+    }
+
+    /// If this peer was bound, the bytes of the stream at this local address are its data from now on, also
+    /// the buffered ones.
+    fn bind_stream(&mut self, local: SocketAddr, peer: &Option<SocketAddr>)
+        ensures { self.new ≡ with_stream_bound local peer.now self.old }
+    {
+        if let Some(peer) = peer {
+            self.streams.set_mode(local, Mode::Bound(*peer));
+        }
+    }
+}

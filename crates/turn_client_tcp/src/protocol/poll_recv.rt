@@ -1,0 +1,230 @@
+//! The next frames of a client's streams (RFC 8656, section 12.5; RFC 6062, section 4.3).
+
+ghost use Rattle.std.specs.Prelude.{◌≡◌, All, [], find, length, option_map, true, IfOk, IsNone, IsOk, None, OnErr, OnOk, Some};
+ghost use Rattle.turn_client_api.specs.Answers.{EndsAfterSteps, given_payload};
+ghost use Rattle.turn_client_laws.specs.LawsOrder.{IsUngranted};
+ghost use Rattle.turn_client_api.specs.Memory.{frame_takes_memory};
+ghost use Rattle.turn_client_api.specs.Streams.{HoldsLittle, broken_at, frame_step, framed_stream_step, is_bound, is_ready};
+ghost use Rattle.turn_client_api.specs.Streams.{detached_frame_step, poll_recv_step, with_bytes};
+ghost use Rattle.turn_client_tcp.specs.Lent.{IsBoundFirst};
+ghost use Rattle.turn_client_core.specs.ProtocolRecv.{IsPart, outcome_in};
+ghost use Rattle.turn_client_tcp.specs.StreamSteps.{received_payload, owned_payload};
+ghost use Rattle.turn_client_tcp.specs.Wanted.{EndsInNeed, FrontWantsMemory, StepWantsMemory};
+ghost use Rattle.turn_client_streams.specs.Held.{taken_out};
+ghost use Rattle.turn_types.specs.Frames.{frame_len};
+
+use crate::protocol::TurnClientTcpProtocol;
+use crate::received::Received;
+use std::alloc::AllocError;
+use std::net::SocketAddr;
+use turn_client_api::{Mode, Phase, TurnPeerData};
+use turn_client_core::TurnProtocolRecv;
+use turn_client_streams::BufferedStream;
+use turn_stun::instant::Instant;
+use turn_stun::transport::TransportType;
+
+impl TurnClientTcpProtocol {
+    /// The next payload of a peer that the streams hold, in the order in which they were opened, or
+    /// none. All other frames before it are processed; ICMP reports among them are dropped.
+    ///
+    /// # Errors
+    ///
+    /// If memory allocation for the bytes of a stream fails. The client has ended then, and the stream
+    /// that was read delivers nothing more; whole frames that were processed before keep their effect.
+    /// Memory is allocated only for a message that is answered or that changes the client, and for a copy
+    /// of data in a frame.
+    pub fn poll_recv(&mut self, now: Instant) -> Result<Option<TurnPeerData<Vec<u8>>>, AllocError>
+        requires before { IsUngranted self.old.phase → self.old.grants ≡ [] }
+        ensures answer { IfOk result (λ given. option_map given_payload given ≡ (poll_recv_step now self.old).0) }
+        ensures little { IfOk result (λ given. IsNone given → All HoldsLittle self.new.streams) }
+        ensures after { OnOk result (self.new ≡ (poll_recv_step now self.old).1) }
+        ensures no_memory { OnErr result (EndsAfterSteps now self.old self.new) }
+        ensures wanted { OnErr result (EndsInNeed now self.old self.new) }
+    {
+        // Most frames of a busy client are ChannelData messages. For them no stream is taken out.
+        if let Some(given) = self.take_control_data()? {
+            return Ok(Some(given.into_data()));
+        }
+        match self.process_ready(now)? {
+            Some(given) => Ok(Some(given.into_data())),
+            None => Ok(None),
+        }
+    }
+
+    /// Processes the streams that are ready, until one gives a payload.
+    ///
+    /// # Errors
+    ///
+    /// If memory allocation for the bytes of a stream fails. That stream is broken then, and the client
+    /// has ended. The bytes of a bound stream are moved out, which allocates no memory, nor does a frame
+    /// that requires nothing of the client, or what breaks a stream.
+    pub(crate) fn process_ready(&mut self, now: Instant) -> Result<Option<Received>, AllocError>
+        requires before { IsUngranted self.old.phase → self.old.grants ≡ [] }
+        ensures answer { IfOk result (λ given. option_map received_payload given ≡ (poll_recv_step now self.old).0) }
+        ensures little { IfOk result (λ given. IsNone given → All HoldsLittle self.new.streams) }
+        ensures after { OnOk result (self.new ≡ (poll_recv_step now self.old).1) }
+        ensures no_memory { OnErr result (EndsAfterSteps now self.old self.new) }
+        ensures wanted { OnErr result (EndsInNeed now self.old self.new) }
+        ensures free { IsBoundFirst self.old → IsOk result }
+    {
+        while let Some(stream) = self.take_ready() {
+            let local = stream.local();
+            match self.process_detached(stream, now) {
+                Ok(None) => {}
+                Ok(Some(given)) => return Ok(Some(given)),
+                Err(refusal) => {
+                    self.break_at(local);
+                    self.close();
+                    return Err(refusal);
+                }
+            }
+        }
+        Ok(None)
+    }
+
+    /// Takes out the first stream that is ready.
+    fn take_ready(&mut self) -> Option<BufferedStream>
+        ensures stream { result ≡ find is_ready self.old.streams }
+        ensures little { IsNone result → All HoldsLittle self.new.streams }
+        ensures after { self.new ≡ taken_out result self.old }
+    {
+        self.streams.take_ready()
+    }
+
+    /// Breaks the stream at this local address: it delivers nothing more.
+    pub(crate) fn break_at(&mut self, local: SocketAddr)
+        ensures { self.new ≡ broken_at local self.old }
+    {
+        self.streams.break_at(local);
+    }
+
+    /// Puts the bytes of this stream, which was taken out, back into the stream at the same local
+    /// address.
+    pub(crate) fn put(&mut self, stream: BufferedStream)
+        ensures { self.new ≡ with_bytes stream.local stream.bytes self.old }
+    {
+        self.streams.put(stream);
+    }
+
+    /// Processes the next frame of a stream that is taken out, or the data of a bound one.
+    ///
+    /// # Errors
+    ///
+    /// If memory allocation fails, for what a message requires or for a copy of data, and never for a
+    /// bound stream. Nothing changes then.
+    fn process_detached(
+        &mut self,
+        stream: BufferedStream,
+        now: Instant,
+    ) -> Result<Option<Received>, AllocError>
+        requires before { self.old.phase ≡ Phase.Authenticating → self.old.grants ≡ [] }
+        ensures answer { IfOk result (λ given. option_map received_payload given ≡ owned_payload (detached_frame_step stream now self.old).0) }
+        ensures after { OnOk result (self.new ≡ (detached_frame_step stream now self.old).1) }
+        ensures err { OnErr result (self.new ≡ self.old) }
+        ensures wanted { OnErr result (StepWantsMemory stream now self.old) }
+        ensures free { is_bound stream.mode ≡ true → IsOk result }
+    {
+        match stream.mode() {
+            Mode::Control => self.framed_stream_step(stream, now),
+            Mode::Waiting => self.framed_stream_step(stream, now),
+            Mode::Bound(peer) => Ok(Some(Received {
+                transport: TransportType::Tcp,
+                peer,
+                bytes: stream.into_bytes(),
+            })),
+            Mode::Broken => Ok(None),
+        }
+    }
+
+    /// Processes the next frame of a stream of frames, which is taken out.
+    ///
+    /// # Errors
+    ///
+    /// If memory allocation fails, for what a message requires or for a copy of data. Nothing changes
+    /// then.
+    fn framed_stream_step(
+        &mut self,
+        mut stream: BufferedStream,
+        now: Instant,
+    ) -> Result<Option<Received>, AllocError>
+        requires before { self.old.phase ≡ Phase.Authenticating → self.old.grants ≡ [] }
+        ensures answer { IfOk result (λ given. option_map received_payload given ≡ owned_payload (framed_stream_step stream now self.old).0) }
+        ensures after { OnOk result (self.new ≡ (framed_stream_step stream now self.old).1) }
+        ensures err { OnErr result (self.new ≡ self.old) }
+        ensures wanted { OnErr result (FrontWantsMemory stream now self.old) }
+    {
+        if stream.is_stuck() {
+            self.break_at(stream.local());
+            return Ok(None);
+        }
+        let Some(frame) = stream.front() else {
+            self.put(stream);
+            return Ok(None);
+        };
+        let reported = self.frame(&stream, frame, now)?;
+        let given = self.owned(frame, reported)?;
+        stream.pass();
+        self.put(stream);
+        Ok(given)
+    }
+
+    /// Processes a whole frame of a stream, or bytes of a bound one.
+    ///
+    /// # Errors
+    ///
+    /// If memory allocation fails. Nothing changes then.
+    pub(crate) fn frame(
+        &mut self,
+        stream: &BufferedStream,
+        frame: &[u8],
+        now: Instant,
+    ) -> Result<TurnProtocolRecv, AllocError>
+        requires whole { frame_len frame.now ≡ Some (length frame.now) }
+        requires before { self.old.phase ≡ Phase.Authenticating → self.old.grants ≡ [] }
+        ensures answer { IfOk result (λ reported. outcome_in frame.now reported ≡ (frame_step stream.now frame.now now self.old).0) }
+        ensures part { IfOk result (IsPart frame.now self.old self.new) }
+        ensures after { OnOk result (self.new ≡ (frame_step stream.now frame.now now self.old).1) }
+        ensures err { OnErr result (self.new ≡ self.old) }
+        ensures wanted { OnErr result (frame_takes_memory stream.now frame.now self.old ≡ true) }
+    {
+        match stream.mode() {
+            Mode::Control => self.control_frame(frame, now),
+            Mode::Waiting => self.waiting_frame(stream.local(), frame, now),
+            Mode::Bound(peer) => Ok(TurnProtocolRecv::PeerData(
+                TransportType::Tcp,
+                peer,
+                0..frame.len(),
+            )),
+            Mode::Broken => Ok(TurnProtocolRecv::Handled),
+        }
+    }
+
+    /// A copy of the data of a peer, if the frame has given any.
+    ///
+    /// # Errors
+    ///
+    /// If memory allocation for the copy fails.
+    fn owned(
+        &self,
+        frame: &[u8],
+        reported: TurnProtocolRecv,
+    ) -> Result<Option<Received>, AllocError>
+        requires part { IsPart frame.now self.now self.now reported }
+        ensures answer { IfOk result (λ given. option_map received_payload given ≡ owned_payload (outcome_in frame.now reported)) }
+        ensures memory { owned_payload (outcome_in frame.now reported) ≡ None → IsOk result }
+    {
+        match reported {
+            TurnProtocolRecv::Handled => Ok(None),
+            TurnProtocolRecv::Ignored => Ok(None),
+            TurnProtocolRecv::PeerData(transport, peer, place) => {
+                let bytes = Vec::from_slice(self.alloc, &frame[place.start..place.end])?;
+                Ok(Some(Received {
+                    transport,
+                    peer,
+                    bytes,
+                }))
+            }
+            TurnProtocolRecv::PeerIcmp(_, _, _) => Ok(None),
+        }
+    }
+}

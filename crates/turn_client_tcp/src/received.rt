@@ -1,0 +1,35 @@
+//! Data of a peer that was received over a stream.
+
+ghost use Rattle.std.specs.Prelude.{◌≡◌};
+ghost use Rattle.turn_client_api.specs.Answers.{given_payload};
+ghost use Rattle.turn_client_tcp.specs.StreamSteps.{received_payload};
+
+use std::convert::AsSlice;
+use std::net::SocketAddr;
+use turn_client_api::{DataRangeOrOwned, TurnPeerData};
+use turn_stun::transport::TransportType;
+
+/// Data of a peer that was received over a stream, as owned bytes.
+#[derive(Debug, Drop)]
+pub struct Received {
+    /// The transport between the peer and the server.
+    pub transport: TransportType,
+    /// The peer that sent it.
+    pub peer: SocketAddr,
+    /// The bytes that the peer sent.
+    pub bytes: Vec<u8>,
+}
+
+impl Received {
+    /// The same data, as a client returns it for any type of buffer.
+    pub fn into_data<T: AsSlice<u8>>(self) -> TurnPeerData<T>
+        ensures { given_payload result ≡ received_payload self }
+    {
+        let Received {
+            transport,
+            peer,
+            bytes,
+        } = self;
+        TurnPeerData::new(transport, peer, DataRangeOrOwned::Owned(bytes))
+    }
+}
