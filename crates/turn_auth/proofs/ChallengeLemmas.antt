@@ -1,6 +1,6 @@
 -- The function that computes a challenge agrees with the definition of one.
 use Rattle.std.proofs.Common.{◌≡◌, ℕ, ◌⊎◌, Bool, true, false, cond, List, Option, Some, None, inl, inr, refl, sym, ap, ◌∙◌}
-use Rattle.std.specs.Prelude.{◌==◌, ◌&&◌, ◌||◌, ◌↔◌, is_some, option_map, option_and_then}
+use Rattle.std.specs.Prelude.{◌==◌, ◌&&◌, ◌||◌, ◌↔◌, is_some, option_map, option_and_then, IfSome}
 use Rattle.std.specs.Str.{bytes_eq}
 use Rattle.std.specs.Cmp.Lexicographic.{same_text, nat_list_eq_equiv}
 use Rattle.std.proofs.lemmas.Bool.{and_parts, eqb-true}
@@ -11,7 +11,7 @@ use Rattle.turn_stun.specs.declared.message.header.MessageClass.TheVariants.{Req
 use Rattle.turn_auth.specs.LongTerm.{Challenge, ClientAuth}
 use Rattle.turn_auth.specs.declared.challenge.Denial.{Denial}
 use Rattle.turn_auth.specs.declared.integrity.IntegrityAlgorithm.{IntegrityAlgorithm}
-use Rattle.turn_auth.specs.Challenge.{Follows, IsChallenge, challenge_of, chosen, denial_in, denial_with, held_after, is_error, picked, realm_in, nonce_in, code_in, value_in}
+use Rattle.turn_auth.specs.Challenge.{Follows, IsChallenge, MayTake, challenge_of, chosen, denial_in, denial_with, held_after, is_error, picked, realm_in, nonce_in, code_in, value_in}
 
 -- what the test returns passed it
 guard_some : {A : Type 0} {y : A} (test : Bool) (found : Option A) → cond test found None ≡ Some y → (test ≡ true) × (found ≡ Some y)
@@ -129,3 +129,15 @@ challenge_of-complete auth bytes challenge is =
 -- the function that computes a challenge agrees with the definition of one
 pub challenge_of_is : (auth : ClientAuth) (bytes : List ℕ) (challenge : Challenge) → (challenge_of auth bytes ≡ Some challenge) ↔ IsChallenge auth bytes challenge
 challenge_of_is auth bytes challenge = (challenge_of-sound auth bytes challenge, challenge_of-complete auth bytes challenge)
+
+-- ---- a challenge may be accepted
+
+kept-by : (supported : List IntegrityAlgorithm) (offered : Option (List ℕ)) (code : Option ℕ) (challenge : Challenge) (held : Option Challenge)
+    → Follows supported offered code challenge held → IfSome held (λ h. challenge ≡ record h { nonce = challenge.nonce })
+kept-by supported offered code challenge None h = tt
+kept-by supported offered code challenge (Some held) h = h.1
+
+pub challenge_of-MayTake : (auth : ClientAuth) (bytes : List ℕ) (challenge : Challenge) → challenge_of auth bytes ≡ Some challenge → MayTake auth challenge
+challenge_of-MayTake auth bytes challenge h =
+    let is = challenge_of-sound auth bytes challenge h in
+    record { known = is.known; kept = kept-by auth.supported (value_in 0x8002 bytes) (code_in bytes) challenge auth.held is.follows }

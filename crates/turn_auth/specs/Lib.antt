@@ -7,5 +7,7 @@ pub mod Kept
 pub mod Key
 pub mod Keyed
 pub mod LongTerm
+pub mod Received
 pub mod Signature
 pub mod Validation
+pub mod Verdict

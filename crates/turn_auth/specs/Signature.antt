@@ -105,6 +105,11 @@ is_plain kind = not (is_sha1 kind || is_sha256 kind)
 abbrev pub is_unsigned : List Attribute → Bool
 is_unsigned attributes = list_all (λ a. is_plain a.kind) attributes
 
+-- with one more attribute that does not carry integrity an unsigned message stays unsigned
+abbrev pub StaysUnsigned : ℕ → List ℕ → List ℕ → Type 0
+StaysUnsigned kind old new =
+    is_plain kind ≡ true → is_unsigned (attributes_of old) ≡ true → is_unsigned (attributes_of new) ≡ true
+
 -- The new message is the old one with these attributes added: what that means for its length, its type and
 -- its integrity attributes.
 pub record AddsAll (old new : List ℕ) (additions : List Addition) : Type 0 where

@@ -86,13 +86,13 @@ pub(crate) fn supports(algorithms: &[IntegrityAlgorithm], algorithm: IntegrityAl
 /// The algorithm that a first challenge selects: the better one that both sides have.
 pub(crate) fn picked(
     supported: &[IntegrityAlgorithm],
-    message: &Message<'_>,
+    offered: Option<&[u8]>,
 ) -> Option<IntegrityAlgorithm>
-    ensures { result ≡ picked supported.now (value_in 0x8002 message.now) }
+    ensures { result ≡ picked supported.now (option_copied offered.entry) }
 {
     // The better one that both sides have (our choice).
     if supports(supported, IntegrityAlgorithm::Sha256) {
-        if let Some(value) = offered_in(message) {
+        if let Some(value) = offered {
             if offers_sha256(value) {
                 return Some(IntegrityAlgorithm::Sha256);
             }

@@ -1,13 +1,14 @@
 //! What a client holds after a challenge (RFC 8489, section 9.2.5).
 
-ghost use Rattle.std.specs.Prelude.{◌≡◌, Some};
+ghost use Rattle.std.specs.Prelude.{◌≡◌, None, Some};
 ghost use Rattle.turn_auth.specs.Credentials.{Credentials};
 ghost use Rattle.turn_auth.specs.Kept.{IsKeyOf};
 ghost use Rattle.turn_auth.specs.Validation.{judged};
+ghost use Rattle.turn_auth.specs.Verdict.{challenge_read, validation_in};
 
 use crate::key::SigningKey;
 use crate::server_challenge::ServerChallenge;
-use crate::validation::Validation;
+use crate::validation::Verdict;
 use std::fmt;
 use turn_stun::message::Message;
 
@@ -22,16 +23,18 @@ pub(crate) struct Held {
 
 impl Held {
     /// The judgement by integrity.
-    pub(crate) fn judge(&self, message: &Message<'_>) -> Validation
-        ensures { (c : Credentials) → IsKeyOf c self.now.challenge self.now.key → result ≡ judged (Some c) (Some self.now.challenge) message.now }
+    pub(crate) fn judge<'a>(&self, message: &Message<'a>) -> Verdict<'a>
+        ensures validation { (c : Credentials) → IsKeyOf c self.now.challenge self.now.key
+            → validation_in result ≡ judged (Some c) (Some self.now.challenge) message.now }
+        ensures none { challenge_read result ≡ None }
     {
         let Some(holds) = self.key.verifies(message) else {
-            return Validation::Refused { integrity: false };
+            return Verdict::Refused { integrity: false };
         };
         if holds {
-            return Validation::Validated(self.key.algorithm());
+            return Verdict::Signed(self.key.algorithm());
         }
-        Validation::Refused { integrity: true }
+        Verdict::Refused { integrity: true }
     }
 }
 

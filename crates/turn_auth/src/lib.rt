@@ -33,13 +33,16 @@ pub mod hmac;
 pub mod integrity;
 mod key;
 pub mod long_term;
+pub mod received_challenge;
 pub mod server_challenge;
 mod signature;
 pub mod validation;
+pub mod write;
 
 pub use credentials::{CredentialsError, TurnCredentials};
 pub use feature::Feature;
 pub use integrity::IntegrityAlgorithm;
 pub use long_term::LongTermClientAuth;
+pub use received_challenge::ReceivedChallenge;
 pub use server_challenge::ServerChallenge;
-pub use validation::Validation;
+pub use validation::{Validation, Verdict};

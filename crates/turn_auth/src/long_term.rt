@@ -3,26 +3,27 @@
 ghost use Rattle.std.specs.Prelude.{◌≡◌, ◌≤◌, length, true, [], ◌∷◌, Some, None, is_some, option_map, ◌↔◌, IsTrue, IsSome, IsNone, IsSomeAnd, IfOk, IfSome};
 ghost use Rattle.std.specs.Prelude.{OnOk, OnErr};
 ghost use Rattle.turn_auth.specs.LongTerm.{Challenge, with_challenge, with_algorithm};
-ghost use Rattle.turn_auth.specs.Challenge.{IsChallenge, value_in, MayTake, chosen, held_after, challenge_of};
+ghost use Rattle.turn_auth.specs.Challenge.{IsChallenge, MayTake, challenge_of};
 ghost use Rattle.turn_auth.specs.Validation.{IsResendRequest, IsSigned, IsValidated, validation_of};
+ghost use Rattle.turn_auth.specs.Verdict.{challenge_read, validation_in};
 ghost use Rattle.turn_auth.specs.Signature.{is_unsigned, signature_len, signed_len, signed_text};
 ghost use Rattle.turn_stun.specs.Message.{type_of, id_of, attributes_of};
 ghost use Rattle.turn_stun.specs.declared.message.header.MessageClass.{MessageClass};
 ghost use Rattle.turn_stun.specs.declared.message.header.MessageClass.TheVariants.{Request, Success, Error};
 
-use crate::challenge::{Denial, offered_in, picked, supports};
+use crate::challenge::{Denial, supports};
 use crate::credentials::TurnCredentials;
 use crate::feature::Feature;
 use crate::held::Held;
 use crate::integrity::IntegrityAlgorithm;
+use crate::received_challenge::ReceivedChallenge;
 use crate::server_challenge::ServerChallenge;
 use crate::signature::sign;
-use crate::validation::Validation;
+use crate::validation::{Validation, Verdict};
 use smallvec::SmallVec;
 use std::alloc::{AllocError, Global};
 use std::fmt;
 use std::marker::Model;
-use turn_stun::attribute::error_code::ErrorCode;
 use turn_stun::message::Message;
 use turn_stun::message::header::MessageClass;
 use turn_stun::message::write::MessageWriteVec;
@@ -129,12 +130,20 @@ impl LongTermClientAuth {
         // The function that computes a challenge agrees with the definition of one.
         ensures challenge { (challenge : Challenge) → (challenge_of self.now message.now ≡ Some challenge) ↔ IsChallenge self.now message.now challenge }
     {
-        if let Some((_, algorithm)) = self.denial_in(message) {
-            return Validation::ResendRequest(algorithm);
+        self.judge(message).validation()
+    }
+
+    /// The same judgement, with the challenge that was read: it is read once, for who answers it.
+    pub fn judge<'a>(&self, message: &Message<'a>) -> Verdict<'a>
+        ensures exact { validation_in result ≡ validation_of self.now message.now }
+        ensures challenge { challenge_read result ≡ challenge_of self.now message.now }
+    {
+        if let Some(challenge) = self.read_challenge(message) {
+            return Verdict::Challenge(challenge);
         }
         match &self.held {
             Some(held) => held.judge(message),
-            None => Validation::Refused { integrity: false },
+            None => Verdict::Refused { integrity: false },
         }
     }
 
@@ -142,7 +151,25 @@ impl LongTermClientAuth {
     pub fn is_challenge(&self, message: &Message<'_>) -> bool
         ensures { result ≡ is_some (challenge_of self.now message.now) }
     {
-        self.denial_in(message).is_some()
+        self.read_challenge(message).is_some()
+    }
+
+    /// The challenge in the message, borrowed from it, or `None` if it is none. Computes no digest and
+    /// allocates no memory.
+    pub fn read_challenge<'a>(&self, message: &Message<'a>) -> Option<ReceivedChallenge<'a>>
+        ensures exact { result ≡ challenge_of self.now message.now }
+        ensures fits { IfSome result (λ challenge. MayTake self.now challenge) }
+    {
+        if self.credentials.is_none() {
+            return None;
+        }
+        let denial = Denial::in_message(message)?;
+        match &self.held {
+            None => {
+                ReceivedChallenge::first(self.alloc, &denial, self.supported.as_slice(), message)
+            }
+            Some(held) => ReceivedChallenge::later(self.alloc, &denial, &held.challenge),
+        }
     }
 
     /// Accepts a challenge: its nonce, and if nothing is held yet its realm and its algorithm, which never
@@ -174,17 +201,10 @@ impl LongTermClientAuth {
         ensures exact { IfOk result (λ found. found ≡ challenge_of self.now message.now) }
         ensures fits { IfOk result (λ found. IfSome found (λ challenge. MayTake self.now challenge)) }
     {
-        let Some((denial, algorithm)) = self.denial_in(message) else {
-            return Ok(None);
-        };
-        let challenge = match &self.held {
-            Some(held) => held.challenge.with_nonce(self.alloc, &denial.nonce)?,
-            None => {
-                let offered = offered_in(message);
-                ServerChallenge::first(self.alloc, &denial, algorithm, offered)?
-            }
-        };
-        Ok(Some(challenge))
+        match self.read_challenge(message) {
+            Some(challenge) => Ok(Some(challenge.copied(self.alloc)?)),
+            None => Ok(None),
+        }
     }
 
     /// Accepts a challenge, as [`LongTermClientAuth::take_challenge`] does. Allocates no memory.
@@ -316,41 +336,6 @@ impl LongTermClientAuth {
                 challenge.signature_len(credentials, self.anonymous_username, class)
             }
             None => 0,
-        }
-    }
-
-    /// The contents of the message and the algorithm to use from now on, if it is a challenge.
-    fn denial_in<'a>(&self, message: &Message<'a>) -> Option<(Denial<'a>, IntegrityAlgorithm)>
-        ensures held { option_map (λ found. held_after self.now.held (value_in 0x8002 message.now) found.0 found.1) result ≡ challenge_of self.now message.now }
-        ensures chosen { IfSome result (λ found. chosen self.now.supported self.now.held (value_in 0x8002 message.now) found.0 ≡ Some found.1) }
-    {
-        if self.credentials.is_none() {
-            return None;
-        }
-        let denial = Denial::in_message(message)?;
-        let algorithm = self.chosen(&denial, message)?;
-        Some((denial, algorithm))
-    }
-
-    /// The algorithm to use after a denial, or `None` if that is no challenge to this client.
-    fn chosen(&self, denial: &Denial<'_>, message: &Message<'_>) -> Option<IntegrityAlgorithm>
-        ensures { result ≡ chosen self.now.supported self.now.held (value_in 0x8002 message.now) denial.now }
-    {
-        match &self.held {
-            None => {
-                if denial.code == ErrorCode::UNAUTHORIZED || denial.code == ErrorCode::STALE_NONCE {
-                    return picked(self.supported.as_slice(), message);
-                }
-                None
-            }
-            Some(held) => {
-                if denial.code == ErrorCode::STALE_NONCE
-                    && denial.realm.as_bytes() == held.challenge.realm()
-                {
-                    return Some(held.challenge.algorithm());
-                }
-                None
-            }
         }
     }
 }

@@ -1,37 +1,33 @@
 //! The contents of a server's challenge for a client (RFC 8489, sections 9.2.4 and 9.2.5).
 
-ghost use Rattle.std.specs.Prelude.{◌≡◌, ◌≤◌, ◌<◌, ◌+◌, ◌^◌, ℕ, List, length, is_some, true, Some, None, option_copied, IfOk};
+ghost use Rattle.std.specs.Prelude.{◌≡◌, ◌≤◌, ◌<◌, ◌+◌, ◌^◌, ℕ, List, length, is_some, true, Some};
 ghost use Rattle.turn_stun.specs.Message.{attributes_from, padded_len};
 ghost use Rattle.turn_stun.specs.declared.message.header.MessageClass.{MessageClass};
 ghost use Rattle.turn_stun.specs.declared.message.header.MessageClass.TheVariants.{Request};
 ghost use Rattle.turn_auth.specs.Signature.{algorithm_len, signature_len_by, user_addition};
 ghost use Rattle.turn_auth.specs.Integrity.{integrity_len};
 ghost use Rattle.turn_auth.specs.Kept.{IsKeyOf};
-ghost use Rattle.turn_auth.specs.Challenge.{picked, sent_back, held_after};
 
-use crate::challenge::Denial;
 use crate::credentials::TurnCredentials;
 use crate::feature::Feature;
 use crate::integrity::IntegrityAlgorithm;
 use crate::key::SigningKey;
 use smallvec::SmallVec;
-use std::alloc::{AllocError, Global};
 use std::fmt;
 use std::marker::Model;
-use turn_stun::attribute::nonce::Nonce;
 use turn_stun::message::header::MessageClass;
 
 /// A challenge as a client holds it (RFC 8489, section 9.2.5): its realm, its nonce, the selected
 /// algorithm, and with SHA-256 the PASSWORD-ALGORITHMS from which it was selected.
 ///
-/// Only [`crate::long_term::LongTermClientAuth::challenge_in`] makes one. It borrows nothing of the
-/// message.
+/// Only [`ReceivedChallenge::copied`](crate::received_challenge::ReceivedChallenge::copied) makes one. It
+/// borrows nothing of the message.
 #[derive(Drop)]
 pub struct ServerChallenge {
-    realm: Vec<u8>,
-    nonce: Vec<u8>,
-    algorithm: IntegrityAlgorithm,
-    password_algorithms: SmallVec<u8, 64>,
+    pub(crate) realm: Vec<u8>,
+    pub(crate) nonce: Vec<u8>,
+    pub(crate) algorithm: IntegrityAlgorithm,
+    pub(crate) password_algorithms: SmallVec<u8, 64>,
 }
 
 impl Model for ServerChallenge {
@@ -47,41 +43,6 @@ impl Model for ServerChallenge {
 }
 
 impl ServerChallenge {
-    /// A first challenge, from which the algorithm was selected.
-    pub(crate) fn first(
-        alloc: Global,
-        denial: &Denial<'_>,
-        algorithm: IntegrityAlgorithm,
-        offered: Option<&[u8]>,
-    ) -> Result<ServerChallenge, AllocError>
-        requires { (supported : List IntegrityAlgorithm) × (picked supported (option_copied offered) ≡ Some algorithm) }
-        ensures { IfOk result (λ challenge. challenge ≡ held_after None (option_copied offered.entry) denial.now algorithm) }
-    {
-        Ok(ServerChallenge {
-            realm: Vec::from_slice(alloc, denial.realm.as_bytes())?,
-            nonce: Vec::from_slice(alloc, denial.nonce.as_bytes())?,
-            algorithm,
-            password_algorithms: sent_back(alloc, algorithm, offered),
-        })
-    }
-
-    /// A later challenge: another nonce.
-    pub(crate) fn with_nonce(
-        &self,
-        alloc: Global,
-        nonce: &Nonce<'_>,
-    ) -> Result<ServerChallenge, AllocError>
-        ensures { IfOk result (λ challenge. challenge ≡ record self.now { nonce = nonce.now }) }
-    {
-        let algorithms = self.password_algorithms.as_slice();
-        Ok(ServerChallenge {
-            realm: Vec::from_slice(alloc, self.realm.as_slice())?,
-            nonce: Vec::from_slice(alloc, nonce.as_bytes())?,
-            algorithm: self.algorithm,
-            password_algorithms: SmallVec::from_slice(alloc, algorithms).unwrap(),
-        })
-    }
-
     /// The bytes of the realm, 1 to 763 of them.
     pub(crate) fn realm(&self) -> &[u8]
         ensures bytes { result.now ≡ self.now.realm }
@@ -183,23 +144,6 @@ impl fmt::Debug for ServerChallenge {
             .field("nonce", &self.nonce)
             .field("algorithm", &self.algorithm)
             .finish_non_exhaustive()
-    }
-}
-
-/// The value that is sent back with the algorithm that a first challenge selected from it.
-fn sent_back(
-    alloc: Global,
-    algorithm: IntegrityAlgorithm,
-    offered: Option<&[u8]>,
-) -> SmallVec<u8, 64>
-    requires { (supported : List IntegrityAlgorithm) × (picked supported (option_copied offered) ≡ Some algorithm) }
-    ensures items { result.items ≡ sent_back (option_copied offered.entry) algorithm }
-    ensures short { length result.items ≤ 64 }
-    ensures whole { is_some (attributes_from 0 0 result.items) ≡ true }
-{
-    match (algorithm, offered) {
-        (IntegrityAlgorithm::Sha256, Some(value)) => SmallVec::from_slice(alloc, value).unwrap(),
-        _ => SmallVec::new(alloc),
     }
 }
 

@@ -3,8 +3,8 @@
 ghost use Rattle.std.specs.Prelude.{◌≡◌, ◌+◌, ◌≤◌, ℕ, List, length, OnOk, OnErr, Some, true, is_some, [], ◌∷◌};
 ghost use Rattle.turn_stun.specs.Message.{attributes_from, type_of, id_of, attributes_of};
 ghost use Rattle.turn_stun.specs.MessageType.{class_of};
-ghost use Rattle.turn_stun.specs.Writer.{with_attribute, AddsAttribute, Extends};
-ghost use Rattle.turn_auth.specs.Signature.{AddsAll, additions_for, signed_by, signature_len_by, additions_len, written_len, is_plain, is_unsigned};
+ghost use Rattle.turn_stun.specs.Writer.{Extends};
+ghost use Rattle.turn_auth.specs.Signature.{AddsAll, additions_for, signed_by, signature_len_by, additions_len, written_len, is_unsigned};
 ghost use Rattle.turn_auth.specs.Signature.{request_additions, user_addition, algorithm_additions, with_integrity};
 ghost use Rattle.turn_auth.specs.Integrity.{IntegrityHolds, integrity_len};
 ghost use Rattle.turn_auth.specs.Keyed.{HoldsKey, HoldsSha1, HoldsSha256, algorithm_of};
@@ -18,15 +18,14 @@ use crate::hmac::{HmacSha1, HmacSha256};
 use crate::integrity::{IntegrityAlgorithm, sha1_value, sha256_value};
 use crate::key::{SigningKey, userhash};
 use crate::server_challenge::ServerChallenge;
+use crate::write::add;
 use std::alloc::AllocError;
 use turn_stun::attribute::nonce::Nonce;
 use turn_stun::attribute::password_algorithms::PasswordAlgorithms;
 use turn_stun::attribute::realm::Realm;
-use turn_stun::attribute::typed::AttributeWrite;
 use turn_stun::attribute::userhash::Userhash;
 use turn_stun::attribute::username::Username;
 use turn_stun::attribute::{AttributeType, RawAttribute};
-use turn_stun::error::WriteError;
 use turn_stun::message::header::MessageClass;
 use turn_stun::message::write::MessageWriteVec;
 
@@ -226,25 +225,4 @@ fn add_sha256(message: &mut MessageWriteVec, mac: &HmacSha256) -> Result<(), All
     };
     add(message, &integrity)?;
     Ok(())
-}
-
-/// Adds an attribute for which there is room in a message.
-pub(crate) fn add<A: AttributeWrite>(
-    message: &mut MessageWriteVec,
-    attribute: &A,
-) -> Result<(), AllocError>
-    requires room { length message.old + written_len (A.encoded attribute.now (id_of message.old)) ≤ 65552 }
-    ensures text { OnOk result (message.new ≡ with_attribute (A.written_kind attribute.now) (A.encoded attribute.now (id_of message.old)) message.old) }
-    ensures added { OnOk result (AddsAttribute message.old message.new (A.written_kind attribute.now) (A.encoded attribute.now (id_of message.old))) }
-    ensures plain { OnOk result (is_plain (A.written_kind attribute.now) ≡ true → is_unsigned (attributes_of message.old) ≡ true
-        → is_unsigned (attributes_of message.new) ≡ true) }
-    ensures len { OnOk result (length message.new ≡ length message.old + written_len (A.encoded attribute.now (id_of message.old))) }
-    ensures kept { Extends message.old message.new }
-{
-    let _ = message.as_bytes();
-    match message.add_attribute(attribute) {
-        Ok(()) => Ok(()),
-        Err(WriteError::OutOfMemory) => Err(AllocError),
-        Err(WriteError::TooLong) => unreachable!(),
-    }
 }

@@ -1,6 +1,6 @@
 use Rattle.std.proofs.Common.{arith}
 use Rattle.turn_auth.proofs.SignLemmas.{length-with_attribute, is_unsigned-push}
-use Rattle.turn_auth.proofs.signature.add.Goals as goal
+use Rattle.turn_auth.proofs.write.add.Goals as goal
 
 pub returns-in-Ok-clause-len : goal.returns-in-Ok-clause-len
 returns-in-Ok-clause-len g c =

@@ -1,6 +1,6 @@
 use Rattle.std.proofs.Common.{length, ap}
 use Rattle.turn_stun.proofs.WalkLemmas.{is_some-none}
-use Rattle.turn_auth.proofs.server_challenge.sent_back.Goals as goal
+use Rattle.turn_auth.proofs.received_challenge.sent_back.Goals as goal
 
 -- if nothing is sent back, there is nothing to walk
 pub returns-in_default-clause-whole : goal.returns-in_default-clause-whole
