@@ -11,7 +11,8 @@ use Rattle.turn_stun.specs.declared.message.header.MessageClass.TheVariants.{Req
 use Rattle.turn_auth.specs.LongTerm.{Challenge, ClientAuth}
 use Rattle.turn_auth.specs.declared.challenge.Denial.{Denial}
 use Rattle.turn_auth.specs.declared.integrity.IntegrityAlgorithm.{IntegrityAlgorithm}
-use Rattle.turn_auth.specs.Challenge.{Follows, IsChallenge, MayTake, challenge_of, chosen, denial_in, denial_with, held_after, is_error, picked, realm_in, nonce_in, code_in, value_in}
+use Rattle.turn_auth.specs.Challenge.{Follows, IsChallenge, MayTake, challenge_of, chosen, denial_in, denial_with, held_after, is_error, picked, realm_in, nonce_in}
+use Rattle.turn_stun.specs.Read.{code_in, value_in}
 
 -- what the test returns passed it
 guard_some : {A : Type 0} {y : A} (test : Bool) (found : Option A) → cond test found None ≡ Some y → (test ≡ true) × (found ≡ Some y)

@@ -7,7 +7,8 @@ use Rattle.std.specs.Str.{bytes_eq}
 use Rattle.turn_stun.specs.Attributes.{seen_of, first_of}
 use Rattle.turn_stun.specs.Message.{type_of}
 use Rattle.turn_stun.specs.MessageType.{class_of}
-use Rattle.turn_stun.specs.Values.{realm_of, nonce_of, error_code_of, entries_of, is_bare_entry}
+use Rattle.turn_stun.specs.Read.{code_in, value_in}
+use Rattle.turn_stun.specs.Values.{realm_of, nonce_of, entries_of, is_bare_entry}
 use Rattle.turn_stun.specs.declared.message.header.MessageClass.{MessageClass}
 use Rattle.turn_stun.specs.declared.message.header.MessageClass.TheVariants.{Request, Indication, Success, Error}
 use Rattle.turn_auth.specs.LongTerm.{Challenge, ClientAuth, supports}
@@ -15,19 +16,12 @@ use Rattle.turn_auth.specs.declared.challenge.Denial.{Denial}
 use Rattle.turn_auth.specs.declared.integrity.IntegrityAlgorithm.{IntegrityAlgorithm}
 use Rattle.turn_auth.specs.declared.integrity.IntegrityAlgorithm.TheVariants.{Sha1, Sha256}
 
--- the value of the first seen attribute of the type, if there is one
-abbrev pub value_in : ℕ → List ℕ → Option (List ℕ)
-value_in kind bytes = option_map (λ first. first.value) (first_of kind (seen_of bytes))
-
--- REALM, NONCE and the code of ERROR-CODE, if the first seen one is well formed
+-- REALM and NONCE, if the first seen one is well formed
 abbrev pub realm_in : List ℕ → Option (List ℕ)
 realm_in bytes = option_and_then realm_of (value_in 0x0014 bytes)
 
 abbrev pub nonce_in : List ℕ → Option (List ℕ)
 nonce_in bytes = option_and_then nonce_of (value_in 0x0015 bytes)
-
-abbrev pub code_in : List ℕ → Option ℕ
-code_in bytes = option_map (λ error. error.code) (option_and_then error_code_of (value_in 0x0009 bytes))
 
 -- PASSWORD-ALGORITHMS that are to be sent back: at most 64 bytes (our choice), a list of whole
 -- entries, and among them SHA-256, which is algorithm 2, without parameters

@@ -4,7 +4,8 @@ ghost use Rattle.std.specs.Prelude.{◌≡◌, option_copied};
 ghost use Rattle.std.specs.Str.{bytes_eq};
 ghost use Rattle.turn_stun.specs.Attributes.{seen_of, first_of};
 ghost use Rattle.turn_auth.specs.LongTerm.{supports};
-ghost use Rattle.turn_auth.specs.Challenge.{value_in, denial_in, offers_sha256, picked};
+ghost use Rattle.turn_auth.specs.Challenge.{denial_in, offers_sha256, picked};
+ghost use Rattle.turn_stun.specs.Read.{value_in};
 
 use crate::denial::DenialValues;
 use crate::integrity::IntegrityAlgorithm;

@@ -1,9 +1,9 @@
 //! The attributes of an error response that say why, and what to sign with (RFC 8489, section 9.2.5).
 
 ghost use Rattle.std.specs.Prelude.{◌≡◌, option_copied};
-ghost use Rattle.turn_auth.specs.Challenge.{value_in};
 ghost use Rattle.turn_auth.specs.Denial.{first_value};
 ghost use Rattle.turn_stun.specs.Iterator.{placed};
+ghost use Rattle.turn_stun.specs.Read.{value_in};
 
 use turn_stun::attribute::{AttributeType, RawAttribute};
 use turn_stun::message::Message;

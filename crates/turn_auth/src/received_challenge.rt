@@ -1,8 +1,9 @@
 //! A challenge as it is read in a message (RFC 8489, section 9.2.5).
 
 ghost use Rattle.std.specs.Prelude.{◌≡◌, ◌≤◌, ℕ, List, Option, IfOk, IfSome, None, Some, is_some, length, option_copied, option_map, true};
-ghost use Rattle.turn_auth.specs.Challenge.{chosen, held_after, picked, sent_back, value_in};
+ghost use Rattle.turn_auth.specs.Challenge.{chosen, held_after, picked, sent_back};
 ghost use Rattle.turn_stun.specs.Message.{attributes_from};
+ghost use Rattle.turn_stun.specs.Read.{value_in};
 
 use crate::challenge::{Denial, offered_in, picked};
 use crate::integrity::IntegrityAlgorithm;

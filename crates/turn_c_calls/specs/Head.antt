@@ -43,7 +43,7 @@ head_judged relays r len buffer = needed (time_of r.time) Faults.Time (λ now.
 
 -- The packet is this head, the data and zeros. The head is at the front of the buffer, and the answer says its length and
 -- how many zeros there are.
-pub record IsHead (packet : Transmit (List ℕ)) (bytes : List ℕ) (buffer after : List ℕ) (a b : Answer) : Type 0 where
+pub record IsHeadOfPacket (packet : Transmit (List ℕ)) (bytes : List ℕ) (buffer after : List ℕ) (a b : Answer) : Type 0 where
   pub head : List ℕ
   pub spelled : packet.payload ≡ head ++ bytes ++ replicate b.start 0
   pub says : b ≡ record (packet_answer packet.transport packet.from packet.to a) { len = length head; start = b.start; left = 0 }
@@ -51,7 +51,7 @@ pub record IsHead (packet : Transmit (List ℕ)) (bytes : List ℕ) (buffer afte
 
 -- what sending this data says, without the data
 abbrev pub HeadShows : Result (Transmit (List ℕ)) SendError → List ℕ → List ℕ → List ℕ → Answer → Answer → Type 0
-HeadShows (Ok packet) bytes buffer after a b = IsHead packet bytes buffer after a b
+HeadShows (Ok packet) bytes buffer after a b = IsHeadOfPacket packet bytes buffer after a b
 HeadShows (Err error) bytes buffer after a b = (b ≡ refusal_answer (send_refusal error) a) × (after ≡ buffer)
 
 -- The data was sent: the client is in the state after that call, and the answer says what it returns.

@@ -12,13 +12,14 @@ use Rattle.turn_stun.specs.declared.message.header.MessageClass.TheVariants as C
 use Rattle.turn_stun.specs.declared.transport.TransportType.{TransportType}
 use Rattle.turn_stun.specs.declared.transport.TransportType.TheVariants.{Tcp}
 use Rattle.turn_hints.specs.First.{IsFirst}
-use Rattle.turn_hints.specs.Hints.{alternate_in, code_in, mapped_in, place_of, reason_place}
+use Rattle.turn_hints.specs.Hints.{alternate_in, mapped_in, place_of, reason_place}
 use Rattle.turn_hints.specs.declared.frame.FirstFrame.{FirstFrame}
 use Rattle.turn_hints.specs.declared.frame.FirstFrame.TheVariants.{Message, ChannelData, Part, NoFrame}
 use Rattle.turn_c_calls.specs.Address.{c_address, c_transport, no_address}
 use Rattle.turn_c_calls.specs.declared.address.Address.{Address}
 use Rattle.turn_c_calls.specs.declared.code.TheConstants.{BAD_CALL, CHANNEL_DATA, ERROR, INDICATION, MESSAGE, NO, NO_FRAME, NOTHING, REQUEST, SUCCESS, YES}
 use Rattle.turn_c_calls.specs.declared.hints.Hints.{Hints}
+use Rattle.turn_stun.specs.Read.{code_in}
 
 -- of this kind, with nothing else
 abbrev pub hints_of_kind : ℕ → Hints
@@ -59,8 +60,8 @@ place_len None = 0
 place_len (Some place) = place.end - place.start
 
 -- where the value of the first attribute of a type lies, among those that count
-abbrev pub place_in : ℕ → List ℕ → Option (Range ℕ)
-place_in kind message = option_map place_of (first_of kind (seen_of message))
+abbrev pub value_place : ℕ → List ℕ → Option (Range ℕ)
+value_place kind message = option_map place_of (first_of kind (seen_of message))
 
 abbrev pub reason_in : List ℕ → Option (Range ℕ)
 reason_in message = option_and_then reason_place (first_of 0x0009 (seen_of message))
@@ -74,8 +75,8 @@ hints_of_message m = record (hints_of_kind MESSAGE) {
   code = unwrap_or (code_in m) 0;
   reason_at = place_start (reason_in m);
   reason_len = place_len (reason_in m);
-  realm_at = place_start (place_in 0x0014 m);
-  realm_len = place_len (place_in 0x0014 m);
+  realm_at = place_start (value_place 0x0014 m);
+  realm_len = place_len (value_place 0x0014 m);
   mapped = address_or (mapped_in m);
   alternate = address_or (alternate_in m);
 }
@@ -96,7 +97,7 @@ SaysFirst transport bytes hints = SaysOver (c_transport transport) bytes hints
 
 -- the place of an attribute, of a message alone
 abbrev pub attribute_in : ℕ → FirstFrame → Option (Range ℕ)
-attribute_in kind (Message message) = place_in kind message
+attribute_in kind (Message message) = value_place kind message
 attribute_in kind _ = None
 
 abbrev pub found_code : Option (Range ℕ) → ℕ

@@ -11,7 +11,6 @@ use Rattle.turn_stun.specs.Message.{Attribute, id_of}
 use Rattle.turn_stun.specs.XorAddress.{xor_addr}
 use Rattle.turn_types.specs.declared.family.AddressFamily.{AddressFamily}
 use Rattle.turn_types.specs.declared.family.AddressFamily.TheVariants.{IPV4, IPV6}
-use Rattle.turn_auth.specs.Challenge.{code_in}
 use Rattle.turn_agent.specs.Agent as A
 use Rattle.turn_client_api.specs.State.{State, Phase, Allocated, Closed, Grant, Allocation, Permission, Channel, Offer, Origin, OwnConnect, Progress, Pending}
 use Rattle.turn_client_api.specs.State.{Active, Reserved, Purpose, ForAllocation, ForRefresh, ForPermission, ForChannel, ForConnect, later_by, seconds}
@@ -22,6 +21,7 @@ use Rattle.turn_client_api.specs.Requests.{relayed_kind, requested}
 use Rattle.turn_client_api.specs.Judgement.{lifetime_in, connection_id_in}
 use Rattle.turn_client_api.specs.declared.event.TurnEvent.TheVariants.{AllocationCreated, AllocationCreateFailed, PermissionCreated, PermissionCreateFailed}
 use Rattle.turn_client_api.specs.declared.event.TurnEvent.TheVariants.{ChannelCreated, ChannelCreateFailed, TcpConnectFailed}
+use Rattle.turn_stun.specs.Read.{code_in}
 
 -- ---- numbers of the standards
 

@@ -12,7 +12,7 @@ use Rattle.turn_types.specs.Icmp.{icmp_of}
 use Rattle.turn_types.specs.Send.{peer_kind, data_kind}
 use Rattle.turn_types.specs.Values.{number_of}
 use Rattle.turn_types.specs.declared.attribute.icmp_report.Icmp.{Icmp}
-use Rattle.turn_auth.specs.Challenge.{value_in, challenge_of}
+use Rattle.turn_auth.specs.Challenge.{challenge_of}
 use Rattle.turn_auth.specs.LongTerm.{Challenge}
 use Rattle.turn_auth.specs.Validation.{validation_of}
 use Rattle.turn_auth.specs.declared.validation.Validation.{Validation}
@@ -21,6 +21,7 @@ use Rattle.turn_agent.specs.Agent.{is_outstanding, is_response, same_address}
 use Rattle.turn_client_api.specs.State.{State, Phase, New, Requesting, Authenticating, Allocated, Closed, Purpose, ForBind, auth_of}
 use Rattle.turn_client_api.specs.Grants.{is_for_allocation, purposes_of}
 use Rattle.turn_client_api.specs.Requests.{data_method, connection_attempt_method, connection_id_kind, icmp_kind, lifetime_kind}
+use Rattle.turn_stun.specs.Read.{value_in}
 
 -- ---- what a message contains; attributes after its integrity are not seen
 

@@ -18,8 +18,8 @@ after Taken s = challenges_reset s
 after AllocationsDeleted s = challenges_reset (record s { phase = Closed })
 
 -- with the new ledger, it is all that the reply changes for these purposes, in order
-abbrev pub Answers : List Purpose → Bool → List ℕ → ℕ → Ledger → Ledger → Effect → Type 0
-Answers purposes is_granted message now was ledger outcome =
+abbrev pub AnswersPurposes : List Purpose → Bool → List ℕ → ℕ → Ledger → Ledger → Effect → Type 0
+AnswersPurposes purposes is_granted message now was ledger outcome =
     (s : State) → after outcome (with_ledger ledger s) ≡ fold (effect (id_of message) is_granted message now) (with_ledger was s) purposes
 
 -- the reply to a CONNECT makes an offer, or reports that the connection failed (RFC 6062, section 4.3)

@@ -4,7 +4,7 @@
 ghost use Rattle.std.specs.Prelude.{◌≡◌, ◌≤◌, ◌||◌, option_to_list};
 ghost use Rattle.turn_client_api.specs.Effect.{allocation_mismatch, effect, delete_answered, has_code, prolonged, refreshed};
 ghost use Rattle.turn_client_api.specs.State.{State};
-ghost use Rattle.turn_client_core.specs.Effects.{Answers, after, connect_replied};
+ghost use Rattle.turn_client_core.specs.Effects.{AnswersPurposes, after, connect_replied};
 ghost use Rattle.turn_client_grants.specs.Ledger.{LessRoom, SameRoomBut, with_ledger};
 ghost use Rattle.turn_client_grants.specs.GrantFilter.{purposes_in};
 ghost use Rattle.turn_stun.specs.Message.{id_of};
@@ -61,7 +61,7 @@ pub(crate) fn answer_all(
     requires grant_room { 6 ≤ ledger.old.grant_room }
     requires event_room { 18 ≤ ledger.old.event_room }
     requires close_room { 2 ≤ ledger.old.close_room }
-    ensures state { Answers (purposes_in purposes.now) is_granted message.now now ledger.old ledger.new result }
+    ensures state { AnswersPurposes (purposes_in purposes.now) is_granted message.now now ledger.old ledger.new result }
     ensures room { LessRoom 6 0 18 2 ledger.old ledger.new }
 {
     let first = answer_one(ledger, &purposes.first, message, is_granted, now);
@@ -80,7 +80,7 @@ fn answer_one(
     requires grant_room { 3 ≤ ledger.old.grant_room }
     requires event_room { 9 ≤ ledger.old.event_room }
     requires close_room { 1 ≤ ledger.old.close_room }
-    ensures state { Answers (option_to_list purpose.now) is_granted message.now now ledger.old ledger.new result }
+    ensures state { AnswersPurposes (option_to_list purpose.now) is_granted message.now now ledger.old ledger.new result }
     ensures room { LessRoom 3 0 9 1 ledger.old ledger.new }
 {
     match purpose {

@@ -12,7 +12,7 @@ use Rattle.turn_client_api.specs.declared.grant.Listing.{Listing}
 use Rattle.turn_client_api.specs.declared.grant.Progress.TheVariants.{Active}
 use Rattle.turn_client_api.specs.declared.grant.Relay.{Relay}
 use Rattle.turn_client_grants.specs.Lists.{with_ahead, with_lists}
-use Rattle.turn_client_grants.specs.Summary.{IsSummary, far, is_kept, kept_expiry, refresh_in, relay_refresh}
+use Rattle.turn_client_grants.specs.Summary.{IsSummary, far, is_to_refresh, kept_expiry, refresh_in, relay_refresh}
 use Rattle.turn_client_grants.specs.declared.summary.Summary.{Summary}
 use Rattle.turn_client_grants.proofs.SummaryLemmas.{flat-options, flat-same, fold-min-both, fold-min-le}
 
@@ -24,7 +24,7 @@ before ahead expiry = option_map (λ time. time - ahead) expiry
 
 -- of an allocation
 abbrev of_relay : ℕ → State → Grant → Option ℕ
-of_relay ahead s (Allocation a) = if is_kept s.listed a then Some (refresh_time_of ahead a) else None
+of_relay ahead s (Allocation a) = if is_to_refresh s.listed a then Some (refresh_time_of ahead a) else None
 of_relay ahead s _ = None
 
 abbrev of_permission : ℕ → State → Grant → Option ℕ
@@ -84,28 +84,28 @@ three-parts m f h k gs =
 -- ---- the allocations
 
 relays-of : (ahead : ℕ) (s : State) (gs : List Grant)
-    → filter_map (of_relay ahead s) gs ≡ filter_map (λ (a : Relay). if is_kept s.listed a then Some (refresh_time_of ahead a) else None) (filter_map as_allocation gs)
+    → filter_map (of_relay ahead s) gs ≡ filter_map (λ (a : Relay). if is_to_refresh s.listed a then Some (refresh_time_of ahead a) else None) (filter_map as_allocation gs)
 relays-of ahead s [] = refl
 relays-of ahead s (g ∷ gs) = grind (arith, relays-of ahead s gs)
 
 both-relays : (ahead : ℕ) (listed : List Listing) (first second : Option Relay)
-    → fold min max_time (filter_map (λ (a : Relay). if is_kept listed a then Some (refresh_time_of ahead a) else None) (option_to_list first ++ option_to_list second))
-    ≡ fold min (fold min max_time (option_to_list (relay_refresh ahead (option_map_or (is_kept listed) first false) first)))
-    (option_to_list (relay_refresh ahead (option_map_or (is_kept listed) second false) second))
+    → fold min max_time (filter_map (λ (a : Relay). if is_to_refresh listed a then Some (refresh_time_of ahead a) else None) (option_to_list first ++ option_to_list second))
+    ≡ fold min (fold min max_time (option_to_list (relay_refresh ahead (option_map_or (is_to_refresh listed) first false) first)))
+    (option_to_list (relay_refresh ahead (option_map_or (is_to_refresh listed) second false) second))
 both-relays ahead listed None None = refl
-both-relays ahead listed None (Some b) = one (is_kept listed b)
+both-relays ahead listed None (Some b) = one (is_to_refresh listed b)
   where
     one : (k : Bool) → fold min max_time (filter_map (λ (x : Option ℕ). x) ((if k then Some (refresh_time_of ahead b) else None) ∷ []))
         ≡ fold min max_time (option_to_list (if k then Some (refresh_time_of ahead b) else None))
     one true = refl
     one false = refl
-both-relays ahead listed (Some a) None = one (is_kept listed a)
+both-relays ahead listed (Some a) None = one (is_to_refresh listed a)
   where
     one : (k : Bool) → fold min max_time (filter_map (λ (x : Option ℕ). x) ((if k then Some (refresh_time_of ahead a) else None) ∷ []))
         ≡ fold min max_time (option_to_list (if k then Some (refresh_time_of ahead a) else None))
     one true = refl
     one false = refl
-both-relays ahead listed (Some a) (Some b) = two (is_kept listed a) (is_kept listed b)
+both-relays ahead listed (Some a) (Some b) = two (is_to_refresh listed a) (is_to_refresh listed b)
   where
     two : (j k : Bool) → fold min max_time (filter_map (λ (x : Option ℕ). x) ((if j then Some (refresh_time_of ahead a) else None) ∷ (if k then Some (refresh_time_of ahead b) else None) ∷ []))
         ≡ fold min (fold min max_time (option_to_list (if j then Some (refresh_time_of ahead a) else None))) (option_to_list (if k then Some (refresh_time_of ahead b) else None))
@@ -128,11 +128,11 @@ refresh-is ahead summary grants listed s relays summed =
     ∙ three-parts max_time (of_relay ahead t) (of_permission ahead t) (of_channel ahead t) grants in
     let permissions = fold-before max_time far (time_ahead ahead permission_lifetime) (kept_expiry false t) grants (omega arith) in
     let channels = fold-before max_time far (time_ahead ahead channel_lifetime) (kept_expiry true t) grants (omega arith) in
-    let first : summary.keeps_first ≡ option_map_or (is_kept listed) summary.first false = rw summed.first summed.keeps_first in
-    let second : summary.keeps_second ≡ option_map_or (is_kept listed) summary.second false = rw summed.second summed.keeps_second in
+    let first : summary.keeps_first ≡ option_map_or (is_to_refresh listed) summary.first false = rw summed.first summed.keeps_first in
+    let second : summary.keeps_second ≡ option_map_or (is_to_refresh listed) summary.second false = rw summed.second summed.keeps_second in
     let own : fold min max_time (filter_map (of_relay ahead t) grants)
     ≡ fold min (fold min max_time (option_to_list (relay_refresh ahead summary.keeps_first summary.first))) (option_to_list (relay_refresh ahead summary.keeps_second summary.second)) =
-    ap (λ (xs : List ℕ). fold min max_time xs) (relays-of ahead t grants ∙ ap (filter_map (λ (a : Relay). if is_kept listed a then Some (refresh_time_of ahead a) else None)) relays)
+    ap (λ (xs : List ℕ). fold min max_time xs) (relays-of ahead t grants ∙ ap (filter_map (λ (a : Relay). if is_to_refresh listed a then Some (refresh_time_of ahead a) else None)) relays)
     ∙ (both-relays ahead listed summary.first summary.second ∙ rw (first, second) refl) in
     let low = fold-min-le max_time (filter_map (of_relay ahead t) grants) in
     omega (arith, whole, permissions, channels, own, low, summed.permissions s, summed.channels s)

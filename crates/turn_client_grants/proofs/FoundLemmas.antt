@@ -6,7 +6,7 @@ use Rattle.std.proofs.lemmas.List.{set-get_or}
 use Rattle.std.proofs.lemmas.List.Edits.{map_over_more}
 use Rattle.std.proofs.lemmas.Option.{same_Some}
 use Rattle.turn_client_api.specs.declared.grant.Grant.{Grant}
-use Rattle.turn_client_grants.specs.Found.{LeavesOthers, key_of}
+use Rattle.turn_client_grants.specs.Found.{LeavesOthers, lookup_key}
 use Rattle.turn_client_grants.specs.GrantFilter.{holds}
 use Rattle.turn_client_grants.specs.Index.{IsIndex}
 use Rattle.turn_client_grants.specs.Keys.{found_after, is_found_by}
@@ -22,14 +22,14 @@ use Rattle.turn_client_grants.proofs.KeyLemmas.{found-changed, index-changed_by,
 
 -- ---- the key of a filter
 
-pub key-finds : (which : GrantFilter) (key : Key) → key_of which ≡ Some key → is_found_by key ≡ holds which
+pub key-finds : (which : GrantFilter) (key : Key) → lookup_key which ≡ Some key → is_found_by key ≡ holds which
 unfolding holds
 key-finds (W.PermissionOf ip) key is = subst (λ (k : Key). is_found_by k ≡ holds (W.PermissionOf ip)) (same_Some (By.Ip ip) key is) refl
 key-finds (W.ChannelOf number) key is = subst (λ (k : Key). is_found_by k ≡ holds (W.ChannelOf number)) (same_Some (By.Number number) key is) refl
 key-finds (W.OpenTo peer) key is = subst (λ (k : Key). is_found_by k ≡ holds (W.OpenTo peer)) (same_Some (By.Peer peer) key is) refl
 key-finds which key is = cc
 
-pub renewal-leaves : (which : GrantFilter) (key : Key) (expiry : ℕ) → key_of which ≡ Some key → LeavesOthers key (C.Renew which expiry)
+pub renewal-leaves : (which : GrantFilter) (key : Key) (expiry : ℕ) → lookup_key which ≡ Some key → LeavesOthers key (C.Renew which expiry)
 unfolding changed
 renewal-leaves which key expiry is g other = rw (← key-finds which key is, other) refl
 

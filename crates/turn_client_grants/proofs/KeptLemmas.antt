@@ -21,7 +21,7 @@ use Rattle.turn_client_grants.specs.Index.{IsIndex}
 use Rattle.turn_client_grants.specs.Keys.{is_found_by}
 use Rattle.turn_client_grants.specs.Lists.{find_allocation_in, with_lists}
 use Rattle.turn_client_grants.specs.Pending.{is_pending, is_refreshed}
-use Rattle.turn_client_grants.specs.Summary.{IsSummary, end_in, far, is_kept, is_requested, is_reserved, is_unreported, kept_expiry, expiry_time_in, never}
+use Rattle.turn_client_grants.specs.Summary.{IsSummary, end_in, far, is_to_refresh, is_requested, is_reserved, is_unreported, kept_expiry, expiry_time_in, never}
 use Rattle.turn_client_grants.specs.Table.{unlisted_in}
 use Rattle.turn_client_grants.specs.GrantFilter.{purposes_in}
 use Rattle.turn_client_grants.specs.declared.key.Key.{Key}
@@ -86,8 +86,8 @@ summary-joined was now rows others last listed none are first second end next_ex
       end = end ∙ (least-joined end_in max_time was.end others last summed.end ∙ ap (λ gs. fold min max_time (filter_map end_in gs)) (sym are));
       next_expiry = next_expiry
           ∙ (least-joined (expiry_time_in listed) never was.next_expiry others last summed.next_expiry ∙ ap (λ gs. fold min never (filter_map (expiry_time_in listed) gs)) (sym are));
-      keeps_first = keeps_first ∙ (summed.keeps_first ∙ ap (λ xs. option_map_or (is_kept listed) (slice_get xs 0) false) (sym relays));
-      keeps_second = keeps_second ∙ (summed.keeps_second ∙ ap (λ xs. option_map_or (is_kept listed) (slice_get xs 1) false) (sym relays));
+      keeps_first = keeps_first ∙ (summed.keeps_first ∙ ap (λ xs. option_map_or (is_to_refresh listed) (slice_get xs 0) false) (sym relays));
+      keeps_second = keeps_second ∙ (summed.keeps_second ∙ ap (λ xs. option_map_or (is_to_refresh listed) (slice_get xs 1) false) (sym relays));
       permissions = λ s.
           permissions s
           ∙ (least-joined (kept_expiry false (with_lists rows listed s)) far was.permissions others last
@@ -156,8 +156,8 @@ summary-without summary gone rows listed are summed =
       second = summed.second ∙ ap (λ xs. slice_get xs 1) (sym relays);
       end = summed.end ∙ ap (λ xs. fold min max_time xs) (sym (given-without end_in no-end gone rows are));
       next_expiry = summed.next_expiry ∙ ap (λ xs. fold min never xs) (sym (given-without (expiry_time_in listed) (no-expiry listed) gone rows are));
-      keeps_first = summed.keeps_first ∙ ap (λ xs. option_map_or (is_kept listed) (slice_get xs 0) false) (sym relays);
-      keeps_second = summed.keeps_second ∙ ap (λ xs. option_map_or (is_kept listed) (slice_get xs 1) false) (sym relays);
+      keeps_first = summed.keeps_first ∙ ap (λ xs. option_map_or (is_to_refresh listed) (slice_get xs 0) false) (sym relays);
+      keeps_second = summed.keeps_second ∙ ap (λ xs. option_map_or (is_to_refresh listed) (slice_get xs 1) false) (sym relays);
       permissions = λ s. summed.permissions s ∙ ap (λ xs. fold min far xs) (sym (kept false s relays));
       channels = λ s. summed.channels s ∙ ap (λ xs. fold min far xs) (sym (kept true s relays));
       unreported = summed.unreported ∙ sym (any-without is_unreported not-unreported gone rows are);
@@ -195,7 +195,7 @@ refreshes-alike of_channels all (g ∷ rows) listed later s alike = rw (by (is_r
 
 -- an allocation has a request in both lists, or in neither
 keeps-alike : (place : ℕ) (rows : List Grant) (listed later : List Listing) → AreAlike rows listed later
-    → option_map_or (is_kept later) (slice_get (filter_map as_allocation rows) place) false ≡ option_map_or (is_kept listed) (slice_get (filter_map as_allocation rows) place) false
+    → option_map_or (is_to_refresh later) (slice_get (filter_map as_allocation rows) place) false ≡ option_map_or (is_to_refresh listed) (slice_get (filter_map as_allocation rows) place) false
 keeps-alike place [] listed later alike = refl
 keeps-alike zero (Allocation a ∷ rows) listed later alike = rw (alike.0 refl) refl
 keeps-alike (suc place) (Allocation a ∷ rows) listed later alike = keeps-alike place rows listed later alike.1

@@ -10,11 +10,11 @@ use Rattle.turn_client_grants.specs.declared.key.Key.{Key}
 use Rattle.turn_client_grants.specs.declared.key.Key.TheVariants as By
 
 -- the key that finds just the grants of the filter
-abbrev pub key_of : GrantFilter → Option Key
-key_of (W.PermissionOf ip) = Some (By.Ip ip)
-key_of (W.ChannelOf number) = Some (By.Number number)
-key_of (W.OpenTo peer) = Some (By.Peer peer)
-key_of _ = None
+abbrev pub lookup_key : GrantFilter → Option Key
+lookup_key (W.PermissionOf ip) = Some (By.Ip ip)
+lookup_key (W.ChannelOf number) = Some (By.Number number)
+lookup_key (W.OpenTo peer) = Some (By.Peer peer)
+lookup_key _ = None
 
 -- the change leaves each grant that the key does not find
 abbrev pub LeavesOthers : Key → Change → Type 0

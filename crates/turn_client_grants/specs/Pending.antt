@@ -13,9 +13,9 @@ use Rattle.turn_client_grants.specs.declared.purposes.Purposes.{Purposes}
 abbrev pub is_pending : Grant → Bool
 is_pending g = is_pending_permission g || is_pending_channel g
 
-abbrev pub is_active : Progress → Bool
-is_active (Active lease) = true
-is_active _ = false
+abbrev pub has_lease : Progress → Bool
+has_lease (Active lease) = true
+has_lease _ = false
 
 -- a grant of this kind is refreshed, however long ahead, and the requests for it decide when
 abbrev pub is_refreshed : Grant → Bool

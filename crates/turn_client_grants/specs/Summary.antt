@@ -57,8 +57,8 @@ unfoldable pub kept_expiry : Bool → State → Grant → Option ℕ
 kept_expiry of_channels s g = option_and_then (λ expiry. if needs_refresh g s then Some expiry else None) (expiry_by_kind of_channels g)
 
 -- an allocation is to be refreshed
-abbrev pub is_kept : List Listing → Relay → Bool
-is_kept listed a = not a.is_expired && not (list_any (λ l. is_for l.purpose (Allocation a)) listed)
+abbrev pub is_to_refresh : List Listing → Relay → Bool
+is_to_refresh listed a = not a.is_expired && not (list_any (λ l. is_for l.purpose (Allocation a)) listed)
 
 -- later than each time by more than a refresh is ahead
 abbrev pub far : ℕ
@@ -114,8 +114,8 @@ pub record IsSummary (summary : Summary) (grants : List Grant) (listed : List Li
   pub second : summary.second ≡ slice_get (filter_map as_allocation grants) 1
   pub end : summary.end ≡ fold min max_time (filter_map end_in grants)
   pub next_expiry : summary.next_expiry ≡ fold min never (filter_map (expiry_time_in listed) grants)
-  pub keeps_first : summary.keeps_first ≡ option_map_or (is_kept listed) (slice_get (filter_map as_allocation grants) 0) false
-  pub keeps_second : summary.keeps_second ≡ option_map_or (is_kept listed) (slice_get (filter_map as_allocation grants) 1) false
+  pub keeps_first : summary.keeps_first ≡ option_map_or (is_to_refresh listed) (slice_get (filter_map as_allocation grants) 0) false
+  pub keeps_second : summary.keeps_second ≡ option_map_or (is_to_refresh listed) (slice_get (filter_map as_allocation grants) 1) false
   pub permissions : (s : State) → summary.permissions ≡ fold min far (filter_map (kept_expiry false (with_lists grants listed s)) grants)
   pub channels : (s : State) → summary.channels ≡ fold min far (filter_map (kept_expiry true (with_lists grants listed s)) grants)
   pub unreported : summary.has_unreported ≡ list_any is_unreported grants

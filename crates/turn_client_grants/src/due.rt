@@ -7,7 +7,7 @@ ghost use Rattle.turn_client_api.specs.Due.{is_refreshable, refresh_time_by_kind
 ghost use Rattle.turn_client_api.specs.State.{State};
 ghost use Rattle.turn_client_api.specs.Transmit.{is_refresh_due};
 ghost use Rattle.turn_client_grants.specs.Lists.{find_allocation_in, with_ahead, with_lists};
-ghost use Rattle.turn_client_grants.specs.Pending.{is_active, is_refreshed};
+ghost use Rattle.turn_client_grants.specs.Pending.{has_lease, is_refreshed};
 
 use crate::kind::{family_of, family_of_ip};
 use crate::listed::has_request;
@@ -129,7 +129,7 @@ pub(crate) fn is_refreshed(grant: &Grant) -> bool
 
 /// Whether the server granted it, and it is not reserved.
 fn is_active(progress: &Progress) -> bool
-    ensures { result ≡ is_active progress.now }
+    ensures { result ≡ has_lease progress.now }
 {
     matches!(progress, Progress::Active(_))
 }

@@ -1,7 +1,7 @@
 //! Which grants a change applies to.
 
 ghost use Rattle.std.specs.Prelude.{◌≡◌};
-ghost use Rattle.turn_client_grants.specs.Found.{key_of};
+ghost use Rattle.turn_client_grants.specs.Found.{lookup_key};
 ghost use Rattle.turn_client_grants.specs.GrantFilter.{holds};
 
 use crate::key::{Key, is_open_to};
@@ -104,7 +104,7 @@ impl GrantFilter {
 
     /// The key that finds just these grants, if there is one.
     pub(crate) fn key(&self) -> Option<Key>
-        ensures { result ≡ key_of self.now }
+        ensures { result ≡ lookup_key self.now }
     {
         match self {
             GrantFilter::PermissionOf(ip) => Some(Key::Ip(*ip)),

@@ -6,7 +6,7 @@ ghost use Rattle.std.specs.List.{list_any};
 ghost use Rattle.std.specs.Option.{option_map_or};
 ghost use Rattle.turn_client_api.specs.Grants.{as_allocation};
 ghost use Rattle.turn_client_api.specs.declared.grant.Grant.{Grant};
-ghost use Rattle.turn_client_grants.specs.Summary.{IsSummary, is_kept, refresh_in, relay_refresh};
+ghost use Rattle.turn_client_grants.specs.Summary.{IsSummary, is_to_refresh, refresh_in, relay_refresh};
 
 use crate::due::{CHANNEL_LIFETIME, PERMISSION_LIFETIME, least, refresh_time_of, time_ahead};
 use crate::kind::is_allocation;
@@ -152,7 +152,7 @@ fn joined(summary: &Summary, grants: &[Grant], listed: &[Listing], last: &[Grant
 /// Whether the allocation is to be refreshed: it is not marked as expired, and no request for it is
 /// pending.
 fn is_kept(listed: &[Listing], relay: &Option<Relay>) -> bool
-    ensures { result ≡ option_map_or (is_kept listed.now) relay.now false }
+    ensures { result ≡ option_map_or (is_to_refresh listed.now) relay.now false }
 {
     match relay {
         Some(relay) => !relay.is_expired && !has_request(listed, &Grant::Allocation(*relay)),

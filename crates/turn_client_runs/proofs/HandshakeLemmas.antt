@@ -59,7 +59,7 @@ use Rattle.turn_client_laws.proofs.SendOrderLemmas.{initial-steady, leaves-stead
 use Rattle.turn_client_laws.proofs.InAllocation.{GrantsHaveAllocations-AllHaveAllocation, initial-GrantsHaveAllocations, leaves-GrantsHaveAllocations}
 use Rattle.turn_client_laws.proofs.DistinctGrants.{initial-single, leaves-single}
 use Rattle.turn_client_runs.proofs.HoldLemmas.{kept-behind}
-use Rattle.turn_client_runs.specs.Lasting.{HasRoom, IsInForce, IsSteady, IsWithin, ahead_of, expiry_of}
+use Rattle.turn_client_runs.specs.Lasting.{HasRoom, IsInForce, IsSteady, HoldsAtMost, ahead_of, expiry_of}
 use Rattle.turn_client_runs.specs.OnTime.{IsInTime, time_of, time_of_all}
 use Rattle.turn_client_runs.specs.Handshake.{HandshakeEndsSteadily, HandshakeSucceeds, IsAllocating, IsFirstChallenge, IsStep, RunsHandshake}
 use Rattle.turn_client_runs.proofs.LastingSends.{none-due, none-over, transmits}
@@ -510,10 +510,10 @@ steady-next : (count slots extras delay start now lifetime : ℕ) (packet : Tran
     → now ≤ 2 ^ 62
     → IsAllocating packet s → s.queue ≡ [] → lifetime_in packet.payload ≡ Some lifetime → min_lifetime ≤ lifetime
     → HasRoom count slots extras s.config.request_cadence delay (min s.config.refresh_ahead (seconds 150))
-    → IsWithin count slots (state_after (Recv packet now) s) → IsSteady count slots extras delay now (state_after (Recv packet now) s)
+    → HoldsAtMost count slots (state_after (Recv packet now) s) → IsSteady count slots extras delay now (state_after (Recv packet now) s)
 steady-next count slots extras delay start now lifetime packet s (fits, distinct, in_allocations) p x a range is empty said enough room within =
     let after = fit-stays (Recv packet now) s (state_after (Recv packet now) s) (inl refl) (fits, distinct, in_allocations) in
-    let next : AreFit t × IsWithin count slots t = subst (λ (z : State). AreFit z × IsWithin count slots z) whole (after, within) in
+    let next : AreFit t × HoldsAtMost count slots t = subst (λ (z : State). AreFit z × HoldsAtMost count slots z) whole (after, within) in
     subst (IsSteady count slots extras delay now) (sym whole) (record {
       allocated = phase-some addresses is.relayed;
       none_queued = empty;

@@ -41,7 +41,7 @@ use Rattle.turn_client_laws.specs.LawsRows.{relayed_v4}
 use Rattle.turn_client_api.proofs.AddressLemmas.{same_address-self}
 use Rattle.turn_client_runs.specs.Handshake.{IsAllocating, IsFirstChallenge, RunsHandshake}
 use Rattle.turn_client_runs.specs.HandshakeRows.{HandshakeIsWorked, allocated_text, allocation_packet, challenge_text, handshake_calls, new_client}
-use Rattle.turn_client_runs.specs.Lasting.{IsWithin}
+use Rattle.turn_client_runs.specs.Lasting.{HoldsAtMost}
 use Rattle.turn_client_runs.specs.OnTime.{IsFromServer, IsInTime}
 use Rattle.turn_client_runs.specs.Server.{from_server}
 use Rattle.turn_client_runs.proofs.HandshakeLemmas.{run-steadily, second-judged}
@@ -394,7 +394,7 @@ module _ (local remote : SocketAddr) (config : Config) (seed : List ℕ) where
   abbrev Ends : State → Transmit (List ℕ) → Type 0
   Ends x packet =
       IsAllocating packet x × ((state_after (Recv packet 200_000_000) x).grants ≡ new_allocation 600 200_000_000 relayed_v4 ∷ [])
-      × IsInTime 100_000_000 100_000_000 200_000_000 x × (x.queue ≡ []) × (lifetime_in packet.payload ≡ Some 600) × IsWithin 3 1 (state_after (Recv packet 200_000_000) x)
+      × IsInTime 100_000_000 100_000_000 200_000_000 x × (x.queue ≡ []) × (lifetime_in packet.payload ≡ Some 600) × HoldsAtMost 3 1 (state_after (Recv packet 200_000_000) x)
 
   ends : Ends h3 (from_server h3 bytes)
   ends = (

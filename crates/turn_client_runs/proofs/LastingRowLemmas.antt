@@ -34,7 +34,7 @@ use Rattle.turn_client_api.specs.Transmit.{is_refresh_due}
 use Rattle.turn_client_laws.specs.LawsRows.{granted_at, ip_of_peer, peer, relayed_v4}
 use Rattle.turn_client_api.proofs.HasLemmas.{Has, all-has, has-all}
 use Rattle.turn_client_laws.proofs.TimelyLemmas.{poll-timely}
-use Rattle.turn_client_runs.specs.Lasting.{HasRoom, IsInForce, IsSteady, IsSuccess, IsWithin, RunsSteadily, ahead_of, expiry_of}
+use Rattle.turn_client_runs.specs.Lasting.{HasRoom, IsInForce, IsSteady, IsSuccess, HoldsAtMost, RunsSteadily, ahead_of, expiry_of}
 use Rattle.turn_client_runs.specs.LastingRows.{RelayStaysUp, with_allocation, calls_of_700_s, granted_call, refreshed_grants, served}
 use Rattle.turn_client_runs.specs.History.{History, IsSeldom, is_extra, lost, no_history, with_call}
 use Rattle.turn_client_runs.specs.OnTime.{IsOnTime}
@@ -124,9 +124,9 @@ pub record IsRound (before now id : ℕ) (purpose : Purpose) (others : List Purp
   answered : r.transactions ≡ []
   calm : r.challenges ≡ 0
   reported : state_after PollEvent (state_after PollEvent r) ≡ v
-  within_u : IsWithin 3 1 u
-  within_r : IsWithin 3 1 r
-  within_v : IsWithin 3 1 v
+  within_u : HoldsAtMost 3 1 u
+  within_r : HoldsAtMost 3 1 r
+  within_v : HoldsAtMost 3 1 v
 
 module _ (before now id last : ℕ) (later : List ℕ) (purpose : Purpose) (others : List Purpose) (text : List ℕ) (s u r v : State) (is : IsRound before now id purpose others text s u r v) where
   abbrev pub reply : Call
@@ -158,8 +158,8 @@ module _ (before now id last : ℕ) (later : List ℕ) (purpose : Purpose) (othe
   tail : Goes (now + delay) v (served last later v) → Goes (now + delay) r (PollEvent ∷ PollEvent ∷ served last later (state_after PollEvent (state_after PollEvent r)))
   tail (runs, ends) = (steady, over)
     where
-      within-v : IsWithin 3 1 (state_after PollEvent (state_after PollEvent r))
-      within-v = subst (IsWithin 3 1) (sym is.reported) is.within_v
+      within-v : HoldsAtMost 3 1 (state_after PollEvent (state_after PollEvent r))
+      within-v = subst (HoldsAtMost 3 1) (sym is.reported) is.within_v
 
       over : (state_after_all (state_after PollEvent (state_after PollEvent r)) (served last later (state_after PollEvent (state_after PollEvent r)))).grants ≡ refreshed_grants
       over = subst (λ (x : State). (state_after_all x (served last later x)).grants ≡ refreshed_grants) (sym is.reported) ends
@@ -208,7 +208,7 @@ module _ (before now id last : ℕ) (later : List ℕ) (purpose : Purpose) (othe
           let none = no-extra reply (now + delay) u past fits.0 calm refl in (
             record { on_time = is.awaits; answered = answered-in (now + delay) past u fits waits-u },
             inl success,
-            subst (IsWithin 3 1) (sym after-reply) is.within_r,
+            subst (HoldsAtMost 3 1) (sym after-reply) is.within_r,
             seldom-none u.config.refresh_ahead (now + delay) next none,
             rest.0 next (none, fits-next next),
           )
@@ -232,7 +232,7 @@ module _ (before now id last : ℕ) (later : List ℕ) (purpose : Purpose) (othe
           let none = no-extra (PollTransmit now) now s past fits.0 (rw is.idle refl) refl in (
             record { on_time = is.on_time; answered = answered-in now past s fits is.waits },
             tt,
-            subst (IsWithin 3 1) (sym is.sends) is.within_u,
+            subst (HoldsAtMost 3 1) (sym is.sends) is.within_u,
             seldom-none s.config.refresh_ahead now next none,
             rest.0 next (none, fits-next next (is.made past fits)),
           )
@@ -562,7 +562,7 @@ module _ (s : State) (some : IsSome s.held) where
     λ past fits. (
       record { on_time = punctual-6; answered = all-none (λ (x : Transaction). 700_000_000_000 ≤ past.made x.id + delay) },
       tt,
-      subst (λ (q : TurnPollRet × State). IsWithin 3 1 q.1) (sym reported-6) (omega arith, omega arith),
+      subst (λ (q : TurnPollRet × State). HoldsAtMost 3 1 q.1) (sym reported-6) (omega arith, omega arith),
       seldom-none 60_000_000_000 700_000_000_000 (with_call (Poll 700_000_000_000) 700_000_000_000 s5 past) fits.0,
       tt,
     ),
@@ -630,7 +630,7 @@ module _ (s : State) (some : IsSome s.held) where
               answered = all-none (λ (x : Transaction). 1_000_000_000 ≤ past.made x.id + delay);
             },
             tt,
-            subst (IsWithin 3 1) (sym binds) (omega arith, omega arith),
+            subst (HoldsAtMost 3 1) (sym binds) (omega arith, omega arith),
             seldom-none 60_000_000_000 1_000_000_000 next fits.0,
             rest.0 next (fits.0, fits-bound next (call-made (BindChannel Udp peer 1_000_000_000) 1_000_000_000 past s0)),
           )

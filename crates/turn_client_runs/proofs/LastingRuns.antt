@@ -53,8 +53,8 @@ use Rattle.turn_client_api.proofs.AllocationLemmas.{allocation-there}
 use Rattle.turn_client_api.proofs.HasLemmas.{Has, filter-has, has-filter, map-has}
 use Rattle.turn_client_laws.proofs.InAllocationLemmas.{any-has, has-any}
 use Rattle.turn_client_laws.proofs.TwoPurposes.{purpose-with}
-use Rattle.turn_client_runs.specs.Lasting.{AreInTime, IsChallenge, Answers, DatagramsAreMessages, IsQuiet, IsSuccess}
-use Rattle.turn_client_runs.specs.Lasting.{IsWithin, RunsSteadily, SuccessesEndRequests}
+use Rattle.turn_client_runs.specs.Lasting.{AreInTime, IsAnsweredChallenge, Answers, DatagramsAreMessages, IsQuiet, IsSuccess}
+use Rattle.turn_client_runs.specs.Lasting.{HoldsAtMost, RunsSteadily, SuccessesEndRequests}
 use Rattle.turn_client_runs.proofs.MadeLemmas.{success-ends}
 use Rattle.turn_client_runs.specs.OnTime.{IsFromServer, time_of, time_of_all}
 use Rattle.turn_client_runs.specs.History.{History, is_replied, IsSeldom, extra_since, is_extra, lost, was_let_go, with_call, with_calls}
@@ -315,7 +315,7 @@ retry_step message challenge now s =
     option_map_or (λ purpose. (Handled, state_after_retry s (id_of message) purpose challenge now)) (retried (purposes_of (id_of message) s)) (Ignored, s)
 
 challenged : (packet : Transmit (List ℕ)) (now : ℕ) (past : History) (s : State) (challenge : Challenge) → s.phase ≡ Allocated
-    → s.challenges < s.config.max_stale_nonces → IsChallenge packet now past s → challenge_in s packet.payload ≡ Some challenge
+    → s.challenges < s.config.max_stale_nonces → IsAnsweredChallenge packet now past s → challenge_in s packet.payload ≡ Some challenge
     → state_after (Recv packet now) s ≡ (retry_step packet.payload challenge now s).1
 challenged packet now past s challenge p few is o = is.message ∙ ap (λ (z : Outcome × State). z.1) (judged ∙ counted)
   where
@@ -350,7 +350,7 @@ module _ (count slots extras delay before : ℕ) (past : History) (s : State) wh
   same-kept c k seldom same =
       subst (Keeps (time_of before c) past (onward c)) (sym same) (calm c s k seldom (same-row c (time_of before c) past s same k.row) (λ k. (k, goes-same (onward c) s s refl refl refl)))
 
-  asks-kept : (now : ℕ) (later : History) → later.made (fresh_id s) ≡ now → Kept now later → Asks (λ t. IsWithin count slots t → Keeps now later later t) now s
+  asks-kept : (now : ℕ) (later : History) → later.made (fresh_id s) ≡ now → Kept now later → Asks (λ t. HoldsAtMost count slots t → Keeps now later later t) now s
   asks-kept now later fresh k ps news text are w =
       (asked-kept count slots extras delay now later s k ps news are text fresh w.0 w.1, asked-goes count slots extras delay now later s k ps news are text fresh)
 
@@ -371,8 +371,8 @@ module _ (count slots extras delay before : ℕ) (past : History) (s : State) wh
           )
 
   -- the server requires another nonce
-  module _ (packet : Transmit (List ℕ)) (now : ℕ) (k : Kept now past) (seldom : Seldom (Recv packet now)) (is : IsChallenge packet now past s)
-      (within : IsWithin count slots (state_after (Recv packet now) s)) where
+  module _ (packet : Transmit (List ℕ)) (now : ℕ) (k : Kept now past) (seldom : Seldom (Recv packet now)) (is : IsAnsweredChallenge packet now past s)
+      (within : HoldsAtMost count slots (state_after (Recv packet now) s)) where
     abbrev of_reply : ℕ
     of_reply = id_of packet.payload
 
@@ -410,7 +410,7 @@ module _ (count slots extras delay before : ℕ) (past : History) (s : State) wh
 
         fits : length s.queue + 1 ≤ slots
         fits =
-            let few = (subst (IsWithin count slots) e within).1 in
+            let few = (subst (HoldsAtMost count slots) e within).1 in
             let len = retried-queue s of_reply purpose challenge now in
             omega (arith, few, len)
 
@@ -562,7 +562,7 @@ module _ (count slots extras delay before : ℕ) (past : History) (s : State) wh
   channel-let_go transport peer false ok (Channel number other progress) is e = or_right (past.channel_let_go number other) _ (rw ok (and_parts (is_in_progress progress) _ is).1)
   channel-let_go transport peer false ok g is e = cc
 
-  call-by : (c : Call) → Kept (time_of before c) past → Seldom c → IsQuiet c past s → IsWithin count slots (state_after c s) → Keeps (time_of before c) past (onward c) (state_after c s)
+  call-by : (c : Call) → Kept (time_of before c) past → Seldom c → IsQuiet c past s → HoldsAtMost count slots (state_after c s) → Keeps (time_of before c) past (onward c) (state_after c s)
   call-by (Poll now) k seldom quiet within = polled-kept now k seldom
   call-by (PollTransmit now) k seldom quiet within = transmits-kept now k seldom
   call-by PollEvent k seldom quiet within = calm PollEvent (record s { events = drop 1 s.events }) k seldom k.row (λ k. (
@@ -578,11 +578,11 @@ module _ (count slots extras delay before : ℕ) (past : History) (s : State) wh
       )))
   call-by (CreatePermission transport ip now) k seldom quiet within = calm (CreatePermission transport ip now) (create_permission_step transport ip now s).1 k seldom k.row (λ k.
       let later = onward (CreatePermission transport ip now) in
-      creates (λ t. IsWithin count slots t → Keeps now later later t) count slots extras delay now later s k (λ w. (k, goes-same later s s refl refl refl))
+      creates (λ t. HoldsAtMost count slots t → Keeps now later later t) count slots extras delay now later s k (λ w. (k, goes-same later s s refl refl refl))
       (asks-kept now later (call-made (CreatePermission transport ip now) now past s) k) transport ip within)
   call-by (BindChannel transport peer now) k seldom quiet within = calm (BindChannel transport peer now) (bind_channel_step transport peer now s).1 k seldom k.row (λ k.
       let later = onward (BindChannel transport peer now) in
-      binds (λ t. IsWithin count slots t → Keeps now later later t) count slots extras delay now later s k (λ w. (k, goes-same later s s refl refl refl))
+      binds (λ t. HoldsAtMost count slots t → Keeps now later later t) count slots extras delay now later s k (λ w. (k, goes-same later s s refl refl refl))
       (asks-kept now later (call-made (BindChannel transport peer now) now past s) k) transport peer within)
   call-by (SetPermissionKept transport ip kept) k seldom quiet within = calm (SetPermissionKept transport ip kept) (permission_kept_step transport ip kept s).1 k seldom k.row (λ k.
       marks-kept (onward (SetPermissionKept transport ip kept)) k transport (is_permission_of ip) kept (λ ok g is. permission-let_go transport ip kept ok g is))
@@ -593,7 +593,7 @@ module _ (count slots extras delay before : ℕ) (past : History) (s : State) wh
   call-by (Recv packet now) k seldom (inr (inr same)) within = same-kept (Recv packet now) k seldom same
   call-by c k seldom same within = same-kept c k seldom same
 
-  pub call-kept : (call : Call) → Kept before past → AreInTime delay before (time_of before call) past s → IsQuiet call past s → IsWithin count slots (state_after call s) → Seldom call
+  pub call-kept : (call : Call) → Kept before past → AreInTime delay before (time_of before call) past s → IsQuiet call past s → HoldsAtMost count slots (state_after call s) → Seldom call
       → Keeps (time_of before call) past (onward call) (state_after call s)
   call-kept call k in_time quiet within seldom = call-by call (time-kept count slots extras delay before (time_of before call) past s k in_time) seldom quiet within
 

@@ -46,7 +46,7 @@ use Rattle.turn_client_laws.proofs.StandLemmas.{contains-has, has-contains}
 use Rattle.turn_client_laws.proofs.InputBringLemmas.{IsBrought, leaves-bring}
 use Rattle.turn_client_runs.specs.Bound.{IsBoundSince}
 use Rattle.turn_client_runs.specs.Granted.{IsGivenIn, IsGranted}
-use Rattle.turn_client_runs.specs.Offers.{Attempts, AttemptsAs, BoundAreOffered, Connects, HasOfferCause, IsAttemptedIn, IsBoundForOffer, IsConnectCalled, IsConnectedIn, IsGrantedForOffer, IsOffered}
+use Rattle.turn_client_runs.specs.Offers.{Attempts, AttemptsAs, BoundAreOffered, IsConnectSuccess, HasOfferCause, IsAttemptedIn, IsBoundForOffer, IsConnectCalled, IsConnectedIn, IsGrantedForOffer, IsOffered}
 use Rattle.turn_client_runs.specs.Offers.{IsOpened, TakesOffer, offer_to}
 use Rattle.turn_client_runs.proofs.BoundLemmas.{streams-have-success}
 use Rattle.turn_client_runs.proofs.ComingLemmas.{inputs-come}
@@ -88,7 +88,7 @@ accepts-permitted peer s e =
 module _ (id : ℕ) (peer : SocketAddr) (origin : Origin) where
   -- the input makes the offer
   abbrev Making : Input → Type 0
-  Making one = ((origin ≡ OwnConnect) × Connects id peer (ForConnect peer) one) ⊎ AttemptsAs origin id peer one
+  Making one = ((origin ≡ OwnConnect) × IsConnectSuccess id peer (ForConnect peer) one) ⊎ AttemptsAs origin id peer one
 
   abbrev AsOffer : Bool → DataOffer
   AsOffer r = record { connection_id = id; peer = peer; is_reported = r; origin = origin }
@@ -101,7 +101,7 @@ module _ (id : ℕ) (peer : SocketAddr) (origin : Origin) where
       attempts method named = record { over = over; whole = whole; method = method; named = named.0; from = named.1 }
 
       connects : judgement_of one.before one.bytes ≡ SignedSuccess → Has (ForConnect peer) (answered_purposes one.bytes one.before) → connection_id_in one.bytes ≡ Some id
-          → Connects id peer (ForConnect peer) one
+          → IsConnectSuccess id peer (ForConnect peer) one
       connects judged among named =
           let is = (SignedSuccess-is one.before one.bytes judged).0 in
           let (listed, answers) = has-filter (is_answered (method_in one.bytes)) (ForConnect peer) (purposes_of (id_of one.bytes) one.before) among in
@@ -171,7 +171,7 @@ module _ (first : State) (empty : first.grants ≡ []) (unlisted : first.listed 
       let (now, named, accepted) = is.did in
       record { earlier = is.earlier; now = now; later = is.later; split = is.split ∙ ap (λ (c : Call). is.earlier ++ c ∷ is.later) named; accepted = accepted }
 
-  connects-answers : (id : ℕ) (peer : SocketAddr) → AnswersFor (Connects id peer)
+  connects-answers : (id : ℕ) (peer : SocketAddr) → AnswersFor (IsConnectSuccess id peer)
   connects-answers id peer p one is =
       (subst (Contains (purposes_of (id_of one.bytes) one.before)) (sym is.for) is.listed, subst (λ (q : Purpose). GivesBack q → ⊥) (sym is.for) (λ none. none))
 
@@ -197,10 +197,10 @@ module _ (first : State) (empty : first.grants ≡ []) (unlisted : first.listed 
           stands = is.holds;
         }
 
-    connected : (is : IsMadeLast OwnConnect) → (one : Input) → Contains (handled is.call (state_after_all first is.earlier)) one → Connects id peer (ForConnect peer) one
+    connected : (is : IsMadeLast OwnConnect) → (one : Input) → Contains (handled is.call (state_after_all first is.earlier)) one → IsConnectSuccess id peer (ForConnect peer) one
         → IsConnectedIn id peer calls first
     connected is one among connects =
-        let answered = answered-in first unlisted hold calls (Connects id peer) (connects-answers id peer) (IsOffered id peer OwnConnect)
+        let answered = answered-in first unlisted hold calls (IsConnectSuccess id peer) (connects-answers id peer) (IsOffered id peer OwnConnect)
         (record { earlier = is.earlier; call = is.call; later = is.later; split = is.split; did = (one, among, (ForConnect peer, connects)); holds = is.holds }) in
         let inputs = answered.front ++ answered.input ∷ answered.back in
         let there : Contains inputs answered.input = has-contains answered.input inputs (has-right answered.input answered.front (answered.input ∷ answered.back) (inl refl)) in

@@ -19,7 +19,7 @@ use Rattle.turn_client_api.proofs.AddressLemmas.{same_address-self}
 use Rattle.turn_client_api.proofs.HasLemmas.{has-all, has-found}
 use Rattle.turn_client_laws.proofs.StreamWeightLemmas.{weight}
 use Rattle.turn_client_laws.proofs.StepFrameLemmas.{bytes-twice}
-use Rattle.turn_client_runs.specs.Cut.{IsQuiet, bytes_at, fed_piece, outcome_payloads, left, meant, mode_at, whole, whole_of}
+use Rattle.turn_client_runs.specs.Cut.{AwaitsBytes, bytes_at, fed_piece, outcome_payloads, left, meant, mode_at, whole, whole_of}
 use Rattle.turn_client_runs.proofs.AllStepsLemmas.{all-rest, all_steps, gives_then, polled_out, polled_out-all, then_all-all}
 use Rattle.turn_client_runs.proofs.FedStepLemmas.{Agrees, empty-left, framed-first, none-left, ready-fed, steps-whole}
 use Rattle.turn_client_runs.proofs.FollowLemmas.{IsFramed, IsThere, Suits, SuitsMode, control-framed, waiting-framed}
@@ -44,7 +44,7 @@ placed waited o = refl
 
 -- ---- a client that is quiet
 
-module _ (a : SocketAddr) (now : ℕ) (s : State) (quiet : IsQuiet s) where
+module _ (a : SocketAddr) (now : ℕ) (s : State) (quiet : AwaitsBytes s) where
   others-wait : OthersWait a s.streams
   others-wait = λ x there differs. none-false is_ready s.streams quiet.none_ready x there
 

@@ -15,7 +15,7 @@ use Rattle.turn_client_api.specs.declared.state.Stream.{Stream}
 use Rattle.turn_client_api.specs.Payloads.{Payload}
 use Rattle.turn_client_api.specs.Streams.{stream_at, with_bytes}
 use Rattle.turn_client_laws.proofs.StepFrameLemmas.{bytes-twice}
-use Rattle.turn_client_runs.specs.Cut.{AreNonempty, IsQuiet, IsSameForAnyCut, bytes_at, fed_piece, fed_pieces, is_control_stream, left, mode_at, one_by_one, part_at_step, whole, whole_of}
+use Rattle.turn_client_runs.specs.Cut.{AreNonempty, AwaitsBytes, IsSameForAnyCut, bytes_at, fed_piece, fed_pieces, is_control_stream, left, mode_at, one_by_one, part_at_step, whole, whole_of}
 use Rattle.turn_client_runs.proofs.FedStepLemmas.{Agrees}
 use Rattle.turn_client_runs.proofs.FollowLemmas.{Suits, SuitsMode}
 use Rattle.turn_client_runs.proofs.PieceLemmas.{piece-agrees, waits-same, waits-whole}
@@ -34,7 +34,7 @@ module _ (a : SocketAddr) (now : ℕ) where
   whole-append : (s : State) (first more : List ℕ) → whole a now s (first ++ more) ≡ fed (λ t. T.size_in (mode_at a t)) (part_at_step a now) (whole a now s first) more
   whole-append s first more = drained-append (λ t. T.size_in (mode_at a t)) (part_at_step a now) (size_in-IsPrefixCut (mode_at a)) s first more
 
-  nothing-same : (c : Bool) (s : State) → IsQuiet s → IsSame c ([], s) (whole_of a now s [])
+  nothing-same : (c : Bool) (s : State) → AwaitsBytes s → IsSame c ([], s) (whole_of a now s [])
   nothing-same c s quiet =
       let d-is : whole a now (with_bytes a [] s) (bytes_at a s ++ []) ≡ left (with_bytes a [] s) (bytes_at a s) = rw (append-nil (bytes_at a s)) (waits-whole a now s quiet) in
       rw d-is (record { given = refl; after = sym (waits-same a now s quiet) })
@@ -63,7 +63,7 @@ module _ (a : SocketAddr) (now : ℕ) where
             ∙ sym (ap (λ (x : Drained State Payload). with_bytes a x.rest x.state) all-is));
       }
 
-  pieces-same : (c : Bool) (pieces : List (List ℕ)) (s : State) → IsQuiet s → Suits c (stream_at a s) → AreNonempty pieces → IsSame c (fed_pieces a pieces now s) (whole_of a now s (concat pieces))
+  pieces-same : (c : Bool) (pieces : List (List ℕ)) (s : State) → AwaitsBytes s → Suits c (stream_at a s) → AreNonempty pieces → IsSame c (fed_pieces a pieces now s) (whole_of a now s (concat pieces))
   unfolding fed_pieces
   pieces-same c [] s quiet suits some = nothing-same c s quiet
   pieces-same c ([] ∷ pieces) s quiet suits some = absurd (All-head (λ (l : List ℕ). l ≢ []) [] pieces some refl)
@@ -73,12 +73,12 @@ module _ (a : SocketAddr) (now : ℕ) where
       then-same c s (b ∷ piece) (concat pieces) one (fed_pieces a pieces now one.1) agrees
       (pieces-same c pieces one.1 (fed-quiet a (b ∷ piece) now s quiet) agrees.leaves.suits (All-tail (λ (l : List ℕ). l ≢ []) (b ∷ piece) pieces some))
 
-  pub any-cut : (pieces : List (List ℕ)) (s : State) → IsQuiet s → AreNonempty pieces → IsSameForAnyCut a pieces now s
+  pub any-cut : (pieces : List (List ℕ)) (s : State) → AwaitsBytes s → AreNonempty pieces → IsSameForAnyCut a pieces now s
   any-cut pieces s quiet some =
       let same = pieces-same (is_control_stream (stream_at a s)) pieces s quiet (suits-first (stream_at a s)) some in
       (same.given, same.after)
 
-pub pieces-quiet : (a : SocketAddr) (pieces : List (List ℕ)) (now : ℕ) (s : State) → IsQuiet s → IsQuiet (fed_pieces a pieces now s).1
+pub pieces-quiet : (a : SocketAddr) (pieces : List (List ℕ)) (now : ℕ) (s : State) → AwaitsBytes s → AwaitsBytes (fed_pieces a pieces now s).1
 unfolding fed_pieces
 pieces-quiet a [] now s quiet = quiet
 pieces-quiet a (piece ∷ pieces) now s quiet = pieces-quiet a pieces now (fed_piece a piece now s).1 (fed-quiet a piece now s quiet)

@@ -15,7 +15,7 @@ use Rattle.turn_client_runs.specs.Offers.{BoundAreOffered}
 use Rattle.turn_client_runs.specs.InOrder.{InputsFollow}
 use Rattle.turn_client_runs.specs.Processed.{CallsProcessInputs}
 use Rattle.turn_client_runs.specs.Replies.{CountsOnce}
-use Rattle.turn_client_runs.specs.Cut.{IsQuiet}
+use Rattle.turn_client_runs.specs.Cut.{AwaitsBytes}
 use Rattle.turn_client_api.specs.Streams.{poll_recv_step}
 use Rattle.turn_client_api.specs.Payloads.{Payload}
 use Rattle.turn_client_laws.specs.LawsStreams.{AreApart}
@@ -129,6 +129,6 @@ module _ (transport : TransportType) (local remote : SocketAddr) (config : Confi
       apart = calls-keep AreApart call-apart earlier first (initial-apart transport local remote config seed)
 
       quiet : (now : ℕ) → (state_after_all first earlier).transport ≡ Tcp → poll_recv_step now (state_after_all first earlier) ≡ (None, state_after_all first earlier)
-          → IsQuiet (state_after_all first earlier)
+          → AwaitsBytes (state_after_all first earlier)
       quiet now tcp drained =
-          subst (λ (p : Option Payload × State). IsQuiet p.1) drained (poll-quiet (state_after_all first earlier) tcp apart now (ap (λ (p : Option Payload × State). p.0) drained))
+          subst (λ (p : Option Payload × State). AwaitsBytes p.1) drained (poll-quiet (state_after_all first earlier) tcp apart now (ap (λ (p : Option Payload × State). p.0) drained))

@@ -19,7 +19,7 @@ use Rattle.turn_client_laws.proofs.StreamCallLemmas.{call-apart, initial-apart}
 use Rattle.turn_client_laws.proofs.StreamDrainLemmas.{steps-done}
 use Rattle.turn_client_laws.proofs.StreamStepLemmas.{poll_recv-apart, recv-apart}
 use Rattle.turn_client_laws.proofs.StreamWeightLemmas.{weight, weight-le}
-use Rattle.turn_client_runs.specs.Cut.{GetsQuiet, IsQuiet, and_then, fed_piece, polled_until_none}
+use Rattle.turn_client_runs.specs.Cut.{GetsQuiet, AwaitsBytes, and_then, fed_piece, polled_until_none}
 use Rattle.turn_client_runs.proofs.AllStepsLemmas.{all-done, polled_out, polled_out-all}
 
 -- ---- the transport of its packets
@@ -54,7 +54,7 @@ polled_out-done now p =
     rw (ap (λ (q : List Payload × State). q.1) (polled_out-all n now p (omega arith))) (all-done n now p.1 (omega arith))
 
 -- after each piece the client is quiet again
-pub fed-quiet : (a : SocketAddr) (piece : List ℕ) (now : ℕ) (s : State) → IsQuiet s → IsQuiet (fed_piece a piece now s).1
+pub fed-quiet : (a : SocketAddr) (piece : List ℕ) (now : ℕ) (s : State) → AwaitsBytes s → AwaitsBytes (fed_piece a piece now s).1
 fed-quiet a piece now s quiet =
     let came = (recv_step Tcp s.remote a piece now s).1 in
     let n = max_steps came + 1 in
@@ -72,7 +72,7 @@ poll-quiet s tcp apart now none = record {
   none_ready = steps-done (max_steps s) now s (weight-le s.streams) none;
 }
 
-pub initial-quiet : (local remote : SocketAddr) (config : Config) (seed : List ℕ) → IsQuiet (initial Tcp local remote config seed)
+pub initial-quiet : (local remote : SocketAddr) (config : Config) (seed : List ℕ) → AwaitsBytes (initial Tcp local remote config seed)
 initial-quiet local remote config seed = record { transport = refl; apart = initial-apart Tcp local remote config seed; none_ready = refl }
 
 -- what each call keeps, all calls keep

@@ -12,7 +12,7 @@ use Rattle.turn_client_api.specs.Receive.{recv_step}
 use Rattle.turn_client_api.specs.Steps.{state_after, state_after_all}
 use Rattle.turn_client_laws.proofs.StreamFewerLemmas.{IsLessThan, steps-less}
 use Rattle.turn_client_laws.proofs.StreamWeightLemmas.{weight, weight-le}
-use Rattle.turn_client_runs.specs.Cut.{AreNonempty, ArePieces, ArePolls, IsQuiet, IsSameInRuns, and_then, fed_pieces, outcome_payloads, given_in, given_in_run, joined, polled_until_none}
+use Rattle.turn_client_runs.specs.Cut.{AreNonempty, ArePieces, ArePolls, AwaitsBytes, IsSameInRuns, and_then, fed_pieces, outcome_payloads, given_in, given_in_run, joined, polled_until_none}
 use Rattle.turn_client_runs.proofs.PiecesLemmas.{any-cut}
 
 -- what calls return, and the state after them
@@ -73,7 +73,7 @@ pieces-some a [] now calls s over = All-nil (λ (l : List ℕ). l ≢ [])
 pieces-some a (piece ∷ pieces) now calls s (polls, later, e, some, are, more) =
     All-cons (λ (l : List ℕ). l ≢ []) piece pieces some (pieces-some a pieces now later (state_after_all (recv_step Tcp s.remote a piece now s).1 polls) more)
 
-pub run-cut : (a : SocketAddr) (pieces : List (List ℕ)) (now : ℕ) (s : State) → IsQuiet s → IsSameInRuns a pieces now s
+pub run-cut : (a : SocketAddr) (pieces : List (List ℕ)) (now : ℕ) (s : State) → AwaitsBytes s → IsSameInRuns a pieces now s
 run-cut a pieces now s quiet calls are =
     let run = pieces-run a pieces now calls s are in
     let same = any-cut a now pieces s quiet (pieces-some a pieces now calls s are) in (

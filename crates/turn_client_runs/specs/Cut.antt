@@ -157,14 +157,14 @@ IsSameForAnyCut local pieces now s =
     × ((fed_pieces local pieces now s).1 ≡ (whole_of local now s (concat pieces)).1)
 
 -- a client over TCP that processes nothing before more is received
-pub record IsQuiet (s : State) : Type 0 where
+pub record AwaitsBytes (s : State) : Type 0 where
   pub transport : s.transport ≡ Tcp
   pub apart : AreApart s
   pub none_ready : find is_ready s.streams ≡ None
 
 -- once it is polled and returns nothing, it is quiet
 abbrev pub GetsQuiet : State → Type 0
-GetsQuiet s = (now : ℕ) → (poll_recv_step now s).0 ≡ None → IsQuiet (poll_recv_step now s).1
+GetsQuiet s = (now : ℕ) → (poll_recv_step now s).0 ≡ None → AwaitsBytes (poll_recv_step now s).1
 
 -- no piece is the empty one, which ends a stream
 abbrev pub AreNonempty : List (List ℕ) → Type 0

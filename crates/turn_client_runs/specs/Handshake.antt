@@ -13,7 +13,7 @@ use Rattle.turn_client_api.specs.State.{State, auth_of, initial, seconds}
 use Rattle.turn_client_api.specs.declared.state.Phase.TheVariants.{Requesting, Authenticating, Allocated}
 use Rattle.turn_client_api.specs.Judgement.{answers_allocate, answers_one, challenge_in, class_in, lifetime_in}
 use Rattle.turn_client_api.specs.Effect.{relayed_in, taken_addresses}
-use Rattle.turn_client_runs.specs.Lasting.{HasRoom, IsSteady, IsWithin}
+use Rattle.turn_client_runs.specs.Lasting.{HasRoom, IsSteady, HoldsAtMost}
 use Rattle.turn_client_api.specs.Steps.{state_after, state_after_all}
 use Rattle.turn_client_api.specs.declared.call.Call.{Call}
 use Rattle.turn_client_api.specs.declared.call.Call.TheVariants.{Poll, PollTransmit, PollEvent, Recv}
@@ -72,5 +72,5 @@ HandshakeEndsSteadily =
     1 ≤ config.max_stale_nonces → delay < wait_at (timers_of config) Udp 0
     → RunsHandshake delay start first calls → IsInTime delay (time_of_all start calls) now last
     → IsAllocating packet last → last.queue ≡ [] → lifetime_in packet.payload ≡ Some lifetime → 600 ≤ lifetime
-    → HasRoom count slots extras config.request_cadence delay (min config.refresh_ahead (seconds 150)) → IsWithin count slots next
+    → HasRoom count slots extras config.request_cadence delay (min config.refresh_ahead (seconds 150)) → HoldsAtMost count slots next
     → IsSteady count slots extras delay now next

@@ -84,8 +84,8 @@ abbrev pub HasRoom : ℕ → ℕ → ℕ → ℕ → ℕ → ℕ → Type 0
 HasRoom count slots extras cadence delay ahead = (count + slots + extras) * cadence + delay < ahead
 
 -- the client has no more grants, and no more queued packets
-abbrev pub IsWithin : ℕ → ℕ → State → Type 0
-IsWithin count slots s = (length s.grants ≤ count) × (length s.queue ≤ slots)
+abbrev pub HoldsAtMost : ℕ → ℕ → State → Type 0
+HoldsAtMost count slots s = (length s.grants ≤ count) × (length s.queue ≤ slots)
 
 -- A client that has allocations, permissions and channels in force, awaits nothing and has nothing to send. No
 -- refresh is late, there is room for all of them, and a reply that comes within the delay comes before its
@@ -101,7 +101,7 @@ pub record IsSteady (count slots extras delay now : ℕ) (s : State) : Type 0 wh
   pub none_late : All (λ g. now + ahead_of s.config.refresh_ahead g ≤ expiry_of g) s.grants
   pub room : All (λ g. HasRoom count slots extras s.config.request_cadence delay (ahead_of s.config.refresh_ahead g)) s.grants
   pub room_for_more : HasRoom count slots extras s.config.request_cadence delay (min s.config.refresh_ahead (seconds 150))
-  pub within : IsWithin count slots s
+  pub within : HoldsAtMost count slots s
   pub distinct : HasNoDoubles s
   pub in_allocations : AllHaveAllocation s
   pub prompt : delay < all_waits (timers_of s.config) s.transport
@@ -137,7 +137,7 @@ pub record IsSuccess (packet : Transmit (List ℕ)) (now : ℕ) (s : State) : Ty
   pub answers : Answers packet.payload (purposes_of (id_of packet.payload) s)
 
 -- The packet is a challenge, and the server sent fewer in a row than the client answers (RFC 8489, section 9.2.5).
-pub record IsChallenge (packet : Transmit (List ℕ)) (now : ℕ) (past : History) (s : State) : Type 0 where
+pub record IsAnsweredChallenge (packet : Transmit (List ℕ)) (now : ℕ) (past : History) (s : State) : Type 0 where
   pub message : IsOneMessage packet now s
   pub error : class_in packet.payload ≡ Error
   pub challenge : IsSome (challenge_in s packet.payload)
@@ -156,7 +156,7 @@ IsQuiet (CreatePermission transport ip now) past s = ⊤
 IsQuiet (BindChannel transport peer now) past s = ⊤
 IsQuiet (SetPermissionKept transport ip is_kept) past s = ⊤
 IsQuiet (SetChannelKept transport peer is_kept) past s = ⊤
-IsQuiet (Recv packet now) past s = IsSuccess packet now s ⊎ (IsChallenge packet now past s ⊎ (state_after (Recv packet now) s ≡ s))
+IsQuiet (Recv packet now) past s = IsSuccess packet now s ⊎ (IsAnsweredChallenge packet now past s ⊎ (state_after (Recv packet now) s ≡ s))
 IsQuiet call past s = state_after call s ≡ s
 
 -- The caller is on time, and no request awaits its success for longer than the delay, however often it was retransmitted
@@ -173,7 +173,7 @@ RunsSteadily count slots extras delay before past s (call ∷ calls) =
     let now = time_of before call in
     let next = state_after call s in
     let later = with_call call now s past in
-    AreInTime delay before now past s × IsQuiet call past s × IsWithin count slots next × IsSeldom extras s.config.refresh_ahead now later
+    AreInTime delay before now past s × IsQuiet call past s × HoldsAtMost count slots next × IsSeldom extras s.config.refresh_ahead now later
     × RunsSteadily count slots extras delay now later next calls
 
 -- ---- what holds

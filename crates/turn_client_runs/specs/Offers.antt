@@ -47,7 +47,7 @@ IsOffered id peer origin s = (is_reported : Bool) × Contains s.grants (offer_to
 
 -- The input is a signed success to a CONNECT to this peer, with this CONNECTION-ID. The CONNECT was outstanding
 -- just before the input, and is not just after it (RFC 6062, section 4.3).
-pub record Connects (id : ℕ) (peer : SocketAddr) (purpose : Purpose) (one : Input) : Type 0 where
+pub record IsConnectSuccess (id : ℕ) (peer : SocketAddr) (purpose : Purpose) (one : Input) : Type 0 where
   pub over : IsOverControl one
   pub whole : is_message one.bytes ≡ true
   pub method : method_in one.bytes ≡ connect_method
@@ -91,7 +91,7 @@ pub record IsConnectCalled (peer : SocketAddr) (calls : List Call) (first : Stat
 -- stands since.
 abbrev pub IsConnectedIn : ℕ → SocketAddr → List Call → State → Type 0
 IsConnectedIn id peer calls first =
-    (answered : IsAnsweredIn (Connects id peer) (IsOffered id peer OwnConnect) calls first) × IsConnectCalled peer answered.earlier first
+    (answered : IsAnsweredIn (IsConnectSuccess id peer) (IsOffered id peer OwnConnect) calls first) × IsConnectCalled peer answered.earlier first
 
 -- An input of one of these calls made the offer: an attempt of the server, which was received by then. The offer
 -- stands since.

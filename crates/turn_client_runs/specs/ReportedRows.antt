@@ -15,8 +15,8 @@ abbrev pub ended_twice : List Call
 ended_twice = ProtocolError ∷ PollEvent ∷ ProtocolError ∷ PollEvent ∷ []
 
 -- a client with an allocation and a permission, which requests no address any more
-abbrev pub permitted : State → State
-permitted s = without_families (with_permission 50_000_000 s)
+abbrev pub permitting_peer : State → State
+permitting_peer s = without_families (with_permission 50_000_000 s)
 
 -- the permission expires, which the client tells once, and the caller requests it anew
 abbrev pub lost_and_requested : List Call
@@ -27,8 +27,8 @@ lost_and_requested = Poll 300_100_000_000 ∷ PollEvent ∷ PollEvent ∷ Create
 abbrev pub joining : State → State
 joining s = without_families (with_connection (Some (seconds 39)) Waiting s)
 
-abbrev pub joined : State → State
-joined s = without_families (with_connection None (Bound peer) s)
+abbrev pub joined_peer : State → State
+joined_peer s = without_families (with_connection None (Bound peer) s)
 
 -- the server does not bind it, and the caller asks twice for an event
 abbrev pub never_bound : List Call
@@ -42,5 +42,5 @@ attempted_twice =
     ∷ []
 
 -- a client whose peer may connect
-abbrev pub awaiting : State → State
-awaiting s = without_families (relaying_tcp (permission ∷ []) s)
+abbrev pub awaiting_peer : State → State
+awaiting_peer s = without_families (relaying_tcp (permission ∷ []) s)

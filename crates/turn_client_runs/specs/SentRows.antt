@@ -22,14 +22,14 @@ two_frames_and_half =
     ∷ PollRecv (seconds 1) ∷ []
 
 -- a client over TCP whose CONNECT to the peer has succeeded, with the connection ID 7
-abbrev pub offered : State → State
-offered s =
+abbrev pub with_own_offer : State → State
+with_own_offer s =
     let t = over_tcp (Offer (record { connection_id = 7; peer = peer; is_reported = true; origin = OwnConnect }) ∷ []) [] s in
     record t { config = record t.config { allocation_transport = Tcp } }
 
 -- the caller opens the data connection at 1 s
 abbrev pub socket_named : State → State
-socket_named s = state_after (AllocatedTcpSocket 7 (record { transport = Tcp; from = client; to = server }) peer (Some data_end) (seconds 1)) (offered s)
+socket_named s = state_after (AllocatedTcpSocket 7 (record { transport = Tcp; from = client; to = server }) peer (Some data_end) (seconds 1)) (with_own_offer s)
 
 -- from where the next packet goes then
 abbrev pub sent_next_from : State → Option SocketAddr

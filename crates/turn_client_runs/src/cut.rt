@@ -12,7 +12,7 @@ ghost use Rattle.turn_client_api.specs.declared.call.Call.{Call};
 ghost use Rattle.turn_client_laws.specs.LawsStreams.{AreApart};
 ghost use Rattle.turn_client_laws.specs.LawsReceived.{abc, abc_frame, behind_half, client, data_end, from_peer, half_header, hello, hello_message, relayed};
 ghost use Rattle.turn_client_laws.specs.LawsReceived.{with_bound, with_channel};
-ghost use Rattle.turn_client_runs.specs.Cut.{AreNonempty, GetsQuiet, IsQuiet, IsSameForAnyCut, IsSameInRuns, bytes_at, fed_pieces, mode_at, read_from_front};
+ghost use Rattle.turn_client_runs.specs.Cut.{AreNonempty, GetsQuiet, AwaitsBytes, IsSameForAnyCut, IsSameInRuns, bytes_at, fed_pieces, mode_at, read_from_front};
 ghost use Rattle.turn_client_runs.specs.Cut.{whole, whole_of};
 ghost use Rattle.turn_client_runs.specs.CutRows.{WhenCut, abc_and_hello, byte_and_hello, pieces_at, two_bytes, whole_at};
 ghost use Rattle.turn_client_api.specs.Steps.{state_after_all};
@@ -24,7 +24,7 @@ ghost use Rattle.turn_client_api.specs.Steps.{state_after_all};
 /// broken one, and if there is none, nothing is returned, and a client that is quiet stays unchanged.
 pub fn wholes_are_frames()
     ensures front { (local : SocketAddr) (now : ℕ) (s : State) (bytes : List ℕ) → whole local now s bytes ≡ read_from_front local now s bytes }
-    ensures unmeant { (local : SocketAddr) (now : ℕ) (s : State) (bytes : List ℕ) → IsQuiet s → mode_at local s ≡ Broken
+    ensures unmeant { (local : SocketAddr) (now : ℕ) (s : State) (bytes : List ℕ) → AwaitsBytes s → mode_at local s ≡ Broken
         → whole_of local now s bytes ≡ ([], s) }
 {}
 
@@ -33,11 +33,11 @@ pub fn wholes_are_frames()
 /// TCP whose streams have distinct local addresses, as those of every client have, once it is polled and
 /// returns nothing.
 pub fn polled_clients_are_quiet()
-    ensures initial { (local remote : SocketAddr) (config : Config) (seed : List ℕ) → IsQuiet (initial Tcp local remote config seed) }
+    ensures initial { (local remote : SocketAddr) (config : Config) (seed : List ℕ) → AwaitsBytes (initial Tcp local remote config seed) }
     ensures run { (local remote : SocketAddr) (config : Config) (seed : List ℕ) (calls : List Call)
         → GetsQuiet (state_after_all (initial Tcp local remote config seed) calls) }
     ensures polled { (s : State) → s.transport ≡ Tcp → AreApart s → GetsQuiet s }
-    ensures fed { (local : SocketAddr) (pieces : List (List ℕ)) (now : ℕ) (s : State) → IsQuiet s → IsQuiet (fed_pieces local pieces now s).1 }
+    ensures fed { (local : SocketAddr) (pieces : List (List ℕ)) (now : ℕ) (s : State) → AwaitsBytes s → AwaitsBytes (fed_pieces local pieces now s).1 }
 {}
 
 /// The pieces of one stream that a quiet client receives at one time, none of them empty and each followed
@@ -49,13 +49,13 @@ pub fn polled_clients_are_quiet()
 /// without a stream. Not covered are the results `Handled` and `Ignored`, and ICMP packets, which only
 /// `recv` returns.
 pub fn streams_give_the_same_for_any_cut()
-    ensures { (local : SocketAddr) (pieces : List (List ℕ)) (now : ℕ) (s : State) → IsQuiet s → AreNonempty pieces → IsSameForAnyCut local pieces now s }
+    ensures { (local : SocketAddr) (pieces : List (List ℕ)) (now : ℕ) (s : State) → AwaitsBytes s → AreNonempty pieces → IsSameForAnyCut local pieces now s }
 {}
 
 /// The same for calls as they are in a run: for each piece, none of them empty, a `recv` from the server,
 /// and then `poll_recv` up to the first that returns nothing.
 pub fn runs_give_the_same_for_any_cut()
-    ensures { (local : SocketAddr) (pieces : List (List ℕ)) (now : ℕ) (s : State) → IsQuiet s → IsSameInRuns local pieces now s }
+    ensures { (local : SocketAddr) (pieces : List (List ℕ)) (now : ℕ) (s : State) → AwaitsBytes s → IsSameInRuns local pieces now s }
 {}
 
 /// The results of a few streams, so that the check computes the definitions: a frame that is cut in its

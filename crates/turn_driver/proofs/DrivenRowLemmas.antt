@@ -14,10 +14,10 @@ use Rattle.turn_client_runs.specs.HandshakeRows.{allocation_packet}
 use Rattle.turn_client_runs.specs.LastingRows.{refreshed_grants}
 use Rattle.turn_client_runs.proofs.HandshakeRowLemmas as H
 use Rattle.turn_client_runs.proofs.LastingRowLemmas as L
-use Rattle.turn_driver.specs.DrivenRows.{Allocation, Challenge, IsDriven, Nothing, RelayIsDriven, Reply, Success, DriveCall, after_drive, bound, client_after, received, drives_of_handshake}
+use Rattle.turn_driver.specs.DrivenRows.{Allocation, Challenge, IsDriven, Nothing, RelayIsDriven, Reply, Success, DriveCall, after_drive, after_bind, client_after_drives, reply_packet, drives_of_handshake}
 use Rattle.turn_driver.specs.DrivenRows.{drives_until_700_s}
 use Rattle.turn_driver.specs.Driver.{DriveState, begun, drive_steps, going}
-use Rattle.turn_driver.specs.Given.{Given, given_in}
+use Rattle.turn_driver.specs.Given.{Given, given_at_once}
 use Rattle.turn_driver.specs.declared.task.Rest.TheVariants.{Until}
 
 -- ---- one iteration
@@ -28,13 +28,13 @@ record Sleeps (now deadline : ℕ) (s t : State) : Type 0 where
   client : (given : List Given) → (drive_steps 8 now (going given s)).client ≡ t
 
 -- the packet that comes leaves this client
-begins : (reply : Reply) (now : ℕ) (packet : Transmit (List ℕ)) (s t : State) → received reply s ≡ Some packet → state_after (Recv packet now) s ≡ t
-    → begun (received reply s) now (going [] s) ≡ going (option_to_list (given_in packet (packet_step packet now s).0)) t
-begins reply now packet s t comes after = rw comes (ap (going (option_to_list (given_in packet (packet_step packet now s).0))) after)
+begins : (reply : Reply) (now : ℕ) (packet : Transmit (List ℕ)) (s t : State) → reply_packet reply s ≡ Some packet → state_after (Recv packet now) s ≡ t
+    → begun (reply_packet reply s) now (going [] s) ≡ going (option_to_list (given_at_once packet (packet_step packet now s).0)) t
+begins reply now packet s t comes after = rw comes (ap (going (option_to_list (given_at_once packet (packet_step packet now s).0))) after)
 
 -- what is said of a client and the iterations that follow
 abbrev Goes : (State → Type 0) → State → List DriveCall → Type 0
-Goes P s drives = IsDriven s drives × P (client_after s drives)
+Goes P s drives = IsDriven s drives × P (client_after_drives s drives)
 
 goes-quiet : (P : State → Type 0) (now deadline : ℕ) (s t : State) (later : List DriveCall) → Sleeps now deadline s t → Goes P t later
     → Goes P s (record { now = now; reply = Nothing; deadline = deadline } ∷ later)
@@ -42,10 +42,10 @@ goes-quiet P now deadline s t later sleeps goes =
     let rest = subst (λ (x : State). Goes P x later) (sym (sleeps.client [])) goes in
     ((sleeps.rest [], rest.0), rest.1)
 
-goes-reported : (P : State → Type 0) (reply : Reply) (now deadline : ℕ) (packet : Transmit (List ℕ)) (s r t : State) (later : List DriveCall) → received reply s ≡ Some packet
+goes-reported : (P : State → Type 0) (reply : Reply) (now deadline : ℕ) (packet : Transmit (List ℕ)) (s r t : State) (later : List DriveCall) → reply_packet reply s ≡ Some packet
     → state_after (Recv packet now) s ≡ r → Sleeps now deadline r t → Goes P t later → Goes P s (record { now = now; reply = reply; deadline = deadline } ∷ later)
 goes-reported P reply now deadline packet s r t later comes after sleeps goes =
-    let given = option_to_list (given_in packet (packet_step packet now s).0) in
+    let given = option_to_list (given_at_once packet (packet_step packet now s).0) in
     let one = begins reply now packet s r comes after in
     let reported : (after_drive (record { now = now; reply = reply; deadline = deadline }) s).rest ≡ Until deadline = ap (λ (d : DriveState). (drive_steps 8 now d).rest) one ∙ sleeps.rest given in
     let left : (after_drive (record { now = now; reply = reply; deadline = deadline }) s).client ≡ t = ap (λ (d : DriveState). (drive_steps 8 now d).client) one ∙ sleeps.client given in
@@ -228,9 +228,9 @@ module _ (local remote : SocketAddr) (config : Config) (seed : List ℕ) where
       (allocation_packet (H.h3 local remote config seed)) (H.h3 local remote config seed) (H.done local remote config seed) reported []
       refl allocated-after sleeps-3 (tt, refl)))
 
-  pub after-handshake : Goes IsRefreshed (bound (client_after first drives_of_handshake)) drives_until_700_s
+  pub after-handshake : Goes IsRefreshed (after_bind (client_after_drives first drives_of_handshake)) drives_until_700_s
   after-handshake =
-      let same : bound (client_after first drives_of_handshake) ≡ L.queued_bind reported refl = ap bound handshake.1 ∙ L.binds reported refl in
+      let same : after_bind (client_after_drives first drives_of_handshake) ≡ L.queued_bind reported refl = ap after_bind handshake.1 ∙ L.binds reported refl in
       subst (λ (x : State). Goes IsRefreshed x drives_until_700_s) (sym same) from-4
 
   pub handshake-driven : IsDriven first drives_of_handshake

@@ -25,7 +25,7 @@ use Rattle.turn_client_api.specs.Transmit.{idle_step, is_due_in, is_refresh_due,
 use Rattle.turn_client_api.specs.Transmit.{refresh_purpose, refresh_step, refreshes_in, refreshes_of_rank, reply_step}
 use Rattle.turn_client_runs.specs.OnTime.{IsOnTime, time_of, time_of_all}
 use Rattle.turn_driver.specs.Next.{IsRestful}
-use Rattle.turn_driver.specs.OnTime.{AllOnTime, GoesOn, IsLoop, Iteration, LoopsAreOnTime, WakesOnTime, calls_in, calls_of}
+use Rattle.turn_driver.specs.OnTime.{AllOnTime, BeginsInTime, IsLoop, Iteration, LoopsAreOnTime, WakesOnTime, calls_in, calls_of}
 use Rattle.turn_driver.specs.Run.{IsAsk, hand_in_calls}
 use Rattle.turn_driver.specs.declared.task.Rest.{Rest}
 use Rattle.turn_driver.specs.declared.task.Rest.TheVariants.{Until, Now, Ended}
@@ -168,7 +168,7 @@ followed : (before : ℕ) (s : State) (calls more : List Call) → AllOnTime bef
 followed before s [] more all others = others
 followed before s (call ∷ calls) more (one, all) others = (one, followed (time_of before call) (state_after call s) calls more all others)
 
-goes-on : (rest : Rest) (before now next : ℕ) (s : State) → IsOnTime before now s → WakesOnTime rest now s → GoesOn rest now next → IsOnTime before next s
+goes-on : (rest : Rest) (before now next : ℕ) (s : State) → IsOnTime before now s → WakesOnTime rest now s → BeginsInTime rest now next → IsOnTime before next s
 goes-on (Until deadline) before now next s is wakes (from, until, range) = joined before now next s is (wakes next from until range)
 goes-on Now before now next s is wakes same = subst (λ (t : ℕ). IsOnTime before t s) (sym same) is
 goes-on Ended before now next s is wakes none = absurd none

@@ -23,11 +23,11 @@ pub data Reply : Type 0 where
   Allocation : Reply
   Success : Reply
 
-abbrev pub received : Reply → State → Option (Transmit (List ℕ))
-received Nothing s = None
-received Challenge s = Some (from_server s (challenge_text (awaited s.transactions)))
-received Allocation s = Some (allocation_packet s)
-received Success s = let l = first_request s.listed in Some (from_server s (success_for s l.purpose l.id))
+abbrev pub reply_packet : Reply → State → Option (Transmit (List ℕ))
+reply_packet Nothing s = None
+reply_packet Challenge s = Some (from_server s (challenge_text (awaited s.transactions)))
+reply_packet Allocation s = Some (allocation_packet s)
+reply_packet Success s = let l = first_request s.listed in Some (from_server s (success_for s l.purpose l.id))
 
 -- ---- the loop
 
@@ -39,16 +39,16 @@ pub record DriveCall : Type 0 where
 
 -- it makes at most eight polls
 abbrev pub after_drive : DriveCall → State → DriveState
-after_drive made s = drive_steps 8 made.now (begun (received made.reply s) made.now (going [] s))
+after_drive made s = drive_steps 8 made.now (begun (reply_packet made.reply s) made.now (going [] s))
 
 -- each iteration returns `Until` its deadline, and the next begins with the client that it left
 abbrev pub IsDriven : State → List DriveCall → Type 0
 IsDriven s [] = ⊤
 IsDriven s (made ∷ later) = ((after_drive made s).rest ≡ Until made.deadline) × IsDriven (after_drive made s).client later
 
-abbrev pub client_after : State → List DriveCall → State
-client_after s [] = s
-client_after s (made ∷ later) = client_after (after_drive made s).client later
+abbrev pub client_after_drives : State → List DriveCall → State
+client_after_drives s [] = s
+client_after_drives s (made ∷ later) = client_after_drives (after_drive made s).client later
 
 -- ---- the run
 
@@ -62,8 +62,8 @@ drives_of_handshake =
 
 -- The caller binds a channel at 1 s. From then on it wakes up at each deadline, or before it where a reply comes; last of all
 -- at 700 s.
-abbrev pub bound : State → State
-bound s = state_after (BindChannel Udp peer 1_000_000_000) s
+abbrev pub after_bind : State → State
+after_bind s = state_after (BindChannel Udp peer 1_000_000_000) s
 
 abbrev pub drives_until_700_s : List DriveCall
 drives_until_700_s =
@@ -83,8 +83,8 @@ drives_until_700_s =
 -- No iteration is called before its time, and at the end the allocation, the permission and the channel have been refreshed.
 pub record IsDrivenFor700Seconds (first : State) : Type 0 where
   pub handshake : IsDriven first drives_of_handshake
-  pub later : IsDriven (bound (client_after first drives_of_handshake)) drives_until_700_s
-  pub refreshes : (client_after (bound (client_after first drives_of_handshake)) drives_until_700_s).grants ≡ refreshed_grants
+  pub later : IsDriven (after_bind (client_after_drives first drives_of_handshake)) drives_until_700_s
+  pub refreshes : (client_after_drives (after_bind (client_after_drives first drives_of_handshake)) drives_until_700_s).grants ≡ refreshed_grants
 
 -- whatever the client's addresses, credentials and IDs are
 abbrev pub RelayIsDriven : Type 0

@@ -7,7 +7,7 @@ use Rattle.turn_client_api.specs.State.{State}
 use Rattle.turn_client_api.specs.Answers.{RecvEnds, takes_no_memory}
 use Rattle.turn_client_api.specs.Payloads.{Outcome}
 use Rattle.turn_client_api.specs.Steps.{packet_step}
-use Rattle.turn_driver.specs.Given.{Given, given_in, given_of, packet_in}
+use Rattle.turn_driver.specs.Given.{Given, given_at_once, given_of, packet_in}
 use Rattle.turn_driver.specs.Next.{Answer, Does, Rests, NextEnds, next_step}
 use Rattle.turn_driver.specs.declared.task.Rest.{Rest}
 use Rattle.turn_driver.specs.declared.task.Task.{Task}
@@ -33,7 +33,7 @@ going given s = record { given = given; rest = Now; client = s }
 -- ---- the input
 
 abbrev pub handed : Transmit (List ℕ) → List Given → Outcome × State → DriveState
-handed packet given (outcome, s) = going (given ++ option_to_list (given_in packet outcome)) s
+handed packet given (outcome, s) = going (given ++ option_to_list (given_at_once packet outcome)) s
 
 -- the loop begins with the input, if there is any
 abbrev pub begun : Option (Transmit (List ℕ)) → ℕ → DriveState → DriveState

@@ -46,8 +46,8 @@ given_of (Task.Open id socket peer) = ToOpen id socket peer
 given_of (Task.Close local remote) = ToClose local remote
 
 -- what `recv` returns at once for a packet
-abbrev pub given_in : Transmit (List ℕ) → Outcome → Option Given
-given_in packet O.Handled = None
-given_in packet O.Ignored = Some (NotOurs packet)
-given_in packet (O.PeerData payload) = Some (FromPeer payload)
-given_in packet (O.PeerIcmp transport peer icmp) = Some (FromIcmp transport peer icmp)
+abbrev pub given_at_once : Transmit (List ℕ) → Outcome → Option Given
+given_at_once packet O.Handled = None
+given_at_once packet O.Ignored = Some (NotOurs packet)
+given_at_once packet (O.PeerData payload) = Some (FromPeer payload)
+given_at_once packet (O.PeerIcmp transport peer icmp) = Some (FromIcmp transport peer icmp)

@@ -41,17 +41,17 @@ calls_of [] = []
 calls_of (one ∷ later) = calls_in one ++ calls_of later
 
 -- the next iteration begins by the deadline, and at the same time where work may be left
-abbrev pub GoesOn : Rest → ℕ → ℕ → Type 0
-GoesOn (Until deadline) now next = (now ≤ next) × (next ≤ deadline) × (next ≤ 2 ^ 62)
-GoesOn Now now next = next ≡ now
-GoesOn Ended now next = ⊥
+abbrev pub BeginsInTime : Rest → ℕ → ℕ → Type 0
+BeginsInTime (Until deadline) now next = (now ≤ next) × (next ≤ deadline) × (next ≤ 2 ^ 62)
+BeginsInTime Now now next = next ≡ now
+BeginsInTime Ended now next = ⊥
 
 -- The iterations follow each other so, and each polls at its time and ends as `drive_client` ensures (`whole`, `restful`).
 abbrev pub IsLoop : Rest → ℕ → State → List Iteration → Type 0
 IsLoop rest before s [] = ⊤
 IsLoop rest before s (one ∷ later) =
     let t = state_after_all s (calls_in one) in
-    GoesOn rest before one.now × AllByRecursion (IsAsk one.now) one.asks × IsRestful one.rest one.now t × IsLoop one.rest one.now t later
+    BeginsInTime rest before one.now × AllByRecursion (IsAsk one.now) one.asks × IsRestful one.rest one.now t × IsLoop one.rest one.now t later
 
 -- all calls of a loop are on time, whatever is passed in, from a state on in which it may rest
 abbrev pub LoopsAreOnTime : Type 0

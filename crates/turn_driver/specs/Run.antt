@@ -12,7 +12,7 @@ use Rattle.turn_client_api.specs.declared.call.Call.{Call}
 use Rattle.turn_client_api.specs.declared.call.Call.TheVariants.{Recv, PollRecv, Poll, PollTransmit, PollEvent}
 use Rattle.turn_client_api.specs.declared.poll.TurnPollRet.{TurnPollRet}
 use Rattle.turn_client_api.specs.declared.poll.TurnPollRet.TheVariants as Poll
-use Rattle.turn_driver.specs.Given.{Given, FromPeer, Happened, ToSend, ToOpen, ToClose, given_in}
+use Rattle.turn_driver.specs.Given.{Given, FromPeer, Happened, ToSend, ToOpen, ToClose, given_at_once}
 use Rattle.turn_driver.specs.Driver.{DriveState}
 
 -- ---- what the calls of a client return
@@ -25,7 +25,7 @@ asked_for _ = []
 
 -- what a call of a client in this state returns
 abbrev pub given_by : Call → State → List Given
-given_by (Recv packet now) s = option_to_list (given_in packet (packet_step packet now s).0)
+given_by (Recv packet now) s = option_to_list (given_at_once packet (packet_step packet now s).0)
 given_by (PollRecv now) s = option_to_list (option_map FromPeer (poll_recv_step now s).0)
 given_by (Poll now) s = asked_for (poll_step now s).0
 given_by PollEvent s = option_to_list (option_map Happened (event_step s).0)

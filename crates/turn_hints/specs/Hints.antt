@@ -9,13 +9,10 @@ use Rattle.std.specs.declared.ops.Range.{Range}
 use Rattle.turn_stun.specs.Attributes.{first_of, seen_of}
 use Rattle.turn_stun.specs.Message.{Attribute, id_of}
 use Rattle.turn_stun.specs.Number.{u16_at}
+use Rattle.turn_stun.specs.Read.{value_in}
 use Rattle.turn_stun.specs.Refusal.{Refusal}
 use Rattle.turn_stun.specs.Values.{error_code_of}
 use Rattle.turn_stun.specs.XorAddress.{xor_addr, xor_v4, xor_v6}
-
--- the value of the first attribute of this type among those that count (sections 14.5 and 14.6)
-abbrev pub value_in : ℕ → List ℕ → Option (List ℕ)
-value_in kind message = option_map (λ a. a.value) (first_of kind (seen_of message))
 
 -- where the value of an attribute lies, without its padding
 abbrev pub place_of : Attribute → Range ℕ
@@ -37,9 +34,6 @@ plain_addr value =
 -- ERROR-CODE (section 14.8), if it is well formed
 abbrev pub refusal_in : List ℕ → Option Refusal
 refusal_in message = option_and_then error_code_of (value_in 0x0009 message)
-
-abbrev pub code_in : List ℕ → Option ℕ
-code_in message = option_map (λ refusal. refusal.code) (refusal_in message)
 
 -- XOR-MAPPED-ADDRESS (section 14.2)
 abbrev pub mapped_in : List ℕ → Option SocketAddr

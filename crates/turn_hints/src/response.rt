@@ -1,7 +1,8 @@
 //! What a server's response says.
 
 ghost use Rattle.std.specs.Prelude.{◌≡◌};
-ghost use Rattle.turn_hints.specs.Hints.{alternate_in, code_in, mapped_in};
+ghost use Rattle.turn_hints.specs.Hints.{alternate_in, mapped_in};
+ghost use Rattle.turn_stun.specs.Read.{code_in};
 
 use crate::address::{AlternateServer, XorMappedAddress};
 use std::net::SocketAddr;

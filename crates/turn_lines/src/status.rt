@@ -1,7 +1,7 @@
 //! How a run of the program ended.
 
 ghost use Rattle.std.specs.Prelude.{◌≡◌};
-ghost use Rattle.turn_lines.specs.Status.{code_of};
+ghost use Rattle.turn_lines.specs.Status.{exit_code_of};
 
 /// How a run of the program ended, and what it has printed.
 #[derive(Clone, Copy, Debug, PartialEq, Eq)]
@@ -22,7 +22,7 @@ impl Status {
     /// The exit status: 0 with answers, 2 for a bad line, 3 if memory allocation failed, 4 if reading or
     /// writing failed.
     pub fn code(self) -> u8
-        ensures { result ≡ code_of self }
+        ensures { result ≡ exit_code_of self }
     {
         match self {
             Status::Answered => 0,

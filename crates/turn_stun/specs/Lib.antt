@@ -3,6 +3,7 @@ pub mod Iterator
 pub mod Message
 pub mod MessageType
 pub mod Number
+pub mod Read
 pub mod Refusal
 pub mod Values
 pub mod Writer

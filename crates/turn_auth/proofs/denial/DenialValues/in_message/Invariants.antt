@@ -1,9 +1,9 @@
 use Rattle.std.proofs.Common.{◌≡◌, fold}
 use Rattle.std.specs.Prelude.{option_copied}
 use Rattle.turn_stun.specs.Iterator.{attributes_left}
-use Rattle.turn_auth.specs.Challenge.{value_in}
 use Rattle.turn_auth.specs.Denial.{first_value}
 use Rattle.turn_auth.proofs.denial.DenialValues.in_message.Given as goal
+use Rattle.turn_stun.specs.Read.{value_in}
 
 -- what was found, with the attributes that are left to read
 abbrev pub invariant-loop-offset : goal.invariant-loop-offset

@@ -1,6 +1,7 @@
 use Rattle.std.proofs.Common.{rules, ◌≡◌, Some, is_some, true}
-use Rattle.turn_auth.specs.Challenge.{denial_in, value_in}
+use Rattle.turn_auth.specs.Challenge.{denial_in}
 use Rattle.turn_auth.proofs.long_term.LongTermClientAuth.read_challenge.Goals as goal
+use Rattle.turn_stun.specs.Read.{value_in}
 
 pub returns-in-Some-clause-exact : goal.returns-in-Some-clause-exact
 returns-in-Some-clause-exact c =
