@@ -135,6 +135,8 @@ impl<T: AsSlice<u8> + Drop> DelayedTransmitBuild for DelayedMessageOrChannelSend
         }
     }
 
+    // As `TransmitBuild::write_into`, which calls it.
+    #[inline(always)]
     fn write_into(self, place: &mut [u8]) -> usize {
         match self {
             DelayedMessageOrChannelSend::Channel(channel) => channel.write_into(place),

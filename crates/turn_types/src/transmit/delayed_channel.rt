@@ -77,6 +77,7 @@ impl<T: AsSlice<u8> + Drop> DelayedTransmitBuild for DelayedChannel<T> {
         Ok(built)
     }
 
+    #[inline(always)]
     fn write_into(self, place: &mut [u8]) -> usize {
         framing::write(place, self.id, self.payload.as_slice());
         place.len()

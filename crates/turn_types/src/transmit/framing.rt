@@ -36,6 +36,8 @@ pub(super) fn padding_len(len: usize) -> usize
 
 /// Writes a number, the length of the value, the value, and zeros up to a multiple of four bytes.
 /// The value is copied once.
+// A header of four bytes costs less than a call.
+#[inline(always)]
 pub(super) fn write(place: &mut [u8], number: u16, value: &[u8])
     requires short { length value.now < 2 ^ 16 }
     requires whole { length place.old ≡ 4 + padded_len (length value.now) }

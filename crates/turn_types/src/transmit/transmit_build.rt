@@ -60,6 +60,8 @@ impl<T: DelayedTransmitBuild> TransmitBuild<T> {
 
     /// Writes the bytes of the packet into a slice of exactly their length, and returns this length. The
     /// caller reads source and destination from the fields before.
+    // A call of its own would have all of the packet in memory first.
+    #[inline(always)]
     pub fn write_into(self, place: &mut [u8]) -> usize
         requires { length place.old ≡ length (T.bytes self.payload) }
         ensures written { place.new ≡ T.bytes self.payload }
