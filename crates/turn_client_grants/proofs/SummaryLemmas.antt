@@ -7,7 +7,7 @@ use Rattle.std.proofs.lemmas.Bool.{lt-leb}
 use Rattle.std.proofs.lemmas.List.Elements.{All-cons, All-nil}
 use Rattle.std.specs.declared.net.socket_addr.SocketAddr.{SocketAddr}
 use Rattle.turn_types.specs.declared.family.AddressFamily.{AddressFamily}
-use Rattle.turn_client_api.specs.Calls.{channels_to, progress_to, reserved_from}
+use Rattle.turn_client_api.specs.Calls.{progress_to, reserved_from}
 use Rattle.turn_client_api.specs.Due.{end_of, refresh_time, expiry_time, expiry_times}
 use Rattle.turn_client_api.specs.Grants.{as_allocation, family_of, is_of, is_of_family, is_of_request}
 use Rattle.turn_client_api.specs.Poll.{first_unreported, unreported_in}
@@ -197,8 +197,8 @@ none-reserved peer now [] none = refl
 none-reserved peer now (g ∷ gs) none = grind (arith, none-reserved peer now gs)
 
 -- no peer is kept from being bound if no channel is reserved
-pub no-reservation : (s : State) (peer : SocketAddr) (now : ℕ) → list_any is_reserved s.grants ≡ false → None ≡ slice_get (filter_map (reserved_from now) (channels_to peer s)) 0
-no-reservation s peer now none = ap (λ (times : List ℕ). slice_get times 0) (sym (none-reserved peer now s.grants none))
+pub no-reservation : (gs : List Grant) (peer : SocketAddr) (now : ℕ) → list_any is_reserved gs ≡ false → None ≡ slice_get (filter_map (reserved_from now) (filter_map (progress_to peer) gs)) 0
+no-reservation gs peer now none = ap (λ (times : List ℕ). slice_get times 0) (sym (none-reserved peer now gs none))
 
 -- ---- the two allocations
 

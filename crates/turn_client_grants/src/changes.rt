@@ -175,14 +175,8 @@ pub(crate) fn apply(grants: &mut Vec<Grant>, change: &Change)
     ensures capacity { vec_capacity grants.new ≡ vec_capacity grants.old }
     ensures len { vec_len grants.new ≡ vec_len grants.old }
 {
-    apply_all(grants.as_mut_slice(), change);
-}
-
-/// Applies the change to all grants of the slice.
-fn apply_all(grants: &mut [Grant], change: &Change)
-    ensures { grants.new ≡ map (changed change.now) grants.old }
-{
-    for grant in grants.iter_mut() {
+    let all = grants.as_mut_slice();
+    for grant in all.iter_mut() {
         *grant = change.applied(grant);
     }
 }
@@ -194,15 +188,8 @@ pub(crate) fn apply_to(grants: &mut Vec<Grant>, key: &Key, change: &Change)
     ensures capacity { vec_capacity grants.new ≡ vec_capacity grants.old }
     ensures len { vec_len grants.new ≡ vec_len grants.old }
 {
-    apply_to_found(grants.as_mut_slice(), key, change);
-}
-
-/// Applies the change to the grant of the slice that the key finds: it leaves all others.
-fn apply_to_found(grants: &mut [Grant], key: &Key, change: &Change)
-    requires { LeavesOthers key.now change.now }
-    ensures { grants.new ≡ map (changed change.now) grants.old }
-{
-    for grant in grants.iter_mut() {
+    let all = grants.as_mut_slice();
+    for grant in all.iter_mut() {
         if key.finds(grant) {
             *grant = change.applied(grant);
         }

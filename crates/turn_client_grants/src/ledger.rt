@@ -5,7 +5,7 @@ ghost use Rattle.std.specs.Prelude.{◌≡◌, ◌≤◌, ◌<◌, ◌+◌, ◌&
 ghost use Rattle.turn_client_api.specs.Effect.{renewed};
 ghost use Rattle.turn_client_api.specs.Grants.{find_allocation_to, failures_among, jump, unlisted, wait, with_grant, without_grants};
 ghost use Rattle.turn_client_api.specs.Poll.{failed};
-ghost use Rattle.turn_client_api.specs.State.{State};
+ghost use Rattle.turn_client_api.specs.State.{State, later_by, seconds};
 ghost use Rattle.turn_client_grants.specs.Keys.{is_found_by};
 ghost use Rattle.turn_client_grants.specs.declared.key.Key.{Key};
 ghost use Rattle.turn_client_grants.specs.Ledger.{IsApart, SameRoomBut, changed_by, with_ledger};
@@ -17,6 +17,7 @@ use crate::grant_filter::GrantFilter;
 use crate::key::Key;
 use crate::kind::{family_of_ip, is_same_transport};
 use crate::table::GrantTable;
+use crate::time::later;
 use std::alloc::{AllocError, Global};
 use std::collections::VecDeque;
 use std::marker::Model;
@@ -214,26 +215,30 @@ impl GrantLedger {
         self.table.unlist(which);
     }
 
-    /// The active ones of these grants expire at this time, and no request is listed for them any more.
-    fn renew(&mut self, which: &GrantFilter, expiry: Instant)
-        ensures state { (s : State) → with_ledger self.new s ≡ renewed (holds which.now) expiry (unlisted (holds which.now) (with_ledger self.old s)) }
+    /// The active ones of these grants last so many seconds from now on, and no request is listed for
+    /// them any more.
+    fn renew(&mut self, which: &GrantFilter, secs: u64, now: Instant)
+        ensures state { (s : State) → with_ledger self.new s
+            ≡ renewed (holds which.now) (later_by (seconds secs) now) (unlisted (holds which.now) (with_ledger self.old s)) }
         ensures room { SameRoomBut 0 0 self.old self.new }
     {
-        self.table.renew(which, expiry);
+        self.table.renew(which, later(now, secs));
     }
 
-    /// Replaces the grant that this key finds by another one, after all others. It uses no room for
-    /// grants.
-    fn replace(&mut self, key: &Key, grant: &Grant)
+    /// Replaces the grant that this key finds by another one, after all others, and queues this event
+    /// after all others. It uses no room for grants.
+    fn replace(&mut self, key: &Key, grant: &Grant, event: TurnEvent)
         requires numbered { is_numbered grant.now ≡ true }
         requires apart { IsApart grant.now }
         requires there { list_any (is_found_by key.now) self.old.grants ≡ true }
         // Each key that finds the new grant finds the old one.
         requires keyed { (k : Key) → is_found_by k grant.now ≡ true → list_any (λ g. is_found_by key.now g && is_found_by k g) self.old.grants ≡ true }
-        requires aside { 2 ≤ self.old.event_room }
-        ensures state { (s : State) → with_ledger self.new s ≡ with_grant grant.now (without_grants (is_found_by key.now) (with_ledger self.old s)) }
-        ensures room { SameRoomBut 0 2 self.old self.new }
+        requires event_room { 3 ≤ self.old.event_room }
+        ensures state { (s : State) → with_ledger self.new s
+            ≡ wait (event ∷ []) (with_grant grant.now (without_grants (is_found_by key.now) (with_ledger self.old s))) }
+        ensures room { SameRoomBut 0 3 self.old self.new }
     {
         self.table.replace(key, grant);
+        self.push_event(event);
     }
 }

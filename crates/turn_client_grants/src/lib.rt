@@ -22,16 +22,13 @@
 
 mod allocation_events;
 mod changes;
-mod connections;
 mod due;
-mod failures;
 mod grant_filter;
 mod key;
 mod kind;
 mod ledger;
 mod listed;
 mod listings;
-mod numbers;
 mod offers;
 mod past_expiry;
 mod purposes;
@@ -42,8 +39,9 @@ mod table;
 mod time;
 mod totals;
 
+pub use allocation_events::has_address;
 pub use grant_filter::GrantFilter;
-pub use kind::{family_of, family_of_ip};
+pub use kind::{family_of, family_of_ip, is_of_family};
 pub use ledger::GrantLedger;
 pub use purposes::Purposes;
 pub use table::GrantTable;

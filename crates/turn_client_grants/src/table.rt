@@ -6,15 +6,13 @@
 //! grants is scanned instead. What is read from all grants at once, such as the next expiry and the next
 //! refresh, is a summary. It is computed anew only by a change after which it may be another one.
 
-ghost use Rattle.std.specs.Prelude.{◌≡◌, ◌≤◌, ◌<◌, ◌+◌, ◌++◌, ◌∷◌, ◌==◌, ◌&&◌, [], false, true, None, filter, filter_map, length, map, not, reverse, OnOk};
+ghost use Rattle.std.specs.Prelude.{◌≡◌, ◌≤◌, ◌<◌, ◌+◌, ◌++◌, ◌∷◌, ◌==◌, ◌&&◌, [], false, true, None, filter, length, map, not, OnOk};
 ghost use Rattle.std.specs.List.{list_all, list_any};
-ghost use Rattle.std.specs.VecDeque.{deque_capacity, deque_len};
 ghost use Rattle.turn_client_api.specs.Calls.{is_offer_of, without_first};
 ghost use Rattle.turn_client_api.specs.Effect.{new_allocation};
 ghost use Rattle.turn_client_api.specs.Grants.{as_allocation, is_for_allocation};
 ghost use Rattle.turn_client_api.specs.Poll.{first_reported};
 ghost use Rattle.turn_client_api.specs.Requests.{listings};
-ghost use Rattle.turn_client_grants.specs.Failures.{close_in, failure_in};
 ghost use Rattle.turn_client_grants.specs.Found.{LeavesOthers};
 ghost use Rattle.turn_client_grants.specs.Keys.{is_found_by};
 ghost use Rattle.turn_client_grants.specs.declared.changes.Change.TheVariants.{Renew};
@@ -23,7 +21,6 @@ ghost use Rattle.turn_client_grants.specs.Table.{are_new, changed, has_no_double
 ghost use Rattle.turn_client_grants.specs.GrantFilter.{holds, purposes_in};
 
 use crate::changes::{self, Change};
-use crate::failures::{push_closes_back, push_failures_back, push_failures_front};
 use crate::grant_filter::GrantFilter;
 use crate::key::{self, Key};
 use crate::kind::is_pending;
@@ -32,16 +29,18 @@ use crate::offers;
 use crate::purposes::Purposes;
 use crate::summary::{Summary, kept_unless, summary_of, summary_with};
 use std::alloc::{AllocError, Global};
-use std::collections::{HashMap, VecDeque};
+use std::collections::HashMap;
 use std::marker::Model;
 use std::net::SocketAddr;
-use turn_client_api::{Grant, TurnEvent};
+use turn_client_api::Grant;
 use turn_stun::instant::Instant;
 use turn_stun::transaction::TransactionId;
-use turn_stun::transport::TransportType;
 use turn_types::AddressFamily;
 
+mod connections;
+mod failures;
 mod found;
+mod numbers;
 mod read;
 
 /// The grants of a client, in the order in which they were requested or granted, and what the requests
@@ -186,47 +185,6 @@ impl GrantTable {
         );
     }
 
-    /// Queues the failures of these grants after the queued events.
-    pub(crate) fn failures_back(
-        &self,
-        events: &mut VecDeque<TurnEvent>,
-        transport: TransportType,
-        which: &GrantFilter,
-    )
-        requires { deque_len events.old + length (filter_map (failure_in transport which.now) self.now.grants) ≤ deque_capacity events.old }
-        ensures items { events.new.items ≡ events.old.items ++ filter_map (failure_in transport which.now) self.now.grants }
-        ensures capacity { deque_capacity events.new ≡ deque_capacity events.old }
-        ensures len { deque_len events.new ≡ deque_len events.old + length (filter_map (failure_in transport which.now) self.now.grants) }
-    {
-        push_failures_back(events, self.grants.as_slice(), transport, which);
-    }
-
-    /// Queues the failures of these grants before the queued events, the last of them first.
-    pub(crate) fn failures_front(
-        &self,
-        events: &mut VecDeque<TurnEvent>,
-        transport: TransportType,
-        which: &GrantFilter,
-    )
-        requires { deque_len events.old + length (filter_map (failure_in transport which.now) self.now.grants) ≤ deque_capacity events.old }
-        ensures items { events.new.items ≡ reverse (filter_map (failure_in transport which.now) self.now.grants) ++ events.old.items }
-        ensures capacity { deque_capacity events.new ≡ deque_capacity events.old }
-        ensures len { deque_len events.new ≡ deque_len events.old + length (filter_map (failure_in transport which.now) self.now.grants) }
-    {
-        push_failures_front(events, self.grants.as_slice(), transport, which);
-    }
-
-    /// Queues the local addresses of the data connections among these grants after those to be closed
-    /// already.
-    pub(crate) fn closes_back(&self, closes: &mut VecDeque<SocketAddr>, which: &GrantFilter)
-        requires { deque_len closes.old + length (filter_map (close_in which.now) self.now.grants) ≤ deque_capacity closes.old }
-        ensures items { closes.new.items ≡ closes.old.items ++ filter_map (close_in which.now) self.now.grants }
-        ensures capacity { deque_capacity closes.new ≡ deque_capacity closes.old }
-        ensures len { deque_len closes.new ≡ deque_len closes.old + length (filter_map (close_in which.now) self.now.grants) }
-    {
-        push_closes_back(closes, self.grants.as_slice(), which);
-    }
-
     /// Removes the listings for these grants.
     pub(crate) fn unlist(&mut self, which: &GrantFilter)
         ensures grants { self.new.grants ≡ self.old.grants }
@@ -359,13 +317,6 @@ impl GrantTable {
         changes::apply_to(&mut self.grants, key, change);
         key::set_keys(&mut self.found, &grant);
         self.summary = summary_of(self.grants.as_slice(), self.listed.as_slice());
-    }
-
-    /// Whether one of these grants is there.
-    pub(crate) fn has_any(&self, which: &GrantFilter) -> bool
-        ensures { result ≡ list_any (holds which.now) self.now.grants }
-    {
-        changes::has_any(self.grants.as_slice(), which)
     }
 
     /// Changes grants that keep their places.

@@ -1,6 +1,7 @@
 //! All numbers that channels may have (RFC 8656, section 12).
 
 use crate::fixture::same;
+use crate::grants::is_asked;
 use std::alloc::{AllocError, Global};
 use std::net::{IpAddr, Ipv4Addr, SocketAddr};
 use std::test::Fail;
@@ -15,7 +16,7 @@ use turn_stun::transport::TransportType;
 fn take_number(ledger: &mut GrantLedger, port: u16) -> Result<Option<u16>, AllocError> {
     let request = TransactionId::from_bytes([7; 12]);
     ledger.reserve(1, 2, 0)?;
-    if ledger.table().is_asked(request) {
+    if is_asked(ledger, request) {
         return Ok(None);
     }
     let Some(number) = ledger.table().free_number() else {

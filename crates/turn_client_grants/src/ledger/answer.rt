@@ -84,8 +84,8 @@ impl GrantLedger {
         self.replace(
             &Key::Ip(ip),
             &Grant::Permission(ip, Progress::Active(Lease { expiry, is_kept })),
+            TurnEvent::PermissionCreated(transport, ip),
         );
-        self.push_event(TurnEvent::PermissionCreated(transport, ip));
     }
 
     /// The server answered for an active permission that is refreshed.
@@ -96,10 +96,7 @@ impl GrantLedger {
     {
         let transport = self.transport();
         if is_granted {
-            return self.renew(
-                &GrantFilter::PermissionOf(ip),
-                later(now, PERMISSION_SECONDS),
-            );
+            return self.renew(&GrantFilter::PermissionOf(ip), PERMISSION_SECONDS, now);
         }
         self.remove(&GrantFilter::PermissionOf(ip));
         self.push_event_front(TurnEvent::PermissionCreateFailed(transport, ip));
@@ -230,8 +227,8 @@ impl GrantLedger {
                     is_kept,
                 }),
             ),
+            TurnEvent::ChannelCreated(transport, peer),
         );
-        self.push_event(TurnEvent::ChannelCreated(transport, peer));
     }
 
     /// A pending channel is refused, and so is the permission that was requested with it.
@@ -266,7 +263,7 @@ impl GrantLedger {
     {
         let transport = self.transport();
         if is_granted {
-            return self.renew(&GrantFilter::ChannelOf(number), later(now, CHANNEL_SECONDS));
+            return self.renew(&GrantFilter::ChannelOf(number), CHANNEL_SECONDS, now);
         }
         // Reserved as after its expiry (our choice): the server may keep the binding so long.
         self.replace(
@@ -276,7 +273,7 @@ impl GrantLedger {
                 peer,
                 Progress::Reserved(later(expiry, RESERVED_SECONDS)),
             ),
+            TurnEvent::ChannelCreateFailed(transport, peer),
         );
-        self.push_event(TurnEvent::ChannelCreateFailed(transport, peer));
     }
 }

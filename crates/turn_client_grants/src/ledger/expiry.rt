@@ -17,6 +17,7 @@ use crate::key::Key;
 use crate::kind::family_of;
 use crate::ledger::GrantLedger;
 use crate::ledger::answer::RESERVED_SECONDS;
+use crate::listed::has_request;
 use crate::purposes::Purposes;
 use crate::time::later;
 use std::net::SocketAddr;
@@ -117,7 +118,9 @@ impl GrantLedger {
     {
         let grant = Grant::Allocation(*relay);
         relay.expiry <= now
-            && (purposes.are_for(&grant) || !self.table.has_request(&grant) || !relay.is_expired)
+            && (purposes.are_for(&grant)
+                || !has_request(self.table.listed(), &grant)
+                || !relay.is_expired)
     }
 
     /// Processes what expires in the allocation of this family, which stays, from the inside out.

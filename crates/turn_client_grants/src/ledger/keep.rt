@@ -6,7 +6,7 @@ ghost use Rattle.turn_client_api.specs.State.{State};
 ghost use Rattle.turn_client_grants.specs.GrantFilter.{holds};
 ghost use Rattle.turn_client_grants.specs.Ledger.{SameRoomBut, with_ledger};
 
-use crate::changes::Change;
+use crate::changes::{Change, has_any};
 use crate::grant_filter::GrantFilter;
 use crate::kind::is_same_transport;
 use crate::ledger::GrantLedger;
@@ -64,7 +64,7 @@ impl GrantLedger {
         ensures room { SameRoomBut 0 0 self.old self.new }
     {
         let is_relayed = is_same_transport(transport, self.transport);
-        let is_there = self.table.has_any(which);
+        let is_there = has_any(self.table.grants(), which);
         if is_relayed && is_there {
             self.change(&Change::Keep(*which, is_kept));
             return Ok(());

@@ -1,15 +1,14 @@
 //! What is read from a table.
 
-ghost use Rattle.std.specs.Prelude.{◌≡◌, ◌==◌, ◌<◌, ◌&&◌, All, map, filter, filter_map, find, fold, length, min, nat_le, nat_lt, not, option_map};
+ghost use Rattle.std.specs.Prelude.{◌≡◌, ◌==◌, ◌<◌, ◌&&◌, ◌||◌, All, map, filter, filter_map, find, fold, length, min, nat_le, nat_lt, not, option_map};
 ghost use Rattle.std.specs.Prelude.{option_copied, option_to_list, reverse, slice_get, false, true, IfSome};
 ghost use Rattle.std.specs.Duration.{as_nanos};
 ghost use Rattle.std.specs.List.{list_all, list_any};
 ghost use Rattle.turn_agent.specs.Agent.{same_address};
-ghost use Rattle.turn_client_api.specs.Addresses.{permitted_left, permitted_in_use, relayed_left, relayed_in_use};
-ghost use Rattle.turn_client_api.specs.Calls.{active_channel, bound_to, channels_to, free_number, is_in_progress, offer_origin, reserved_from};
-ghost use Rattle.turn_client_api.specs.Connections.{is_connected, is_indicated};
-ghost use Rattle.turn_client_api.specs.Grants.{find_allocation, allocations, channel_at, channel_peer, as_allocation, as_connection, first_in, is_channel_of};
-ghost use Rattle.turn_client_api.specs.Grants.{is_connect_to, is_for, is_of, is_of_family, is_listed, has_active_permission, permission_progress, purposes_of};
+ghost use Rattle.turn_client_api.specs.Addresses.{permitted_left, permitted_in_use};
+ghost use Rattle.turn_client_api.specs.Calls.{active_channel, is_in_progress, progress_to, reserved_from};
+ghost use Rattle.turn_client_api.specs.Grants.{find_allocation, allocations, channel_at, channel_peer, as_allocation, first_in};
+ghost use Rattle.turn_client_api.specs.Grants.{is_of, is_of_family, is_of_request, has_active_permission, permission_progress};
 ghost use Rattle.turn_client_api.specs.Judgement.{is_bind_of};
 ghost use Rattle.turn_client_api.specs.Poll.{is_expired_channel, next_offer};
 ghost use Rattle.turn_client_api.specs.State.{State};
@@ -25,26 +24,40 @@ ghost use Rattle.turn_client_grants.specs.GrantFilter.{purposes_in};
 
 use crate::due::{after_pause, least};
 use crate::key::Key;
-use crate::kind::is_of_family;
+use crate::kind::{is_of, is_of_family};
+use crate::past_expiry::is_expired_channel;
 use crate::purposes::Purposes;
 use crate::summary::refresh_of;
 use crate::table::GrantTable;
-use crate::{connections, listed, numbers, offers, reads, refresh};
+use crate::table::connections::has_of_request;
+use crate::{offers, reads, refresh};
 use std::net::{IpAddr, SocketAddr};
 use std::time::Duration;
 use turn_client_api::{
-    DataConnection, DataOffer, Grant, Origin, PermissionAddressesIter, Progress, Purpose, Relay,
-    RelayedAddressesIter,
+    DataOffer, Grant, Listing, PermissionAddressesIter, Progress, Purpose, Relay,
 };
 use turn_stun::instant::Instant;
 use turn_stun::transaction::TransactionId;
-use turn_stun::transport::TransportType;
 use turn_types::AddressFamily;
 
 /// A table of so few grants is scanned: hashing an address takes as long as scanning ten of them.
 const FEW: usize = 8;
 
 impl GrantTable {
+    /// The grants in their order.
+    pub(crate) fn grants(&self) -> &[Grant]
+        ensures { result.now ≡ self.now.grants }
+    {
+        self.grants.as_slice()
+    }
+
+    /// What the requests were made for, in the order of the requests.
+    pub(crate) fn listed(&self) -> &[Listing]
+        ensures { result.now ≡ self.now.listed }
+    {
+        self.listed.as_slice()
+    }
+
     /// The allocation of this family, whether or not it is expired.
     pub fn find_allocation(&self, family: AddressFamily) -> Option<Relay>
         ensures { (s : State) → result ≡ find_allocation family (with_table self.now s) }
@@ -72,7 +85,15 @@ impl GrantTable {
     pub fn has_relayed(&self, relayed: SocketAddr) -> bool
         ensures { result ≡ list_any (λ a. same_address a.relayed relayed) (filter (λ a. not a.is_expired) (filter_map as_allocation self.now.grants)) }
     {
-        reads::has_relayed(self.grants.as_slice(), relayed)
+        let grants = self.grants.as_slice();
+        for grant in grants {
+            if let Grant::Allocation(relay) = grant {
+                if !relay.is_expired && relay.relayed == relayed {
+                    return true;
+                }
+            }
+        }
+        false
     }
 
     /// The last channel of this family that is active and expires at this time or earlier.
@@ -80,22 +101,14 @@ impl GrantTable {
         ensures found { result ≡ find (λ g. is_of family g && is_expired_channel now g) (reverse self.now.grants) }
         ensures numbers { list_all is_numbered self.now.grants ≡ true }
     {
-        reads::last_expired_channel(self.grants.as_slice(), family, now)
-    }
-
-    /// Whether some request was made for the grant.
-    pub(crate) fn has_request(&self, grant: &Grant) -> bool
-        ensures { result ≡ list_any (λ l. is_for l.purpose grant.now) self.now.listed }
-    {
-        listed::has_request(self.listed.as_slice(), grant)
-    }
-
-    /// The relayed addresses of the allocations that are not expired, in the order in which the server
-    /// granted them. `transport` is the transport over which they relay.
-    pub fn relayed_addresses(&self, transport: TransportType) -> RelayedAddressesIter<'_>
-        ensures { relayed_left result ≡ relayed_in_use transport self.now.grants }
-    {
-        RelayedAddressesIter::new(transport, self.grants.as_slice())
+        let grants = self.grants.as_slice();
+        let mut last = None;
+        for grant in grants {
+            if is_expired_in(grant, family, now) {
+                last = Some(*grant);
+            }
+        }
+        last
     }
 
     /// The IP addresses of this family with an active permission, in the order in which the server
@@ -178,7 +191,7 @@ impl GrantTable {
     /// The number and the expiry of the first active channel to the peer. The number is one that a
     /// client may bind (RFC 8656, section 12).
     pub fn active_channel(&self, peer: SocketAddr) -> Option<(u16, Instant)>
-        ensures found { (s : State) → result ≡ first_in (active_channel peer) (with_table self.now s) }
+        ensures found { result ≡ first_among (active_channel peer) self.now.grants }
         ensures numbered { IfSome result (λ found. (nat_le 0x4000 found.0 && nat_lt found.0 0x5000) ≡ true) }
     {
         if self.grants.len() <= FEW {
@@ -193,7 +206,7 @@ impl GrantTable {
 
     /// Whether a channel to the peer is pending or active.
     pub fn has_channel(&self, peer: SocketAddr) -> bool
-        ensures { (s : State) → result ≡ list_any is_in_progress (channels_to peer (with_table self.now s)) }
+        ensures { result ≡ list_any is_in_progress (filter_map (progress_to peer) self.now.grants) }
     {
         if self.grants.len() <= FEW {
             return reads::has_channel(self.grants.as_slice(), peer);
@@ -205,58 +218,13 @@ impl GrantTable {
     /// Until when a reserved channel keeps the peer from being bound, if that is now or later. Of several
     /// it is the first in the table.
     pub fn reserved_until(&self, peer: SocketAddr, now: Instant) -> Option<Instant>
-        ensures { (s : State) → result ≡ slice_get (filter_map (reserved_from now) (channels_to peer (with_table self.now s))) 0 }
+        ensures { result ≡ slice_get (filter_map (reserved_from now) (filter_map (progress_to peer) self.now.grants)) 0 }
     {
         let has_reserved = self.summary.has_reserved;
         if has_reserved {
             return reads::reserved_until(self.grants.as_slice(), peer, now);
         }
         None
-    }
-
-    /// The least channel number that no channel has, not even a pending or reserved one, in any
-    /// allocation. It is one that a client may bind (RFC 8656, section 12).
-    pub fn free_number(&self) -> Option<u16>
-        ensures found { (s : State) → result ≡ free_number (with_table self.now s) }
-        ensures numbered { IfSome result (λ number. (nat_le 0x4000 number && nat_lt number 0x5000) ≡ true) }
-        ensures free { IfSome result (λ number. list_any (is_channel_of number) self.now.grants ≡ false) }
-    {
-        numbers::free_number(self.grants.as_slice())
-    }
-
-    /// The data connection from this local address.
-    pub fn connection_at(&self, local: SocketAddr) -> Option<DataConnection>
-        ensures { result ≡ find (λ c. same_address c.local local) (filter_map as_connection self.now.grants) }
-    {
-        connections::connection_at(self.grants.as_slice(), local)
-    }
-
-    /// The first data connection to the peer that is bound (RFC 6062, section 4.3).
-    pub fn bound_connection(&self, peer: SocketAddr) -> Option<DataConnection>
-        ensures { result ≡ find (bound_to peer) (filter_map as_connection self.now.grants) }
-    {
-        connections::bound_connection(self.grants.as_slice(), peer)
-    }
-
-    /// Whether a data connection to the peer exists, or is offered to the caller.
-    pub fn is_connected(&self, peer: SocketAddr) -> bool
-        ensures { (s : State) → result ≡ is_connected peer (with_table self.now s) }
-    {
-        connections::is_connected(self.grants.as_slice(), peer)
-    }
-
-    /// Whether a data connection to the peer is requested.
-    pub fn is_connecting(&self, peer: SocketAddr) -> bool
-        ensures { result ≡ list_any (is_connect_to peer) self.now.grants }
-    {
-        connections::is_connecting(self.grants.as_slice(), peer)
-    }
-
-    /// The origin of the offer with this connection ID and this peer.
-    pub fn offer_origin(&self, id: u32, peer: SocketAddr) -> Option<Origin>
-        ensures { (s : State) → result ≡ offer_origin id peer (with_table self.now s) }
-    {
-        connections::offer_origin(self.grants.as_slice(), id, peer)
     }
 
     /// The offer that is reported next, allocation by allocation in the order in which the server granted
@@ -271,17 +239,10 @@ impl GrantTable {
         None
     }
 
-    /// How many offers the server made by indications.
-    pub fn indicated_count(&self) -> usize
-        ensures { result ≡ length (filter is_indicated self.now.grants) }
-    {
-        connections::indicated_count(self.grants.as_slice())
-    }
-
     /// The purpose of the request with this ID to bind the data connection from this local address, if it
     /// was made for that.
     pub fn bind_purpose(&self, id: TransactionId, local: SocketAddr) -> Option<Purpose>
-        ensures { (s : State) → result ≡ find (is_bind_of local) (purposes_of id (with_table self.now s)) }
+        ensures { result ≡ find (is_bind_of local) (map (λ l. l.purpose) (filter (λ l. l.id == id) self.now.listed)) }
     {
         self.purposes_of(id).bind_of(local)
     }
@@ -301,21 +262,14 @@ impl GrantTable {
         self.listed.len()
     }
 
-    /// Whether a request with this ID is listed.
-    pub fn is_asked(&self, id: TransactionId) -> bool
-        ensures { result ≡ list_any (λ l. l.id == id) self.now.listed }
-    {
-        self.listed.has_id(id)
-    }
-
     /// Whether a request with this ID is listed, or one of the server that is to be answered has this ID.
     pub fn is_listed(&self, id: TransactionId) -> bool
-        ensures { (s : State) → result ≡ is_listed id (with_table self.now s) }
+        ensures { result ≡ (list_any (λ l. l.id == id) self.now.listed || list_any (is_of_request id) self.now.grants) }
     {
         let is_own = self.listed.has_id(id);
         let has_requested = self.summary.has_requested;
         if has_requested {
-            return is_own || connections::has_of_request(self.grants.as_slice(), id);
+            return is_own || has_of_request(self.grants.as_slice(), id);
         }
         is_own
     }
@@ -432,4 +386,11 @@ fn relay_end(relay: &Option<Relay>, now: Instant) -> Option<Instant>
         Some(relay) if now < relay.expiry => Some(relay.expiry),
         _ => None,
     }
+}
+
+/// Whether the grant is a channel of this family that is active and expires at this time or earlier.
+fn is_expired_in(grant: &Grant, family: AddressFamily, now: Instant) -> bool
+    ensures { result ≡ (is_of family grant.now && is_expired_channel now grant.now) }
+{
+    is_of(family, grant) && is_expired_channel(now, grant)
 }

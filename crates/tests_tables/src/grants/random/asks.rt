@@ -1,5 +1,6 @@
 //! What a client requests, and what it deletes.
 
+use crate::grants::is_asked;
 use crate::grants::plain::{Kind, Plain, Row, Stage, address, at, family, id, number_of};
 use crate::grants::random::Draw;
 use std::alloc::AllocError;
@@ -18,7 +19,7 @@ pub(crate) fn permission(
     if ledger.table().permission_state(ip).is_some() {
         return Ok(());
     }
-    if ledger.table().is_asked(request) {
+    if is_asked(ledger, request) {
         return Ok(());
     }
     let purpose = Purpose::ForPermission(ip);
@@ -42,7 +43,7 @@ pub(crate) fn channel(
     if ledger.table().has_channel(peer) {
         return Ok(());
     }
-    if ledger.table().is_asked(request) {
+    if is_asked(ledger, request) {
         return Ok(());
     }
     let Some(number) = ledger.table().free_number() else {
@@ -73,7 +74,7 @@ pub(crate) fn channel_with_permission(
     if ledger.table().permission_state(ip).is_some() {
         return Ok(());
     }
-    if ledger.table().is_asked(request) {
+    if is_asked(ledger, request) {
         return Ok(());
     }
     let Some(number) = ledger.table().free_number() else {
@@ -105,7 +106,7 @@ pub(crate) fn connect(
     if ledger.table().is_connecting(peer) {
         return Ok(());
     }
-    if ledger.table().is_asked(request) {
+    if is_asked(ledger, request) {
         return Ok(());
     }
     let purpose = Purpose::ForConnect(peer);
@@ -138,7 +139,7 @@ fn asks_only(
 ) -> Result<(), AllocError> {
     let request = id(draw.m);
     ledger.reserve(0, 2, 0)?;
-    if ledger.table().is_asked(request) {
+    if is_asked(ledger, request) {
         return Ok(());
     }
     ledger.ask(request, &[], &Purposes::one(purpose));
@@ -175,7 +176,7 @@ pub(crate) fn again(
 ) -> Result<(), AllocError> {
     ledger.reserve(0, 2, 0)?;
     let fresh = id(draw.n);
-    if ledger.table().is_asked(fresh) {
+    if is_asked(ledger, fresh) {
         return Ok(());
     }
     ledger.ask_again(id(draw.m), fresh);
@@ -190,7 +191,7 @@ pub(crate) fn gives_back(
 ) -> Result<(), AllocError> {
     let request = id(draw.m);
     ledger.reserve(0, 2, 0)?;
-    if draw.n % 16 != 0 || ledger.table().is_asked(request) {
+    if draw.n % 16 != 0 || is_asked(ledger, request) {
         return Ok(());
     }
     ledger.queue_delete(request, at(draw.now));

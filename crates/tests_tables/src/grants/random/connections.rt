@@ -1,5 +1,6 @@
 //! Offers of data connections, and data connections.
 
+use crate::grants::is_asked;
 use crate::grants::plain::{Plain, Reason, address, at, id};
 use crate::grants::random::Draw;
 use std::alloc::AllocError;
@@ -60,7 +61,7 @@ pub(crate) fn opened(
     if ledger.table().connection_at(local).is_some() {
         return Ok(());
     }
-    if ledger.table().is_asked(request) {
+    if is_asked(ledger, request) {
         return Ok(());
     }
     ledger.opened(number, peer, local, request, at(draw.now));
@@ -109,7 +110,7 @@ pub(crate) fn bound_again(
     let Some(purpose) = ledger.table().bind_purpose(id(request), local) else {
         return Ok(());
     };
-    if ledger.table().is_asked(fresh) {
+    if is_asked(ledger, fresh) {
         return Ok(());
     }
     ledger.bind_again(local, fresh, purpose, at(draw.now));

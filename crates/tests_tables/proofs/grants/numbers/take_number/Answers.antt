@@ -6,5 +6,5 @@ use Rattle.tests_tables.proofs.grants.numbers.take_number.Goals as goal
 pub ask-requires-clause-new : goal.ask-requires-clause-new
 ask-requires-clause-new c =
     let free : list_any (is_channel_of c.in-Some.number) c.reserve.new.self.grants ≡ false =
-    rw (c.in-Some.is, c.table-2.ensures.grants) at c.free_number.ensures.free in
+    rw (c.in-Some.is, c.table.ensures.grants) at c.free_number.ensures.free in
     rw free refl

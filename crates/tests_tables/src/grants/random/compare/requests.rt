@@ -21,7 +21,7 @@ fn listings(rt: &impl Abort, table: &GrantTable, plain: &Plain, n: u8) {
     let purposes = table.purposes_of(id(n));
     same(rt, purposes.first, plain.purpose(n, 0));
     same(rt, purposes.second, plain.purpose(n, 1));
-    same(rt, table.is_asked(id(n)), plain.is_asked(n));
+    same(rt, purposes.has_some(), plain.is_asked(n));
     same(rt, table.is_listed(id(n)), plain.is_listed(n));
 }
 

@@ -11,13 +11,13 @@ use Rattle.turn_client_grants.proofs.SameKeys.{key_eq}
 use Rattle.turn_client_grants.proofs.table.GrantTable.active_channel.Goals as goal
 
 pub returns-in-Some-clause-found : goal.returns-in-Some-clause-found
-returns-in-Some-clause-found c = λ s.
+returns-in-Some-clause-found c =
     c.active_in.ensures ∙ (sym (first-found (active_channel c.args.peer) (hash.get key_eq c.self.inside.found) c.self.inside.grants.items (By.Peer c.args.peer) c.self.invariant.found
     (other-active c.args.peer) ∙ ap (option_and_then (active_channel c.args.peer)) (sym c.in-Some.ensures.value))
     ∙ ap (λ (t : Table). first_among (active_channel c.args.peer) t.grants) c.self.view_is)
 
 pub returns-in-None-clause-found : goal.returns-in-None-clause-found
-returns-in-None-clause-found c = λ s.
+returns-in-None-clause-found c =
     sym (first-found (active_channel c.args.peer) (hash.get key_eq c.self.inside.found) c.self.inside.grants.items (By.Peer c.args.peer) c.self.invariant.found (other-active c.args.peer)
     ∙ ap (option_and_then (active_channel c.args.peer)) (sym c.in-None.ensures.value)) ∙ ap (λ (t : Table). first_among (active_channel c.args.peer) t.grants) c.self.view_is
 

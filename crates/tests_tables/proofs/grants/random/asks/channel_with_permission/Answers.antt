@@ -4,16 +4,16 @@ use Rattle.std.specs.List.{list_any}
 use Rattle.turn_client_api.specs.Calls.{is_in_progress, progress_to}
 use Rattle.turn_client_api.specs.Grants.{is_channel_of, permission_progress}
 use Rattle.turn_client_grants.specs.Lists.{first_among}
-use Rattle.turn_client_grants.proofs.ThereLemmas.{absent, someone}
+use Rattle.turn_client_grants.proofs.ThereLemmas.{absent}
 use Rattle.tests_tables.proofs.grants.random.asks.channel_with_permission.Goals as goal
 
 pub ask-requires-clause-new : goal.ask-requires-clause-new
 ask-requires-clause-new c =
     let peer = c.address-peer.result in
     let unbound : list_any is_in_progress (filter_map (progress_to peer) c.reserve.new.self.grants) ≡ false =
-    rw c.table.ensures.grants at (sym (c.has_channel.ensures (someone peer)) ∙ c.if-has_channel.false) in
+    rw c.table.ensures.grants at (sym c.has_channel.ensures ∙ c.if-has_channel.false) in
     let none : first_among (permission_progress c.ip-ip.result) c.reserve.new.self.grants ≡ None =
     rw c.table-2.ensures.grants at (sym c.permission_state.ensures ∙ absent c.permission_state.result (sym c.is_some.ensures ∙ c.if-is_some.false)) in
     let free : list_any (is_channel_of c.in-Some.number) c.reserve.new.self.grants ≡ false =
-    rw (c.in-Some.is, c.table-4.ensures.grants) at c.free_number.ensures.free in
+    rw (c.in-Some.is, c.table-3.ensures.grants) at c.free_number.ensures.free in
     rw (free, unbound, none) refl
