@@ -97,6 +97,7 @@ impl GrantLedger {
     }
 
     /// The allocation that relays over this transport to this IP address, expired or not.
+    #[inline(always)]
     pub fn find_allocation_to(&self, transport: TransportType, ip: IpAddr) -> Option<Relay>
         ensures { (s : State) → result ≡ find_allocation_to transport ip (with_ledger self.now s) }
     {

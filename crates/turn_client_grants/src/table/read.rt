@@ -59,6 +59,7 @@ impl GrantTable {
     }
 
     /// The allocation of this family, whether or not it is expired.
+    #[inline(always)]
     pub fn find_allocation(&self, family: AddressFamily) -> Option<Relay>
         ensures { (s : State) → result ≡ find_allocation family (with_table self.now s) }
     {
@@ -127,6 +128,8 @@ impl GrantTable {
     }
 
     /// The progress of the permission for this IP address.
+    // Each packet asks this: as the argument of a call, the address would be copied.
+    #[inline(always)]
     pub fn permission_state(&self, ip: IpAddr) -> Option<Progress>
         ensures { result ≡ first_among (permission_progress ip) self.now.grants }
     {
@@ -141,6 +144,7 @@ impl GrantTable {
     }
 
     /// Whether this IP address is permitted: it has an active permission (RFC 8656, section 9).
+    #[inline(always)]
     pub fn has_active_permission(&self, ip: IpAddr) -> bool
         ensures { (s : State) → result ≡ has_active_permission ip (with_table self.now s) }
     {
@@ -175,6 +179,7 @@ impl GrantTable {
     }
 
     /// The peer of the active channel with this number.
+    #[inline(always)]
     pub fn channel_peer(&self, number: u16) -> Option<&SocketAddr>
         ensures { (s : State) → option_copied result ≡ first_in (channel_peer number) (with_table self.now s) }
     {
@@ -190,6 +195,7 @@ impl GrantTable {
 
     /// The number and the expiry of the first active channel to the peer. The number is one that a
     /// client may bind (RFC 8656, section 12).
+    #[inline(always)]
     pub fn active_channel(&self, peer: SocketAddr) -> Option<(u16, Instant)>
         ensures found { result ≡ first_among (active_channel peer) self.now.grants }
         ensures numbered { IfSome result (λ found. (nat_le 0x4000 found.0 && nat_lt found.0 0x5000) ≡ true) }
@@ -312,6 +318,7 @@ impl GrantTable {
 }
 
 /// The progress of the permission, if the grant is the one for this IP address.
+#[inline(always)]
 fn permission_in(ip: IpAddr, grant: &Grant) -> Option<Progress>
     ensures { result ≡ permission_progress ip grant.now }
 {
@@ -342,6 +349,7 @@ fn progress_in(number: u16, grant: &Grant) -> Option<Progress>
 }
 
 /// The peer of the grant, if it is the active channel with this number.
+#[inline(always)]
 fn peer_in(number: u16, grant: &Grant) -> Option<&SocketAddr>
     ensures { option_copied result ≡ channel_peer number grant.now }
 {
@@ -352,6 +360,7 @@ fn peer_in(number: u16, grant: &Grant) -> Option<&SocketAddr>
 }
 
 /// The number and the expiry of the grant, if it is an active channel to the peer.
+#[inline(always)]
 fn active_in(peer: SocketAddr, grant: &Grant) -> Option<(u16, Instant)>
     ensures { result ≡ active_channel peer grant.now }
 {
@@ -364,6 +373,7 @@ fn active_in(peer: SocketAddr, grant: &Grant) -> Option<(u16, Instant)>
 }
 
 /// The allocation, if it is of this family.
+#[inline(always)]
 fn relay_of(relay: &Option<Relay>, family: AddressFamily) -> Option<Relay>
     ensures { result ≡ find (λ a. is_of_family family a.relayed) (option_to_list relay.now) }
 {
