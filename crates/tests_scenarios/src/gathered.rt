@@ -3,7 +3,7 @@
 //! A row has a call and its expected answer.
 
 ghost use Rattle.std.specs.Prelude.{◌≡◌, All, IfOk, length};
-ghost use Rattle.turn_gather.specs.Drive.{IsCallable};
+ghost use Rattle.turn_gather.specs.Drive.{IsGatherCallable};
 
 use crate::caller::Caller;
 use crate::fixture::{
@@ -275,7 +275,7 @@ fn call<C: TurnClientApi>(
     gatherer: &Gatherer<C>,
     ask: &Ask<'_>,
 ) -> Result<GatherCall, AllocError>
-    ensures { IfOk result (IsCallable gatherer.now.client.config.allocation_transport) }
+    ensures { IfOk result (IsGatherCallable gatherer.now.client.config.allocation_transport) }
 {
     let now = at(NOW);
     match ask {
@@ -314,7 +314,7 @@ fn calls_of<C: TurnClientApi>(
     gatherer: &Gatherer<C>,
     rows: &[Row<'_>],
 ) -> Result<Vec<GatherCall>, AllocError>
-    ensures { IfOk result (λ calls. All (IsCallable gatherer.now.client.config.allocation_transport) calls.items) }
+    ensures { IfOk result (λ calls. All (IsGatherCallable gatherer.now.client.config.allocation_transport) calls.items) }
 {
     let mut calls = Vec::new(alloc);
     for (ask, _) in rows {

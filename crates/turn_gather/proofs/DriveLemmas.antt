@@ -12,7 +12,7 @@ use Rattle.turn_client_api.specs.declared.call.Call.TheVariants as Calls
 use Rattle.turn_client_calls.specs.declared.reply.PeerData.{PeerData}
 use Rattle.turn_gather.specs.Gathering.{Gathering, is_checked_in}
 use Rattle.turn_gather.specs.Received.{gathered, passed_or_dropped}
-use Rattle.turn_gather.specs.Drive.{after, all_replies, checked_payloads, client_after, gathered_reply, if_checked, passed_up, payload_given, polled_reply, reply_of, step}
+use Rattle.turn_gather.specs.Drive.{after, all_replies, checked_payloads, client_after, gather_reply_of, gather_step, gathered_reply, if_checked, passed_up, payload_given, polled_reply}
 use Rattle.turn_gather.specs.declared.calls.call.GatherCall.{GatherCall}
 use Rattle.turn_gather.specs.declared.calls.call.GatherCall.TheVariants.{Candidates, IsChecked, Check, Recv, PollRecv, CreatePermission, SendTo, Poll, PollTransmit, PollEvent}
 use Rattle.turn_gather.specs.declared.calls.reply.GatherReply.{GatherReply}
@@ -31,8 +31,8 @@ client_after-config (Poll now) s = call-configured (Calls.Poll now) s
 client_after-config (PollTransmit now) s = call-configured (Calls.PollTransmit now) s
 client_after-config PollEvent s = call-configured Calls.PollEvent s
 
-pub step-relays : (s t : Gathering) (call : GatherCall) (reply : GatherReply) → (reply, t) ≡ step s call → t.client.config.allocation_transport ≡ s.client.config.allocation_transport
-step-relays s t call reply e =
+pub gather_step-relays : (s t : Gathering) (call : GatherCall) (reply : GatherReply) → (reply, t) ≡ gather_step s call → t.client.config.allocation_transport ≡ s.client.config.allocation_transport
+gather_step-relays s t call reply e =
     ap (λ (p : GatherReply × Gathering). p.1.client.config.allocation_transport) e
     ∙ ap (λ c. c.allocation_transport) (client_after-config call s.client)
 
@@ -58,17 +58,17 @@ polled-passed None pairs = refl
 polled-passed (Some payload) pairs = given_up-passed (is_checked_in payload.transport payload.peer pairs) payload pairs refl
 
 -- one answer passes up what the client delivered in its call, if its pair is checked
-reply_of-passed : (call : GatherCall) (s : Gathering) → one_passed (reply_of call s) ≡ if_checked s.checked (payload_given call s.client)
-reply_of-passed Candidates s = refl
-reply_of-passed (IsChecked transport peer) s = refl
-reply_of-passed (Check transport peer) s = refl
-reply_of-passed (Recv packet now) s = gathered-passed (packet_step packet now s.client).0 s.checked
-reply_of-passed (PollRecv now) s = polled-passed (poll_recv_step now s.client).0 s.checked
-reply_of-passed (CreatePermission transport peer now) s = refl
-reply_of-passed (SendTo transport peer bytes now) s = refl
-reply_of-passed (Poll now) s = refl
-reply_of-passed (PollTransmit now) s = refl
-reply_of-passed PollEvent s = refl
+gather_reply_of-passed : (call : GatherCall) (s : Gathering) → one_passed (gather_reply_of call s) ≡ if_checked s.checked (payload_given call s.client)
+gather_reply_of-passed Candidates s = refl
+gather_reply_of-passed (IsChecked transport peer) s = refl
+gather_reply_of-passed (Check transport peer) s = refl
+gather_reply_of-passed (Recv packet now) s = gathered-passed (packet_step packet now s.client).0 s.checked
+gather_reply_of-passed (PollRecv now) s = polled-passed (poll_recv_step now s.client).0 s.checked
+gather_reply_of-passed (CreatePermission transport peer now) s = refl
+gather_reply_of-passed (SendTo transport peer bytes now) s = refl
+gather_reply_of-passed (Poll now) s = refl
+gather_reply_of-passed (PollTransmit now) s = refl
+gather_reply_of-passed PollEvent s = refl
 
 filter_map-first : (reply : GatherReply) (replies : List GatherReply) → filter_map passed_up (reply ∷ replies) ≡ one_passed reply ++ filter_map passed_up replies
 filter_map-first reply replies = by (passed_up reply)
@@ -83,6 +83,6 @@ filter_map-first reply replies = by (passed_up reply)
 pub all_replies-passed : (s : Gathering) (calls : List GatherCall) → filter_map passed_up (all_replies s calls) ≡ checked_payloads s calls
 all_replies-passed s [] = refl
 all_replies-passed s (call ∷ calls) =
-    filter_map-first (reply_of call s) (all_replies (after call s) calls)
-    ∙ (ap (λ front. front ++ filter_map passed_up (all_replies (after call s) calls)) (reply_of-passed call s)
+    filter_map-first (gather_reply_of call s) (all_replies (after call s) calls)
+    ∙ (ap (λ front. front ++ filter_map passed_up (all_replies (after call s) calls)) (gather_reply_of-passed call s)
     ∙ ap (λ rest. if_checked s.checked (payload_given call s.client) ++ rest) (all_replies-passed (after call s) calls))

@@ -36,17 +36,17 @@ polled_reply None = Replies.NoPayload
 polled_reply (Some given) = gathered_reply given
 
 -- the answer of the call, if memory allocation succeeds
-abbrev pub reply_of : GatherCall → Gathering → GatherReply
-reply_of Candidates s = Replies.Candidates (relayed_addresses_of s.client)
-reply_of (IsChecked transport peer) s = Replies.IsChecked (is_checked_in transport peer s.checked)
-reply_of (Check transport peer) s = Replies.Check (check_step transport peer s.checked).0
-reply_of (Recv packet now) s = gathered_reply (gathered s.checked (packet_step packet now s.client).0)
-reply_of (PollRecv now) s = polled_reply (gathered_poll now s)
-reply_of (CreatePermission transport peer now) s = Replies.CreatePermission (create_permission_step transport peer now s.client).0
-reply_of (SendTo transport peer bytes now) s = Replies.SendTo (send_to_step transport peer bytes now s.client).0
-reply_of (Poll now) s = Replies.Poll (poll_step now s.client).0
-reply_of (PollTransmit now) s = Replies.Transmit (transmit_step now s.client).0
-reply_of PollEvent s = Replies.Event (event_step s.client).0
+abbrev pub gather_reply_of : GatherCall → Gathering → GatherReply
+gather_reply_of Candidates s = Replies.Candidates (relayed_addresses_of s.client)
+gather_reply_of (IsChecked transport peer) s = Replies.IsChecked (is_checked_in transport peer s.checked)
+gather_reply_of (Check transport peer) s = Replies.Check (check_step transport peer s.checked).0
+gather_reply_of (Recv packet now) s = gathered_reply (gathered s.checked (packet_step packet now s.client).0)
+gather_reply_of (PollRecv now) s = polled_reply (gathered_poll now s)
+gather_reply_of (CreatePermission transport peer now) s = Replies.CreatePermission (create_permission_step transport peer now s.client).0
+gather_reply_of (SendTo transport peer bytes now) s = Replies.SendTo (send_to_step transport peer bytes now s.client).0
+gather_reply_of (Poll now) s = Replies.Poll (poll_step now s.client).0
+gather_reply_of (PollTransmit now) s = Replies.Transmit (transmit_step now s.client).0
+gather_reply_of PollEvent s = Replies.Event (event_step s.client).0
 
 -- the client after it
 abbrev pub client_after : GatherCall → State → State
@@ -78,30 +78,30 @@ abbrev pub after : GatherCall → Gathering → Gathering
 after call s = record { client = client_after call s.client; checked = checked_after call s.checked }
 
 -- the answer, and the gatherer after it
-abbrev pub step : Gathering → GatherCall → GatherReply × Gathering
-step s call = (reply_of call s, after call s)
+abbrev pub gather_step : Gathering → GatherCall → GatherReply × Gathering
+gather_step s call = (gather_reply_of call s, after call s)
 
 -- ---- calls that can be made
 
 -- the call is allowed on a gatherer whose client's allocations relay over this transport
-abbrev pub IsCallable : TransportType → GatherCall → Type 0
-IsCallable relays Candidates = ⊤
-IsCallable relays (IsChecked transport peer) = ⊤
-IsCallable relays (Check transport peer) = ⊤
-IsCallable relays (Recv packet now) = now ≤ 2 ^ 62
-IsCallable relays (PollRecv now) = now ≤ 2 ^ 62
-IsCallable relays (CreatePermission transport peer now) = now ≤ 2 ^ 62
-IsCallable relays (SendTo transport peer bytes now) = (now ≤ 2 ^ 62) × FitsDatagram relays bytes
-IsCallable relays (Poll now) = now ≤ 2 ^ 62
-IsCallable relays (PollTransmit now) = now ≤ 2 ^ 62
-IsCallable relays PollEvent = ⊤
+abbrev pub IsGatherCallable : TransportType → GatherCall → Type 0
+IsGatherCallable relays Candidates = ⊤
+IsGatherCallable relays (IsChecked transport peer) = ⊤
+IsGatherCallable relays (Check transport peer) = ⊤
+IsGatherCallable relays (Recv packet now) = now ≤ 2 ^ 62
+IsGatherCallable relays (PollRecv now) = now ≤ 2 ^ 62
+IsGatherCallable relays (CreatePermission transport peer now) = now ≤ 2 ^ 62
+IsGatherCallable relays (SendTo transport peer bytes now) = (now ≤ 2 ^ 62) × FitsDatagram relays bytes
+IsGatherCallable relays (Poll now) = now ≤ 2 ^ 62
+IsGatherCallable relays (PollTransmit now) = now ≤ 2 ^ 62
+IsGatherCallable relays PollEvent = ⊤
 
 -- ---- many calls
 
 -- the answers of the calls, in order
 abbrev pub all_replies : Gathering → List GatherCall → List GatherReply
 all_replies s [] = []
-all_replies s (call ∷ calls) = reply_of call s ∷ all_replies (after call s) calls
+all_replies s (call ∷ calls) = gather_reply_of call s ∷ all_replies (after call s) calls
 
 -- the gatherer after all calls
 abbrev pub after_all : Gathering → List GatherCall → Gathering

@@ -1,7 +1,7 @@
 //! A list of calls of a gatherer.
 
 ghost use Rattle.std.specs.Prelude.{◌≡◌, All, IfOk, OnOk, filter_map};
-ghost use Rattle.turn_gather.specs.Drive.{IsCallable, all_replies, after_all, checked_payloads, passed_up};
+ghost use Rattle.turn_gather.specs.Drive.{IsGatherCallable, all_replies, after_all, checked_payloads, passed_up};
 
 mod call;
 mod one;
@@ -39,7 +39,7 @@ pub fn drive<C: TurnClientApi>(
     mut gatherer: Gatherer<C>,
     calls: &[GatherCall],
 ) -> Result<Driven<C>, AllocError>
-    requires { All (IsCallable gatherer.client.config.allocation_transport) calls.now }
+    requires { All (IsGatherCallable gatherer.client.config.allocation_transport) calls.now }
     ensures replies { IfOk result (λ driven. driven.replies.items ≡ all_replies gatherer calls.now) }
     ensures gatherer { IfOk result (λ driven. driven.gatherer ≡ after_all gatherer calls.now) }
     ensures payloads { IfOk result (λ driven. filter_map passed_up driven.replies.items ≡ checked_payloads gatherer calls.now) }
@@ -54,7 +54,7 @@ fn replies_to<C: TurnClientApi>(
     gatherer: &mut Gatherer<C>,
     calls: &[GatherCall],
 ) -> Result<Vec<GatherReply>, AllocError>
-    requires { All (IsCallable gatherer.old.client.config.allocation_transport) calls.now }
+    requires { All (IsGatherCallable gatherer.old.client.config.allocation_transport) calls.now }
     ensures replies { IfOk result (λ replies. replies.items ≡ all_replies gatherer.old calls.now) }
     ensures gatherer { OnOk result (gatherer.new ≡ after_all gatherer.old calls.now) }
 {

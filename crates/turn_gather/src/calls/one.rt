@@ -1,8 +1,7 @@
 //! One call of a gatherer, of any kind.
 
 ghost use Rattle.std.specs.Prelude.{◌≡◌, ◌≤◌, ◌^◌, true, is_ok, IfOk, OnErr};
-ghost use Rattle.turn_client_api.specs.Answers.{given_payload};
-ghost use Rattle.turn_gather.specs.Drive.{IsCallable, gathered_reply, peer_payload, step};
+ghost use Rattle.turn_gather.specs.Drive.{IsGatherCallable, gather_step, gathered_reply};
 ghost use Rattle.turn_gather.specs.Received.{gathered_of};
 ghost use Rattle.turn_client_api.specs.Calls.{FitsDatagram, send_to_step};
 
@@ -27,8 +26,8 @@ pub(crate) fn reply_to<C: TurnClientApi>(
     gatherer: &mut Gatherer<C>,
     call: &GatherCall,
 ) -> Result<GatherReply, AllocError>
-    requires { IsCallable gatherer.old.client.config.allocation_transport call.now }
-    ensures { IfOk result (λ reply. (reply, gatherer.new) ≡ step gatherer.old call.now) }
+    requires { IsGatherCallable gatherer.old.client.config.allocation_transport call.now }
+    ensures { IfOk result (λ reply. (reply, gatherer.new) ≡ gather_step gatherer.old call.now) }
 {
     match call {
         GatherCall::Candidates => candidates(alloc, gatherer),
@@ -62,7 +61,7 @@ fn candidates<C: TurnClientApi>(
     alloc: Global,
     gatherer: &Gatherer<C>,
 ) -> Result<GatherReply, AllocError>
-    ensures { IfOk result (λ reply. (reply, gatherer.now) ≡ step gatherer.now GatherCall.Candidates) }
+    ensures { IfOk result (λ reply. (reply, gatherer.now) ≡ gather_step gatherer.now GatherCall.Candidates) }
 {
     Ok(GatherReply::Candidates(RelayedAddresses::from(gatherer.candidates(alloc)?)))
 }
@@ -73,7 +72,7 @@ fn check<C: TurnClientApi>(
     transport: TransportType,
     peer: SocketAddr,
 ) -> Result<GatherReply, AllocError>
-    ensures { IfOk result (λ reply. (reply, gatherer.new) ≡ step gatherer.old (GatherCall.Check transport peer)) }
+    ensures { IfOk result (λ reply. (reply, gatherer.new) ≡ gather_step gatherer.old (GatherCall.Check transport peer)) }
 {
     match gatherer.check(transport, peer) {
         Err(GatherError::OutOfMemory) => Err(AllocError),
@@ -89,7 +88,7 @@ fn recv<C: TurnClientApi>(
     now: Instant,
 ) -> Result<GatherReply, AllocError>
     requires { now ≤ 2 ^ 62 }
-    ensures { IfOk result (λ reply. (reply, gatherer.new) ≡ step gatherer.old (GatherCall.Recv transmit.now now)) }
+    ensures { IfOk result (λ reply. (reply, gatherer.new) ≡ gather_step gatherer.old (GatherCall.Recv transmit.now now)) }
 {
     let bytes = transmit.payload.as_bytes();
     let packet = Transmit::new(bytes, transmit.transport, transmit.from, transmit.to);
@@ -104,7 +103,7 @@ fn poll_recv<C: TurnClientApi>(
     now: Instant,
 ) -> Result<GatherReply, AllocError>
     requires { now ≤ 2 ^ 62 }
-    ensures { IfOk result (λ reply. (reply, gatherer.new) ≡ step gatherer.old (GatherCall.PollRecv now)) }
+    ensures { IfOk result (λ reply. (reply, gatherer.new) ≡ gather_step gatherer.old (GatherCall.PollRecv now)) }
 {
     match gatherer.poll_recv(now)? {
         Some(given) => as_reply(alloc, &given),
@@ -135,7 +134,7 @@ fn create_permission<C: TurnClientApi>(
     now: Instant,
 ) -> Result<GatherReply, AllocError>
     requires { now ≤ 2 ^ 62 }
-    ensures { IfOk result (λ reply. (reply, gatherer.new) ≡ step gatherer.old (GatherCall.CreatePermission transport peer_addr now)) }
+    ensures { IfOk result (λ reply. (reply, gatherer.new) ≡ gather_step gatherer.old (GatherCall.CreatePermission transport peer_addr now)) }
 {
     match gatherer.create_permission(transport, peer_addr, now) {
         Err(CreatePermissionError::OutOfMemory) => Err(AllocError),
@@ -154,7 +153,7 @@ fn send_to<C: TurnClientApi>(
 ) -> Result<GatherReply, AllocError>
     requires now_in_range { now ≤ 2 ^ 62 }
     requires short { FitsDatagram gatherer.old.client.config.allocation_transport payload.now }
-    ensures answer { IfOk result (λ reply. (reply, gatherer.new) ≡ step gatherer.old (GatherCall.SendTo transport to payload.now now)) }
+    ensures answer { IfOk result (λ reply. (reply, gatherer.new) ≡ gather_step gatherer.old (GatherCall.SendTo transport to payload.now now)) }
     ensures wanted { OnErr result (is_ok (send_to_step transport to payload.now now gatherer.old.client).0 ≡ true) }
 {
     match gatherer.send_to(transport, to, payload.as_bytes(), now) {
