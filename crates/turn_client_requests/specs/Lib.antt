@@ -1,3 +1,2 @@
 pub mod RequestAttributes
 pub mod Refused
-pub mod Written

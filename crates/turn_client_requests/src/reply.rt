@@ -5,9 +5,10 @@ ghost use Rattle.turn_client_api.specs.Requests.{accepted_reply, refused_reply};
 ghost use Rattle.turn_client_api.specs.State.{State, auth_of};
 ghost use Rattle.turn_client_requests.specs.Refused.{code_of, reason_of};
 
-use crate::write::{HEADER_LEN, add, begun, len_of, signed};
+use crate::write::{HEADER_LEN, begun, len_of, signed};
 use std::alloc::{AllocError, Global};
 use turn_auth::long_term::LongTermClientAuth;
+use turn_auth::write::add;
 use turn_stun::attribute::error_code::ErrorCode;
 use turn_stun::data::Data;
 use turn_stun::message::header::MessageClass;

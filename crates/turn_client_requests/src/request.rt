@@ -10,10 +10,11 @@ ghost use Rattle.turn_client_requests.specs.RequestAttributes.{IsRequestFor, wit
 use crate::request_attributes::{
     LIFETIME_SECONDS, add_asked, add_families, asked_len, families_len, method_for,
 };
-use crate::write::{HEADER_LEN, add, begun, len_of, signed, signed_under};
+use crate::write::{HEADER_LEN, begun, len_of, signed, signed_under};
 use std::alloc::{AllocError, Global};
 use turn_auth::long_term::LongTermClientAuth;
 use turn_auth::server_challenge::ServerChallenge;
+use turn_auth::write::add;
 use turn_client_api::Purpose;
 use turn_stun::data::Data;
 use turn_stun::message::header::MessageClass;

@@ -6,9 +6,10 @@ ghost use Rattle.turn_auth.specs.Signature.{AddsAll, additions_len, is_unsigned}
 ghost use Rattle.turn_client_api.specs.Requests.{family_attributes, method_for, without_port};
 ghost use Rattle.turn_client_requests.specs.RequestAttributes.{AddsAsked, IsAskedLen};
 
-use crate::write::{add, len_of};
+use crate::write::len_of;
 use std::alloc::AllocError;
 use std::net::{IpAddr, SocketAddr, SocketAddrV4, SocketAddrV6};
+use turn_auth::write::add;
 use turn_client_api::Purpose;
 use turn_stun::message::method::Method;
 use turn_stun::message::write::MessageWriteVec;

@@ -1,19 +1,17 @@
 //! Messages that are written and signed.
 
-ghost use Rattle.std.specs.Prelude.{◌≡◌, ℕ, ◌<◌, ◌≤◌, ◌+◌, ◌^◌, [], length, true, IfOk, OnOk, IsSome};
-ghost use Rattle.turn_stun.specs.Message.{IsMessage, attributes_of, id_of};
+ghost use Rattle.std.specs.Prelude.{◌≡◌, ℕ, ◌<◌, ◌≤◌, ◌^◌, [], length, true, IfOk, IsSome};
+ghost use Rattle.turn_stun.specs.Message.{IsMessage, attributes_of};
 ghost use Rattle.turn_stun.specs.MessageType.{type_number};
-ghost use Rattle.turn_stun.specs.Writer.{AddsAttribute, header_of, with_attribute};
+ghost use Rattle.turn_stun.specs.Writer.{header_of};
 ghost use Rattle.turn_auth.specs.LongTerm.{with_challenge};
 ghost use Rattle.turn_auth.specs.Signature.{is_unsigned, signed_len, signed_text, written_len};
-ghost use Rattle.turn_client_requests.specs.Written.{StaysUnsigned};
 
 use std::alloc::{AllocError, Global};
 use turn_auth::long_term::LongTermClientAuth;
 use turn_auth::server_challenge::ServerChallenge;
 use turn_stun::attribute::typed::AttributeWrite;
 use turn_stun::data::Data;
-use turn_stun::error::WriteError;
 use turn_stun::message::header::{MessageClass, MessageType};
 use turn_stun::message::method::Method;
 use turn_stun::message::write::MessageWriteVec;
@@ -45,25 +43,6 @@ pub(crate) fn begun(
     ensures message { IfOk result (λ message. IsMessage message (type_number method.value class) id []) }
 {
     MessageWriteVec::builder_with_capacity(alloc, MessageType { method, class }, id, len)
-}
-
-/// Adds an attribute for which there is room in a message.
-pub(crate) fn add<A: AttributeWrite>(
-    message: &mut MessageWriteVec,
-    attribute: &A,
-) -> Result<(), AllocError>
-    requires room { length message.old + written_len (A.encoded attribute.now (id_of message.old)) ≤ 65552 }
-    ensures text { OnOk result (message.new ≡ with_attribute (A.written_kind attribute.now) (A.encoded attribute.now (id_of message.old)) message.old) }
-    ensures added { OnOk result (AddsAttribute message.old message.new (A.written_kind attribute.now) (A.encoded attribute.now (id_of message.old))) }
-    ensures plain { OnOk result (StaysUnsigned (A.written_kind attribute.now) message.old message.new) }
-    ensures len { OnOk result (length message.new ≡ length message.old + written_len (A.encoded attribute.now (id_of message.old))) }
-{
-    let _ = message.as_bytes();
-    match message.add_attribute(attribute) {
-        Ok(()) => Ok(()),
-        Err(WriteError::OutOfMemory) => Err(AllocError),
-        Err(WriteError::TooLong) => unreachable!(),
-    }
 }
 
 /// The message, signed with the challenge that is held (RFC 8489, section 9.2.4).
