@@ -256,6 +256,8 @@ impl TurnClientApi for TurnClient {
         }
     }
 
+    // The packet is not copied at each return on its way to the caller.
+    #[inline(always)]
     fn send_to<T: AsSlice<u8> + Debug + Drop>(
         &mut self,
         transport: TransportType,

@@ -197,6 +197,7 @@ impl TurnClientApi for TurnClientTcp {
         self.core.tcp_closed(local_addr, remote_addr)
     }
 
+    #[inline(always)]
     fn send_to<T: AsSlice<u8> + Debug + Drop>(
         &mut self,
         transport: TransportType,

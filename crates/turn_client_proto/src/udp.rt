@@ -214,6 +214,7 @@ impl TurnClientApi for TurnClientUdp {
         self.core.tcp_closed(local_addr, remote_addr)
     }
 
+    #[inline(always)]
     fn send_to<T: AsSlice<u8> + Debug + Drop>(
         &mut self,
         transport: TransportType,

@@ -73,6 +73,7 @@ impl TurnClientProtocol {
 
     /// Whether this peer IP address has an active permission. Allocations that are marked as expired are
     /// skipped; expiries are not checked.
+    #[inline(always)]
     pub fn have_permission(&self, transport: TransportType, to: IpAddr) -> bool
         ensures { result ≡ can_send_to transport to self.now }
     {

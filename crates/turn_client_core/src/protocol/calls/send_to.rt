@@ -30,7 +30,8 @@ impl TurnClientProtocol {
     /// In this order: `NoPermission` if the peer has none over this transport, or the allocation is
     /// marked as expired; `NoTcpSocket` if no data connection is bound to the peer. Nothing changes
     /// then.
-    // As a result of its own, a packet of 160 bytes would be copied at each return on its way to the caller.
+    // As a result of its own, a packet of 160 bytes would be copied at each return on its way to the caller. So what
+    // it calls is inlined too.
     #[inline(always)]
     pub fn send_to<T: AsSlice<u8> + Debug + Drop>(
         &mut self,
@@ -55,6 +56,7 @@ impl TurnClientProtocol {
 
     /// A ChannelData message if the first active channel to the peer is not past its expiry, and else a
     /// Send indication.
+    #[inline(always)]
     fn send_over_udp<T: AsSlice<u8> + Debug + Drop>(
         &mut self,
         to: SocketAddr,
@@ -72,6 +74,7 @@ impl TurnClientProtocol {
     }
 
     /// The data in a ChannelData message of this channel.
+    #[inline(always)]
     fn in_frame<T: AsSlice<u8> + Debug + Drop>(
         &self,
         number: u16,
@@ -86,6 +89,7 @@ impl TurnClientProtocol {
     }
 
     /// The data in a Send indication, which takes a transaction ID.
+    #[inline(always)]
     fn in_indication<T: AsSlice<u8> + Debug + Drop>(
         &mut self,
         to: SocketAddr,
@@ -102,6 +106,7 @@ impl TurnClientProtocol {
     }
 
     /// The packet to the server over the control connection.
+    #[inline(always)]
     fn to_server<T: AsSlice<u8> + Debug + Drop>(
         &self,
         payload: DelayedMessageOrChannelSend<T>,
@@ -117,6 +122,7 @@ impl TurnClientProtocol {
     }
 
     /// The data unchanged, on the first data connection that is bound to the peer.
+    #[inline(always)]
     fn send_over_tcp<T: AsSlice<u8> + Debug + Drop>(
         &self,
         to: SocketAddr,
@@ -137,6 +143,7 @@ impl TurnClientProtocol {
     }
 
     /// The first data connection that is bound to the peer.
+    #[inline(always)]
     fn bound_connection(&self, peer: SocketAddr) -> Option<DataConnection>
         ensures { result ≡ find (bound_to peer) (filter_map as_connection self.now.grants) }
     {
@@ -144,6 +151,7 @@ impl TurnClientProtocol {
     }
 
     /// The number of the first active channel to the peer, if its expiry has not passed.
+    #[inline(always)]
     fn channel_to(&self, peer: SocketAddr, now: Instant) -> Option<u16>
         ensures found { result ≡ number_by (slice_get (filter_map (active_channel peer) self.now.grants) 0) now }
         ensures numbered { IfSome result (λ number. (nat_le 0x4000 number && nat_lt number 0x5000) ≡ true) }
@@ -158,6 +166,7 @@ impl TurnClientProtocol {
     }
 
     /// The number and the expiry of the first active channel to the peer.
+    #[inline(always)]
     fn active_channel(&self, peer: SocketAddr) -> Option<(u16, Instant)>
         ensures found { result ≡ slice_get (filter_map (active_channel peer) self.now.grants) 0 }
         ensures numbered { IfSome result (λ found. (nat_le 0x4000 found.0 && nat_lt found.0 0x5000) ≡ true) }
@@ -166,6 +175,7 @@ impl TurnClientProtocol {
     }
 
     /// Takes the next ID of the seed.
+    #[inline(always)]
     fn draw(&mut self)
         ensures { self.new ≡ id_used self.old }
     {
