@@ -56,6 +56,7 @@ pub fn send_head<C: TurnClientApi>(
 }
 
 /// Sends data of this length to a peer: the head is written to the buffer.
+#[inline(always)]
 fn make_head<C: TurnClientApi>(
     client: &mut C,
     transport: TransportType,

@@ -160,6 +160,8 @@ pub fn relayed_of(request: &Request) -> Option<(TransportType, SocketAddr)>
 }
 
 /// The transport, the source and the destination, or none if one of them is invalid.
+// Its two addresses are compared where they are read.
+#[inline(always)]
 pub fn c_tuple(request: &Request) -> Option<Socket5Tuple>
     ensures { result ≡ c_tuple request.now }
 {
