@@ -6,7 +6,6 @@ use Rattle.std.specs.declared.net.socket_addr.SocketAddr.{SocketAddr}
 use Rattle.turn_auth.specs.LongTerm.{Challenge}
 use Rattle.turn_client_api.specs.Connections.{bind_again, bind_answered, not_bound}
 use Rattle.turn_client_api.specs.Grants.{purposes_of}
-use Rattle.turn_client_api.specs.Judgement as J
 use Rattle.turn_client_api.specs.Judgement.{Judgement, bind_judgement, is_bind_of}
 use Rattle.turn_client_api.specs.Requests.{request_started, fresh_id, queued, request_for, sent_from}
 use Rattle.turn_client_api.specs.Retry.{with_held}
@@ -17,7 +16,8 @@ use Rattle.turn_client_grants.specs.Asked.{bind_retried}
 use Rattle.turn_client_laws.specs.StreamEffects.{binds_if}
 use Rattle.turn_client_api.proofs.HasLemmas.{cases_Option}
 use Rattle.turn_client_core.specs.Apart.{with_streams_of}
-use Rattle.turn_client_core.specs.Judged.{kind_of}
+use Rattle.turn_client_core.specs.Judged.{judgement_in}
+use Rattle.turn_client_core.specs.declared.protocol.incoming.judge.Judged.{Judged}
 use Rattle.turn_client_core.specs.declared.protocol.incoming.judge.Judged.TheVariants.{Challenged, SignedSuccess, SignedError}
 
 -- an item is found if one passes the test
@@ -43,19 +43,14 @@ again-streams d id challenge now s = elim (cases_Option (find (is_bind_of d.loca
 
 -- ---- a message that does not bind the connection ends it
 
-pub not_bound-otherwise : (d : DataConnection) (message : List ℕ) (now : ℕ) (s : State) → (kind_of (bind_judgement s d.local message) ≡ Challenged → ⊥)
-    → (kind_of (bind_judgement s d.local message) ≡ SignedSuccess → ⊥)
-    → (kind_of (bind_judgement s d.local message) ≡ SignedError → ⊥) → bind_answered d message now s ≡ not_bound d s
-not_bound-otherwise d message now s = by (bind_judgement s d.local message) refl
-  where
-    by : (j : Judgement) → bind_judgement s d.local message ≡ j → (kind_of (bind_judgement s d.local message) ≡ Challenged → ⊥) → (kind_of (bind_judgement s d.local message) ≡ SignedSuccess → ⊥)
-        → (kind_of (bind_judgement s d.local message) ≡ SignedError → ⊥) → bind_answered d message now s ≡ not_bound d s
-    by (J.Challenged challenge) e = rw e (λ a b c. absurd (a refl))
-    by J.SignedSuccess e = rw e (λ a b c. absurd (b refl))
-    by J.SignedError e = rw e (λ a b c. absurd (c refl))
-    by j e = rw e (λ a b c. refl)
+pub not_bound-otherwise : (d : DataConnection) (message : List ℕ) (now : ℕ) (s : State) (judged : Judged) → judgement_in judged ≡ bind_judgement s d.local message
+    → ((challenge : Challenge) → judged ≡ Challenged challenge → ⊥) → (judged ≡ SignedSuccess → ⊥) → (judged ≡ SignedError → ⊥) → bind_answered d message now s ≡ not_bound d s
+not_bound-otherwise d message now s (Challenged challenge) is a b c = absurd (a challenge refl)
+not_bound-otherwise d message now s SignedSuccess is a b c = absurd (b refl)
+not_bound-otherwise d message now s SignedError is a b c = absurd (c refl)
+not_bound-otherwise d message now s judged is a b c = rw (← is) refl
 
 -- and binds nothing
-pub binds-otherwise : (d : DataConnection) (j : Judgement) → (kind_of j ≡ SignedSuccess → ⊥) → binds_if d j ≡ None
-binds-otherwise d J.SignedSuccess other = absurd (other refl)
-binds-otherwise d j other = refl
+pub binds-otherwise : (d : DataConnection) (judged : Judged) (j : Judgement) → judgement_in judged ≡ j → (judged ≡ SignedSuccess → ⊥) → binds_if d j ≡ None
+binds-otherwise d SignedSuccess j is other = absurd (other refl)
+binds-otherwise d judged j is other = rw (← is) refl

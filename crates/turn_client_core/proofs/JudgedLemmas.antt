@@ -18,41 +18,7 @@ use Rattle.turn_client_api.specs.Effect.{allocate_denied, allocate_granted, tran
 use Rattle.turn_client_api.specs.Payloads.{Handled, response_step, signed_step}
 use Rattle.turn_client_api.specs.Requests.{data_method, fresh_id}
 use Rattle.turn_client_core.specs.Attempts.{CanSign}
-use Rattle.turn_client_core.specs.Judged.{kind_of}
 use Rattle.turn_client_core.specs.Replies.{is_authenticating}
-use Rattle.turn_client_core.specs.declared.protocol.incoming.judge.Judged.{Judged}
-use Rattle.turn_client_core.specs.declared.protocol.incoming.judge.Judged.TheVariants.{Unrelated, Challenged, Fatal, LateResponse, DataIndication, ConnectionAttempt, SignedRequest, SignedSuccess}
-use Rattle.turn_client_core.specs.declared.protocol.incoming.judge.Judged.TheVariants.{SignedError}
-
--- ---- the judgement, by its kind
-
--- a judgement that contains nothing but its kind
-abbrev pub plain : Judged → Judgement
-plain Unrelated = J.Unrelated
-plain Challenged = J.Unrelated
-plain Fatal = J.Fatal
-plain LateResponse = J.LateResponse
-plain DataIndication = J.DataIndication
-plain ConnectionAttempt = J.ConnectionAttempt
-plain SignedRequest = J.SignedRequest
-plain SignedSuccess = J.SignedSuccess
-plain SignedError = J.SignedError
-
--- a kind that contains nothing more
-abbrev pub IsPlain : Judged → Type 0
-IsPlain Challenged = ⊥
-IsPlain _ = Unit {0}
-
-plain-is : (j : Judgement) → IsPlain (kind_of j) → j ≡ plain (kind_of j)
-plain-is (J.Challenged challenge) h = absurd h
-plain-is j h = refl
-
-pub judged-is : (j : Judgement) (kind : Judged) → kind_of j ≡ kind → IsPlain kind → j ≡ plain kind
-judged-is j kind e h = plain-is j (rw e h) ∙ ap plain e
-
-pub challenged-is : (j : Judgement) → kind_of j ≡ Challenged → (challenge : Challenge) × (j ≡ J.Challenged challenge)
-challenged-is (J.Challenged challenge) e = (challenge, refl)
-challenged-is j e = cc
 
 -- ---- what else holds for a signed message
 
@@ -123,20 +89,20 @@ indication-is message = by (class_in message) refl
     by k e = rw e (λ h. cc)
 
 -- nothing is required of a client
-abbrev pub IsIdle : Judged → Type 0
-IsIdle Unrelated = Unit {0}
-IsIdle DataIndication = Unit {0}
+abbrev pub IsIdle : Judgement → Type 0
+IsIdle J.Unrelated = Unit {0}
+IsIdle J.DataIndication = Unit {0}
 IsIdle _ = ⊥
 
-data-idle : (s : State) (message : List ℕ) → is_data_indication message ≡ true → IsIdle (kind_of (judgement_of s message))
+data-idle : (s : State) (message : List ℕ) → is_data_indication message ≡ true → IsIdle (judgement_of s message)
 data-idle s message h = let (class, method) = indication-is message h in by class method s.phase refl
   where
-    by : class_in message ≡ Indication → (method_in message == data_method) ≡ true → (p : Phase) → s.phase ≡ p → IsIdle (kind_of (judgement_of s message))
+    by : class_in message ≡ Indication → (method_in message == data_method) ≡ true → (p : Phase) → s.phase ≡ p → IsIdle (judgement_of s message)
     by class method New e = rw e tt
     by class method Closed e = rw e tt
     by class method Allocated e = rw (e, class, method) tt
     by class method p e = rw (e, class) tt
 
 -- a Data indication is nothing else
-pub data-judged : (s : State) (message : List ℕ) → is_data_indication message ≡ true → (kind : Judged) → kind_of (judgement_of s message) ≡ kind → IsIdle kind
-data-judged s message h kind e = subst IsIdle e (data-idle s message h)
+pub data-judged : (s : State) (message : List ℕ) → is_data_indication message ≡ true → (j : Judgement) → judgement_of s message ≡ j → IsIdle j
+data-judged s message h j e = subst IsIdle e (data-idle s message h)

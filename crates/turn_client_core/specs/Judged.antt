@@ -1,4 +1,4 @@
--- The judgement of a message, without the contents of a challenge.
+-- What a client makes of a message, as the judgement that the machine makes of it.
 use Rattle.std.specs.Prelude.{ℕ, if◌then◌else◌, List}
 use Rattle.turn_agent.specs.Agent.{is_outstanding}
 use Rattle.turn_client_api.specs.Judgement as J
@@ -10,18 +10,18 @@ use Rattle.turn_client_core.specs.declared.protocol.incoming.judge.Judged.TheVar
 use Rattle.turn_stun.specs.Message.{id_of, type_of}
 use Rattle.turn_stun.specs.MessageType.{class_of}
 
-abbrev pub kind_of : Judgement → Judged
-kind_of J.Unrelated = Unrelated
-kind_of (J.Challenged challenge) = Challenged
-kind_of J.Fatal = Fatal
-kind_of J.LateResponse = LateResponse
-kind_of J.DataIndication = DataIndication
-kind_of J.ConnectionAttempt = ConnectionAttempt
-kind_of J.SignedRequest = SignedRequest
-kind_of J.SignedSuccess = SignedSuccess
-kind_of J.SignedError = SignedError
+abbrev pub judgement_in : Judged → Judgement
+judgement_in Unrelated = J.Unrelated
+judgement_in (Challenged challenge) = J.Challenged challenge
+judgement_in Fatal = J.Fatal
+judgement_in LateResponse = J.LateResponse
+judgement_in DataIndication = J.DataIndication
+judgement_in ConnectionAttempt = J.ConnectionAttempt
+judgement_in SignedRequest = J.SignedRequest
+judgement_in SignedSuccess = J.SignedSuccess
+judgement_in SignedError = J.SignedError
 
 -- what a signed message is by its class, if its request is outstanding, or else the given one
-abbrev pub signed_kind : List ℕ → State → Judged → Judged
-signed_kind message s otherwise =
-    if is_outstanding (id_of message) s.transactions then kind_of (by_class (class_of (type_of message))) else otherwise
+abbrev pub signed_judgement : List ℕ → State → Judgement → Judgement
+signed_judgement message s otherwise =
+    if is_outstanding (id_of message) s.transactions then by_class (class_of (type_of message)) else otherwise

@@ -2,7 +2,6 @@ pub mod Allocated
 pub mod Apart
 pub mod Asked
 pub mod Attempts
-pub mod Challenges
 pub mod Effects
 pub mod Indication
 pub mod Judged

@@ -3,16 +3,16 @@
 
 ghost use Rattle.std.specs.Prelude.{◌≡◌, ◌<◌, ◌≤◌, false, IfOk, IsSome, OnErr, OnOk, Some, true};
 ghost use Rattle.turn_agent.specs.Agent.{is_outstanding};
-ghost use Rattle.turn_auth.specs.Challenge.{MayTake, challenge_of};
+ghost use Rattle.turn_auth.specs.Challenge.{MayTake};
 ghost use Rattle.turn_auth.specs.LongTerm.{with_challenge};
 ghost use Rattle.turn_client_api.specs.Grants.{purposes_of};
 ghost use Rattle.turn_client_api.specs.Judgement.{challenge_in};
 ghost use Rattle.turn_client_api.specs.Memory.{challenge_takes_memory};
-ghost use Rattle.turn_client_api.specs.Retry.{phase_after, retried};
-ghost use Rattle.turn_client_api.specs.State.{State};
-ghost use Rattle.turn_client_core.specs.Challenges.{AsksAgain, MeetsChallenge, ReportsOfChallenge};
+ghost use Rattle.turn_client_api.specs.Payloads.{challenge_step};
+ghost use Rattle.turn_client_api.specs.Retry.{phase_after, retried, state_after_retry};
+ghost use Rattle.turn_client_api.specs.State.{State, auth_of};
 ghost use Rattle.turn_client_core.specs.Outgoing.{request_queued, with_room};
-ghost use Rattle.turn_client_core.specs.ProtocolRecv.{IsPart};
+ghost use Rattle.turn_client_core.specs.ProtocolRecv.{IsPart, outcome_in};
 ghost use Rattle.turn_client_grants.specs.Ledger.{SameRoomBut, with_ledger};
 ghost use Rattle.turn_client_requests.specs.RequestAttributes.{IsRequestFor};
 ghost use Rattle.turn_stun.specs.Message.{id_of};
@@ -24,6 +24,7 @@ use crate::protocol_recv::TurnProtocolRecv;
 use std::alloc::{AllocError, Global};
 use std::net::SocketAddr;
 use turn_auth::long_term::LongTermClientAuth;
+use turn_auth::received_challenge::ReceivedChallenge;
 use turn_auth::server_challenge::ServerChallenge;
 use turn_client_api::{Phase, Purpose};
 use turn_client_grants::GrantLedger;
@@ -46,17 +47,18 @@ impl TurnClientProtocol {
     pub(crate) fn challenged(
         &mut self,
         message: &Message<'_>,
+        challenge: &ReceivedChallenge<'_>,
         now: Instant,
     ) -> Result<TurnProtocolRecv, AllocError>
-        requires { IsSome (challenge_in self.old message.now) }
-        ensures answer { ReportsOfChallenge message.now now self.old result }
+        requires { challenge_in self.old message.now ≡ Some challenge.now }
+        ensures answer { IfOk result (λ outcome. outcome_in message.now outcome ≡ (challenge_step message.now challenge.now now self.old).0) }
         ensures part { IfOk result (IsPart message.now self.old self.new) }
-        ensures after { MeetsChallenge message.now now self.old self.new result }
+        ensures after { OnOk result (self.new ≡ (challenge_step message.now challenge.now now self.old).1) }
         ensures err { OnErr result (self.new ≡ self.old) }
         ensures wanted { OnErr result (challenge_takes_memory message.now self.old ≡ true) }
     {
         if self.challenges < u32::from(self.config.max_stale_nonces().get()) {
-            return self.answer_challenge(message, now);
+            return self.answer_challenge(message, challenge, now);
         }
         self.fail()?;
         Ok(TurnProtocolRecv::Handled)
@@ -71,26 +73,28 @@ impl TurnClientProtocol {
     fn answer_challenge(
         &mut self,
         message: &Message<'_>,
+        challenge: &ReceivedChallenge<'_>,
         now: Instant,
     ) -> Result<TurnProtocolRecv, AllocError>
-        requires challenge { IsSome (challenge_in self.old message.now) }
+        requires challenge { challenge_in self.old message.now ≡ Some challenge.now }
         requires few { self.old.challenges < self.old.config.max_stale_nonces }
         requires small { self.old.challenges < 65535 }
-        ensures answer { ReportsOfChallenge message.now now self.old result }
+        ensures answer { IfOk result (λ outcome. outcome_in message.now outcome ≡ (challenge_step message.now challenge.now now self.old).0) }
         ensures part { IfOk result (IsPart message.now self.old self.new) }
-        ensures after { MeetsChallenge message.now now self.old self.new result }
+        ensures after { OnOk result (self.new ≡ (challenge_step message.now challenge.now now self.old).1) }
         ensures err { OnErr result (self.new ≡ self.old) }
         ensures wanted { OnErr result (IsSome (retried (purposes_of (id_of message.now) self.old))) }
     {
-        let purposes = self.ledger.table().purposes_of(message.transaction_id());
+        let id = message.transaction_id();
+        let purposes = self.ledger.table().purposes_of(id);
         let Some(purpose) = retried(&purposes) else {
             return Ok(TurnProtocolRecv::Ignored);
         };
-        self.ask_again(message, &purpose, now)?;
+        self.ask_again(id, challenge, &purpose, now)?;
         Ok(TurnProtocolRecv::Handled)
     }
 
-    /// Accepts the challenge, and makes the request with its ID again for this purpose. The old request
+    /// Accepts the challenge, and makes the request with this ID again for this purpose. The old request
     /// is no longer outstanding.
     ///
     /// # Errors
@@ -98,25 +102,25 @@ impl TurnClientProtocol {
     /// If memory allocation fails. Nothing changes then.
     fn ask_again(
         &mut self,
-        message: &Message<'_>,
+        id: TransactionId,
+        challenge: &ReceivedChallenge<'_>,
         purpose: &Purpose,
         now: Instant,
     ) -> Result<(), AllocError>
-        requires challenge { IsSome (challenge_in self.old message.now) }
+        requires fits { MayTake (auth_of self.old) challenge.now }
         requires few { self.old.challenges < self.old.config.max_stale_nonces }
         requires small { self.old.challenges < 65535 }
-        requires asked { retried (purposes_of (id_of message.now) self.old) ≡ Some purpose.now }
-        ensures ok { AsksAgain purpose.now message.now now self.old self.new result }
+        requires asked { retried (purposes_of id self.old) ≡ Some purpose.now }
+        ensures ok { OnOk result (self.new ≡ state_after_retry self.old id purpose.now challenge.now now) }
         ensures err { OnErr result (self.new ≡ self.old) }
     {
-        let id = message.transaction_id();
         let fresh = self.fresh_id();
         let signed = request_again(
             self.alloc,
             &self.auth,
             self.ledger.transport(),
             self.families.as_slice(),
-            message,
+            challenge,
             purpose,
             fresh,
         )?;
@@ -131,7 +135,7 @@ impl TurnClientProtocol {
     }
 }
 
-/// The challenge in the message, and the request with this ID for the purpose, signed as it requires.
+/// The challenge for the client to hold, and the request with this ID for the purpose, signed as it requires.
 ///
 /// # Errors
 ///
@@ -141,21 +145,17 @@ pub(crate) fn request_again(
     auth: &LongTermClientAuth,
     transport: TransportType,
     families: &[AddressFamily],
-    message: &Message<'_>,
+    challenge: &ReceivedChallenge<'_>,
     purpose: &Purpose,
     id: TransactionId,
 ) -> Result<(ServerChallenge, Data), AllocError>
-    requires credentials { IsSome auth.now.credentials }
-    requires challenge { IsSome (challenge_of auth.now message.now) }
-    ensures exact { IfOk result (λ signed. challenge_of auth.now message.now ≡ Some signed.0) }
-    ensures fits { IfOk result (λ signed. MayTake auth.now signed.0) }
-    ensures text { IfOk result (λ signed. IsRequestFor (with_challenge signed.0 auth.now) transport families.now purpose.now id signed.1) }
+    requires { IsSome auth.now.credentials }
+    ensures exact { IfOk result (λ signed. signed.0 ≡ challenge.now) }
+    ensures text { IfOk result (λ signed. IsRequestFor (with_challenge challenge.now auth.now) transport families.now purpose.now id signed.1) }
 {
-    let Some(challenge) = auth.challenge_in(message)? else {
-        unreachable!();
-    };
-    let text = request_under(alloc, auth, &challenge, transport, families, purpose, id)?;
-    Ok((challenge, text))
+    let accepted = challenge.copied(alloc)?;
+    let text = request_under(alloc, auth, &accepted, transport, families, purpose, id)?;
+    Ok((accepted, text))
 }
 
 /// Makes room for two listings, and queues a signed request with this ID, the next one, to be sent from

@@ -1,13 +1,14 @@
 //! A data connection is bound, or its binding fails (RFC 6062, section 4.3).
 
-ghost use Rattle.std.specs.Prelude.{◌≡◌, find, true, IfOk, IsSome, OnErr, OnOk, Some};
-ghost use Rattle.turn_client_api.specs.Connections.{bind_answered, bind_step, bound, connection_at, not_bound};
+ghost use Rattle.std.specs.Prelude.{◌≡◌, ℕ, find, true, IfOk, OnErr, OnOk, Some};
+ghost use Rattle.turn_auth.specs.Challenge.{MayTake};
+ghost use Rattle.turn_client_api.specs.Connections.{bind_again, bind_answered, bind_step, bound, connection_at, not_bound};
 ghost use Rattle.turn_client_api.specs.Effect.{transaction_ended};
 ghost use Rattle.turn_client_api.specs.Grants.{purposes_of};
-ghost use Rattle.turn_client_api.specs.Judgement.{bind_judgement, challenge_in, is_bind_of};
+ghost use Rattle.turn_client_api.specs.Judgement.{bind_judgement, is_bind_of};
 ghost use Rattle.turn_client_api.specs.Memory.{bind_takes_memory, keeps_connection};
+ghost use Rattle.turn_client_api.specs.State.{auth_of};
 ghost use Rattle.turn_client_core.specs.Apart.{with_streams_of};
-ghost use Rattle.turn_client_core.specs.Challenges.{BindsAgain};
 ghost use Rattle.turn_client_laws.specs.StreamEffects.{binds_if, binds_to};
 ghost use Rattle.turn_stun.specs.Message.{id_of};
 
@@ -16,9 +17,11 @@ use crate::protocol::incoming::challenge::{queue_again, request_again};
 use crate::protocol::incoming::judge::Judged;
 use std::alloc::AllocError;
 use std::net::SocketAddr;
+use turn_auth::received_challenge::ReceivedChallenge;
 use turn_client_api::{DataConnection, Purpose};
 use turn_stun::instant::Instant;
 use turn_stun::message::Message;
+use turn_stun::transaction::TransactionId;
 use turn_types::message::CONNECTION_BIND;
 
 impl TurnClientProtocol {
@@ -73,8 +76,8 @@ impl TurnClientProtocol {
         ensures wanted { OnErr result (keeps_connection (bind_judgement self.old connection.now.local message.now) ≡ true) }
     {
         match self.judge_bind(connection.local, message) {
-            Judged::Challenged => {
-                self.bind_again(connection, message, now)?;
+            Judged::Challenged(challenge) => {
+                self.bind_again(connection, message.transaction_id(), &challenge, now)?;
                 Ok(None)
             }
             Judged::SignedSuccess => {
@@ -86,7 +89,7 @@ impl TurnClientProtocol {
                 Ok(None)
             }
             _ => {
-                self.not_bound(connection);
+                self.ledger.not_bound(connection);
                 Ok(None)
             }
         }
@@ -122,19 +125,11 @@ impl TurnClientProtocol {
     {
         // A signed error ends the transaction too (our choice): the request was answered.
         self.outbox.end(message.transaction_id());
-        self.not_bound(connection);
-    }
-
-    /// The connection is not bound, and the caller is to close it. Allocates no memory.
-    fn not_bound(&mut self, connection: &DataConnection)
-        requires { connection_at connection.now.local self.old ≡ Some connection.now }
-        ensures { self.new ≡ not_bound connection.now self.old }
-    {
         self.ledger.not_bound(connection);
     }
 
-    /// Accepts the challenge, and requests the binding of the connection again, if the request with the
-    /// challenge's ID was for that. The old request stays outstanding, and the challenge is not
+    /// Accepts the challenge to the request with this ID, and requests the binding of the connection again,
+    /// if the request was for that. The old request stays outstanding, and the challenge is not
     /// counted: each concerns one connection, not the client (our choice).
     ///
     /// # Errors
@@ -143,20 +138,21 @@ impl TurnClientProtocol {
     fn bind_again(
         &mut self,
         connection: &DataConnection,
-        message: &Message<'_>,
+        id: TransactionId,
+        challenge: &ReceivedChallenge<'_>,
         now: Instant,
     ) -> Result<(), AllocError>
-        requires { IsSome (challenge_in self.old message.now) }
-        ensures ok { BindsAgain connection.now message.now now self.old self.new result }
+        requires { MayTake (auth_of self.old) challenge.now }
+        ensures ok { OnOk result (self.new ≡ bind_again connection.now id challenge.now now self.old) }
         ensures err { OnErr result (self.new ≡ self.old) }
     {
-        let Some(purpose) = self.bind_purpose(connection.local, message.transaction_id()) else {
+        let Some(purpose) = self.ledger.table().bind_purpose(id, connection.local) else {
             return Ok(());
         };
-        self.ask_bind(connection, message, &purpose, now)
+        self.ask_bind(connection, challenge, &purpose, now)
     }
 
-    /// The same for this purpose, for which the challenge's ID is listed.
+    /// Accepts the challenge, and makes the request for this purpose again: to bind the connection.
     ///
     /// # Errors
     ///
@@ -164,13 +160,13 @@ impl TurnClientProtocol {
     fn ask_bind(
         &mut self,
         connection: &DataConnection,
-        message: &Message<'_>,
+        challenge: &ReceivedChallenge<'_>,
         purpose: &Purpose,
         now: Instant,
     ) -> Result<(), AllocError>
-        requires challenge { IsSome (challenge_in self.old message.now) }
-        requires asked { find (is_bind_of connection.now.local) (purposes_of (id_of message.now) self.old) ≡ Some purpose.now }
-        ensures ok { BindsAgain connection.now message.now now self.old self.new result }
+        requires fits { MayTake (auth_of self.old) challenge.now }
+        ensures ok { (id : ℕ) → find (is_bind_of connection.now.local) (purposes_of id self.old) ≡ Some purpose.now
+            → OnOk result (self.new ≡ bind_again connection.now id challenge.now now self.old) }
         ensures err { OnErr result (self.new ≡ self.old) }
     {
         let fresh = self.fresh_id();
@@ -180,7 +176,7 @@ impl TurnClientProtocol {
             &self.auth,
             self.ledger.transport(),
             self.families.as_slice(),
-            message,
+            challenge,
             purpose,
             fresh,
         )?;

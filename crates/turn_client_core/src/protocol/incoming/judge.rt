@@ -1,28 +1,29 @@
 //! What a message of the server is to a client (RFC 8489, sections 6.3 and 9.2.5; RFC 8656, section 11).
 
-ghost use Rattle.std.specs.Prelude.{◌≡◌, ◌↔◌, IsSome, is_some};
-ghost use Rattle.turn_auth.specs.Validation.{IsResendRequest, validation_of};
-ghost use Rattle.turn_client_api.specs.Judgement.{allocated_judgement, answers_allocate, answers_one, authenticating_judgement, challenge_in};
+ghost use Rattle.std.specs.Prelude.{◌≡◌};
+ghost use Rattle.turn_auth.specs.Validation.{validation_of};
+ghost use Rattle.turn_auth.specs.Verdict.{challenge_read, validation_in};
+ghost use Rattle.turn_client_api.specs.Judgement.{allocated_judgement, answers_allocate, answers_one, authenticating_judgement, challenge_in, challenged_or};
 ghost use Rattle.turn_client_api.specs.Judgement.{indication_judgement, judgement_of, requesting_judgement};
 ghost use Rattle.turn_client_api.specs.State.{auth_of};
-ghost use Rattle.turn_client_core.specs.Judged.{kind_of, signed_kind};
+ghost use Rattle.turn_client_core.specs.Judged.{judgement_in, signed_judgement};
 ghost use Rattle.turn_stun.specs.Message.{type_of};
 ghost use Rattle.turn_stun.specs.MessageType.{class_of};
 
 use crate::protocol::TurnClientProtocol;
-use turn_auth::Validation;
+use turn_auth::{ReceivedChallenge, Verdict};
 use turn_client_api::Phase;
 use turn_stun::message::Message;
 use turn_stun::message::header::MessageClass;
 use turn_types::message::{CONNECTION_ATTEMPT, DATA};
 
-/// What a message is to a client. The contents of a challenge are read when it is answered.
-#[derive(Clone, Copy, Debug, PartialEq, Eq)]
-pub(crate) enum Judged {
+/// What a message is to a client.
+#[derive(Drop)]
+pub(crate) enum Judged<'a> {
     /// It is not for the client, or contains nothing that the client can trust.
     Unrelated,
-    /// A challenge: the server requires another signature.
-    Challenged,
+    /// A challenge: the server requires another signature. What it contains is read once, here.
+    Challenged(ReceivedChallenge<'a>),
     /// It ends the client, or the data connection that it came over.
     Fatal,
     /// A signed reply to a request that is no longer outstanding.
@@ -43,8 +44,8 @@ impl TurnClientProtocol {
     /// What the message is in the phase of the client. Allocates no memory, and computes no digest for
     /// a response that concerns no request. The attributes are walked at most twice: for the contents
     /// of a challenge, and for the integrity or the algorithms that a first challenge offers.
-    pub(crate) fn judge(&self, message: &Message<'_>) -> Judged
-        ensures { result ≡ kind_of (judgement_of self.now message.now) }
+    pub(crate) fn judge<'a>(&self, message: &Message<'a>) -> Judged<'a>
+        ensures { judgement_in result ≡ judgement_of self.now message.now }
     {
         match self.phase {
             Phase::New => Judged::Unrelated,
@@ -56,29 +57,26 @@ impl TurnClientProtocol {
     }
 
     /// What the message is to a client whose first ALLOCATE is outstanding.
-    fn judge_requesting(&self, message: &Message<'_>) -> Judged
-        ensures { result ≡ kind_of (requesting_judgement self.now message.now) }
+    fn judge_requesting<'a>(&self, message: &Message<'a>) -> Judged<'a>
+        ensures { judgement_in result ≡ requesting_judgement self.now message.now }
     {
         if !self.answers_one(message) {
             return Judged::Unrelated;
         }
-        if self.is_challenge(message) {
-            return Judged::Challenged;
-        }
-        Judged::Fatal
+        self.challenged_or(message, Judged::Fatal)
     }
 
     /// What the message is to a client whose signed ALLOCATE is outstanding.
-    fn judge_authenticating(&self, message: &Message<'_>) -> Judged
-        ensures { result ≡ kind_of (authenticating_judgement self.now message.now) }
+    fn judge_authenticating<'a>(&self, message: &Message<'a>) -> Judged<'a>
+        ensures { judgement_in result ≡ authenticating_judgement self.now message.now }
     {
         if !self.answers_allocate(message) {
             return Judged::Unrelated;
         }
-        match self.validate(message) {
-            Validation::Validated(_) => self.signed_or(message, Judged::LateResponse),
-            Validation::ResendRequest(_) => Judged::Challenged,
-            Validation::Refused { integrity } => {
+        match self.verdict(message) {
+            Verdict::Signed(_) => self.signed_or(message, Judged::LateResponse),
+            Verdict::Challenge(challenge) => Judged::Challenged(challenge),
+            Verdict::Refused { integrity } => {
                 if integrity {
                     Judged::Fatal
                 } else {
@@ -89,15 +87,15 @@ impl TurnClientProtocol {
     }
 
     /// What the message is to a client with an allocation.
-    fn judge_allocated(&self, message: &Message<'_>) -> Judged
-        ensures { result ≡ kind_of (allocated_judgement self.now message.now) }
+    fn judge_allocated<'a>(&self, message: &Message<'a>) -> Judged<'a>
+        ensures { judgement_in result ≡ allocated_judgement self.now message.now }
     {
         match message.class() {
             MessageClass::Indication => indication(message),
-            MessageClass::Request => match self.validate(message) {
-                Validation::Validated(_) => Judged::SignedRequest,
-                Validation::ResendRequest(_) => Judged::Unrelated,
-                Validation::Refused { .. } => Judged::Unrelated,
+            MessageClass::Request => match self.verdict(message) {
+                Verdict::Signed(_) => Judged::SignedRequest,
+                Verdict::Challenge(_) => Judged::Unrelated,
+                Verdict::Refused { .. } => Judged::Unrelated,
             },
             MessageClass::Success => self.judge_success(message),
             MessageClass::Error => self.judge_error(message),
@@ -105,41 +103,38 @@ impl TurnClientProtocol {
     }
 
     /// What a success response is to a client with an allocation.
-    fn judge_success(&self, message: &Message<'_>) -> Judged
+    fn judge_success<'a>(&self, message: &Message<'a>) -> Judged<'a>
         requires { class_of (type_of message.now) ≡ MessageClass.Success }
-        ensures { result ≡ kind_of (allocated_judgement self.now message.now) }
+        ensures { judgement_in result ≡ allocated_judgement self.now message.now }
     {
         if !self.outbox.is_outstanding(message.transaction_id()) {
             return Judged::Unrelated;
         }
-        match self.validate(message) {
-            Validation::Validated(_) => Judged::SignedSuccess,
-            Validation::ResendRequest(_) => Judged::Unrelated,
-            Validation::Refused { .. } => Judged::Unrelated,
+        match self.verdict(message) {
+            Verdict::Signed(_) => Judged::SignedSuccess,
+            Verdict::Challenge(_) => Judged::Unrelated,
+            Verdict::Refused { .. } => Judged::Unrelated,
         }
     }
 
     /// What an error response is to a client with an allocation.
-    fn judge_error(&self, message: &Message<'_>) -> Judged
+    fn judge_error<'a>(&self, message: &Message<'a>) -> Judged<'a>
         requires { class_of (type_of message.now) ≡ MessageClass.Error }
-        ensures { result ≡ kind_of (allocated_judgement self.now message.now) }
+        ensures { judgement_in result ≡ allocated_judgement self.now message.now }
     {
         if !self.outbox.is_outstanding(message.transaction_id()) {
-            if self.is_challenge(message) {
-                return Judged::Challenged;
-            }
-            return Judged::Unrelated;
+            return self.challenged_or(message, Judged::Unrelated);
         }
-        match self.validate(message) {
-            Validation::Validated(_) => Judged::SignedError,
-            Validation::ResendRequest(_) => Judged::Challenged,
-            Validation::Refused { .. } => Judged::Unrelated,
+        match self.verdict(message) {
+            Verdict::Signed(_) => Judged::SignedError,
+            Verdict::Challenge(challenge) => Judged::Challenged(challenge),
+            Verdict::Refused { .. } => Judged::Unrelated,
         }
     }
 
     /// What a signed message is by its class, if its request is outstanding, or else `otherwise`.
-    pub(crate) fn signed_or(&self, message: &Message<'_>, otherwise: Judged) -> Judged
-        ensures { result ≡ signed_kind message.now self.now otherwise }
+    pub(crate) fn signed_or<'a>(&self, message: &Message<'_>, otherwise: Judged<'a>) -> Judged<'a>
+        ensures { judgement_in result ≡ signed_judgement message.now self.now (judgement_in otherwise) }
     {
         if !self.outbox.is_outstanding(message.transaction_id()) {
             return otherwise;
@@ -171,25 +166,28 @@ impl TurnClientProtocol {
                 .is_for_allocation()
     }
 
-    /// Whether the message is signed, is a challenge, or is refused.
-    pub(crate) fn validate(&self, message: &Message<'_>) -> Validation
-        ensures exact { result ≡ validation_of (auth_of self.now) message.now }
-        ensures resend { IsResendRequest result ↔ IsSome (challenge_in self.now message.now) }
+    /// What the message is by its signature, or the challenge in it.
+    pub(crate) fn verdict<'a>(&self, message: &Message<'a>) -> Verdict<'a>
+        ensures exact { validation_in result ≡ validation_of (auth_of self.now) message.now }
+        ensures challenge { challenge_read result ≡ challenge_in self.now message.now }
     {
-        self.auth.validate_incoming_message(message)
+        self.auth.judge(message)
     }
 
-    /// Whether the message is a challenge, so that the server requires another signature.
-    fn is_challenge(&self, message: &Message<'_>) -> bool
-        ensures { result ≡ is_some (challenge_in self.now message.now) }
+    /// The challenge in the message, or else `otherwise`. Computes no digest.
+    fn challenged_or<'a>(&self, message: &Message<'a>, otherwise: Judged<'a>) -> Judged<'a>
+        ensures { judgement_in result ≡ challenged_or (judgement_in otherwise) (challenge_in self.now message.now) }
     {
-        self.auth.is_challenge(message)
+        match self.auth.read_challenge(message) {
+            Some(challenge) => Judged::Challenged(challenge),
+            None => otherwise,
+        }
     }
 }
 
 /// What an indication is to a client with an allocation.
-fn indication(message: &Message<'_>) -> Judged
-    ensures { result ≡ kind_of (indication_judgement message.now) }
+fn indication<'a>(message: &Message<'a>) -> Judged<'a>
+    ensures { judgement_in result ≡ indication_judgement message.now }
 {
     let method = message.method();
     if method == DATA {

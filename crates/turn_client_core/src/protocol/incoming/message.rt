@@ -46,7 +46,7 @@ impl TurnClientProtocol {
         let judged = self.judge(message);
         match judged {
             Judged::Unrelated => Ok(TurnProtocolRecv::Ignored),
-            Judged::Challenged => self.challenged(message, now),
+            Judged::Challenged(challenge) => self.challenged(message, &challenge, now),
             Judged::Fatal => self.fatal(message),
             Judged::LateResponse => Ok(TurnProtocolRecv::Handled),
             Judged::DataIndication => Ok(self.data_indicated(message.as_bytes())),

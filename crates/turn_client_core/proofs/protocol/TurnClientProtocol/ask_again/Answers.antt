@@ -1,16 +1,14 @@
-use Rattle.std.proofs.Common.{◌≡◌, ◌∙◌, false, true, ap, refl, sym}
+use Rattle.std.proofs.Common.{◌≡◌, ◌∙◌, false, true, ap, refl, subst, sym}
 use Rattle.std.specs.Prelude.{◌==◌}
-use Rattle.std.proofs.lemmas.Option.{same_Some}
 use Rattle.turn_agent.specs.Agent.{first_sent, without_transaction}
-use Rattle.turn_auth.specs.Challenge.{challenge_of}
-use Rattle.turn_auth.specs.LongTerm.{with_challenge}
+use Rattle.turn_auth.specs.Challenge.{MayTake}
+use Rattle.turn_auth.specs.LongTerm.{ClientAuth, with_challenge}
 use Rattle.turn_client_api.specs.Grants.{purposes_of}
 use Rattle.turn_client_api.specs.Requests.{request_started, id_used, fresh_id, queued, request_for}
 use Rattle.turn_client_api.specs.Retry.{state_after_retry}
 use Rattle.turn_client_api.specs.State.{auth_of}
 use Rattle.turn_client_requests.specs.RequestAttributes.{with_asked_families}
 use Rattle.turn_client_grants.specs.Ledger.{with_ledger}
-use Rattle.turn_stun.specs.Message.{id_of}
 use Rattle.turn_client_core.specs.Outgoing.{Outgoing}
 use Rattle.turn_client_core.specs.contracts.protocol.TurnClientProtocol.{the_view}
 use Rattle.turn_client_core.proofs.AskLemmas.{with_outbox}
@@ -28,34 +26,35 @@ ask_again-requires-clause-new_id c =
     let same = ap (λ s. s.listed) (c.queue_again.ensures.same (the_view c.self.inside) ∙ c.self.view_is) in
     rw same c.fresh_id-fresh.ensures.unlisted
 
+-- the client may accept the challenge
+fits : (c : goal.After-queue_again) → MayTake c.self.inside.auth c.args.challenge.now
+fits c =
+    let own = auth-is (the_view c.self.inside) c.self.inside.auth c.self.invariant.credentials c.self.invariant.supported c.self.invariant.anonymous refl in
+    subst (λ (auth : ClientAuth). MayTake auth c.args.challenge.now) (sym (ap auth_of c.self.view_is) ∙ own) c.requires.fits
+
 pub accept-requires : goal.accept-requires
-accept-requires c = rw c.in_ok-challenge.ensures.challenge c.in_ok-signed.ensures.fits
+accept-requires c = rw (c.in_ok-challenge.ensures.challenge, c.in_ok-signed.ensures.exact) (fits c)
 
 pub returns-clause-ok : goal.returns-clause-ok
-returns-clause-ok c = λ challenge is.
+returns-clause-ok c =
     let s = the_view c.self.inside in
-    let id = c.transaction_id-id.result in
+    let id = c.args.id in
     let fresh = c.fresh_id-fresh.result in
     let from = c.local_addr-from.result in
     let text = c.in_ok-signed.signed.1 in
-    let given = c.in_ok-signed.signed.0 in
+    let given = c.args.challenge.now in
     let purpose = c.args.purpose.now in
     let now = c.args.now in
     let t = taken s id given in
     let new = first_sent fresh s.remote now text in
     let own = sym (auth-is s c.self.inside.auth c.self.invariant.credentials c.self.invariant.supported c.self.invariant.anonymous refl) in
-    let other : (fresh == id) ≡ false = rw c.transaction_id-id.ensures (asked-other
-    (id_of c.args.message.now) fresh c.args.self.now.listed purpose c.fresh_id-fresh.ensures.unlisted c.requires.asked) in
-    let same : given ≡ challenge = same_Some given challenge (sym c.in_ok-signed.ensures.exact
-    ∙ (ap (λ auth. challenge_of auth c.args.message.now) (own ∙ ap auth_of c.self.view_is) ∙ is)) in
+    let other : (fresh == id) ≡ false = asked-other id fresh c.args.self.now.listed purpose c.fresh_id-fresh.ensures.unlisted c.requires.asked in
     let all : with_asked_families c.transport.result c.as_slice.result.now t ≡ t = rw (c.transport.ensures, c.as_slice.ensures) refl in
     let written : text ≡ request_for t purpose fresh = c.in_ok-signed.ensures.text t (sym (ap (with_challenge given) own)) ∙ ap (λ u. request_for u purpose fresh) all in
-    rw (c.accept.ensures.taken, c.in_ok-challenge.ensures.challenge, c.after_challenge-self-inside.ensures)
+    rw (c.accept.ensures.taken, c.in_ok-challenge.ensures.challenge, c.in_ok-signed.ensures.exact, c.after_challenge-self-inside.ensures)
     (ap (λ o. with_ledger c.ask_again.new.self (with_outbox o t))
     (c.end.ensures ∙ ap (λ (o : Outgoing). record o { transactions = without_transaction id o.transactions }) c.in_ok-challenge.ensures.ok)
     ∙ (ap (λ ts. queued true from text (with_ledger c.ask_again.new.self (record (id_used t) { transactions = ts }))) (without-other id new s.transactions other)
     ∙ (ap (queued true from text) (c.ask_again.ensures.state t text now ∙ ap (λ u. request_started fresh text (purposes_of id u) now u) (c.queue_again.ensures.same t))
     ∙ (again-is s id fresh from text purpose given now written c.local_addr-from.ensures (c.fresh_id-fresh.ensures.id ∙ ap fresh_id (sym c.self.view_is))
-    ∙ (ap (λ u. state_after_retry u id purpose given now) c.self.view_is
-    ∙ (ap (λ i. state_after_retry c.args.self.now i purpose given now) c.transaction_id-id.ensures
-    ∙ ap (λ ch. state_after_retry c.args.self.now (id_of c.args.message.now) purpose ch now) same))))))
+    ∙ ap (λ u. state_after_retry u id purpose given now) c.self.view_is))))

@@ -1,8 +1,7 @@
-use Rattle.std.proofs.Common.{◌≡◌, ◌∙◌, ap, refl, sym}
+use Rattle.std.proofs.Common.{◌≡◌, ◌∙◌, ap, refl, subst, sym}
 use Rattle.std.specs.Prelude.{◌∷◌, [], Some, find, true}
-use Rattle.std.proofs.lemmas.Option.{same_Some}
-use Rattle.turn_auth.specs.Challenge.{challenge_of}
-use Rattle.turn_auth.specs.LongTerm.{with_challenge}
+use Rattle.turn_auth.specs.Challenge.{MayTake}
+use Rattle.turn_auth.specs.LongTerm.{ClientAuth, with_challenge}
 use Rattle.turn_client_api.specs.Connections.{bind_again}
 use Rattle.turn_client_api.specs.Grants.{purposes_of}
 use Rattle.turn_client_api.specs.Judgement.{is_bind_of}
@@ -12,7 +11,6 @@ use Rattle.turn_client_api.specs.State.{auth_of}
 use Rattle.turn_client_requests.specs.RequestAttributes.{with_asked_families}
 use Rattle.turn_client_grants.specs.Asked.{bind_retried}
 use Rattle.turn_client_grants.specs.Ledger.{with_ledger}
-use Rattle.turn_stun.specs.Message.{id_of}
 use Rattle.turn_client_core.specs.contracts.protocol.TurnClientProtocol.{the_view}
 use Rattle.turn_client_core.proofs.AskLemmas.{with_outbox}
 use Rattle.turn_client_core.proofs.AuthLemmas.{auth-is}
@@ -29,31 +27,33 @@ bind_again-requires-clause-new_id c =
     let same = ap (λ s. s.listed) (c.queue_again.ensures.same (the_view c.self.inside) ∙ c.self.view_is) in
     rw same c.fresh_id-fresh.ensures.unlisted
 
+-- the client may accept the challenge
+fits : (c : goal.After-queue_again) → MayTake c.self.inside.auth c.args.challenge.now
+fits c =
+    let own = auth-is (the_view c.self.inside) c.self.inside.auth c.self.invariant.credentials c.self.invariant.supported c.self.invariant.anonymous refl in
+    subst (λ (auth : ClientAuth). MayTake auth c.args.challenge.now) (sym (ap auth_of c.self.view_is) ∙ own) c.requires.fits
+
 pub accept-requires : goal.accept-requires
-accept-requires c = rw c.in_ok-challenge.ensures.challenge c.in_ok-signed.ensures.fits
+accept-requires c = rw (c.in_ok-challenge.ensures.challenge, c.in_ok-signed.ensures.exact) (fits c)
 
 pub returns-clause-ok : goal.returns-clause-ok
-returns-clause-ok c = λ challenge is.
+returns-clause-ok c = λ id asked.
     let s = the_view c.self.inside in
     let d = c.args.connection.now in
-    let id = id_of c.args.message.now in
     let fresh = c.fresh_id-fresh.result in
     let from = c.sent_from-from.result in
     let text = c.in_ok-signed.signed.1 in
-    let given = c.in_ok-signed.signed.0 in
+    let given = c.args.challenge.now in
     let purpose = c.args.purpose.now in
     let now = c.args.now in
     let t = with_held given s in
     let own = sym (auth-is s c.self.inside.auth c.self.invariant.credentials c.self.invariant.supported c.self.invariant.anonymous refl) in
-    let same : given ≡ challenge = same_Some given challenge (sym c.in_ok-signed.ensures.exact
-    ∙ (ap (λ auth. challenge_of auth c.args.message.now) (own ∙ ap auth_of c.self.view_is) ∙ is)) in
     let all : with_asked_families c.transport.result c.as_slice.result.now t ≡ t = rw (c.transport.ensures, c.as_slice.ensures) refl in
     let written : text ≡ request_for t purpose fresh = c.in_ok-signed.ensures.text t (sym (ap (with_challenge given) own)) ∙ ap (λ u. request_for u purpose fresh) all in
-    let listed : find (is_bind_of d.local) (purposes_of id s) ≡ Some purpose = ap (λ u. find (is_bind_of d.local) (purposes_of id u)) c.self.view_is ∙ c.requires.asked in
+    let listed : find (is_bind_of d.local) (purposes_of id s) ≡ Some purpose = ap (λ u. find (is_bind_of d.local) (purposes_of id u)) c.self.view_is ∙ asked in
     let sent : from ≡ sent_from s purpose = c.sent_from-from.ensures ∙ ap (λ u. sent_from u purpose) (sym c.self.view_is) in
-    rw (c.accept.ensures.taken, c.in_ok-challenge.ensures.challenge)
+    rw (c.accept.ensures.taken, c.in_ok-challenge.ensures.challenge, c.in_ok-signed.ensures.exact)
     (ap (λ o. with_ledger c.bind_again.new.self (with_outbox o t)) c.in_ok-challenge.ensures.ok
     ∙ (ap (queued true from text) (c.bind_again.ensures.state t text ∙ ap (λ u. request_started fresh text (purpose ∷ []) now (bind_retried d.local now u)) (c.queue_again.ensures.same t))
     ∙ (bind-asked s d id fresh from text purpose given now listed written sent (c.fresh_id-fresh.ensures.id ∙ ap fresh_id (sym c.self.view_is))
-    ∙ (ap (λ u. bind_again d id given now u) c.self.view_is
-    ∙ ap (λ ch. bind_again d id ch now c.args.self.now) same))))
+    ∙ ap (λ u. bind_again d id given now u) c.self.view_is)))
