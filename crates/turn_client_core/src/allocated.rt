@@ -7,7 +7,8 @@ ghost use Rattle.turn_client_api.specs.Grants.{is_of_family};
 ghost use Rattle.turn_client_core.specs.Allocated.{IsRead, missing};
 
 use std::alloc::{AllocError, Global};
-use std::net::{IpAddr, SocketAddr};
+use std::net::SocketAddr;
+use turn_client_grants::{has_address, is_of_family};
 use turn_stun::attribute::typed::AttributeFromRaw;
 use turn_stun::message::Message;
 use turn_types::AddressFamily;
@@ -61,24 +62,4 @@ fn is_wanted(taken: &[SocketAddr], families: &[AddressFamily], address: SocketAd
     ensures { result ≡ list_any (λ family. not (list_any (is_of_family family) taken.now) && is_of_family family address) families.now }
 {
     families.iter().any(|family| !has_address(taken, *family) && is_of_family(*family, address))
-}
-
-/// Whether one of the addresses is of this family.
-fn has_address(addresses: &[SocketAddr], family: AddressFamily) -> bool
-    ensures { result ≡ list_any (is_of_family family) addresses.now }
-{
-    addresses
-        .iter()
-        .any(|address| is_of_family(family, *address))
-}
-
-/// Whether the address is of this family.
-fn is_of_family(family: AddressFamily, address: SocketAddr) -> bool
-    ensures { result ≡ is_of_family family address }
-{
-    let found = match address.ip() {
-        IpAddr::V4(_) => AddressFamily::IPV4,
-        IpAddr::V6(_) => AddressFamily::IPV6,
-    };
-    found == family
 }

@@ -1,8 +1,7 @@
 //! Packets and requests for the server.
 
-ghost use Rattle.std.specs.Prelude.{◌≡◌, ◌≤◌, ◌<◌, [], None, false, true, length, IfOk, IsOk, OnOk, OnErr};
+ghost use Rattle.std.specs.Prelude.{◌≡◌, ◌≤◌, ◌<◌, [], None, false, true, IfOk, IsOk, OnOk, OnErr};
 ghost use Rattle.turn_agent.specs.Agent.{is_outstanding, without_transaction};
-ghost use Rattle.turn_agent.specs.TransactionIds.{next_id};
 ghost use Rattle.turn_client_core.specs.Outgoing.{answering, request_queued, asked_over, begun, outbox_id_used, packet_of, waiting, with_room};
 
 mod due;
@@ -114,18 +113,27 @@ impl Outbox {
         self.agent.is_outstanding(id)
     }
 
-    /// The number of outstanding requests.
-    pub(crate) fn outstanding(&self) -> usize
-        ensures { result ≡ length self.now.transactions }
+    /// The outstanding requests, for reading.
+    pub(crate) fn agent(&self) -> &StunAgent
+        ensures transport { result.now.transport ≡ self.now.transport }
+        ensures timers { result.now.timers ≡ self.now.timers }
+        ensures transactions { result.now.transactions ≡ self.now.transactions }
     {
-        self.agent.outstanding()
+        &self.agent
     }
 
-    /// The next ID of the seed, whether or not it is taken.
-    pub(crate) fn candidate(&self) -> TransactionId
-        ensures { result ≡ next_id self.now.ids }
+    /// The packets that wait to be sent, for reading.
+    pub(crate) fn queue(&self) -> &Queue
+        ensures { result.now.items ≡ self.now.queue }
     {
-        self.ids.candidate()
+        &self.queue
+    }
+
+    /// The source of the IDs of the requests to come.
+    pub(crate) fn ids(&self) -> &NumberSource
+        ensures { result.now ≡ self.now.ids }
+    {
+        &self.ids
     }
 
     /// Reserves room for so many packets in the queue.

@@ -1,10 +1,8 @@
 //! When a request is to be sent, retransmitted or timed out (RFC 8489, section 6.2).
 
 ghost use Rattle.std.specs.Duration.{as_nanos};
-ghost use Rattle.std.specs.List.{list_any};
 ghost use Rattle.std.specs.Option.{option_map_or};
-ghost use Rattle.std.specs.Prelude.{◌≡◌, fold, map, min, not};
-ghost use Rattle.turn_agent.specs.Agent.{transaction_timeout};
+ghost use Rattle.std.specs.Prelude.{◌≡◌};
 ghost use Rattle.turn_client_api.specs.State.{later_by};
 ghost use Rattle.turn_client_core.specs.Sending.{give_up_step};
 
@@ -23,27 +21,6 @@ impl Outbox {
             Some(time) => time.plus(wait),
             None => Instant::ZERO,
         }
-    }
-
-    /// Whether a reply to the server is queued.
-    pub(crate) fn has_reply(&self) -> bool
-        ensures { result ≡ list_any (λ q. not q.is_request) self.now.queue }
-    {
-        self.queue.has_reply()
-    }
-
-    /// Whether a request is queued.
-    pub(crate) fn has_request(&self) -> bool
-        ensures { result ≡ list_any (λ q. q.is_request) self.now.queue }
-    {
-        self.queue.has_request()
-    }
-
-    /// The earliest of this time and of those at which a request is to be retransmitted or timed out.
-    pub(crate) fn earliest(&self, time: Instant) -> Instant
-        ensures { result ≡ fold min time (map (transaction_timeout self.now.timers self.now.transport) self.now.transactions) }
-    {
-        self.agent.earliest(time)
     }
 
     /// Times out the oldest request whose last wait has ended, if there is one. It is no longer

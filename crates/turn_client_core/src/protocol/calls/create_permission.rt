@@ -42,7 +42,7 @@ impl TurnClientProtocol {
     fn ask_permission(&mut self, ip: IpAddr, now: Instant) -> Result<(), CreatePermissionError>
         ensures step { CreatesPermission result self.old self.new (permission_step ip now self.old) }
     {
-        if self.permission_state(ip).is_some() {
+        if self.table().permission_state(ip).is_some() {
             return Err(CreatePermissionError::AlreadyExists);
         }
         if !self.is_allocated() {

@@ -3,9 +3,8 @@
 ghost use Rattle.std.specs.Prelude.{◌≡◌, ◌&&◌, codes, false, None, Some, IfOk, IsSome, IsTrue, OnErr, OnOk};
 ghost use Rattle.turn_stun.specs.declared.transport.TransportType.TheVariants.{Tcp};
 ghost use Rattle.turn_client_api.specs.Answers.{TakesSocket};
-ghost use Rattle.turn_client_api.specs.Calls.{allocated_tcp_socket_step, is_allocated, is_control, is_local_taken, offer_origin, socket_opened, socket_refused};
+ghost use Rattle.turn_client_api.specs.Calls.{allocated_tcp_socket_step, is_allocated, is_control, is_local_taken, socket_opened, socket_refused};
 ghost use Rattle.turn_client_api.specs.Calls.{socket_step};
-ghost use Rattle.turn_client_api.specs.Connections.{connection_at};
 ghost use Rattle.turn_client_api.specs.Grants.{same_transport};
 ghost use Rattle.turn_client_api.specs.Requests.{accepted_reply, connection_timed_out, refused_reply};
 ghost use Rattle.turn_client_core.specs.Apart.{apart_from_streams, with_streams_of};
@@ -17,7 +16,7 @@ ghost use Rattle.turn_agent.specs.Agent.{same_address};
 use crate::protocol::TurnClientProtocol;
 use std::alloc::AllocError;
 use std::net::SocketAddr;
-use turn_client_api::{DataConnection, Origin, Purpose, Socket5Tuple, TcpAllocateError};
+use turn_client_api::{Origin, Purpose, Socket5Tuple, TcpAllocateError};
 use turn_client_requests::{AttemptRefusal, accepted_reply, refused_reply};
 use turn_stun::data::Data;
 use turn_stun::instant::Instant;
@@ -50,7 +49,7 @@ impl TurnClientProtocol {
         if !self.takes_sockets(&five_tuple) {
             return Err(TcpAllocateError::NoAllocation);
         }
-        let Some(origin) = self.offer_origin(id, peer_addr) else {
+        let Some(origin) = self.table().offer_origin(id, peer_addr) else {
             return Err(TcpAllocateError::NoAllocation);
         };
         match local_addr {
@@ -71,7 +70,7 @@ impl TurnClientProtocol {
     ) -> Option<SocketAddr>
         ensures { result ≡ opens_at id five_tuple.now peer_addr local_addr self.now }
     {
-        if !self.takes_sockets(five_tuple) || self.offer_origin(id, peer_addr).is_none() {
+        if !self.takes_sockets(five_tuple) || self.table().offer_origin(id, peer_addr).is_none() {
             return None;
         }
         let local = local_addr?;
@@ -105,25 +104,11 @@ impl TurnClientProtocol {
             && tuple.to == self.remote_addr()
     }
 
-    /// The origin of the offer with this connection ID and this peer.
-    fn offer_origin(&self, id: u32, peer: SocketAddr) -> Option<Origin>
-        ensures { result ≡ offer_origin id peer self.now }
-    {
-        self.ledger.table().offer_origin(id, peer)
-    }
-
     /// Whether the local address is that of the control connection or of a data connection.
     fn is_local_taken(&self, local: SocketAddr) -> bool
         ensures { result ≡ is_local_taken local self.now }
     {
-        local == self.local_addr() || self.connection_at(local).is_some()
-    }
-
-    /// The data connection from this local address.
-    pub(crate) fn connection_at(&self, local: SocketAddr) -> Option<DataConnection>
-        ensures { result ≡ connection_at local self.now }
-    {
-        self.ledger.table().connection_at(local)
+        local == self.local_addr() || self.table().connection_at(local).is_some()
     }
 
     /// The caller opened the connection of an offer.

@@ -1,17 +1,14 @@
 //! How a client deletes its allocations (RFC 8656, section 8).
 
-ghost use Rattle.std.specs.Prelude.{◌≡◌, IfOk, IsSome, OnErr, OnOk};
+ghost use Rattle.std.specs.Prelude.{◌≡◌, IsSome, OnErr, OnOk};
 ghost use Rattle.turn_client_api.specs.Answers.{Deletes};
-ghost use Rattle.turn_client_api.specs.Calls.{delete_step, delete_text, deleted};
-ghost use Rattle.turn_client_api.specs.Requests.{fresh_id};
+ghost use Rattle.turn_client_api.specs.Calls.{delete_step, deleted};
 
 use crate::protocol::TurnClientProtocol;
 use std::alloc::AllocError;
 use turn_client_api::DeleteError;
 use turn_client_requests::delete_request;
-use turn_stun::data::Data;
 use turn_stun::instant::Instant;
-use turn_stun::transaction::TransactionId;
 
 impl TurnClientProtocol {
     /// Deletes all allocations: queues a REFRESH with lifetime 0 (RFC 8656, section 8.1). Permissions
@@ -45,23 +42,10 @@ impl TurnClientProtocol {
     {
         let id = self.fresh_id();
         let from = self.local_addr();
-        let text = self.delete_text(id)?;
+        let text = delete_request(self.alloc, &self.auth, id)?;
         self.ledger.reserve(0, 2, 0)?;
         self.outbox.ask(id, text, from, now)?;
         self.ledger.queue_delete(id, now);
         Ok(())
-    }
-
-    /// The REFRESH that deletes all allocations. `id` is the client's next transaction ID.
-    ///
-    /// # Errors
-    ///
-    /// `AllocError` if memory allocation fails.
-    fn delete_text(&self, id: TransactionId) -> Result<Data, AllocError>
-        requires held { IsSome self.now.held }
-        requires next { id ≡ fresh_id self.now }
-        ensures { IfOk result (λ text. text ≡ delete_text self.now) }
-    {
-        delete_request(self.alloc, &self.auth, id)
     }
 }

@@ -1,17 +1,15 @@
 //! What can be read from a client.
 
-ghost use Rattle.std.specs.List.{list_any};
-ghost use Rattle.std.specs.Prelude.{◌≡◌, ◌&&◌, ◌||◌, false, filter_map, nat_le, nat_lt, option_copied, slice_get, true, IfSome};
+ghost use Rattle.std.specs.Prelude.{◌≡◌, ◌||◌, option_copied};
 ghost use Rattle.turn_client_api.specs.Addresses.{permitted_left, relayed_left};
-ghost use Rattle.turn_client_api.specs.Calls.{channels_to, free_number, can_send_to, is_in_progress, is_number_taken, permissions_of, relayed_addresses_of};
-ghost use Rattle.turn_client_api.specs.Calls.{reserved_from};
+ghost use Rattle.turn_client_api.specs.Calls.{can_send_to, permissions_of, relayed_addresses_of};
 ghost use Rattle.turn_client_api.specs.Connections.{is_connected, is_connecting};
-ghost use Rattle.turn_client_api.specs.Grants.{channel_peer, first_in, has_active_permission, permission_state};
+ghost use Rattle.turn_client_api.specs.Grants.{channel_peer, first_in, has_active_permission};
 
 use crate::protocol::TurnClientProtocol;
 use std::net::{IpAddr, SocketAddr};
-use turn_client_api::{PermissionAddressesIter, Progress, RelayedAddressesIter};
-use turn_stun::instant::Instant;
+use turn_client_api::{PermissionAddressesIter, RelayedAddressesIter};
+use turn_client_grants::GrantTable;
 use turn_stun::transport::TransportType;
 
 impl TurnClientProtocol {
@@ -82,11 +80,12 @@ impl TurnClientProtocol {
 }
 
 impl TurnClientProtocol {
-    /// The progress of the permission for this IP address, or none if there is no such permission.
-    pub(crate) fn permission_state(&self, ip: IpAddr) -> Option<Progress>
-        ensures { result ≡ permission_state ip self.now }
+    /// The grants, and what the requests that await their responses were made for.
+    pub(crate) fn table(&self) -> &GrantTable
+        ensures grants { result.now.grants ≡ self.now.grants }
+        ensures listed { result.now.listed ≡ self.now.listed }
     {
-        self.ledger.table().permission_state(ip)
+        self.ledger.table()
     }
 
     /// Whether this IP address has an active permission.
@@ -96,49 +95,10 @@ impl TurnClientProtocol {
         self.ledger.table().has_active_permission(ip)
     }
 
-    /// Whether a channel to the peer is pending or active.
-    pub(crate) fn has_channel(&self, peer: SocketAddr) -> bool
-        ensures { result ≡ list_any is_in_progress (channels_to peer self.now) }
-    {
-        self.ledger.table().has_channel(peer)
-    }
-
-    /// The time until which a reserved channel keeps the peer from being bound, if that is now or
-    /// later. Of several it is the first.
-    pub(crate) fn reserved_until(&self, peer: SocketAddr, now: Instant) -> Option<Instant>
-        ensures { result ≡ slice_get (filter_map (reserved_from now) (channels_to peer self.now)) 0 }
-    {
-        self.ledger.table().reserved_until(peer, now)
-    }
-
-    /// The least channel number that no channel has. It is one that a client may bind (RFC 8656, section
-    /// 12).
-    pub(crate) fn free_number(&self) -> Option<u16>
-        ensures found { result ≡ free_number self.now }
-        ensures numbered { IfSome result (λ number. (nat_le 0x4000 number && nat_lt number 0x5000) ≡ true) }
-        ensures free { IfSome result (λ number. is_number_taken number self.now ≡ false) }
-    {
-        self.ledger.table().free_number()
-    }
-
     /// Whether a data connection to the peer exists, is offered to the caller, or is pending.
     pub(crate) fn has_connection(&self, peer: SocketAddr) -> bool
         ensures { result ≡ (is_connected peer self.now || is_connecting peer self.now) }
     {
-        self.is_connected(peer) || self.is_connecting(peer)
-    }
-
-    /// Whether a data connection to the peer exists, or is offered to the caller.
-    pub(crate) fn is_connected(&self, peer: SocketAddr) -> bool
-        ensures { result ≡ is_connected peer self.now }
-    {
-        self.ledger.table().is_connected(peer)
-    }
-
-    /// Whether a data connection to the peer is pending.
-    pub(crate) fn is_connecting(&self, peer: SocketAddr) -> bool
-        ensures { result ≡ is_connecting peer self.now }
-    {
-        self.ledger.table().is_connecting(peer)
+        self.table().is_connected(peer) || self.table().is_connecting(peer)
     }
 }

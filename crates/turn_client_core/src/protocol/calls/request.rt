@@ -4,7 +4,6 @@ ghost use Rattle.std.specs.List.{list_all, list_any, range_with_len};
 ghost use Rattle.std.specs.Prelude.{◌≡◌, ◌↔◌, ◌<◌, ◌+◌, ◌%◌, ◌^◌, ◌==◌, false, find, map, not, true, IfOk, IsSome, IsTrue, OnErr, OnOk};
 ghost use Rattle.turn_agent.specs.Agent.{is_outstanding};
 ghost use Rattle.turn_client_api.specs.Calls.{is_allocated};
-ghost use Rattle.turn_client_api.specs.Grants.{is_listed};
 ghost use Rattle.turn_client_api.specs.Requests.{fresh_id, is_taken, request_for, sent_from};
 ghost use Rattle.turn_client_core.specs.Asked.{asks};
 ghost use Rattle.turn_client_grants.specs.Table.{are_new, is_numbered};
@@ -35,14 +34,7 @@ impl TurnClientProtocol {
     fn is_taken(&self, id: TransactionId) -> bool
         ensures { result ≡ is_taken id self.now }
     {
-        self.outbox.is_outstanding(id) || self.is_listed(id)
-    }
-
-    /// Whether a listed request, or one of the server that is to be answered, has this ID.
-    pub(crate) fn is_listed(&self, id: TransactionId) -> bool
-        ensures { result ≡ is_listed id self.now }
-    {
-        self.ledger.table().is_listed(id)
+        self.outbox.is_outstanding(id) || self.table().is_listed(id)
     }
 
     /// The first of so many IDs, counted up from this one modulo 2^96, that is not taken.
@@ -68,10 +60,10 @@ impl TurnClientProtocol {
         ensures unsent { is_outstanding result self.now.transactions ≡ false }
         ensures unlisted { list_any (λ l. l.id == result) self.now.listed ≡ false }
     {
-        let first = self.outbox.candidate();
+        let first = self.outbox.ids().candidate();
         let _bytes = first.to_bytes();
         // What is outstanding or listed is taken (our choice), so that a copy of a reply finds nothing new.
-        let taken = self.outbox.outstanding() as u128
+        let taken = self.outbox.agent().outstanding() as u128
             + self.ledger.table().listing_count() as u128
             + self.ledger.table().count() as u128;
         self.first_free(first, taken + 1).unwrap_or(first)

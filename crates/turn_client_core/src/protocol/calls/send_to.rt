@@ -5,7 +5,7 @@ ghost use Rattle.turn_client_api.specs.Answers.{IsNoWay, IsSent};
 ghost use Rattle.turn_client_api.specs.Calls.{active_channel, as_indication, bound_to, on_channel, on_connection, send_to_step};
 ghost use Rattle.turn_client_api.specs.Delayed.{delayed_send_bytes};
 ghost use Rattle.turn_client_api.specs.Grants.{as_connection};
-ghost use Rattle.turn_client_api.specs.Requests.{id_used, to_server};
+ghost use Rattle.turn_client_api.specs.Requests.{to_server};
 ghost use Rattle.turn_client_core.specs.Sent.{in_frame, number_by};
 ghost use Rattle.turn_stun.specs.declared.transport.TransportType.TheVariants.{Udp};
 
@@ -13,7 +13,7 @@ use crate::protocol::TurnClientProtocol;
 use std::convert::AsSlice;
 use std::fmt::Debug;
 use std::net::SocketAddr;
-use turn_client_api::{DataConnection, DelayedMessageOrChannelSend, SendError, TransmitBuild};
+use turn_client_api::{DelayedMessageOrChannelSend, SendError, TransmitBuild};
 use turn_stun::instant::Instant;
 use turn_stun::transport::TransportType;
 use turn_types::transmit::{DelayedChannel, DelayedMessage};
@@ -100,7 +100,7 @@ impl TurnClientProtocol {
         ensures after { self.new ≡ (as_indication to (T.items «data») self.old).1 }
     {
         let id = self.fresh_id();
-        self.draw();
+        self.outbox.draw();
         let message = DelayedMessage::for_server(to, data, id);
         self.to_server(DelayedMessageOrChannelSend::Message(message))
     }
@@ -131,7 +131,7 @@ impl TurnClientProtocol {
         ensures named { IfErr result IsNoWay }
         ensures answer { IsSent result (on_connection (find (bound_to to) (filter_map as_connection self.now.grants)) (T.items «data») self.now).0 }
     {
-        match self.bound_connection(to) {
+        match self.table().bound_connection(to) {
             Some(connection) => Ok(Some(TransmitBuild::new(
                 DelayedMessageOrChannelSend::Data(data),
                 TransportType::Tcp,
@@ -142,43 +142,18 @@ impl TurnClientProtocol {
         }
     }
 
-    /// The first data connection that is bound to the peer.
-    #[inline(always)]
-    fn bound_connection(&self, peer: SocketAddr) -> Option<DataConnection>
-        ensures { result ≡ find (bound_to peer) (filter_map as_connection self.now.grants) }
-    {
-        self.ledger.table().bound_connection(peer)
-    }
-
     /// The number of the first active channel to the peer, if its expiry has not passed.
     #[inline(always)]
     fn channel_to(&self, peer: SocketAddr, now: Instant) -> Option<u16>
         ensures found { result ≡ number_by (slice_get (filter_map (active_channel peer) self.now.grants) 0) now }
         ensures numbered { IfSome result (λ number. (nat_le 0x4000 number && nat_lt number 0x5000) ≡ true) }
     {
-        let Some(found) = self.active_channel(peer) else {
+        let Some(found) = self.table().active_channel(peer) else {
             return None;
         };
         if now <= found.1 {
             return Some(found.0);
         }
         None
-    }
-
-    /// The number and the expiry of the first active channel to the peer.
-    #[inline(always)]
-    fn active_channel(&self, peer: SocketAddr) -> Option<(u16, Instant)>
-        ensures found { result ≡ slice_get (filter_map (active_channel peer) self.now.grants) 0 }
-        ensures numbered { IfSome result (λ found. (nat_le 0x4000 found.0 && nat_lt found.0 0x5000) ≡ true) }
-    {
-        self.ledger.table().active_channel(peer)
-    }
-
-    /// Takes the next ID of the seed.
-    #[inline(always)]
-    fn draw(&mut self)
-        ensures { self.new ≡ id_used self.old }
-    {
-        self.outbox.draw();
     }
 }

@@ -47,7 +47,7 @@ impl TurnClientProtocol {
         if relay.is_none() {
             return self.refuse_attempt(AttemptRefusal::BadRequest, id);
         }
-        if self.is_connected(peer) {
+        if self.table().is_connected(peer) {
             return self.refuse_attempt(AttemptRefusal::ConnectionAlreadyExists, id);
         }
         self.offer(connection_id, peer, Origin::ServerRequest(id))
@@ -97,10 +97,10 @@ impl TurnClientProtocol {
         if !self.has_active_permission(peer.ip()) {
             return false;
         }
-        if self.is_connected(peer) {
+        if self.table().is_connected(peer) {
             return false;
         }
-        if self.is_connecting(peer) {
+        if self.table().is_connecting(peer) {
             return false;
         }
         self.ledger.table().indicated_count() < MAX_INDICATED

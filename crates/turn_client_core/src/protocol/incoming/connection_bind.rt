@@ -48,7 +48,7 @@ impl TurnClientProtocol {
         if !self.is_allocated() {
             return Ok(None);
         }
-        let Some(connection) = self.connection_at(local) else {
+        let Some(connection) = self.table().connection_at(local) else {
             return Ok(None);
         };
         if message.method() != CONNECTION_BIND {

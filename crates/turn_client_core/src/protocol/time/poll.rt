@@ -29,7 +29,7 @@ impl TurnClientProtocol {
     fn poll_next(&mut self, now: Instant) -> TurnPollRet
         ensures { (result, self.new) ≡ poll_step now self.old }
     {
-        if self.has_event() || self.has_reply() {
+        if self.has_pending() {
             return TurnPollRet::WaitUntil(now);
         }
         match self.next_offer() {

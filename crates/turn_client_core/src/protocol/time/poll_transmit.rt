@@ -6,7 +6,7 @@ ghost use Rattle.turn_agent.specs.Agent.{is_outstanding};
 ghost use Rattle.turn_client_api.specs.Due.{is_paused, keepalive_times};
 ghost use Rattle.turn_client_api.specs.Effect.{closed};
 ghost use Rattle.turn_client_api.specs.Requests.{fresh_id};
-ghost use Rattle.turn_client_api.specs.Transmit.{idle_step, keepalive_step, next_transmit, queue_step, refresh_step, reply_step, sent_at_once, transmit_step};
+ghost use Rattle.turn_client_api.specs.Transmit.{idle_step, keepalive_step, next_transmit, queue_step, refresh_step, sent_at_once, transmit_step};
 ghost use Rattle.turn_client_core.specs.Sending.{waiting_step};
 ghost use Rattle.turn_client_core.specs.Wanted.{SendWantsMemory};
 
@@ -67,16 +67,9 @@ impl TurnClientProtocol {
         ensures wanted { OnErr result (self.old.queue ≡ []) }
     {
         if self.is_paused(now) {
-            return Ok(self.take_reply());
+            return Ok(self.outbox.take_reply());
         }
         self.send_next(now)
-    }
-
-    /// The first queued reply. It does not extend the pause between two requests.
-    fn take_reply(&mut self) -> Option<Transmit<Data>>
-        ensures { (result, self.new) ≡ reply_step self.old }
-    {
-        self.outbox.take_reply()
     }
 
     /// The first queued packet, or the next request that the client has to make.

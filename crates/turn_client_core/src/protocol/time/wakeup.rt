@@ -1,6 +1,6 @@
 //! When a client is to be polled again.
 
-ghost use Rattle.std.specs.Prelude.{◌≡◌, ◌∷◌, [], fold, if◌then◌else◌, min, not, option_to_list, false};
+ghost use Rattle.std.specs.Prelude.{◌≡◌, ◌||◌, ◌∷◌, [], fold, if◌then◌else◌, min, not, option_to_list, false};
 ghost use Rattle.std.specs.Option.{option_map_or};
 ghost use Rattle.turn_client_api.specs.Due.{has_allocation_in_use, has_event, has_queued_request, has_reply, is_paused, keepalive_times, least_due, max_wait};
 ghost use Rattle.turn_client_api.specs.Due.{next_wakeup, pause_end};
@@ -20,7 +20,7 @@ impl TurnClientProtocol {
     pub(crate) fn next_wakeup(&self, has_given_up: bool, now: Instant) -> Instant
         ensures { result ≡ next_wakeup has_given_up now self.now }
     {
-        if self.phase == Phase::New || self.has_event() || self.has_reply() || has_given_up {
+        if self.phase == Phase::New || self.has_pending() || has_given_up {
             return now;
         }
         let least = self.least_due(now);
@@ -30,18 +30,11 @@ impl TurnClientProtocol {
         least
     }
 
-    /// Whether an event is pending.
-    pub(crate) fn has_event(&self) -> bool
-        ensures { result ≡ has_event self.now }
+    /// Whether an event is pending, or a reply to the server is queued.
+    pub(crate) fn has_pending(&self) -> bool
+        ensures { result ≡ (has_event self.now || has_reply self.now) }
     {
-        self.ledger.has_event()
-    }
-
-    /// Whether a reply to the server is queued.
-    pub(crate) fn has_reply(&self) -> bool
-        ensures { result ≡ has_reply self.now }
-    {
-        self.outbox.has_reply()
+        self.ledger.has_event() || self.outbox.queue().has_reply()
     }
 
     /// Whether the pause has not ended, so that no request is sent for the first time.
@@ -65,7 +58,7 @@ impl TurnClientProtocol {
     {
         let pause = self.pause_end();
         let first = self.first_due(now, pause);
-        let second = self.outbox.earliest(first);
+        let second = self.outbox.agent().earliest(first);
         let ahead = self.config.refresh_ahead();
         let third = self.ledger.table().soonest(second, now, pause, ahead);
         sooner(third, self.keepalive_time())
@@ -97,7 +90,7 @@ impl TurnClientProtocol {
         ensures { result ≡ fold min max_time (later_by max_wait now ∷ (if has_queued_request self.now then pause ∷ [] else [])) }
     {
         let latest = now.plus(Duration::from_secs(MAX_WAIT_SECONDS));
-        if self.outbox.has_request() {
+        if self.outbox.queue().has_request() {
             return latest.min(pause);
         }
         latest

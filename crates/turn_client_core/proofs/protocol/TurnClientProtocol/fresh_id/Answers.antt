@@ -11,8 +11,9 @@ few : (c : goal.After-unwrap_or) → max_ids_taken c.args.self.now < 2 ^ 96
 few c =
     let listed : c.listing_count.result ≡ length c.self.inside.ledger.listed = rw c.table.ensures.listed at c.listing_count.ensures in
     let granted : c.count.result ≡ length c.self.inside.ledger.grants = rw c.table-2.ensures.grants at c.count.ensures in
+    let asked : c.outstanding.result ≡ length c.self.inside.outbox.transactions = rw c.agent.ensures.transactions at c.outstanding.ensures in
     rw (← c.self.view_is)
-    (omega (arith, c.outstanding.ensures, listed, granted, c.outstanding.type_inv, c.listing_count.type_inv, c.count.type_inv))
+    (omega (arith, asked, listed, granted, c.outstanding.type_inv, c.listing_count.type_inv, c.count.type_inv))
 
 is : (c : goal.After-unwrap_or) → c.unwrap_or.result ≡ fresh_id c.args.self.now
 is c = found ∙ fresh-is c.args.self.now (few c)

@@ -8,9 +8,10 @@ returns c =
     let s = the_view c.self.inside in
     let first = rw (← c.self.view_is) at c.first_due-first.ensures in
     let pause = rw (← c.self.view_is) at c.pause_end-pause.ensures in
+    let second = rw (c.agent.ensures.transport, c.agent.ensures.timers, c.agent.ensures.transactions) at c.earliest-second.ensures in
     let third = c.soonest-third.ensures s in
     let alive = rw (← c.self.view_is) at c.keepalive_time.ensures in
     rw (← c.self.view_is)
     (c.sooner.ensures
-    ∙ rw (alive, third, c.refresh_ahead-ahead.ensures, c.table.ensures.grants, c.table.ensures.listed, c.earliest-second.ensures, c.self.invariant.times, first, pause)
+    ∙ rw (alive, third, c.refresh_ahead-ahead.ensures, c.table.ensures.grants, c.table.ensures.listed, second, c.self.invariant.times, first, pause)
     (least_due-is c.args.now s))

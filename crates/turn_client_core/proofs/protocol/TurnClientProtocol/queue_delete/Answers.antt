@@ -1,10 +1,11 @@
-use Rattle.std.proofs.Common.{◌∙◌, true, ap, sym}
-use Rattle.turn_client_api.specs.Calls.{delete_text, deleted}
+use Rattle.std.proofs.Common.{◌∙◌, true, ap, refl, sym}
+use Rattle.turn_client_api.specs.Calls.{deleted}
 use Rattle.turn_client_api.specs.Requests.{request_started, fresh_id, queued}
 use Rattle.turn_client_grants.specs.Asked.{all_back, expired_now}
 use Rattle.turn_client_grants.specs.Ledger.{with_ledger}
 use Rattle.turn_client_core.specs.contracts.protocol.TurnClientProtocol.{the_view}
 use Rattle.turn_client_core.proofs.AskLemmas.{asked-is, deletes-is, with_outbox}
+use Rattle.turn_client_core.proofs.AuthLemmas.{auth-is}
 use Rattle.turn_client_core.proofs.ResultLemmas.{on-err}
 use Rattle.turn_client_core.proofs.protocol.TurnClientProtocol.queue_delete.Goals as goal
 
@@ -26,12 +27,13 @@ returns-clause-ok c =
     let id = c.fresh_id-id.result in
     let from = c.local_addr-from.result in
     let text = c.in_ok-text.text in
+    let signs = auth-is s c.self.inside.auth c.self.invariant.credentials c.self.invariant.supported c.self.invariant.anonymous refl in
     ap (λ o. with_ledger c.queue_delete.new.self (with_outbox o s)) c.in_ok-ask.ensures.ok
     ∙ (asked-is s c.reserve.new.self c.queue_delete.new.self id from text (all_back (with_ledger c.reserve.new.self s)) c.args.now (expired_now c.args.now) (c.reserve.ensures.same s)
     (c.queue_delete.ensures.state s text)
     ∙ (ap (λ t. queued true from text (request_started id text (all_back t) c.args.now (expired_now c.args.now s))) (c.reserve.ensures.same s)
     ∙ (deletes-is s id from text c.args.now
-    (c.in_ok-text.ensures ∙ ap delete_text (sym c.self.view_is))
+    (c.in_ok-text.ensures s signs (sym (c.fresh_id-id.ensures.id ∙ ap fresh_id (sym c.self.view_is))))
     (c.local_addr-from.ensures ∙ ap (λ t. t.local) (sym c.self.view_is))
     (c.fresh_id-id.ensures.id ∙ ap fresh_id (sym c.self.view_is))
     ∙ ap (deleted c.args.now) c.self.view_is)))
