@@ -270,7 +270,7 @@ impl Outbox {
 
     /// Queues the reply over the control connection, if there is one, and then the request. `reserve`
     /// makes room.
-    #[tactic(auto, using(crate::proofs::OutboxLemmas::answering_none))]
+    #[tactic(auto, using(crate::proofs::outbox::OutboxLemmas::answering_none))]
     fn wait_both(&mut self, reply: Option<Data>, request: Transmit<Data>)
         requires { 2 ≤ self.old.room }
         ensures { self.new ≡ with_room self.new.room (waiting request true (answering reply self.old)) }
@@ -291,7 +291,7 @@ impl Outbox {
     ///
     /// `AllocError` if memory allocation fails. Only the room may change then. Without a reply no
     /// memory is allocated.
-    #[tactic(auto, using(crate::proofs::OutboxLemmas::answering_none))]
+    #[tactic(auto, using(crate::proofs::outbox::OutboxLemmas::answering_none))]
     pub(crate) fn answer(&mut self, reply: Option<Data>) -> Result<(), AllocError>
         ensures ok { OnOk result (self.new ≡ with_room self.new.room (answering reply self.old)) }
         ensures err { OnErr result (self.new ≡ with_room self.new.room self.old) }

@@ -1,5 +1,5 @@
 use Rattle.std.proofs.Common.{rules}
-use Rattle.turn_client_core.proofs.AllocatedLemmas.{taken-more, taken-same}
+use Rattle.turn_client_core.proofs.incoming.AllocatedLemmas.{taken-more, taken-same}
 use Rattle.turn_client_core.proofs.allocated.take.Goals as goal
 
 pub returns-in_ok-push : goal.returns-in_ok-push

@@ -1,5 +1,5 @@
 use Rattle.std.proofs.Common.{rules}
-use Rattle.turn_client_core.proofs.AllocatedLemmas.{missing-none}
+use Rattle.turn_client_core.proofs.incoming.AllocatedLemmas.{missing-none}
 use Rattle.turn_client_core.proofs.allocated.taken_addresses.Goals as goal
 
 pub loop-raw-init : goal.loop-raw-init

@@ -1,5 +1,5 @@
 use Rattle.std.proofs.Common.{◌∙◌}
-use Rattle.turn_client_core.proofs.MessageLemmas.{cut-if, other-length, whole-if}
+use Rattle.turn_client_core.proofs.incoming.MessageLemmas.{cut-if, other-length, whole-if}
 use Rattle.turn_client_core.proofs.indication.Indication.behind.Goals as goal
 
 pub returns-then-from-bytes-clause-none : goal.returns-then-from-bytes-clause-none

@@ -9,7 +9,7 @@ use Rattle.turn_stun.specs.Message.{attribute_at, attribute_size, attributes_fro
 use Rattle.turn_types.specs.Send.{data_kind, peer_kind}
 use Rattle.turn_client_api.specs.Judgement.{is_unknown, later_of}
 use Rattle.turn_client_api.specs.Requests.{icmp_kind}
-use Rattle.turn_client_core.proofs.ReadLemmas.{cut-all, cut-none, end-some, read-all, step-any, step-fold, walked-all}
+use Rattle.turn_client_core.proofs.incoming.ReadLemmas.{cut-all, cut-none, end-some, read-all, step-any, step-fold, walked-all}
 use Rattle.turn_client_core.proofs.indication.Indication.read_all.Goals as goal
 
 pub returns-in_err-raw-clause-cut : goal.returns-in_err-raw-clause-cut

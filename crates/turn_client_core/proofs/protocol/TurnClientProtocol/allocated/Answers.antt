@@ -4,7 +4,7 @@ use Rattle.turn_client_api.specs.Effect.{allocated, transaction_ended, relayed_i
 use Rattle.turn_client_api.specs.State.{State}
 use Rattle.turn_client_grants.specs.Ledger.{with_ledger}
 use Rattle.turn_client_core.specs.contracts.protocol.TurnClientProtocol.{the_view}
-use Rattle.turn_client_core.proofs.AllocatedLemmas.{taken-new}
+use Rattle.turn_client_core.proofs.incoming.AllocatedLemmas.{taken-new}
 use Rattle.turn_client_core.proofs.ResultLemmas.{on-err}
 use Rattle.turn_client_core.proofs.protocol.TurnClientProtocol.allocated.Goals as goal
 

@@ -1,6 +1,6 @@
 use Rattle.std.proofs.Common.{◌≡◌, ◌∙◌, ap, sym}
 use Rattle.turn_client_api.specs.State.{State}
-use Rattle.turn_client_core.proofs.PollLemmas.{close-is, let_go-is, none_closed, waits-is}
+use Rattle.turn_client_core.proofs.time.PollLemmas.{close-is, let_go-is, none_closed, waits-is}
 use Rattle.turn_client_core.proofs.protocol.TurnClientProtocol.answer.Goals as goal
 
 pub returns-in-Some : goal.returns-in-Some

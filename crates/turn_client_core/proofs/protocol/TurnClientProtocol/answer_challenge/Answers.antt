@@ -8,7 +8,7 @@ use Rattle.turn_client_api.specs.State.{auth_of}
 use Rattle.turn_client_grants.specs.GrantFilter.{purposes_in}
 use Rattle.turn_client_core.specs.contracts.protocol.TurnClientProtocol.{the_view}
 use Rattle.turn_client_core.proofs.ResultLemmas.{on-err}
-use Rattle.turn_client_core.proofs.RetryLemmas.{answered-is, purposes-are, unknown-is}
+use Rattle.turn_client_core.proofs.incoming.RetryLemmas.{answered-is, purposes-are, unknown-is}
 use Rattle.turn_client_core.proofs.protocol.TurnClientProtocol.answer_challenge.Goals as goal
 
 -- the purpose that was found is the one that is requested again

@@ -5,7 +5,7 @@ use Rattle.turn_client_api.specs.Grants.{purposes_of}
 use Rattle.turn_client_api.specs.Judgement.{class_in, is_bind_of}
 use Rattle.turn_stun.specs.Message.{id_of}
 use Rattle.turn_client_core.specs.contracts.protocol.TurnClientProtocol.{the_view}
-use Rattle.turn_client_core.proofs.BindLemmas.{found_any}
+use Rattle.turn_client_core.proofs.incoming.BindLemmas.{found_any}
 use Rattle.turn_client_core.proofs.protocol.TurnClientProtocol.answers_bind.Goals as goal
 
 pub returns-then-is_response : goal.returns-then-is_response

@@ -5,7 +5,7 @@ use Rattle.turn_client_grants.specs.Ledger.{with_ledger}
 use Rattle.turn_client_grants.specs.GrantFilter.{purposes_in}
 use Rattle.turn_client_core.specs.Asked.{asks}
 use Rattle.turn_client_core.specs.contracts.protocol.TurnClientProtocol.{the_view}
-use Rattle.turn_client_core.proofs.AskLemmas.{asked-is, asks-is, with_outbox}
+use Rattle.turn_client_core.proofs.calls.AskLemmas.{asked-is, asks-is, with_outbox}
 use Rattle.turn_client_core.proofs.ResultLemmas.{on-err}
 use Rattle.turn_client_core.proofs.protocol.TurnClientProtocol.ask.Goals as goal
 

@@ -11,10 +11,10 @@ use Rattle.turn_client_requests.specs.RequestAttributes.{with_asked_families}
 use Rattle.turn_client_grants.specs.Ledger.{with_ledger}
 use Rattle.turn_client_core.specs.Outgoing.{Outgoing}
 use Rattle.turn_client_core.specs.contracts.protocol.TurnClientProtocol.{the_view}
-use Rattle.turn_client_core.proofs.AskLemmas.{with_outbox}
+use Rattle.turn_client_core.proofs.calls.AskLemmas.{with_outbox}
 use Rattle.turn_client_core.proofs.AuthLemmas.{auth-is}
 use Rattle.turn_client_core.proofs.ResultLemmas.{on-err}
-use Rattle.turn_client_core.proofs.RetryLemmas.{again-is, asked-other, taken, without-other}
+use Rattle.turn_client_core.proofs.incoming.RetryLemmas.{again-is, asked-other, taken, without-other}
 use Rattle.turn_client_core.proofs.protocol.TurnClientProtocol.ask_again.Goals as goal
 
 pub returns-in_err-challenge-clause-err : goal.returns-in_err-challenge-clause-err

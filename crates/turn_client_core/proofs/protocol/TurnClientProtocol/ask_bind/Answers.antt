@@ -12,9 +12,9 @@ use Rattle.turn_client_requests.specs.RequestAttributes.{with_asked_families}
 use Rattle.turn_client_grants.specs.Asked.{bind_retried}
 use Rattle.turn_client_grants.specs.Ledger.{with_ledger}
 use Rattle.turn_client_core.specs.contracts.protocol.TurnClientProtocol.{the_view}
-use Rattle.turn_client_core.proofs.AskLemmas.{with_outbox}
+use Rattle.turn_client_core.proofs.calls.AskLemmas.{with_outbox}
 use Rattle.turn_client_core.proofs.AuthLemmas.{auth-is}
-use Rattle.turn_client_core.proofs.BindLemmas.{bind-asked}
+use Rattle.turn_client_core.proofs.incoming.BindLemmas.{bind-asked}
 use Rattle.turn_client_core.proofs.ResultLemmas.{on-err}
 use Rattle.turn_client_core.proofs.protocol.TurnClientProtocol.ask_bind.Goals as goal
 

@@ -4,7 +4,7 @@ use Rattle.std.specs.Prelude.{◌||◌}
 use Rattle.turn_client_api.specs.Calls.{is_allocated}
 use Rattle.turn_client_api.specs.Connections.{is_connected, is_connecting}
 use Rattle.turn_client_api.specs.Grants.{has_active_permission}
-use Rattle.turn_client_core.proofs.CallLemmas.{connected-is}
+use Rattle.turn_client_core.proofs.calls.CallLemmas.{connected-is}
 use Rattle.turn_client_core.proofs.protocol.TurnClientProtocol.ask_connection.Goals as goal
 
 pub returns-then-has_connection : goal.returns-then-has_connection

@@ -15,10 +15,10 @@ use Rattle.turn_types.specs.declared.family.AddressFamily.TheVariants.{IPV4, IPV
 use Rattle.turn_client_core.specs.Replies.{asks_ipv6}
 use Rattle.turn_client_core.specs.Outgoing.{Outgoing}
 use Rattle.turn_client_core.specs.contracts.protocol.TurnClientProtocol.{the_view}
-use Rattle.turn_client_core.proofs.AskLemmas.{with_outbox}
+use Rattle.turn_client_core.proofs.calls.AskLemmas.{with_outbox}
 use Rattle.turn_client_core.proofs.AuthLemmas.{auth-is}
 use Rattle.turn_client_core.proofs.ResultLemmas.{on-err}
-use Rattle.turn_client_core.proofs.RetryLemmas.{answered-other, first-is, none-filtered, without-other}
+use Rattle.turn_client_core.proofs.incoming.RetryLemmas.{answered-other, first-is, none-filtered, without-other}
 use Rattle.turn_client_core.proofs.protocol.TurnClientProtocol.ask_ipv6.Goals as goal
 
 pub returns-in_err-reserve-clause-err : goal.returns-in_err-reserve-clause-err

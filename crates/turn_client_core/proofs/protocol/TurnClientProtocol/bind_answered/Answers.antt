@@ -10,7 +10,7 @@ use Rattle.turn_stun.specs.Message.{id_of}
 use Rattle.turn_client_core.specs.Apart.{with_streams_of}
 use Rattle.turn_client_core.specs.Judged.{judgement_in}
 use Rattle.turn_client_core.specs.contracts.protocol.TurnClientProtocol.{the_view}
-use Rattle.turn_client_core.proofs.BindLemmas.{again-streams, binds-otherwise, not_bound-otherwise}
+use Rattle.turn_client_core.proofs.incoming.BindLemmas.{again-streams, binds-otherwise, not_bound-otherwise}
 use Rattle.turn_client_core.proofs.ResultLemmas.{on-err}
 use Rattle.turn_client_core.proofs.protocol.TurnClientProtocol.bind_answered.Goals as goal
 

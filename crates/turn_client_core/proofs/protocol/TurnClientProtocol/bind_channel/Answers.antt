@@ -4,7 +4,7 @@ use Rattle.std.specs.Prelude.{nat_le}
 use Rattle.turn_client_api.specs.Calls.{channel_step}
 use Rattle.turn_client_api.specs.Grants.{find_allocation_to, with_expired, family_of_ip}
 use Rattle.turn_client_api.specs.declared.error.BindChannelError.TheVariants as Refusal
-use Rattle.turn_client_core.proofs.CallLemmas.{past-is}
+use Rattle.turn_client_core.proofs.calls.CallLemmas.{past-is}
 use Rattle.turn_client_core.proofs.protocol.TurnClientProtocol.bind_channel.Goals as goal
 
 pub returns-then-le : goal.returns-then-le

@@ -4,7 +4,7 @@ use Rattle.turn_client_api.specs.Effect.{transaction_ended}
 use Rattle.turn_stun.specs.Message.{id_of}
 use Rattle.turn_client_grants.specs.Ledger.{with_ledger}
 use Rattle.turn_client_core.specs.contracts.protocol.TurnClientProtocol.{the_view}
-use Rattle.turn_client_core.proofs.AskLemmas.{with_outbox}
+use Rattle.turn_client_core.proofs.calls.AskLemmas.{with_outbox}
 use Rattle.turn_client_core.proofs.protocol.TurnClientProtocol.bind_refused.Goals as goal
 
 pub not_bound-requires : goal.not_bound-requires

@@ -5,7 +5,7 @@ use Rattle.turn_client_grants.specs.Ledger.{with_ledger}
 use Rattle.turn_stun.specs.Message.{id_of}
 use Rattle.turn_client_core.specs.Apart.{with_streams_of}
 use Rattle.turn_client_core.specs.contracts.protocol.TurnClientProtocol.{the_view}
-use Rattle.turn_client_core.proofs.AskLemmas.{with_outbox}
+use Rattle.turn_client_core.proofs.calls.AskLemmas.{with_outbox}
 use Rattle.turn_client_core.proofs.ResultLemmas.{on-err}
 use Rattle.turn_client_core.proofs.protocol.TurnClientProtocol.bound.Goals as goal
 

@@ -1,5 +1,5 @@
 use Rattle.std.proofs.Common.{◌∙◌, ap, sym}
-use Rattle.turn_client_core.proofs.UnreadLemmas.{frame-step}
+use Rattle.turn_client_core.proofs.incoming.UnreadLemmas.{frame-step}
 use Rattle.turn_client_core.proofs.protocol.TurnClientProtocol.datagram.Goals as goal
 
 pub returns-in-Err-clause-answer : goal.returns-in-Err-clause-answer

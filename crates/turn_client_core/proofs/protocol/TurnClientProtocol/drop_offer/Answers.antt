@@ -5,8 +5,8 @@ use Rattle.turn_client_api.specs.Requests.{connection_timed_out, refused_reply}
 use Rattle.turn_client_grants.specs.Ledger.{with_ledger}
 use Rattle.turn_client_core.specs.Opened.{with_reply}
 use Rattle.turn_client_core.specs.contracts.protocol.TurnClientProtocol.{the_view}
-use Rattle.turn_client_core.proofs.AskLemmas.{with_outbox}
-use Rattle.turn_client_core.proofs.SocketLemmas.{answered-is}
+use Rattle.turn_client_core.proofs.calls.AskLemmas.{with_outbox}
+use Rattle.turn_client_core.proofs.calls.SocketLemmas.{answered-is}
 use Rattle.turn_client_core.proofs.protocol.TurnClientProtocol.drop_offer.Goals as goal
 
 pub returns-clause-ok : goal.returns-clause-ok

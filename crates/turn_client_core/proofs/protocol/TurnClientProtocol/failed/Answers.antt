@@ -3,7 +3,7 @@ use Rattle.std.specs.Prelude.{◌≡◌, IfOk, OnOk}
 use Rattle.turn_client_api.specs.Payloads.{Outcome}
 use Rattle.turn_client_api.specs.State.{State}
 use Rattle.turn_client_core.specs.ProtocolRecv.{outcome_in}
-use Rattle.turn_client_core.proofs.JudgedLemmas.{authenticating-is, denied-step, other-step}
+use Rattle.turn_client_core.proofs.incoming.JudgedLemmas.{authenticating-is, denied-step, other-step}
 use Rattle.turn_client_core.proofs.ResultLemmas.{on-err, on-err-map}
 use Rattle.turn_client_core.proofs.protocol.TurnClientProtocol.failed.Goals as goal
 

@@ -1,6 +1,6 @@
 use Rattle.std.proofs.Common.{◌+◌, ◌%◌, ◌^◌, not, refl}
 use Rattle.turn_client_api.specs.Requests.{is_taken}
-use Rattle.turn_client_core.proofs.IdLemmas.{counted-on, find-counted}
+use Rattle.turn_client_core.proofs.calls.IdLemmas.{counted-on, find-counted}
 use Rattle.turn_client_core.proofs.protocol.TurnClientProtocol.first_free.Goals as goal
 
 pub loop-round-preserved : goal.loop-round-preserved

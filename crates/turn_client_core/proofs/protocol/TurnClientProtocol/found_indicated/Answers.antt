@@ -5,7 +5,7 @@ use Rattle.turn_stun.specs.Message.{IsWithin}
 use Rattle.turn_types.specs.Icmp.{icmp_of}
 use Rattle.turn_client_api.specs.Judgement.{has_unknown}
 use Rattle.turn_client_core.specs.contracts.protocol.TurnClientProtocol.{the_view}
-use Rattle.turn_client_core.proofs.DataLemmas.{data-is, icmp-is, no_peer-is, peer-read, unknown-is}
+use Rattle.turn_client_core.proofs.incoming.DataLemmas.{data-is, icmp-is, no_peer-is, peer-read, unknown-is}
 use Rattle.turn_client_core.proofs.protocol.TurnClientProtocol.found_indicated.Goals as goal
 
 pub returns-then-has_unknown-clause-outcome : goal.returns-then-has_unknown-clause-outcome

@@ -3,7 +3,7 @@ use Rattle.std.specs.List.{range_with_len}
 use Rattle.std.specs.Prelude.{find, unwrap_or}
 use Rattle.turn_agent.specs.TransactionIds.{next_id}
 use Rattle.turn_client_api.specs.Requests.{fresh_id, is_taken, max_ids_taken}
-use Rattle.turn_client_core.proofs.IdLemmas.{fresh-is, fresh-unlisted, fresh-unsent}
+use Rattle.turn_client_core.proofs.calls.IdLemmas.{fresh-is, fresh-unlisted, fresh-unsent}
 use Rattle.turn_client_core.proofs.protocol.TurnClientProtocol.fresh_id.Goals as goal
 
 -- each of the three counts is a usize

@@ -1,5 +1,5 @@
 use Rattle.turn_client_core.specs.contracts.protocol.TurnClientProtocol.{the_view}
-use Rattle.turn_client_core.proofs.PollLemmas.{given_up-is}
+use Rattle.turn_client_core.proofs.time.PollLemmas.{given_up-is}
 use Rattle.turn_client_core.proofs.protocol.TurnClientProtocol.give_up.Goals as goal
 
 pub returns-clause-step : goal.returns-clause-step

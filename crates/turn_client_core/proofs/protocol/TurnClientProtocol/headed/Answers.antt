@@ -1,5 +1,5 @@
 use Rattle.std.proofs.Common.{◌∙◌, ap, sym}
-use Rattle.turn_client_core.proofs.UnreadLemmas.{cut-datagram, data-datagram, ignored-headed}
+use Rattle.turn_client_core.proofs.incoming.UnreadLemmas.{cut-datagram, data-datagram, ignored-headed}
 use Rattle.turn_client_core.proofs.protocol.TurnClientProtocol.headed.Goals as goal
 
 pub returns-then-is_ignored_unread-clause-answer : goal.returns-then-is_ignored_unread-clause-answer

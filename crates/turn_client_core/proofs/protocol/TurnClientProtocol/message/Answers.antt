@@ -4,9 +4,9 @@ use Rattle.turn_client_api.specs.Judgement as J
 use Rattle.turn_client_api.specs.Judgement.{judgement_of}
 use Rattle.turn_client_api.specs.Memory.{message_takes_memory}
 use Rattle.turn_client_core.specs.Judged.{judgement_in}
-use Rattle.turn_client_core.proofs.JudgedLemmas.{data-judged, error-answers, request-signs}
+use Rattle.turn_client_core.proofs.incoming.JudgedLemmas.{data-judged, error-answers, request-signs}
 use Rattle.turn_client_core.proofs.ResultLemmas.{on-err}
-use Rattle.turn_client_core.proofs.UnreadLemmas.{data-message}
+use Rattle.turn_client_core.proofs.incoming.UnreadLemmas.{data-message}
 use Rattle.turn_client_core.specs.ProtocolRecv.{IsPart}
 use Rattle.turn_client_core.proofs.protocol.TurnClientProtocol.message.Goals as goal
 

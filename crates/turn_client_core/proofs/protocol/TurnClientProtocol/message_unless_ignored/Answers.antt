@@ -1,5 +1,5 @@
 use Rattle.std.proofs.Common.{◌∙◌, ap, sym}
-use Rattle.turn_client_core.proofs.UnreadLemmas.{ignored-message}
+use Rattle.turn_client_core.proofs.incoming.UnreadLemmas.{ignored-message}
 use Rattle.turn_client_core.proofs.protocol.TurnClientProtocol.message_unless_ignored.Goals as goal
 
 pub returns-then-is_ignored_unread-clause-answer : goal.returns-then-is_ignored_unread-clause-answer

@@ -6,8 +6,8 @@ use Rattle.turn_client_core.specs.Outgoing.{Outgoing}
 use Rattle.turn_client_core.specs.Sending.{waiting_step}
 use Rattle.turn_client_core.specs.Wanted.{SendWantsMemory}
 use Rattle.turn_client_core.specs.contracts.protocol.TurnClientProtocol.{the_view}
-use Rattle.turn_client_core.proofs.TransmitLemmas.{Packet, resend-due, resend-none, resends-first, sent_or, transmit-wanted}
-use Rattle.turn_client_core.proofs.AskLemmas.{with_outbox}
+use Rattle.turn_client_core.proofs.time.TransmitLemmas.{Packet, resend-due, resend-none, resends-first, sent_or, transmit-wanted}
+use Rattle.turn_client_core.proofs.calls.AskLemmas.{with_outbox}
 use Rattle.turn_client_core.proofs.ResultLemmas.{on-both, on-err}
 use Rattle.turn_client_core.proofs.protocol.TurnClientProtocol.next_packet.Goals as goal
 

@@ -8,9 +8,9 @@ use Rattle.turn_client_grants.specs.Ledger.{with_ledger}
 use Rattle.turn_client_core.specs.Apart.{with_streams_of}
 use Rattle.turn_client_core.specs.Opened.{opened_with}
 use Rattle.turn_client_core.specs.contracts.protocol.TurnClientProtocol.{the_view}
-use Rattle.turn_client_core.proofs.AskLemmas.{with_outbox}
+use Rattle.turn_client_core.proofs.calls.AskLemmas.{with_outbox}
 use Rattle.turn_client_core.proofs.ResultLemmas.{none-some_not, on-err}
-use Rattle.turn_client_core.proofs.SocketLemmas.{opens-is}
+use Rattle.turn_client_core.proofs.calls.SocketLemmas.{opens-is}
 use Rattle.turn_client_core.proofs.protocol.TurnClientProtocol.open_answered.Goals as goal
 
 pub returns-in_err-reserve-clause-err : goal.returns-in_err-reserve-clause-err

@@ -1,7 +1,7 @@
 use Rattle.std.proofs.Common.{◌∙◌, ap}
 use Rattle.turn_client_core.specs.Apart.{with_streams_of}
 use Rattle.turn_client_core.specs.Opened.{opened_with}
-use Rattle.turn_client_core.proofs.SocketLemmas.{opened-is}
+use Rattle.turn_client_core.proofs.calls.SocketLemmas.{opened-is}
 use Rattle.turn_client_core.proofs.protocol.TurnClientProtocol.open_socket.Goals as goal
 
 pub returns-clause-ok : goal.returns-clause-ok

@@ -3,8 +3,8 @@ use Rattle.turn_client_api.specs.Effect.{closed, without_families}
 use Rattle.turn_client_api.specs.State.{State}
 use Rattle.turn_client_api.specs.declared.poll.TurnPollRet.TheVariants as Do
 use Rattle.turn_client_core.specs.contracts.protocol.TurnClientProtocol.{the_view}
-use Rattle.turn_client_core.proofs.PollLemmas.{requesting-ends, requesting-waits}
-use Rattle.turn_client_core.proofs.AskLemmas.{with_outbox}
+use Rattle.turn_client_core.proofs.time.PollLemmas.{requesting-ends, requesting-waits}
+use Rattle.turn_client_core.proofs.calls.AskLemmas.{with_outbox}
 use Rattle.turn_client_core.proofs.protocol.TurnClientProtocol.poll_requesting.Goals as goal
 
 pub fail_families_first-requires : goal.fail_families_first-requires

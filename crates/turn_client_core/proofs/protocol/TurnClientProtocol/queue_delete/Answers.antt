@@ -4,7 +4,7 @@ use Rattle.turn_client_api.specs.Requests.{request_started, fresh_id, queued}
 use Rattle.turn_client_grants.specs.Asked.{all_back, expired_now}
 use Rattle.turn_client_grants.specs.Ledger.{with_ledger}
 use Rattle.turn_client_core.specs.contracts.protocol.TurnClientProtocol.{the_view}
-use Rattle.turn_client_core.proofs.AskLemmas.{asked-is, deletes-is, with_outbox}
+use Rattle.turn_client_core.proofs.calls.AskLemmas.{asked-is, deletes-is, with_outbox}
 use Rattle.turn_client_core.proofs.AuthLemmas.{auth-is}
 use Rattle.turn_client_core.proofs.ResultLemmas.{on-err}
 use Rattle.turn_client_core.proofs.protocol.TurnClientProtocol.queue_delete.Goals as goal

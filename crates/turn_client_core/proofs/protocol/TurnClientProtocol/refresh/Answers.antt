@@ -4,7 +4,7 @@ use Rattle.turn_client_api.specs.Requests.{request_for}
 use Rattle.turn_client_api.specs.State.{State}
 use Rattle.turn_client_api.specs.Transmit.{refresh_step, sent_at_once}
 use Rattle.turn_client_core.proofs.ResultLemmas.{on-err}
-use Rattle.turn_client_core.proofs.TransmitLemmas.{Packet, refresh-none, refresh-some}
+use Rattle.turn_client_core.proofs.time.TransmitLemmas.{Packet, refresh-none, refresh-some}
 use Rattle.turn_client_core.proofs.protocol.TurnClientProtocol.refresh.Goals as goal
 
 pub returns-in_default-clause-step : goal.returns-in_default-clause-step

@@ -1,7 +1,7 @@
 use Rattle.std.proofs.Common.{subst, sym}
 use Rattle.turn_client_api.specs.State.{State}
 use Rattle.turn_client_core.specs.Attempts.{CanSign}
-use Rattle.turn_client_core.proofs.SignLemmas.{can-sign}
+use Rattle.turn_client_core.proofs.incoming.SignLemmas.{can-sign}
 use Rattle.turn_client_core.proofs.protocol.TurnClientProtocol.refuse_attempt.Goals as goal
 
 pub refused_reply-requires : goal.refused_reply-requires

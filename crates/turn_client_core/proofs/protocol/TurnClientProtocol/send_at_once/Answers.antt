@@ -2,7 +2,7 @@ use Rattle.std.proofs.Common.{◌∙◌, ap, sym}
 use Rattle.turn_client_api.specs.Requests.{fresh_id}
 use Rattle.turn_client_core.specs.contracts.protocol.TurnClientProtocol.{the_view}
 use Rattle.turn_client_core.proofs.ResultLemmas.{on-err}
-use Rattle.turn_client_core.proofs.TransmitLemmas.{sends-is}
+use Rattle.turn_client_core.proofs.time.TransmitLemmas.{sends-is}
 use Rattle.turn_client_core.proofs.protocol.TurnClientProtocol.send_at_once.Goals as goal
 
 pub returns-in_err-reserve-clause-err : goal.returns-in_err-reserve-clause-err

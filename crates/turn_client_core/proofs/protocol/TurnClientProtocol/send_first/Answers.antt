@@ -6,7 +6,7 @@ use Rattle.turn_client_api.specs.declared.grant.Purpose.TheVariants.{ForAllocati
 use Rattle.turn_client_api.specs.declared.state.Phase.TheVariants.{Requesting}
 use Rattle.turn_client_core.specs.contracts.protocol.TurnClientProtocol.{the_view}
 use Rattle.turn_client_core.proofs.ResultLemmas.{on-err}
-use Rattle.turn_client_core.proofs.TransmitLemmas.{Packet, first-text-is, sends-is}
+use Rattle.turn_client_core.proofs.time.TransmitLemmas.{Packet, first-text-is, sends-is}
 use Rattle.turn_client_core.proofs.protocol.TurnClientProtocol.send_first.Goals as goal
 
 pub returns-in_err-reserve-clause-err : goal.returns-in_err-reserve-clause-err

@@ -3,7 +3,7 @@ use Rattle.std.specs.Prelude.{IfOk, IsSome, OnErr}
 use Rattle.turn_client_api.specs.State.{State}
 use Rattle.turn_client_api.specs.Transmit.{idle_step}
 use Rattle.turn_client_core.specs.contracts.protocol.TurnClientProtocol.{the_view}
-use Rattle.turn_client_core.proofs.TransmitLemmas.{Packet, front-first, front-none, sent_or}
+use Rattle.turn_client_core.proofs.time.TransmitLemmas.{Packet, front-first, front-none, sent_or}
 use Rattle.turn_client_core.proofs.ResultLemmas.{on-err}
 use Rattle.turn_client_core.proofs.protocol.TurnClientProtocol.send_next.Goals as goal
 

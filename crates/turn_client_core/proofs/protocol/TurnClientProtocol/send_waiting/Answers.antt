@@ -1,8 +1,8 @@
 use Rattle.std.proofs.Common.{◌≡◌, ◌∙◌, ap, sym, true}
 use Rattle.turn_client_api.specs.Due.{is_paused}
 use Rattle.turn_client_core.specs.contracts.protocol.TurnClientProtocol.{the_view}
-use Rattle.turn_client_core.proofs.AskLemmas.{with_outbox}
-use Rattle.turn_client_core.proofs.TransmitLemmas.{Sent}
+use Rattle.turn_client_core.proofs.calls.AskLemmas.{with_outbox}
+use Rattle.turn_client_core.proofs.time.TransmitLemmas.{Sent}
 use Rattle.turn_client_core.proofs.protocol.TurnClientProtocol.send_waiting.Goals as goal
 
 pub returns-then-is_paused-clause-step : goal.returns-then-is_paused-clause-step

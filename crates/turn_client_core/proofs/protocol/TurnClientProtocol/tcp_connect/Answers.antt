@@ -5,7 +5,7 @@ use Rattle.turn_stun.specs.declared.transport.TransportType.TheVariants.{Tcp}
 use Rattle.turn_client_api.specs.Calls.{connect_step}
 use Rattle.turn_client_api.specs.Grants.{find_allocation_to, with_expired, family_of_ip}
 use Rattle.turn_client_api.specs.declared.error.TcpConnectError.TheVariants as Refusal
-use Rattle.turn_client_core.proofs.CallLemmas.{past-is}
+use Rattle.turn_client_core.proofs.calls.CallLemmas.{past-is}
 use Rattle.turn_client_core.proofs.protocol.TurnClientProtocol.tcp_connect.Goals as goal
 
 pub returns-then-le : goal.returns-then-le

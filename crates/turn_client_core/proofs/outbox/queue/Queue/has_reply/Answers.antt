@@ -1,5 +1,5 @@
 use Rattle.std.proofs.Common.{sym}
-use Rattle.turn_client_core.proofs.QueueLemmas.{reply-counted}
+use Rattle.turn_client_core.proofs.outbox.QueueLemmas.{reply-counted}
 use Rattle.turn_client_core.proofs.outbox.queue.Queue.has_reply.Goals as goal
 
 pub returns : goal.returns

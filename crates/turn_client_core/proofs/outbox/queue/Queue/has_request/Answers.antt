@@ -1,5 +1,5 @@
 use Rattle.std.proofs.Common.{sym}
-use Rattle.turn_client_core.proofs.QueueLemmas.{request-counted}
+use Rattle.turn_client_core.proofs.outbox.QueueLemmas.{request-counted}
 use Rattle.turn_client_core.proofs.outbox.queue.Queue.has_request.Goals as goal
 
 pub returns : goal.returns

@@ -1,5 +1,5 @@
 use Rattle.std.proofs.Common.{arith}
-use Rattle.turn_client_core.proofs.QueueLemmas.{reply_count-le}
+use Rattle.turn_client_core.proofs.outbox.QueueLemmas.{reply_count-le}
 use Rattle.turn_client_core.proofs.outbox.queue.Queue.push.Goals as goal
 
 pub overflow_add-self : goal.overflow_add-self

@@ -24,9 +24,9 @@ use Rattle.turn_client_api.specs.State.{State, auth_of}
 use Rattle.turn_client_api.specs.declared.state.Phase.{Phase}
 use Rattle.turn_client_api.specs.declared.state.Phase.TheVariants.{Allocated}
 use Rattle.turn_client_core.specs.Unread.{indicates_data, is_ignored_unread}
-use Rattle.turn_client_core.proofs.MessageLemmas.{unheaded}
+use Rattle.turn_client_core.proofs.incoming.MessageLemmas.{unheaded}
 use Rattle.turn_client_core.proofs.ResultLemmas.{none-some_not}
-use Rattle.turn_client_core.proofs.RetryLemmas.{unknown-is}
+use Rattle.turn_client_core.proofs.incoming.RetryLemmas.{unknown-is}
 use Rattle.turn_client_core.specs.ProtocolRecv.{outcome_in}
 use Rattle.turn_client_core.specs.declared.protocol_recv.TurnProtocolRecv.{TurnProtocolRecv}
 

@@ -12,7 +12,7 @@ use Rattle.turn_client_laws.proofs.NumberLemmas.{none-filter}
 use Rattle.turn_client_grants.specs.Table.{are_apart, are_new, has_no_double}
 use Rattle.turn_client_api.specs.Grants.{family_of, is_of_family}
 use Rattle.turn_client_core.specs.Allocated.{IsRead, missing}
-use Rattle.turn_client_core.proofs.RetryLemmas.{none-filtered}
+use Rattle.turn_client_core.proofs.incoming.RetryLemmas.{none-filtered}
 
 module _ {X : Type 0} (p q : X → Bool) where
   -- a test among those that pass another

@@ -22,7 +22,7 @@ use Rattle.turn_client_grants.specs.Ledger.{Ledger, with_ledger}
 use Rattle.turn_client_grants.specs.Refresh.{first_refresh}
 use Rattle.turn_client_grants.proofs.RefreshLemmas.{next_first}
 use Rattle.turn_client_requests.specs.RequestAttributes.{with_asked_families}
-use Rattle.turn_client_core.proofs.AskLemmas.{with_outbox}
+use Rattle.turn_client_core.proofs.calls.AskLemmas.{with_outbox}
 
 abbrev pub Packet : Type 0
 Packet = Option (Transmit (List ℕ))

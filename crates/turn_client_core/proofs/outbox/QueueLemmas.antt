@@ -7,8 +7,8 @@ use Rattle.std.specs.Prelude.{filter, is_some, not}
 use Rattle.turn_agent.proofs.AgentLemmas.{find-passes, position-IsFirst, position-none}
 use Rattle.turn_client_api.specs.declared.state.Queued.{Queued}
 use Rattle.turn_client_core.specs.Queue.{reply_count}
-use Rattle.turn_client_core.proofs.BindLemmas.{found_any}
-use Rattle.turn_client_core.proofs.ReplyLemmas.{NoReply}
+use Rattle.turn_client_core.proofs.incoming.BindLemmas.{found_any}
+use Rattle.turn_client_core.proofs.outbox.ReplyLemmas.{NoReply}
 
 -- one passes exactly if the number of those that pass is not zero
 any-counted : {X : Type 0} (p : X → Bool) (xs : List X) → list_any p xs ≡ ltb 0 (length (filter p xs))

@@ -20,7 +20,7 @@ use Rattle.turn_client_grants.specs.Due.{times_of}
 use Rattle.turn_client_core.specs.Outgoing.{Outgoing}
 use Rattle.turn_client_core.specs.Polled.{is_without_allocation}
 use Rattle.turn_client_core.specs.Sending.{give_up_step}
-use Rattle.turn_client_core.proofs.AskLemmas.{with_outbox}
+use Rattle.turn_client_core.proofs.calls.AskLemmas.{with_outbox}
 
 abbrev Answer : Type 0
 Answer = TurnPollRet × State

@@ -11,9 +11,9 @@ use Rattle.turn_types.specs.Send.{data_kind}
 use Rattle.std.specs.Prelude.{IfNone}
 use Rattle.turn_client_api.specs.Judgement.{has_unknown, is_unknown, last_in, later_of}
 use Rattle.turn_client_api.specs.Payloads.{is_message}
-use Rattle.turn_client_core.proofs.IndicationLemmas.{last-all}
+use Rattle.turn_client_core.proofs.incoming.IndicationLemmas.{last-all}
 use Rattle.turn_client_core.proofs.ResultLemmas.{none-is}
-use Rattle.turn_client_core.proofs.SeenLemmas.{all-seen, unknown-seen}
+use Rattle.turn_client_core.proofs.incoming.SeenLemmas.{all-seen, unknown-seen}
 
 not-none : {A : Type 0} (o : Option A) → is_some o ≡ true → is_none o ≡ false
 not-none None h = cc

@@ -1,0 +1,5 @@
+pub mod AskLemmas
+pub mod CallLemmas
+pub mod IdLemmas
+pub mod ListLemmas
+pub mod SocketLemmas

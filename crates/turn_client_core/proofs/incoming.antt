@@ -1,0 +1,12 @@
+pub mod AllocatedLemmas
+pub mod BindLemmas
+pub mod DataLemmas
+pub mod EffectLemmas
+pub mod IndicationLemmas
+pub mod JudgedLemmas
+pub mod MessageLemmas
+pub mod ReadLemmas
+pub mod RetryLemmas
+pub mod SeenLemmas
+pub mod SignLemmas
+pub mod UnreadLemmas

@@ -1,0 +1,3 @@
+pub mod OutboxLemmas
+pub mod QueueLemmas
+pub mod ReplyLemmas

@@ -1,0 +1,2 @@
+pub mod PollLemmas
+pub mod TransmitLemmas
