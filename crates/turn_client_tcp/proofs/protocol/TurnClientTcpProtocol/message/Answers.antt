@@ -1,6 +1,7 @@
 use Rattle.std.proofs.Common.{◌≡◌, ◌∙◌, ap, subst, sym, true}
 use Rattle.std.proofs.lemmas.Result.{IfOk-weaker, on_ok_weaker, on_err_weaker}
 use Rattle.std.specs.Prelude.{IfOk, OnErr, OnOk}
+use Rattle.turn_client_api.specs.Memory.{message_takes_memory}
 use Rattle.turn_client_api.specs.Payloads.{Outcome, message_step}
 use Rattle.turn_client_api.specs.State.{State}
 use Rattle.turn_client_core.specs.ProtocolRecv.{outcome_in}
@@ -14,18 +15,18 @@ returns-clause-answer c =
     let x = c.self.inside.streams.list in
     let was = c.self.inside.control in
     let m = c.args.message.now in
-    rw (← c.self.view_is)
-    (subst (λ (p : Outcome × State). IfOk c.message_unless_ignored.result (λ reported. outcome_in m reported ≡ p.0))
-    (sym (message-alike x m c.args.now was)) c.message_unless_ignored.ensures.answer)
+    let r = c.message_unless_ignored.result in
+    subst (λ (s : State). IfOk r (λ reported. outcome_in m reported ≡ (message_step m c.args.now s).0)) c.self.view_is
+    (subst (λ (p : Outcome × State). IfOk r (λ reported. outcome_in m reported ≡ p.0)) (sym (message-alike x m c.args.now was)) c.message_unless_ignored.ensures.answer)
 
 pub returns-clause-after : goal.returns-clause-after
 returns-clause-after c =
     let x = c.self.inside.streams.list in
     let was = c.self.inside.control in
     let m = c.args.message.now in
-    rw (← c.self.view_is)
-    (on_ok_weaker c.message_unless_ignored.result
-    (λ e. ap (with_streams x) e ∙ sym (ap (λ (p : Outcome × State). p.1) (message-alike x m c.args.now was))) c.message_unless_ignored.ensures.after)
+    let r = c.message_unless_ignored.result in
+    subst (λ (s : State). OnOk r (with_streams x c.message_unless_ignored.new.self ≡ (message_step m c.args.now s).1)) c.self.view_is
+    (on_ok_weaker r (λ e. ap (with_streams x) e ∙ sym (ap (λ (p : Outcome × State). p.1) (message-alike x m c.args.now was))) c.message_unless_ignored.ensures.after)
 
 pub returns-clause-err : goal.returns-clause-err
 returns-clause-err c =
@@ -41,6 +42,7 @@ returns-clause-part c =
 
 pub returns-clause-wanted : goal.returns-clause-wanted
 returns-clause-wanted c =
-    let x = c.self.inside.streams.list in
-    rw (← c.self.view_is)
-    (on_err_weaker c.message_unless_ignored.result (λ e. memory-alike x c.args.message.now c.self.inside.control ∙ e) c.message_unless_ignored.ensures.wanted)
+    let m = c.args.message.now in
+    let r = c.message_unless_ignored.result in
+    let same = memory-alike c.self.inside.streams.list m c.self.inside.control in
+    subst (λ (s : State). OnErr r (message_takes_memory m s ≡ true)) c.self.view_is (on_err_weaker r (λ e. same ∙ e) c.message_unless_ignored.ensures.wanted)
