@@ -1,5 +1,7 @@
 use Rattle.std.proofs.Common.{subst}
 use Rattle.turn_client_api.specs.Answers.{TakesSocket}
+use Rattle.turn_client_api.specs.Calls.{allocated_tcp_socket_step}
+use Rattle.turn_client_api.specs.State.{State}
 use Rattle.turn_client_proto.proofs.CallLemmas.{socket-keeps}
 use Rattle.turn_client_proto.proofs.UdpClientLemmas.{leaves-IsUdpClient, refused-socket}
 use Rattle.turn_client_proto.proofs.udp.TurnClientUdpTurnClientApi.allocated_tcp_socket.Goals as goal
@@ -19,4 +21,7 @@ returns c =
     let t = c.allocated_tcp_socket.new.self in
     let a = c.args in
     let same = refused-socket a.id a.five_tuple a.peer_addr a.local_addr a.now s c.self.invariant.relays in
-    record { step = rw (← c.self.view_is) (subst (TakesSocket c.allocated_tcp_socket.result s t) same c.allocated_tcp_socket.ensures.step) }
+    let step = subst (TakesSocket c.allocated_tcp_socket.result s t) same c.allocated_tcp_socket.ensures.step in
+    record {
+      step = subst (λ (v : State). TakesSocket c.allocated_tcp_socket.result v t (allocated_tcp_socket_step a.id a.five_tuple a.peer_addr a.local_addr a.now v)) c.self.view_is step;
+    }
