@@ -137,9 +137,9 @@ class Handle:
             pieces.append(bytes(self._room.view[:size]))
         return b"".join(pieces) if len(pieces) > 1 else pieces[0]
 
-    # Each packet goes through one of these three, which have at hand what they need: to look it up takes longer. They do what `_make`
-    # does by themselves, and set no answer to 0 before: of the fields only those are read that the kind has. An answer of another
-    # kind than theirs is to be read by `last`.
+    # Each packet goes through one of these three, which have at hand what they need: to look it up takes longer. They do what
+    # `_make` does by themselves, and set no answer to 0 before: of the fields only those are read that the kind has. An answer of
+    # another kind than theirs is to be read by `last`.
 
     def receiving(self, transport: int, from_: bytes, to: bytes) -> Receive:
         """The call RECV for what comes over a transport from one address to another."""
