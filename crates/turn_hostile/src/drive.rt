@@ -100,17 +100,12 @@ impl Drive {
         self.latest = self.latest.max(self.now);
         let outcome = self.session.make(client, self.now, words)?;
         expect(
-            self.first_expiry(client) > 0,
+            first_expiry(client, &self.model.facts, self.kind.relays) > 0,
             "something is active that was not granted",
         )?;
         let (session, facts) = (&mut self.session, &self.model.facts);
         are_distinct(self.alloc, client, session, facts, self.kind, self.now)?;
         Ok(outcome)
-    }
-
-    /// The first expiry of all that is active, or 0 if something active was not granted.
-    fn first_expiry<C: TurnClientApi>(&self, client: &C) -> u64 {
-        first_expiry(client, &self.model.facts, self.kind.relays)
     }
 
     /// Makes a drawn call of the caller.
@@ -194,7 +189,7 @@ impl Drive {
         }
         self.model.facts.sweep(self.now);
         expect(
-            self.first_expiry(client) >= self.until,
+            first_expiry(client, &self.model.facts, self.kind.relays) >= self.until,
             "something expires before the wake-up time",
         )?;
         expect(
