@@ -79,7 +79,7 @@ impl Handle {
                 buffer.as_mut_ptr(),
                 buffer.len(),
                 answer,
-            )
+            );
         }
     }
 
@@ -106,7 +106,7 @@ impl Handle {
                 buffer.as_mut_ptr(),
                 buffer.len(),
                 answer,
-            )
+            );
         }
     }
 
@@ -142,8 +142,8 @@ impl Handle {
                 written.as_mut_ptr(),
                 room,
                 answer,
-            )
-        };
+            );
+        }
         if answer.kind == sys::PACKET {
             // SAFETY: the library has written so many bytes from the start on, and not more than `room`.
             unsafe { written.set_len(answer.len) };

@@ -27,11 +27,13 @@ impl PacketHead {
 
     /// What precedes the data: 4 bytes to a peer with a channel, else 36 to an IPv4 and 48 to an IPv6 address, and for a data
     /// connection none.
+    #[must_use]
     pub fn as_bytes(&self) -> &[u8] {
         &self.bytes[..self.len]
     }
 
     /// What follows the data: up to three bytes, all 0.
+    #[must_use]
     pub fn padding(&self) -> &'static [u8] {
         &[0; 3][..self.padding]
     }
@@ -47,7 +49,7 @@ impl fmt::Debug for PacketHead {
     fn fmt(&self, f: &mut fmt::Formatter<'_>) -> fmt::Result {
         f.debug_struct("PacketHead")
             .field("bytes", &self.as_bytes())
-            .field("padding", &self.padding)
-            .finish()
+            .field("padding", &self.padding())
+            .finish_non_exhaustive()
     }
 }
