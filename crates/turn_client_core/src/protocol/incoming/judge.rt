@@ -134,7 +134,7 @@ impl TurnClientProtocol {
 
     /// What a signed message is by its class, if its request is outstanding, or else `otherwise`.
     pub(crate) fn signed_or<'a>(&self, message: &Message<'_>, otherwise: Judged<'a>) -> Judged<'a>
-        ensures { judgement_in result ≡ signed_judgement message.now self.now (judgement_in otherwise) }
+        ensures { judgement_in result ≡ signed_judgement message.now self.now (judgement_in otherwise.entry) }
     {
         if !self.outbox.is_outstanding(message.transaction_id()) {
             return otherwise;
@@ -176,7 +176,7 @@ impl TurnClientProtocol {
 
     /// The challenge in the message, or else `otherwise`. Computes no digest.
     fn challenged_or<'a>(&self, message: &Message<'a>, otherwise: Judged<'a>) -> Judged<'a>
-        ensures { judgement_in result ≡ challenged_or (judgement_in otherwise) (challenge_in self.now message.now) }
+        ensures { judgement_in result ≡ challenged_or (judgement_in otherwise.entry) (challenge_in self.now message.now) }
     {
         match self.auth.read_challenge(message) {
             Some(challenge) => Judged::Challenged(challenge),

@@ -38,7 +38,6 @@ impl TurnClientProtocol {
     {
         message.is_response()
             && self
-                .ledger
                 .table()
                 .bind_purpose(message.transaction_id(), local)
                 .is_some()

@@ -26,14 +26,12 @@ ask_again-requires-clause-new_id c =
     let same = ap (λ s. s.listed) (c.queue_again.ensures.same (the_view c.self.inside) ∙ c.self.view_is) in
     rw same c.fresh_id-fresh.ensures.unlisted
 
--- the client may accept the challenge
-fits : (c : goal.After-queue_again) → MayTake c.self.inside.auth c.args.challenge.now
-fits c =
-    let own = auth-is (the_view c.self.inside) c.self.inside.auth c.self.invariant.credentials c.self.invariant.supported c.self.invariant.anonymous refl in
-    subst (λ (auth : ClientAuth). MayTake auth c.args.challenge.now) (sym (ap auth_of c.self.view_is) ∙ own) c.requires.fits
-
 pub accept-requires : goal.accept-requires
-accept-requires c = rw (c.in_ok-challenge.ensures.challenge, c.in_ok-signed.ensures.exact) (fits c)
+accept-requires c =
+    let own = auth-is (the_view c.self.inside) c.self.inside.auth c.self.invariant.credentials c.self.invariant.supported c.self.invariant.anonymous refl in
+    let fits : MayTake c.self.inside.auth c.args.challenge.now =
+    subst (λ (auth : ClientAuth). MayTake auth c.args.challenge.now) (sym (ap auth_of c.self.view_is) ∙ own) c.requires.fits in
+    rw (c.in_ok-challenge.ensures.challenge, c.in_ok-signed.ensures.exact) fits
 
 pub returns-clause-ok : goal.returns-clause-ok
 returns-clause-ok c =

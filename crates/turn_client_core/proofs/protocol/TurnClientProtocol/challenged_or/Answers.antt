@@ -7,18 +7,18 @@ use Rattle.turn_client_core.specs.contracts.protocol.TurnClientProtocol.{the_vie
 use Rattle.turn_client_core.proofs.AuthLemmas.{auth-is}
 use Rattle.turn_client_core.proofs.protocol.TurnClientProtocol.challenged_or.Goals as goal
 
-read : (c : goal.After-read_challenge) → c.read_challenge.result ≡ challenge_in c.args.self.now c.args.message.now
-read c =
-    let own : c.self.inside.auth ≡ auth_of c.args.self.now =
-    rw (← c.self.view_is) (sym (auth-is (the_view c.self.inside) c.self.inside.auth c.self.invariant.credentials c.self.invariant.supported c.self.invariant.anonymous refl)) in
-    c.read_challenge.ensures.exact ∙ ap (λ auth. challenge_of auth c.args.message.now) own
-
 pub returns-in-Some : goal.returns-in-Some
 returns-in-Some c =
-    let is : challenge_in c.args.self.now c.args.message.now ≡ Some c.in-Some.challenge = sym (read c) ∙ c.in-Some.is in
+    let own : c.self.inside.auth ≡ auth_of c.args.self.now =
+    rw (← c.self.view_is) (sym (auth-is (the_view c.self.inside) c.self.inside.auth c.self.invariant.credentials c.self.invariant.supported c.self.invariant.anonymous refl)) in
+    let read = c.read_challenge.ensures.exact ∙ ap (λ auth. challenge_of auth c.args.message.now) own in
+    let is : challenge_in c.args.self.now c.args.message.now ≡ Some c.in-Some.challenge = sym read ∙ c.in-Some.is in
     rw is refl
 
-pub returns-in-None : goal.returns-in-None
-returns-in-None c =
-    let is : challenge_in c.args.self.now c.args.message.now ≡ None = sym (read c) ∙ c.in-None.is in
+pub returns : goal.returns
+returns c =
+    let own : c.self.inside.auth ≡ auth_of c.args.self.now =
+    rw (← c.self.view_is) (sym (auth-is (the_view c.self.inside) c.self.inside.auth c.self.invariant.credentials c.self.invariant.supported c.self.invariant.anonymous refl)) in
+    let read = c.read_challenge.ensures.exact ∙ ap (λ auth. challenge_of auth c.args.message.now) own in
+    let is : challenge_in c.args.self.now c.args.message.now ≡ None = sym read ∙ c.in-None.is in
     rw is refl

@@ -6,7 +6,7 @@ use Rattle.turn_client_core.proofs.protocol.TurnClientProtocol.has_pending.Goals
 pub returns-then-has_event : goal.returns-then-has_event
 returns-then-has_event c =
     let event : has_event c.args.self.now ≡ true = rw (← c.self.view_is) (sym (c.has_event.ensures (the_view c.self.inside)) ∙ c.if-has_event.true) in
-    rw event refl
+    rw event c.if-has_event.true
 
 pub returns-else-has_event : goal.returns-else-has_event
 returns-else-has_event c =

@@ -1,4 +1,4 @@
-use Rattle.std.proofs.Common.{◌≡◌, ◌∙◌, refl, subst, sym, true}
+use Rattle.std.proofs.Common.{◌≡◌, ◌∙◌, ap, refl, subst, sym, true}
 use Rattle.turn_client_laws.proofs.ChallengeJudgement.{Challenged-is}
 use Rattle.turn_client_api.specs.Judgement as J
 use Rattle.turn_client_api.specs.Judgement.{judgement_of}
