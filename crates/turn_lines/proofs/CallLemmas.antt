@@ -21,7 +21,6 @@ use Rattle.turn_lines.specs.Address.{address_of}
 use Rattle.turn_lines.specs.Arguments.{address_if_any, data_ends_of, one_address_of, packet_of, sending_of, transport_and_address_of}
 use Rattle.turn_lines.specs.Arguments.{transport_and_grantee_of, transport_and_ip_of, tuple_of, two_addresses_of, way_of, grantee_of}
 use Rattle.turn_lines.specs.Call.{call_of, call_with, if_short, is_short, instant_of, kept_call, name_of}
-use Rattle.turn_lines.specs.Fault.{needed}
 use Rattle.turn_lines.specs.Field.{bytes_of, is_lower_hex, transport_of}
 use Rattle.turn_lines.specs.Line.{call_line, HasLine, IsIp, IsSpelled, IsSpelledIfAny, IsTuple, keep_name, text_if_any, tuple_fields}
 use Rattle.turn_lines.specs.Parts.{parts_of, next}
