@@ -106,12 +106,14 @@ fn goes_in_parts(
 
 // The four ways to send to a peer, each with the bytes that it sends.
 
+/// A ChannelData message with `hello`.
+fn channel() -> DelayedMessageOrChannelSend<&'static [u8]> {
+    DelayedMessageOrChannelSend::Channel(DelayedChannel::new(0x4000, b"hello"))
+}
+
 #[test]
 fn data_goes_over_a_channel(rt: HostRuntime) {
     let frame = [0x40, 0, 0, 5, 0x68, 0x65, 0x6c, 0x6c, 0x6f, 0, 0, 0];
-    let channel = || -> DelayedMessageOrChannelSend<&'static [u8]> {
-        DelayedMessageOrChannelSend::Channel(DelayedChannel::new(0x4000, b"hello"))
-    };
     builds(&rt, rt.alloc(), channel(), &frame);
     writes(&rt, rt.alloc(), channel(), &frame);
     goes_in_parts(&rt, rt.alloc(), &channel(), &frame[..4], b"hello", 3);
