@@ -1,6 +1,7 @@
 -- Transactions by their IDs.
-use Rattle.std.proofs.Common.{◌≡◌, ℕ, zero, suc, ◌<◌, Bool, true, false, cond, eqb, List, [], ◌∷◌, ◌++◌, ◌||◌, length, take, drop, get_or, set, refl, sym, ◌∙◌, inl, inr, arith}
+use Rattle.std.proofs.Common.{◌≡◌, ℕ, zero, suc, ◌<◌, ◌≤◌, Bool, true, false, cond, eqb, List, [], ◌∷◌, ◌++◌, ◌||◌, length, take, drop, get_or, set, refl, sym, ◌∙◌, inl, inr, arith}
 use Rattle.std.proofs.lemmas.Bool.{cases_Bool, or_parts, eq-eqb, eqb-true, ne_eqb, eqb-false}
+use Rattle.std.proofs.lemmas.List.{length-append}
 use Rattle.std.proofs.lemmas.List.Folds.{list_any-append}
 use Rattle.turn_agent.specs.Agent.{is_outstanding, AreDistinct, AreIdsOf, without_transaction, resent, sent_again}
 use Rattle.turn_agent.specs.declared.transaction.Transaction.{Transaction}
@@ -97,18 +98,28 @@ AreDistinct-resent id now (t ∷ ts) distinct =
     let others = AreDistinct-resent id now ts distinct.1 in
     elim (cases_Bool (eqb t.id id)) [ inl same ↦ rw same (here, others) | inr differ ↦ rw differ (here, others) ]
 
+pub length-resent : (id now : ℕ) (ts : List Transaction) → length (resent id now ts) ≡ length ts
+length-resent id now [] = refl
+length-resent id now (t ∷ ts) = grind (arith, length-resent id now ts)
+
+pub length-without : (id : ℕ) (ts : List Transaction) → length (without_transaction id ts) ≤ length ts
+length-without id [] = omega arith
+length-without id (t ∷ ts) = grind (arith, length-without id ts)
+
 -- ---- the set of the IDs
 
--- the ID of one more transaction was inserted
-pub AreIdsOf-push : (ts : List Transaction) (t : Transaction) (had has : ℕ → Bool) → AreIdsOf ts had → ((q : ℕ) → has q ≡ cond (eqb t.id q) true (had q)) → AreIdsOf (ts ++ t ∷ []) has
-AreIdsOf-push ts t had has were inserted = λ q.
-    rw (inserted q, were q, list_any-append (λ x. eqb x.id q) ts (t ∷ [])) (by (eqb t.id q) (is_outstanding q ts))
+-- it has the ID of one transaction more
+pub AreIdsOf-push : (ts : List Transaction) (t : Transaction) (has : ℕ → Bool) → ((q : ℕ) → has q ≡ cond (eqb t.id q) true (is_outstanding q ts)) → AreIdsOf (ts ++ t ∷ []) has
+AreIdsOf-push ts t has added = λ q. rw (added q, list_any-append (λ x. eqb x.id q) ts (t ∷ [])) (by (eqb t.id q) (is_outstanding q ts))
   where
     by : (b c : Bool) → cond b true c ≡ (c || (b || false))
     by true true = refl
     by true false = refl
     by false true = refl
     by false false = refl
+
+pub length-push : (n : ℕ) (ts : List Transaction) (t : Transaction) → n < length (ts ++ t ∷ []) → n ≤ length ts
+length-push n ts t more = let more' = rw (length-append ts (t ∷ [])) at more in omega (arith, more')
 
 -- another ID is outstanding as before
 is_outstanding-others : (id q : ℕ) (ts : List Transaction) → eqb id q ≡ false → is_outstanding q (without_transaction id ts) ≡ is_outstanding q ts

@@ -9,6 +9,7 @@ ghost use Rattle.turn_agent.specs.Agent.{IsSilentUntil, HasRequestDue, IsQuietUn
 ghost use Rattle.std.specs.List.{position};
 
 use crate::front::{Front, first_due};
+use crate::ids::{FEW, add_id, remove_id, reserve_one};
 use crate::schedule::{RequestTimers, Schedule};
 use crate::search::{Progress, answered, has_id, least_with, place_of, progress_of, soonest_of};
 use crate::transaction::Transaction;
@@ -27,9 +28,6 @@ use turn_stun::transport::TransportType;
 
 /// How long the caller of an agent with nothing outstanding waits, in seconds (our choice).
 const IDLE_SECONDS: u64 = 9_999;
-
-/// So few requests are scanned: hashing an ID takes as long.
-const FEW: usize = 8;
 
 /// What the caller of an agent is to do next.
 #[derive(Clone, Copy, Debug, PartialEq, Eq)]
@@ -132,7 +130,8 @@ pub struct StunAgent {
     remote_addr: Option<SocketAddr>,
     schedule: Schedule,
     transactions: Vec<Transaction>,
-    // The IDs of the transactions: an ID that is none of them is recognized without a scan.
+    // The IDs of the transactions, if there are more than a few: an ID that is none of them is
+    // recognized without a scan.
     ids: HashSet<TransactionId>,
     // The oldest transactions that the search for the next retransmission may leave out.
     front: Front,
@@ -261,8 +260,8 @@ impl StunAgent {
         ensures err { OnErr result (self.new ≡ self.old) }
     {
         let kept = bytes.as_slice().to_vec(self.alloc)?;
-        self.transactions.reserve(1)?;
-        self.ids.insert(id)?;
+        reserve_one(&mut self.transactions)?;
+        add_id(&mut self.ids, &self.transactions, id)?;
         self.transactions.push_reserved(Transaction {
             id,
             to,
@@ -402,7 +401,7 @@ impl StunAgent {
         self.soonest = None;
         self.front = self.front.without_one();
         let taken = self.transactions.remove(place);
-        let _was_there = self.ids.remove(&taken.id);
+        remove_id(self.alloc, &mut self.ids, self.transactions.len(), taken.id);
         taken
     }
 

@@ -27,6 +27,7 @@
 
 pub mod agent;
 mod front;
+mod ids;
 pub mod number_source;
 pub mod schedule;
 mod search;

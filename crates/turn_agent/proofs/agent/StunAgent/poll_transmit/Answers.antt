@@ -1,11 +1,11 @@
-use Rattle.std.proofs.Common.{◌≡◌, ◌≤◌, Some, None, sym, ap, ◌∙◌, arith}
+use Rattle.std.proofs.Common.{◌≡◌, ◌≤◌, Some, None, get_or, sym, ap, ◌∙◌, arith}
 use Rattle.std.specs.List.{position}
 use Rattle.std.proofs.lemmas.Option.{none-some}
 use Rattle.turn_agent.specs.Agent.{is_due}
 use Rattle.turn_agent.specs.contracts.agent.StunAgent.{the_view}
 use Rattle.turn_agent.proofs.AgentLemmas.{transmit_step-none, transmit_step-sent, same_transmit, is_due-counted, position-IsFirst}
 use Rattle.turn_agent.proofs.FrontLemmas.{IsFront-set}
-use Rattle.turn_agent.proofs.TransactionLemmas.{AreDistinct-resent, AreIdsOf-resent, set-resent}
+use Rattle.turn_agent.proofs.TransactionLemmas.{AreDistinct-resent, AreIdsOf-resent, length-resent, set-resent}
 use Rattle.turn_agent.proofs.agent.StunAgent.poll_transmit.Goals as goal
 
 pub returns-in_default-clause-step : goal.returns-in_default-clause-step
@@ -44,7 +44,7 @@ invariant_of-self-2 c =
     rw (c.in_ok-payload.ensures.ok.1, c.index_mut-transaction.ensures.value, changed)
     (record {
       distinct = AreDistinct-resent _ c.args.now a.transactions c.self.invariant.distinct;
-      ids = AreIdsOf-resent _ c.args.now a.transactions _ c.self.invariant.ids;
+      ids = λ many. AreIdsOf-resent _ c.args.now a.transactions _ (c.self.invariant.ids (rw (length-resent (get_or a.transactions c.in-Some.place t).id c.args.now a.transactions) at many));
       passed = rw (← changed) passed;
       earliest = tt;
     })

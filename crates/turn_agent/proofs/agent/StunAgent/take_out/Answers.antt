@@ -1,8 +1,8 @@
-use Rattle.std.proofs.Common.{◌≡◌, ◌<◌, ◌++◌, Some, length, take, drop, suc, sym, ap, refl, ◌∙◌}
+use Rattle.std.proofs.Common.{◌≡◌, ◌<◌, ◌++◌, Some, length, take, drop, suc, sym, ap, refl, ◌∙◌, arith}
 use Rattle.std.proofs.lemmas.Option.{slice_get-get_or}
 use Rattle.turn_agent.specs.Agent.{without_transaction}
 use Rattle.turn_agent.proofs.FrontLemmas.{IsFront-removed}
-use Rattle.turn_agent.proofs.TransactionLemmas.{AreDistinct-without, AreIdsOf-without, remove-without}
+use Rattle.turn_agent.proofs.TransactionLemmas.{AreDistinct-without, AreIdsOf-without, length-without, remove-without}
 use Rattle.turn_agent.proofs.agent.StunAgent.take_out.Goals as goal
 
 pub invariant_of-self : goal.invariant_of-self
@@ -14,7 +14,7 @@ invariant_of-self c =
     let kept = c.without_one-self-inside.ensures in
     rw (c.remove-taken.ensures.items, left) (record {
       distinct = AreDistinct-without _ ts c.self.invariant.distinct;
-      ids = AreIdsOf-without _ ts _ _ c.self.invariant.ids c.remove-was_there.ensures.updates.0;
+      ids = λ many. AreIdsOf-without _ ts _ _ (c.self.invariant.ids (omega (arith, many, length-without c.remove-taken.result.id ts))) (c.remove_id.ensures (omega (arith, many, ap length (c.remove-taken.ensures.items ∙ left), c.len.ensures)));
       passed = rw (← left) (IsFront-removed _ _ ts _ _ c.args.place c.self.invariant.passed within kept.count kept.until);
       earliest = tt;
     })
