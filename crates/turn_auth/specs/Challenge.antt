@@ -76,6 +76,11 @@ held_after None offered denial algorithm = record {
 }
 held_after (Some held) offered denial algorithm = record held { nonce = denial.nonce }
 
+-- what is held once the denial is accepted as a challenge, or nothing if it is none
+abbrev pub challenge_by : List IntegrityAlgorithm → Option Challenge → Option (List ℕ) → Denial → Option Challenge
+challenge_by supported held offered denial =
+    option_map (held_after held offered denial) (chosen supported held offered denial)
+
 -- what is held once the message is accepted as a challenge, or nothing if it is none
 abbrev pub challenge_of : ClientAuth → List ℕ → Option Challenge
 challenge_of auth bytes =

@@ -1,7 +1,7 @@
 //! A challenge as it is read in a message (RFC 8489, section 9.2.5).
 
-ghost use Rattle.std.specs.Prelude.{◌≡◌, ◌≤◌, ℕ, List, Option, IfOk, IfSome, None, Some, is_some, length, option_copied, option_map, true};
-ghost use Rattle.turn_auth.specs.Challenge.{chosen, held_after, picked, sent_back};
+ghost use Rattle.std.specs.Prelude.{◌≡◌, ◌≤◌, ℕ, List, Option, IfOk, IfSome, None, Some, is_some, length, option_copied, true};
+ghost use Rattle.turn_auth.specs.Challenge.{challenge_by, picked, sent_back};
 ghost use Rattle.turn_stun.specs.Message.{attributes_from};
 ghost use Rattle.turn_stun.specs.Read.{value_in};
 
@@ -45,8 +45,7 @@ impl<'a> ReceivedChallenge<'a> {
         supported: &[IntegrityAlgorithm],
         message: &Message<'_>,
     ) -> Option<ReceivedChallenge<'a>>
-        ensures { result ≡ option_map (held_after None (value_in 0x8002 message.now) denial.now)
-            (chosen supported.now None (value_in 0x8002 message.now) denial.now) }
+        ensures { result ≡ challenge_by supported.now None (value_in 0x8002 message.now) denial.now }
     {
         if denial.code != ErrorCode::UNAUTHORIZED && denial.code != ErrorCode::STALE_NONCE {
             return None;
@@ -68,8 +67,7 @@ impl<'a> ReceivedChallenge<'a> {
         denial: &Denial<'a>,
         held: &ServerChallenge,
     ) -> Option<ReceivedChallenge<'a>>
-        ensures exact { (supported : List IntegrityAlgorithm) → (offered : Option (List ℕ)) → result ≡ option_map (held_after (Some held.now) offered denial.now)
-            (chosen supported (Some held.now) offered denial.now) }
+        ensures exact { (supported : List IntegrityAlgorithm) (offered : Option (List ℕ)) → result ≡ challenge_by supported (Some held.now) offered denial.now }
         ensures kept { IfSome result (λ challenge. challenge ≡ record held.now { nonce = challenge.nonce }) }
     {
         if denial.code != ErrorCode::STALE_NONCE || denial.realm.as_bytes() != held.realm() {
