@@ -28,8 +28,9 @@ use Rattle.turn_client_api.specs.declared.event.TurnEvent.TheVariants.{ChannelCr
 use Rattle.turn_client_api.proofs.HasLemmas.{Has, has-all, has-reverse, has-unreversed, has-append, has-filter, filter_map-has, has-filter_map, has-found, cases_Option, first-has}
 use Rattle.turn_client_laws.proofs.ReadyLemmas.{Alive}
 use Rattle.turn_client_api.proofs.ExpirySteps.{expired_in-does}
-use Rattle.turn_client_laws.proofs.CaseLemmas.{by_test}
+use Rattle.turn_client_laws.proofs.CaseLemmas.{all-expire}
 use Rattle.turn_client_laws.proofs.InAllocationLemmas.{same_family-self, same_family-true}
+use Rattle.turn_client_laws.proofs.MoveLemmas.{none-found}
 
 -- a channel that is reserved
 abbrev pub IsReserved : Grant → Type 0
@@ -144,13 +145,6 @@ no_channel_expired family now s none = elim (cases_Option (find test (reverse s.
         let no : ChannelCreateFailed s.config.allocation_transport peer ∷ s.events ≡ [] = e in cc
     expired_is g h is e = cc
 
-find-none-false : {X : Type 0} (p : X → Bool) (x : X) (xs : List X) → find p xs ≡ None → Has x xs → p x ≡ false
-find-none-false p x [] none h = absurd h
-find-none-false p x (y ∷ xs) none h = elim (cases_Bool (p y)) [
-  | inl e ↦ absurd (none-some y (sym (rw e at none)))
-  | inr e ↦ elim h [ inl same ↦ rw same e | inr there ↦ find-none-false p x xs (rw e at none) there ]
-]
-
 -- all but an allocation
 abbrev pub Outlives : ℕ → Grant → Type 0
 Outlives now (Allocation a) = ⊤
@@ -202,7 +196,7 @@ alive_in family given purposes now s none g h here = by g h here
         let not_found = no_channel_expired family now s2 no_event in
         let inside3 = back s3 t from3 g (λ is. is) h in
         let inside2 : Has g s2.grants = subst (λ o. Has g (channel_expired o s2).grants) not_found inside3 in
-        leb-false expiry.expiry now (what-false _ _ here (find-none-false (λ x. is_of family x && is_expired_channel now x) g (reverse s2.grants) not_found (has-reverse g s2.grants inside2)))
+        leb-false expiry.expiry now (what-false _ _ here (none-found (λ x. is_of family x && is_expired_channel now x) g (reverse s2.grants) not_found (has-reverse g s2.grants inside2)))
     by (Connection c) h here =
         let inside = back s6 t from6 (Connection c) (λ is. is) h in
         let bound = what-false _ _ here (not-passed (λ x. is_of family x && is_unbound purposes now x) (Connection c) s5.grants inside) in
@@ -214,15 +208,9 @@ alive_in family given purposes now s none g h here = by g h here
 
 -- ---- all allocations
 
-expired_allocation-shrinks : (given : Option ℕ) (purposes : List Purpose) (now : ℕ) (s : State) (a : Relay) → Shrinks s (expired_allocation given purposes now s a)
-expired_allocation-shrinks given purposes now s a =
-    by_test (Shrinks s) (allocation_expires purposes now s a) _ _ (λ e. without-shrinks (is_of (family_of a.relayed)) s) (λ e. expired_in-shrinks (family_of a.relayed) given purposes now s)
-
 each-shrinks : (given : Option ℕ) (purposes : List Purpose) (now : ℕ) (relays : List Relay) (s : State) → Shrinks s (fold (expired_allocation given purposes now) s relays)
-each-shrinks given purposes now [] s = shrinks-self s
-each-shrinks given purposes now (a ∷ relays) s =
-    let post = expired_allocation given purposes now s a in
-    shrinks-then s post (fold (expired_allocation given purposes now) post relays) (expired_allocation-shrinks given purposes now s a) (each-shrinks given purposes now relays post)
+each-shrinks given purposes now =
+    all-expire Shrinks shrinks-self shrinks-then given purposes now (λ family. without-shrinks (is_of family)) (λ family. expired_in-shrinks family given purposes now)
 
 pub expired_at-shrinks : (given : Option ℕ) (now : ℕ) (s : State) → Shrinks s (expired_at given now s)
 expired_at-shrinks given now s = each-shrinks given (timed_out_purposes given s) now (allocations s) s

@@ -235,18 +235,20 @@ allocates-in_order addresses s none h =
 
 StayInOrder-KeepsEdits : KeepsEdits StayInOrder
 StayInOrder-KeepsEdits = record {
-  same = λ s h. h;
-  trans = λ s t u first second h. second (first h);
-  aside = λ s t h. h;
-  queues = λ queue s begun h. h;
-  dequeues = λ queue s less h. h;
-  families = families-in_order;
-  sends = λ now s has h. h;
-  begins = begins-in_order;
-  ends = ends-in_order;
+  rest = record {
+    same = λ s h. h;
+    trans = λ s t u first second h. second (first h);
+    aside = λ s t h. h;
+    queues = λ queue s begun h. h;
+    dequeues = λ queue s less h. h;
+    families = families-in_order;
+    sends = λ now s has h. h;
+    begins = begins-in_order;
+    ends = ends-in_order;
+    finishes = finishes-in_order;
+    resends = resends-in_order;
+  };
   asks = λ id text purposes now s begun askable spelled h. asks-in_order id text purposes now s spelled h;
-  finishes = finishes-in_order;
-  resends = resends-in_order;
   unlists = λ which s. fewer which s;
   removes = λ which s spares. gone which s;
   removes_family = λ family s. gone (is_of family) s;

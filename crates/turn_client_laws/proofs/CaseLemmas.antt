@@ -1,27 +1,34 @@
 -- What holds in each case of a step holds of the step.
-use Rattle.std.proofs.Common.{◌≡◌, ℕ, Bool, true, false, cond, not, eqb, List, Option, Some, None, refl, inr, inl, [], ◌∷◌}
-use Rattle.std.specs.Prelude.{is_some, IfSome}
+use Rattle.std.proofs.Common.{◌≡◌, ℕ, Bool, true, false, cond, not, eqb, List, Option, Some, None, refl, inr, inl, [], ◌∷◌, leb}
+use Rattle.std.specs.Prelude.{fold, is_some, IfSome, Ok, Err, filter_map, find}
 use Rattle.std.specs.Option.{option_map_or}
 use Rattle.std.specs.Net.Socket.{socket_ip}
 use Rattle.std.proofs.lemmas.Bool.{cases_Bool, eqb-true}
 use Rattle.std.specs.declared.net.socket_addr.SocketAddr.{SocketAddr}
 use Rattle.turn_stun.specs.Message.{id_of}
-use Rattle.turn_stun.specs.declared.transport.TransportType.TheVariants.{Tcp}
+use Rattle.turn_stun.specs.declared.transport.TransportType.TheVariants.{Tcp, Udp}
+use Rattle.turn_types.specs.declared.family.AddressFamily.{AddressFamily}
 use Rattle.turn_client_api.specs.State.{State}
 use Rattle.turn_client_api.specs.declared.state.Phase.{Phase}
 use Rattle.turn_client_api.specs.declared.state.Phase.TheVariants.{Allocated}
 use Rattle.turn_client_api.specs.declared.state.Queued.{Queued}
 use Rattle.turn_client_api.specs.declared.grant.DataConnection.{DataConnection}
 use Rattle.turn_client_api.specs.declared.grant.Origin.TheVariants.{ServerIndication, ServerRequest}
-use Rattle.turn_client_api.specs.Grants.{find_allocation_to, allocations}
-use Rattle.turn_client_api.specs.Requests.{connection_bind_method}
+use Rattle.turn_client_api.specs.declared.grant.Purpose.{Purpose}
+use Rattle.turn_client_api.specs.Grants.{find_allocation_to, allocations, family_of, is_of, without_grants, as_connection}
+use Rattle.turn_client_api.specs.Requests.{connection_bind_method, to_server}
 use Rattle.turn_client_api.specs.Judgement.{connection_id_in, method_in, peer_in}
 use Rattle.turn_client_api.specs.Effect.{with_offer}
 use Rattle.turn_client_api.specs.Connections.{accepts_attempt, attempt_indicated, attempt_requested, bind_answered, bind_step, connection_at, is_connected}
 use Rattle.turn_client_api.specs.Payloads.{Outcome, Handled, Ignored}
-use Rattle.turn_client_api.specs.Poll.{answer_step, answer_by}
+use Rattle.turn_agent.specs.TransactionIds.{Source}
+use Rattle.turn_client_api.specs.Calls.{active_channel, as_indication, bound_to, can_send_to, on_channel, on_connection, send_over, send_to_step}
+use Rattle.turn_types.specs.Channel.{channel_frame}
+use Rattle.turn_stun.specs.declared.transport.TransportType.{TransportType}
+use Rattle.turn_client_api.specs.Poll.{allocation_expires, answer_step, answer_by, expired_allocation, expired_in}
 use Rattle.turn_client_api.specs.declared.grant.Relay.{Relay}
 use Rattle.turn_client_api.proofs.HasLemmas.{cases_Option}
+use Rattle.turn_client_api.specs.declared.error.SendError.TheVariants as Send
 
 -- ---- a test and a look-up
 
@@ -85,6 +92,30 @@ pub bind-by : (P : State → Type 0) (local : SocketAddr) (message : List ℕ) (
     → P (bind_step local message now s)
 bind-by P local message now s = bind_in_phase P s.phase local message now s
 
+-- ---- data for a peer
+
+-- data for a peer uses an ID at most
+pub send_to-by : (P : State → Type 0) (transport : TransportType) (peer : SocketAddr) (bytes : List ℕ) (now : ℕ) (s : State) → ((ids : Source) → P (record s { ids = ids }))
+    → P (send_to_step transport peer bytes now s).1
+send_to-by P transport peer bytes now s each = by (can_send_to transport (socket_ip peer) s) transport
+  where
+    channel : (xs : List (ℕ × ℕ)) → P (on_channel xs peer bytes now s).1
+    channel [] = each _
+    channel ((number, expiry) ∷ xs) = for (leb now expiry)
+      where
+        for : (b : Bool) → P (cond b (Ok (to_server s s.local (channel_frame number bytes)), s) (as_indication peer bytes s)).1
+        for true = each s.ids
+        for false = each _
+
+    connection : (o : Option DataConnection) → P (on_connection o bytes s).1
+    connection None = each s.ids
+    connection (Some c) = each s.ids
+
+    by : (b : Bool) (t : TransportType) → P (cond b (send_over t peer bytes now s) (Err Send.NoPermission, s)).1
+    by false t = each s.ids
+    by true Udp = channel (filter_map (active_channel peer) s.grants)
+    by true Tcp = connection (find (bound_to peer) (filter_map as_connection s.grants))
+
 -- ---- what a poll returns
 
 -- at most a connection to close is taken from the list
@@ -96,3 +127,17 @@ answer-by P given now s each = by s.closes s.phase (allocations s)
     by [] Allocated [] = each s.closes
     by [] Allocated (a ∷ relays) = each s.closes
     by closes p relays = each s.closes
+
+-- ---- time passes in all allocations
+
+module _ (R : State → State → Type 0) (same : (s : State) → R s s) (trans : (s t u : State) → R s t → R t u → R s u) (given : Option ℕ) (purposes : List Purpose) (now : ℕ)
+    (removes : (family : AddressFamily) (s : State) → R s (without_grants (is_of family) s))
+    (stays : (family : AddressFamily) (s : State) → R s (expired_in family given purposes now s)) where
+  one-expires : (s : State) (a : Relay) → R s (expired_allocation given purposes now s a)
+  one-expires s a = by_test (R s) (allocation_expires purposes now s a) _ _ (λ e. removes (family_of a.relayed) s) (λ e. stays (family_of a.relayed) s)
+
+  pub all-expire : (relays : List Relay) (s : State) → R s (fold (expired_allocation given purposes now) s relays)
+  all-expire [] s = same s
+  all-expire (a ∷ relays) s =
+      let t = expired_allocation given purposes now s a in
+      trans s t (fold (expired_allocation given purposes now) t relays) (one-expires s a) (all-expire relays t)

@@ -84,7 +84,7 @@ module _ (lifetime now : ℕ) where
 single-outline : (gs hs : List Grant) → map outline hs ≡ map outline gs → AreSingle gs → AreSingle hs
 single-outline gs hs e h = single-unmap outline outline-alike hs (subst AreSingle (sym e) (single-map outline outline-alike gs h))
 
-empty-outline : (hs : List Grant) → map outline hs ≡ [] → hs ≡ []
+pub empty-outline : (hs : List Grant) → map outline hs ≡ [] → hs ≡ []
 empty-outline [] e = refl
 empty-outline (h ∷ hs) e = cc
 
@@ -135,7 +135,7 @@ permission-granted : (ip : IpAddr) (progress : Progress) (s : State) → permiss
 permission-granted ip progress s e h u =
     none-some progress (subst (λ (gs : List Grant). slice_get (filter_map (permission_progress ip) gs) 0 ≡ Some progress) (h.none u) e)
 
-ungranted-after : (p : Phase) → IsUngranted (phase_after p) → IsUngranted p
+pub ungranted-after : (p : Phase) → IsUngranted (phase_after p) → IsUngranted p
 ungranted-after Allocated u = u
 ungranted-after Closed u = u
 ungranted-after p u = tt
@@ -171,18 +171,20 @@ rebound-tidy number peer was progress s there =
 
 KeepsDistinctGrants-KeepsEdits : KeepsEdits KeepsDistinctGrants
 KeepsDistinctGrants-KeepsEdits = record {
-  same = λ s. (λ u. u, λ h. h);
-  trans = λ s t u first second. (λ x. first.0 (second.0 x), λ h. second.1 (first.1 h));
-  aside = λ s t. (λ u. u, λ h. h);
-  queues = λ queue s begun. (λ u. u, λ h. h);
-  dequeues = λ queue s fewer. (λ u. u, λ h. h);
-  families = λ families s may. (λ u. u, λ h. h);
-  sends = λ now s waits. (λ u. u, λ h. h);
-  begins = begins-tidy;
-  ends = λ s none. (λ u. absurd u, λ h. record { none = λ u. absurd u; single = h.single });
+  rest = record {
+    same = λ s. (λ u. u, λ h. h);
+    trans = λ s t u first second. (λ x. first.0 (second.0 x), λ h. second.1 (first.1 h));
+    aside = λ s t. (λ u. u, λ h. h);
+    queues = λ queue s begun. (λ u. u, λ h. h);
+    dequeues = λ queue s fewer. (λ u. u, λ h. h);
+    families = λ families s may. (λ u. u, λ h. h);
+    sends = λ now s waits. (λ u. u, λ h. h);
+    begins = begins-tidy;
+    ends = λ s none. (λ u. absurd u, λ h. record { none = λ u. absurd u; single = h.single });
+    finishes = λ id s. (λ u. u, λ h. h);
+    resends = λ id now s. (λ u. u, λ h. h);
+  };
   asks = λ id text purposes now s begun askable spelled. (λ u. u, λ h. h);
-  finishes = λ id s. (λ u. u, λ h. h);
-  resends = λ id now s. (λ u. u, λ h. h);
   unlists = λ which s. (λ u. u, λ h. h);
   removes = λ which s spares. (λ u. u, filtered (λ g. not (which g)) s.phase s.grants);
   removes_family = λ family s. (λ u. u, filtered (λ g. not (is_of family g)) s.phase s.grants);

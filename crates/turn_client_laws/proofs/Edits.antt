@@ -1,6 +1,6 @@
 -- The edits of which all calls and messages are made. A relation that holds for each of them holds for each
 -- call: a new law of what calls keep is one record.
-use Rattle.std.proofs.Common.{◌≡◌, ℕ, Bool, true, false, List, [], ◌∷◌, ◌++◌, map, filter, length, Some, None, ◌⊎◌, ◌<◌, ◌≤◌, ◌+◌, ◌∙◌, sym, ap, refl}
+use Rattle.std.proofs.Common.{arith, ◌≡◌, ℕ, Bool, true, false, List, [], ◌∷◌, ◌++◌, map, filter, length, Some, None, ◌⊎◌, ◌<◌, ◌≤◌, ◌+◌, ◌∙◌, sym, ap, refl}
 use Rattle.std.specs.Prelude.{IsSome, ⊤}
 use Rattle.std.specs.List.{list_any}
 use Rattle.std.specs.declared.net.ip_addr.IpAddr.{IpAddr}
@@ -125,7 +125,8 @@ HasToSend s = s.phase ≡ New → s.queue ≡ [] → s.transactions ≡ [] → �
 
 -- ---- what calls are made of
 
-pub record KeepsEdits (R : State → State → Type 0) : Type 0 where
+-- what leaves the grants as they are, and what is listed
+pub record KeepsRest (R : State → State → Type 0) : Type 0 where
   pub same : (s : State) → R s s
   pub trans : (s t u : State) → R s t → R t u → R s u
   -- the queues for the caller, and the next IDs: all as in any other state
@@ -138,11 +139,16 @@ pub record KeepsEdits (R : State → State → Type 0) : Type 0 where
   pub sends : (now : ℕ) (s : State) → HasToSend s → R s (sent now s)
   pub begins : (now : ℕ) (s : State) → s.phase ≡ New → R s (sent now (record s { phase = Requesting }))
   pub ends : (s : State) → IsUnlisted s → R s (record s { phase = Closed })
+  -- requests end, and are retransmitted
+  pub finishes : (id : ℕ) (s : State) → R s (transaction_ended id s)
+  pub resends : (id now : ℕ) (s : State) → R s (record s { transactions = resent id now s.transactions })
+
+pub record KeepsEdits (R : State → State → Type 0) : Type 0 where
+  pub rest : KeepsRest R
+  pub open rest use *
   -- requests
   pub asks : (id : ℕ) (text : List ℕ) (purposes : List Purpose) (now : ℕ) (s : State) → IsBegun s.phase → ((p : Purpose) → Has p purposes → IsAskable s p) → IsSpelled id text purposes s
       → R s (request_started id text purposes now s)
-  pub finishes : (id : ℕ) (s : State) → R s (transaction_ended id s)
-  pub resends : (id now : ℕ) (s : State) → R s (record s { transactions = resent id now s.transactions })
   pub unlists : (which : Listing → Bool) (s : State) → R s (record s { listed = filter which s.listed })
   -- grants are removed, with the requests that are listed for them
   pub removes : (which : Grant → Bool) (s : State) → SparesAllocations which → R s (without_grants which s)
@@ -194,6 +200,22 @@ pub record KeepsAccepted (HasAccepted : Type 0) (R : State → State → Type 0)
   pub offers : (id : ℕ) (peer : SocketAddr) (origin : Origin) (s : State) → Room s.grants (family_of peer)
       → (origin ≡ ServerIndication → length (filter is_indicated s.grants) < max_indicated) → R s (with_offer id peer origin s)
 
+-- where nothing else counts
+pub rest-ignored : (R : State → State → Type 0) → ((s t : State) → R s (record t { grants = s.grants; listed = s.listed })) → ((s t u : State) → R s t → R t u → R s u) → KeepsRest R
+rest-ignored R ignores trans = record {
+  same = λ s. ignores s s;
+  trans = trans;
+  aside = λ s t. ignores s (record s { ids = t.ids; events = t.events; closes = t.closes });
+  queues = λ queue s begun. ignores s (record s { queue = queue });
+  dequeues = λ queue s fewer. ignores s (record s { queue = queue });
+  families = λ families s may. ignores s (record s { families = families });
+  sends = λ now s waits. ignores s (sent now s);
+  begins = λ now s new. ignores s (sent now (record s { phase = Requesting }));
+  ends = λ s none. ignores s (record s { phase = Closed });
+  finishes = λ id s. ignores s (transaction_ended id s);
+  resends = λ id now s. ignores s (record s { transactions = resent id now s.transactions });
+}
+
 -- streams do not count
 abbrev pub IgnoresAll : (State → State → Type 0) → Type 0
 IgnoresAll R = (s : State) (streams : List Stream) → R s (record s { streams = streams })
@@ -205,14 +227,7 @@ KeepsAllEdits R = KeepsAccepted ⊤ R
 -- ---- outlines
 
 outline-aged : (g : Grant) → outline (aged g) ≡ outline g
-outline-aged (Allocation a) = refl
-outline-aged (Permission ip (Pending is_kept)) = refl
-outline-aged (Permission ip (Active lease)) = refl
-outline-aged (Permission ip (Reserved until)) = refl
-outline-aged (Channel number peer (Pending is_kept)) = refl
-outline-aged (Channel number peer (Active lease)) = refl
-outline-aged (Channel number peer (Reserved until)) = refl
-outline-aged g = refl
+outline-aged g = grind arith
 
 outlines-aged : (gs : List Grant) → map outline (map aged gs) ≡ map outline gs
 outlines-aged [] = refl

@@ -59,6 +59,7 @@ use Rattle.turn_client_laws.proofs.EditsOfTime.{channel-asked, for-there, poll-w
 use Rattle.turn_client_laws.proofs.EditsOfMessages.{edits-IsKept}
 use Rattle.turn_client_api.specs.Calls.{keep_step, is_open_to}
 use Rattle.turn_client_api.specs.Calls.{is_open_to, keep_step, with_marks}
+use Rattle.turn_client_laws.proofs.CaseLemmas.{send_to-by}
 
 -- ---- requests are for grants that exist
 
@@ -294,21 +295,8 @@ module _ (R : State → State → Type 0) (k : KeepsEdits R) where
       (and_parts (same_transport s.config.allocation_transport Tcp && is_control tuple s) (is_allocated s.phase) e).1) offer) (k.same s))
       (λ e. k.same s)
 
-  channel_data-walk : (channels : List (ℕ × ℕ)) (peer : SocketAddr) (bytes : List ℕ) (now : ℕ) (s : State) → R s (on_channel channels peer bytes now s).1
-  channel_data-walk [] peer bytes now s = k.aside s (on_channel [] peer bytes now s).1
-  channel_data-walk ((number, expiry) ∷ others) peer bytes now s = either R k (leb now expiry) s _ _ (λ e. k.same s) (λ e. k.aside s (on_channel [] peer bytes now s).1)
-
-  connection_data-walk : (o : Option DataConnection) (bytes : List ℕ) (s : State) → R s (on_connection o bytes s).1
-  connection_data-walk (Some c) bytes s = k.same s
-  connection_data-walk None bytes s = k.same s
-
-  over-walk : (transport : TransportType) (peer : SocketAddr) (bytes : List ℕ) (now : ℕ) (s : State) → R s (send_over transport peer bytes now s).1
-  over-walk Tcp peer bytes now s = connection_data-walk (find (bound_to peer) (filter_map as_connection s.grants)) bytes s
-  over-walk Udp peer bytes now s = channel_data-walk (filter_map (active_channel peer) s.grants) peer bytes now s
-
   send-walk : (transport : TransportType) (peer : SocketAddr) (bytes : List ℕ) (now : ℕ) (s : State) → R s (send_to_step transport peer bytes now s).1
-  send-walk transport peer bytes now s =
-      either R k (can_send_to transport (socket_ip peer) s) s (send_over transport peer bytes now s) _ (λ e. over-walk transport peer bytes now s) (λ e. k.same s)
+  send-walk transport peer bytes now s = send_to-by (R s) transport peer bytes now s (λ ids. k.aside s (record s { ids = ids }))
 
   tcp_closed-walk : (local remote : SocketAddr) (s : State) → R s (tcp_closed_step local remote s)
   tcp_closed-walk local remote s = one-of R k (same_transport s.transport Tcp && same_address remote s.remote) s _ s (gone-walk R k local s) (k.same s)

@@ -73,7 +73,7 @@ connection-there local c s e =
 -- ---- the new request alone stays listed
 
 -- no request is listed under the next ID
-fresh-other : (s : State) (l : Listing) → Has l s.listed → eqb l.id (fresh_id s) ≡ false
+pub fresh-other : (s : State) (l : Listing) → Has l s.listed → eqb l.id (fresh_id s) ≡ false
 fresh-other s l there =
     let free = or_parts (is_outstanding (fresh_id s) s.transactions) (is_listed (fresh_id s) s) (fresh-free s) in
     let none = or_parts (list_any (λ (x : Listing). eqb x.id (fresh_id s)) s.listed) (list_any (is_of_request (fresh_id s)) s.grants) free.1 in

@@ -48,14 +48,7 @@ changed-outline which change same (Allocation a) = by_test (λ (g : Grant). outl
 changed-outline which change same g = refl
 
 lasting-outline : (expiry : ℕ) (g : Grant) → outline (lasting expiry g) ≡ outline g
-lasting-outline expiry (Allocation a) = refl
-lasting-outline expiry (Permission ip (Pending is_kept)) = refl
-lasting-outline expiry (Permission ip (Active lease)) = refl
-lasting-outline expiry (Permission ip (Reserved until)) = refl
-lasting-outline expiry (Channel number peer (Pending is_kept)) = refl
-lasting-outline expiry (Channel number peer (Active lease)) = refl
-lasting-outline expiry (Channel number peer (Reserved until)) = refl
-lasting-outline expiry g = refl
+lasting-outline expiry g = grind arith
 
 deadline-outline : (local : SocketAddr) (deadline : Option ℕ) (g : Grant) → outline (deadline_set local deadline g) ≡ outline g
 deadline-outline local deadline (Connection c) = by_test (λ (g : Grant). outline g ≡ outline (Connection c)) (same_address c.local local) _ _ (λ e. refl) (λ e. refl)
@@ -79,13 +72,7 @@ pub expired-alike : (family : AddressFamily) (s : State) → map aged (with_expi
 expired-alike family s = alike-map aged (changed_allocation (λ a. is_of_family family a.relayed) (λ a. record a { is_expired = true })) (expired-aged family) s.grants
 
 marked-aged : (is_kept : Bool) (g : Grant) → aged (marked is_kept g) ≡ aged g
-marked-aged is_kept (Permission ip (Pending was)) = refl
-marked-aged is_kept (Permission ip (Active lease)) = refl
-marked-aged is_kept (Permission ip (Reserved until)) = refl
-marked-aged is_kept (Channel number peer (Pending was)) = refl
-marked-aged is_kept (Channel number peer (Active lease)) = refl
-marked-aged is_kept (Channel number peer (Reserved until)) = refl
-marked-aged is_kept g = refl
+marked-aged is_kept g = grind arith
 
 -- what is kept from now on, or not
 pub marked-alike : (which : Grant → Bool) (is_kept : Bool) (s : State) → map aged (with_marks which is_kept s).grants ≡ map aged s.grants

@@ -90,7 +90,7 @@ refresh-other now s p there e =
 
 -- ---- queued packets
 
-has-dropped : (queue : List Queued) (q : Queued) → Has q (drop 1 queue) → Has q queue
+pub has-dropped : (queue : List Queued) (q : Queued) → Has q (drop 1 queue) → Has q queue
 has-dropped [] q there = there
 has-dropped (first ∷ queue) q there = inr there
 

@@ -31,7 +31,7 @@ use Rattle.turn_client_api.specs.declared.poll.TurnPollRet.{TurnPollRet}
 use Rattle.turn_client_api.proofs.HasLemmas.{Has, has-found, has-unreversed}
 use Rattle.turn_client_laws.proofs.AfterExpiryLemmas.{IsReserved}
 use Rattle.turn_client_api.proofs.ExpirySteps.{expired_in-does}
-use Rattle.turn_client_laws.proofs.CaseLemmas.{by_test, by_found, answer-by}
+use Rattle.turn_client_laws.proofs.CaseLemmas.{all-expire, by_test, by_found, answer-by}
 use Rattle.turn_client_laws.proofs.EditsOfReplies.{and-false}
 use Rattle.turn_client_api.specs.declared.grant.Lease.{Lease}
 
@@ -191,18 +191,10 @@ module _ (family : AddressFamily) (purposes : List Purpose) where
     frees = without-reports (λ g. is_of family g && is_over now g);
   })
 
-allocation-reports : (given : Option ℕ) (purposes : List Purpose) (now : ℕ) (s : State) (a : Relay) → ReportsOfFailed s (expired_allocation given purposes now s a)
-allocation-reports given purposes now s a =
-    by_test (ReportsOfFailed s) (allocation_expires purposes now s a) _ _ (λ e. without-reports (is_of (family_of a.relayed)) s) (λ e. expired_in-reports (family_of a.relayed) purposes given now s)
-
-each-reports : (given : Option ℕ) (purposes : List Purpose) (now : ℕ) (relays : List Relay) (s : State) → ReportsOfFailed s (fold (expired_allocation given purposes now) s relays)
-each-reports given purposes now [] s = reports-self s
-each-reports given purposes now (a ∷ relays) s =
-    let t = expired_allocation given purposes now s a in
-    reports-then s t (fold (expired_allocation given purposes now) t relays) (allocation-reports given purposes now s a) (each-reports given purposes now relays t)
-
 expired_at-reports : (given : Option ℕ) (now : ℕ) (s : State) → ReportsOfFailed s (expired_at given now s)
-expired_at-reports given now s = each-reports given (timed_out_purposes given s) now (allocations s) s
+expired_at-reports given now s =
+    all-expire ReportsOfFailed reports-self reports-then given (timed_out_purposes given s) now (λ family. without-reports (is_of family))
+    (λ family. expired_in-reports family (timed_out_purposes given s) given now) (allocations s) s
 
 -- ---- poll
 

@@ -29,7 +29,7 @@ use Rattle.turn_client_api.proofs.HasLemmas.{cases_Option}
 abbrev pub bytes_by : SocketAddr → List ℕ → Stream → Stream
 bytes_by a bytes stream = cond (same_address stream.local a) (record stream { bytes = bytes }) stream
 
-abbrev mode_by : SocketAddr → Mode → Stream → Stream
+abbrev pub mode_by : SocketAddr → Mode → Stream → Stream
 mode_by a mode stream = cond (same_address stream.local a) (record stream { mode = mode }) stream
 
 swapped : (a b : SocketAddr) (bytes : List ℕ) (mode : Mode) (stream : Stream) → mode_by b mode (bytes_by a bytes stream) ≡ bytes_by a bytes (mode_by b mode stream)

@@ -20,7 +20,7 @@ use Rattle.turn_client_api.specs.Connections.{is_indicated, max_indicated}
 use Rattle.turn_client_api.proofs.HasLemmas.{Has}
 use Rattle.turn_client_laws.proofs.NumberLemmas.{none-filter}
 use Rattle.turn_client_laws.proofs.DoubleLemmas.{none-without_first}
-use Rattle.turn_client_laws.proofs.Edits.{KeepsAllEdits, KeepsEdits, aged-outlines, outline}
+use Rattle.turn_client_laws.proofs.Edits.{KeepsAllEdits, KeepsEdits, aged-outlines, outline, rest-ignored}
 
 pub record KeepsGrants (P : List Grant → Type 0) : Type 0 where
   -- grants are removed
@@ -47,18 +47,8 @@ module _ (P : List Grant → Type 0) (k : KeepsGrants P) where
 
   grants-KeepsEdits : KeepsEdits Stays
   grants-KeepsEdits = record {
-    same = λ s h. h;
-    trans = λ s t u first second h. second (first h);
-    aside = λ s t h. h;
-    queues = λ queue s begun h. h;
-    dequeues = λ queue s fewer h. h;
-    families = λ families s may h. h;
-    sends = λ now s waits h. h;
-    begins = λ now s new h. h;
-    ends = λ s none h. h;
+    rest = rest-ignored Stays (λ s t h. h) (λ s t u first second h. second (first h));
     asks = λ id text purposes now s begun askable spelled h. h;
-    finishes = λ id s h. h;
-    resends = λ id now s h. h;
     unlists = λ which s h. h;
     removes = λ which s spares h. k.filters (λ g. not (which g)) s.grants h;
     removes_family = λ family s h. k.filters (λ g. not (is_of family g)) s.grants h;

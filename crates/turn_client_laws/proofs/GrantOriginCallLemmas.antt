@@ -20,7 +20,7 @@ use Rattle.turn_client_api.specs.Connections.{deadline_set, with_deadline, with_
 use Rattle.turn_client_api.specs.Calls.{is_offer_of, offer_taken, without_first}
 use Rattle.turn_client_api.specs.Retry.{bind_time}
 use Rattle.turn_client_api.specs.Receive.{connection_gone}
-use Rattle.turn_client_laws.proofs.Edits.{KeepsEdits, aged}
+use Rattle.turn_client_laws.proofs.Edits.{KeepsEdits, aged, rest-ignored}
 use Rattle.turn_client_laws.proofs.EditsOfReplies.{gone-walk}
 use Rattle.turn_client_laws.specs.LawsGranted.{IsActiveGrant, IsSameGrant}
 use Rattle.turn_client_laws.proofs.StandLemmas.{Leaves, Left, kept-same, kept-trans, leaves-same, leaves-trans, left-cons, left-filter, left-map, left-skip, left-trans, left-one, left-same}
@@ -80,55 +80,33 @@ first-left which (g ∷ others) = elim (cases_Bool (which g)) [
 ]
 
 -- whether a grant was reported does not count
-aged-stands : (g : Grant) → IsActiveGrant (aged g) → IsActiveGrant g
-aged-stands (Allocation a) = λ h. h
-aged-stands (Permission ip (Pending is_kept)) = λ h. h
-aged-stands (Permission ip (Active lease)) = λ h. h
-aged-stands (Permission ip (Reserved until)) = λ h. h
-aged-stands (Channel number peer (Pending is_kept)) = λ h. h
-aged-stands (Channel number peer (Active lease)) = λ h. h
-aged-stands (Channel number peer (Reserved until)) = λ h. h
-aged-stands g = λ h. h
+aged-stands : (g : Grant) → (IsActiveGrant (aged g) → IsActiveGrant g) × (IsActiveGrant g → IsActiveGrant (aged g))
+aged-stands (Allocation a) = (λ h. h, λ h. h)
+aged-stands (Permission ip (Pending is_kept)) = (λ h. h, λ h. h)
+aged-stands (Permission ip (Active lease)) = (λ h. h, λ h. h)
+aged-stands (Permission ip (Reserved until)) = (λ h. h, λ h. h)
+aged-stands (Channel number peer (Pending is_kept)) = (λ h. h, λ h. h)
+aged-stands (Channel number peer (Active lease)) = (λ h. h, λ h. h)
+aged-stands (Channel number peer (Reserved until)) = (λ h. h, λ h. h)
+aged-stands g = (λ h. h, λ h. h)
 
-stands-aged : (g : Grant) → IsActiveGrant g → IsActiveGrant (aged g)
-stands-aged (Allocation a) = λ h. h
-stands-aged (Permission ip (Pending is_kept)) = λ h. h
-stands-aged (Permission ip (Active lease)) = λ h. h
-stands-aged (Permission ip (Reserved until)) = λ h. h
-stands-aged (Channel number peer (Pending is_kept)) = λ h. h
-stands-aged (Channel number peer (Active lease)) = λ h. h
-stands-aged (Channel number peer (Reserved until)) = λ h. h
-stands-aged g = λ h. h
-
-kept-aged : (g : Grant) → IsActiveGrant g → IsSameGrant g (aged g)
-kept-aged (Allocation a) = λ h. (refl, refl)
-kept-aged (Permission ip (Pending is_kept)) = λ h. absurd h
-kept-aged (Permission ip (Active lease)) = λ h. (refl, refl)
-kept-aged (Permission ip (Reserved until)) = λ h. absurd h
-kept-aged (Channel number peer (Pending is_kept)) = λ h. absurd h
-kept-aged (Channel number peer (Active lease)) = λ h. (refl, refl, refl)
-kept-aged (Channel number peer (Reserved until)) = λ h. absurd h
-kept-aged (Connect peer) = λ h. absurd h
-kept-aged (Offer offer) = λ h. absurd h
-kept-aged g = kept-same g
-
-aged-kept : (g : Grant) → IsActiveGrant g → IsSameGrant (aged g) g
-aged-kept (Allocation a) = λ h. (refl, refl)
+aged-kept : (g : Grant) → IsActiveGrant g → IsSameGrant g (aged g) × IsSameGrant (aged g) g
+aged-kept (Allocation a) = λ h. ((refl, refl), (refl, refl))
 aged-kept (Permission ip (Pending is_kept)) = λ h. absurd h
-aged-kept (Permission ip (Active lease)) = λ h. (refl, refl)
+aged-kept (Permission ip (Active lease)) = λ h. ((refl, refl), (refl, refl))
 aged-kept (Permission ip (Reserved until)) = λ h. absurd h
 aged-kept (Channel number peer (Pending is_kept)) = λ h. absurd h
-aged-kept (Channel number peer (Active lease)) = λ h. (refl, refl, refl)
+aged-kept (Channel number peer (Active lease)) = λ h. ((refl, refl, refl), (refl, refl, refl))
 aged-kept (Channel number peer (Reserved until)) = λ h. absurd h
 aged-kept (Connect peer) = λ h. absurd h
 aged-kept (Offer offer) = λ h. absurd h
-aged-kept g = kept-same g
+aged-kept g = λ h. (kept-same g h, kept-same g h)
 
 alike-kept : (g h : Grant) → aged h ≡ aged g → IsActiveGrant h → IsSameGrant g h
 alike-kept g h e stands =
-    let was : IsActiveGrant (aged g) = subst IsActiveGrant e (stands-aged h stands) in
-    let is : IsSameGrant (aged g) h = subst (λ (x : Grant). IsSameGrant x h) e (aged-kept h stands) in
-    kept-trans g (aged g) h (kept-aged g (aged-stands g was)) is
+    let was : IsActiveGrant (aged g) = subst IsActiveGrant e ((aged-stands h).1 stands) in
+    let is : IsSameGrant (aged g) h = subst (λ (x : Grant). IsSameGrant x h) e (aged-kept h stands).1 in
+    kept-trans g (aged g) h (aged-kept g ((aged-stands g).0 was)).0 is
 
 alike-left : (gs hs : List Grant) → map aged hs ≡ map aged gs → Left gs hs
 alike-left [] [] e = left-same []
@@ -140,18 +118,8 @@ alike-left gs hs e = cc
 
 pub Leaves-KeepsEdits : KeepsEdits Leaves
 Leaves-KeepsEdits = record {
-  same = leaves-same;
-  trans = leaves-trans;
-  aside = λ s t. leaves-same s;
-  queues = λ queue s begun. leaves-same s;
-  dequeues = λ queue s fewer. leaves-same s;
-  families = λ families s may. leaves-same s;
-  sends = λ now s waits. leaves-same s;
-  begins = λ now s new. leaves-same s;
-  ends = λ s none. leaves-same s;
+  rest = rest-ignored Leaves (λ s t. leaves-same s) leaves-trans;
   asks = λ id text purposes now s begun askable spelled. leaves-same s;
-  finishes = λ id s. leaves-same s;
-  resends = λ id now s. leaves-same s;
   unlists = λ which s. leaves-same s;
   removes = λ which s spares. left-filter _ s.grants;
   removes_family = λ family s. left-filter _ s.grants;

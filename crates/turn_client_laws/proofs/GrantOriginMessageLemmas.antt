@@ -37,7 +37,7 @@ use Rattle.turn_client_laws.proofs.InAllocationLemmas.{any-has, has-any}
 
 -- ---- what is judged to be granted
 
-for-allocation : (purposes : List Purpose) → list_any is_for_allocation purposes ≡ true → Has ForAllocation purposes
+pub for-allocation : (purposes : List Purpose) → list_any is_for_allocation purposes ≡ true → Has ForAllocation purposes
 for-allocation [] e = cc
 for-allocation (ForAllocation ∷ purposes) e = inl refl
 for-allocation (_ ∷ purposes) e = inr (for-allocation purposes e)
@@ -76,7 +76,7 @@ reply-takes purposes is_granted message now before s known all =
     (answered_purposes message s) (λ p there. there) (transaction_ended (id_of message) s) (λ l there. there, λ number peer h. h)
 
 -- each address that is chosen is among those of the message
-taken-relayed : (families : List AddressFamily) (addresses : List SocketAddr) (a : SocketAddr) → Has a (taken_addresses families addresses) → Has a addresses
+pub taken-relayed : (families : List AddressFamily) (addresses : List SocketAddr) (a : SocketAddr) → Has a (taken_addresses families addresses) → Has a addresses
 taken-relayed families [] a there = absurd there
 taken-relayed families (b ∷ later) a there = elim (cases_Bool (list_any (λ family. is_of_family family b) families)) [
   | inl e ↦ elim (rw e at there) [ inl is ↦ inl is | inr more ↦ inr (taken-relayed (filter (λ family. not (is_of_family family b)) families) later a more) ]
@@ -84,7 +84,8 @@ taken-relayed families (b ∷ later) a there = elim (cases_Bool (list_any (λ fa
 ]
 
 -- it is of a requested family
-taken-family : (families : List AddressFamily) (addresses : List SocketAddr) (a : SocketAddr) → Has a (taken_addresses families addresses) → list_any (λ family. is_of_family family a) families ≡ true
+pub taken-family : (families : List AddressFamily) (addresses : List SocketAddr) (a : SocketAddr) → Has a (taken_addresses families addresses)
+    → list_any (λ family. is_of_family family a) families ≡ true
 taken-family families [] a there = absurd there
 taken-family families (b ∷ later) a there = elim (cases_Bool (list_any (λ family. is_of_family family b) families)) [
   | inl e ↦ elim (rw e at there) [

@@ -38,7 +38,7 @@ use Rattle.turn_client_laws.proofs.InAllocationLemmas.{in_allocations-listings, 
 use Rattle.turn_client_laws.proofs.InAllocationLemmas.{room-of, room-without, same_family-self, same_family-true, shape}
 use Rattle.turn_client_laws.proofs.TakenOfferLemmas.{no-offer, stays-first, was-first}
 use Rattle.turn_client_laws.proofs.GrantOriginLemmas.{has-mapped}
-use Rattle.turn_client_laws.proofs.Edits.{IsAskable, KeepsAllEdits, KeepsEdits, aged-outlines, outline}
+use Rattle.turn_client_laws.proofs.Edits.{IsAskable, KeepsAllEdits, KeepsEdits, aged-outlines, outline, rest-ignored}
 use Rattle.turn_client_laws.proofs.EditsOfMessages.{purposes-listed}
 use Rattle.turn_client_laws.proofs.EditsOfCalls.{leaves-walk}
 
@@ -158,18 +158,8 @@ allocates-stays_in_allocations lifetime now addresses s h = in_allocations-grant
 
 KeepsInAllocations-KeepsEdits : KeepsEdits KeepsInAllocations
 KeepsInAllocations-KeepsEdits = record {
-  same = λ s h. h;
-  trans = λ s t u first second h. second (first h);
-  aside = λ s t h. h;
-  queues = λ queue s begun h. h;
-  dequeues = λ queue s fewer h. h;
-  families = λ families s may h. h;
-  sends = λ now s waits h. h;
-  begins = λ now s new h. h;
-  ends = λ s none h. h;
+  rest = rest-ignored KeepsInAllocations (λ s t h. h) (λ s t u first second h. second (first h));
   asks = λ id text purposes now s begun askable spelled h. in_allocations-listings s.grants s.listed id purposes h (λ p there. askable-backed s p h (askable p there));
-  finishes = λ id s h. h;
-  resends = λ id now s h. h;
   unlists = λ which s. in_allocations-filter s.grants which s.listed;
   removes = λ which s spares. without-stays_in_allocations which (all-spared which spares) s;
   removes_family = λ family s. without-stays_in_allocations (is_of family) (family-spares family) s;

@@ -44,31 +44,13 @@ abbrev pub IgnoresMarks : (Grant → Bool) → Type 0
 IgnoresMarks which = (is_kept : Bool) (g : Grant) → which (marked is_kept g) ≡ which g
 
 pub permissions-ignore : (other : IpAddr) → IgnoresMarks (is_permission_of other)
-permissions-ignore other is_kept (Permission ip (Pending k)) = refl
-permissions-ignore other is_kept (Permission ip (Active lease)) = refl
-permissions-ignore other is_kept (Permission ip (Reserved until)) = refl
-permissions-ignore other is_kept (Channel number to (Pending k)) = refl
-permissions-ignore other is_kept (Channel number to (Active lease)) = refl
-permissions-ignore other is_kept (Channel number to (Reserved until)) = refl
-permissions-ignore other is_kept g = refl
+permissions-ignore other is_kept g = grind arith
 
 pub channels-ignore : (other : SocketAddr) → IgnoresMarks (is_open_to other)
-channels-ignore other is_kept (Permission ip (Pending k)) = refl
-channels-ignore other is_kept (Permission ip (Active lease)) = refl
-channels-ignore other is_kept (Permission ip (Reserved until)) = refl
-channels-ignore other is_kept (Channel number to (Pending k)) = refl
-channels-ignore other is_kept (Channel number to (Active lease)) = refl
-channels-ignore other is_kept (Channel number to (Reserved until)) = refl
-channels-ignore other is_kept g = refl
+channels-ignore other is_kept g = grind arith
 
 pub success-keeps : (expiry : ℕ) (g : Grant) → is_kept (lasting expiry g) ≡ is_kept g
-success-keeps expiry (Permission ip (Pending k)) = refl
-success-keeps expiry (Permission ip (Active lease)) = refl
-success-keeps expiry (Permission ip (Reserved until)) = refl
-success-keeps expiry (Channel number to (Pending k)) = refl
-success-keeps expiry (Channel number to (Active lease)) = refl
-success-keeps expiry (Channel number to (Reserved until)) = refl
-success-keeps expiry g = refl
+success-keeps expiry g = grind arith
 
 marked-back : (g : Grant) → is_kept g ≡ true → marked true (marked false g) ≡ g
 marked-back (Permission ip (Pending k)) e = rw (sym e) refl

@@ -1,5 +1,5 @@
 -- What a request is listed for exists.
-use Rattle.std.proofs.Common.{◌≡◌, ℕ, Bool, true, not, eqb, ◌&&◌, List, [], ◌∷◌, ◌++◌, map, ◌⊎◌, inl, inr, refl, sym, subst, ap, ◌∙◌}
+use Rattle.std.proofs.Common.{arith, ◌≡◌, ℕ, Bool, true, not, eqb, ◌&&◌, List, [], ◌∷◌, ◌++◌, map, ◌⊎◌, inl, inr, refl, sym, subst, ap, ◌∙◌}
 use Rattle.std.specs.List.{list_any}
 use Rattle.std.proofs.lemmas.Bool.{and_from, and_parts, or_left, cases_Bool}
 use Rattle.std.proofs.lemmas.List.Folds.{list_any-append}
@@ -23,7 +23,7 @@ use Rattle.turn_client_api.proofs.HasLemmas.{Has, all-has, has-all, has-append, 
 use Rattle.turn_client_laws.proofs.InAllocationLemmas.{any-has, has-any, not-both, stays}
 use Rattle.turn_client_laws.proofs.TakenOfferLemmas.{no-offer, stays-first}
 use Rattle.turn_client_laws.proofs.GrantOriginLemmas.{has-mapped}
-use Rattle.turn_client_laws.proofs.Edits.{aged-outlines, IsAskable, KeepsAllEdits, KeepsEdits, outline}
+use Rattle.turn_client_laws.proofs.Edits.{aged-outlines, IsAskable, KeepsAllEdits, KeepsEdits, outline, rest-ignored}
 use Rattle.turn_client_laws.proofs.EditsOfCalls.{leaves-walk}
 
 -- what is requested, the request is for
@@ -79,13 +79,7 @@ taken-founded id peer s h l there = elim (h l there) [
 -- ---- grants change
 
 asked-outline : (p : Purpose) (g : Grant) → is_asked_by p (outline g) ≡ is_asked_by p g
-asked-outline ForAllocation g = refl
-asked-outline (ForRefresh family lifetime) (Allocation a) = refl
-asked-outline (ForPermission ip) (Allocation a) = refl
-asked-outline (ForChannel number peer) (Allocation a) = refl
-asked-outline (ForConnect peer) (Allocation a) = refl
-asked-outline (ForBind local peer id) (Allocation a) = refl
-asked-outline p g = refl
+asked-outline p g = grind arith
 
 any-outline : (p : Purpose) (gs : List Grant) → list_any (is_asked_by p) (map outline gs) ≡ list_any (is_asked_by p) gs
 any-outline p [] = refl
@@ -115,18 +109,8 @@ asked-founded id purposes s askable h l there = elim (has-append l s.listed (lis
 
 StayFounded-KeepsEdits : KeepsEdits StayFounded
 StayFounded-KeepsEdits = record {
-  same = λ s h. h;
-  trans = λ s t u first second h. second (first h);
-  aside = λ s t h. h;
-  queues = λ queue s begun h. h;
-  dequeues = λ queue s fewer h. h;
-  families = λ families s may h. h;
-  sends = λ now s waits h. h;
-  begins = λ now s new h. h;
-  ends = λ s none h. h;
+  rest = rest-ignored StayFounded (λ s t h. h) (λ s t u first second h. second (first h));
   asks = λ id text purposes now s begun askable spelled h. asked-founded id purposes s askable h;
-  finishes = λ id s h. h;
-  resends = λ id now s h. h;
   unlists = λ which s h l there. h l (has-filter which l s.listed there).0;
   removes = λ which s spares. without-founded which s;
   removes_family = λ family s. without-founded (is_of family) s;

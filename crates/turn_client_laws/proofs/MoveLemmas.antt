@@ -148,7 +148,3 @@ on_choice P false x y k l = l
 -- a state by a test
 pub on_test : (P : State → Type 0) (b : Bool) (s t : State) → P s → P t → P (cond b s t)
 on_test = on_choice
-
-pub cases_Option : {A : Type 0} (o : Option A) → (o ≡ None) ⊎ ((x : A) × (o ≡ Some x))
-cases_Option None = inl refl
-cases_Option (Some x) = inr (x, refl)

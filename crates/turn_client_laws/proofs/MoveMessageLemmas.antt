@@ -45,6 +45,7 @@ use Rattle.turn_client_laws.proofs.MoveReplyLemmas.{IsFor, response-fits}
 use Rattle.turn_client_laws.proofs.OneInputLemmas.{bind-by, input-by}
 use Rattle.turn_client_laws.proofs.GrantOriginLemmas.{has-mapped}
 use Rattle.turn_client_laws.proofs.StandLemmas.{has-contains}
+use Rattle.turn_client_laws.proofs.GrantOriginMessageLemmas.{for-allocation}
 
 -- the message requests this, and removes grants so
 abbrev pub MovesByMessage : (Grant → Type 0) → List ℕ → ℕ → State → State → Type 0
@@ -166,16 +167,11 @@ denied-moves Taken message now s answers = by (has_code family_not_supported mes
 
 -- ---- what is so judged answers an ALLOCATE
 
-any-allocation : (all : List Purpose) → list_any is_for_allocation all ≡ true → Has ForAllocation all
-any-allocation [] e = cc
-any-allocation (ForAllocation ∷ all) e = inl refl
-any-allocation (_ ∷ all) e = inr (any-allocation all e)
-
 error-answers : (s : State) (message : List ℕ) → authenticating_judgement s message ≡ SignedError → Has ForAllocation (purposes_of (id_of message) s)
 error-answers s message e = by (answers_allocate s message) refl
   where
     by : (b : Bool) → answers_allocate s message ≡ b → Has ForAllocation (purposes_of (id_of message) s)
-    by true f = any-allocation (purposes_of (id_of message) s) (and_parts (is_response (class_in message)) (list_any is_for_allocation (purposes_of (id_of message) s)) f).1
+    by true f = for-allocation (purposes_of (id_of message) s) (and_parts (is_response (class_in message)) (list_any is_for_allocation (purposes_of (id_of message) s)) f).1
     by false f = let no : Unrelated ≡ SignedError = rw f at e in cc
 
 -- ---- signed replies

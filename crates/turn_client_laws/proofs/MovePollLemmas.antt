@@ -34,6 +34,7 @@ use Rattle.turn_client_api.proofs.EarlyExpiryLemmas.{expired_at-none}
 use Rattle.turn_client_api.proofs.HasLemmas.{Has, all-has, has-found}
 use Rattle.turn_client_laws.proofs.AfterExpiryLemmas.{expired_at-shrinks}
 use Rattle.turn_client_laws.proofs.MoveCallLemmas.{Does, ListedAt, MadeAt, does-same, does-settled}
+use Rattle.turn_client_laws.proofs.CaseLemmas.{all-expire}
 use Rattle.turn_client_laws.proofs.MoveLemmas.{Adds, Loses, Never, Settles, adds-filter, adds-never, adds-one, adds-same, adds-then, by_test, loses-same}
 use Rattle.turn_client_laws.proofs.MoveLemmas.{none-found, on_choice, on_test, settles-same, loses-cons}
 use Rattle.turn_client_laws.proofs.GrantOriginLemmas.{has-mapped}
@@ -73,13 +74,8 @@ expired_in-fewer family given purposes now = expired_in-does Fewer family given 
 })
 
 expired_at-fewer : (given : Option ℕ) (purposes : List Purpose) (now : ℕ) (relays : List Relay) (s : State) → Fewer s (fold (expired_allocation given purposes now) s relays)
-expired_at-fewer given purposes now [] s = fewer-same s
-expired_at-fewer given purposes now (a ∷ relays) s =
-    let t = expired_allocation given purposes now s a in
-    fewer-then s t (fold (expired_allocation given purposes now) t relays)
-    (on_test (Fewer s) (allocation_expires purposes now s a) (without_grants (is_of (family_of a.relayed)) s) (expired_in (family_of a.relayed) given purposes now s) (adds-filter Never _ s.listed)
-    (expired_in-fewer (family_of a.relayed) given purposes now s))
-    (expired_at-fewer given purposes now relays t)
+expired_at-fewer given purposes now =
+    all-expire Fewer fewer-same fewer-then given purposes now (λ family t. adds-filter Never _ t.listed) (λ family. expired_in-fewer family given purposes now)
 
 -- ---- what time removes
 

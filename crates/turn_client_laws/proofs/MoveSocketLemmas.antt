@@ -41,6 +41,7 @@ use Rattle.turn_client_laws.proofs.MoveLemmas.{loses-same, on_test, settles-same
 use Rattle.turn_client_laws.proofs.MoveCallLemmas.{Does, ListedAt, MadeAt, does-same, does-settled}
 use Rattle.turn_client_laws.proofs.MoveMessageLemmas.{each-listing, made-of, request_made}
 use Rattle.turn_client_laws.proofs.GrantOriginLemmas.{has-mapped}
+use Rattle.turn_client_laws.proofs.CaseLemmas.{send_to-by}
 
 -- a pair by the result of a look-up
 pub by_found : {A X : Type 0} (P : State → Type 0) (f : X → A × State) (o : Option X) (y : A × State) → ((x : X) → o ≡ Some x → P (f x).1) → P y.1 → P (option_map_or f o y).1
@@ -183,23 +184,10 @@ module _ (now : ℕ) (s : State) where
 
 -- ---- data and errors
 
-channel_data-does : (call : Call) (channels : List (ℕ × ℕ)) (peer : SocketAddr) (bytes : List ℕ) (now : ℕ) (s : State) → Does call s (on_channel channels peer bytes now s).1
-channel_data-does call [] peer bytes now s = does-settled call s _ (settles-same (IsTakenBy call s) s)
-channel_data-does call ((number, expiry) ∷ others) peer bytes now s =
-    by_test (Does call s) (leb now expiry) _ _ (does-same call s) (does-settled call s _ (settles-same (IsTakenBy call s) s))
-
-connection_data-does : (call : Call) (o : Option DataConnection) (bytes : List ℕ) (s : State) → Does call s (on_connection o bytes s).1
-connection_data-does call (Some c) bytes s = does-same call s
-connection_data-does call None bytes s = does-same call s
-
-over-does : (call : Call) (transport : TransportType) (peer : SocketAddr) (bytes : List ℕ) (now : ℕ) (s : State) → Does call s (send_over transport peer bytes now s).1
-over-does call Tcp peer bytes now s = connection_data-does call (find (bound_to peer) (filter_map as_connection s.grants)) bytes s
-over-does call Udp peer bytes now s = channel_data-does call (filter_map (active_channel peer) s.grants) peer bytes now s
-
 pub send-does : (transport : TransportType) (peer : SocketAddr) (bytes : List ℕ) (now : ℕ) (s : State) → Does (SendTo transport peer bytes now) s (send_to_step transport peer bytes now s).1
 send-does transport peer bytes now s =
     let call = SendTo transport peer bytes now in
-    by_test (Does call s) (can_send_to transport (socket_ip peer) s) (send_over transport peer bytes now s) _ (over-does call transport peer bytes now s) (does-same call s)
+    send_to-by (Does call s) transport peer bytes now s (λ ids. does-settled call s _ (settles-same (IsTakenBy call s) s))
 
 pub error-does : (s : State) → Does ProtocolError s (protocol_error_step s)
 error-does s =

@@ -22,8 +22,9 @@ use Rattle.turn_client_api.specs.declared.grant.Origin.{Origin}
 use Rattle.turn_client_api.specs.declared.grant.Origin.TheVariants.{ServerRequest}
 use Rattle.turn_client_api.specs.Grants.{is_of_request, as_offer}
 use Rattle.turn_client_api.specs.Requests.{counted_up, fresh_id, is_taken, max_ids_taken}
-use Rattle.turn_client_laws.proofs.MoveLemmas.{cases_Option, none-found}
+use Rattle.turn_client_laws.proofs.MoveLemmas.{none-found}
 use Rattle.turn_client_laws.proofs.InAllocationLemmas.{any-has}
+use Rattle.turn_client_api.proofs.HasLemmas.{cases_Option}
 
 -- ---- candidates
 

@@ -30,11 +30,11 @@ aside-then local s t u first later = record {
   others = λ x h. ap later.change (first.others x h) ∙ later.others x h;
 }
 
-bytes-aside : (local : SocketAddr) (bytes : List ℕ) (s : State) → IsAsideFrom local s (with_bytes local bytes s)
+pub bytes-aside : (local : SocketAddr) (bytes : List ℕ) (s : State) → IsAsideFrom local s (with_bytes local bytes s)
 unfolding bytes_by
 bytes-aside local bytes s = record { change = bytes_by local bytes; same = refl; ends = (bytes_by-Sets local bytes).keeps; others = λ x h. rw h refl }
 
-broken-aside : (local : SocketAddr) (s : State) → IsAsideFrom local s (broken_at local s)
+pub broken-aside : (local : SocketAddr) (s : State) → IsAsideFrom local s (broken_at local s)
 unfolding broken_by
 broken-aside local s = record { change = broken_by local; same = refl; ends = (broken_by-Sets local).keeps; others = λ x h. rw h refl }
 

@@ -32,10 +32,10 @@ use Rattle.turn_client_api.specs.Steps.{Leaves}
 use Rattle.turn_client_api.specs.declared.call.Call.TheVariants.{Poll}
 use Rattle.turn_client_laws.specs.LawsNumbers.{HasDistinctNumbers, number_of_channel}
 use Rattle.turn_client_laws.specs.LawsGone.{IsGivenUp, IsOver, IsPastWith, HasExpiredOrFailed, IsStillThere, grant_identity}
-use Rattle.turn_client_api.proofs.HasLemmas.{Has, filter-has, has-append, has-filter, has-filter_map, has-found, has-left, has-right, filter_map-has}
+use Rattle.turn_client_api.proofs.HasLemmas.{Has, filter-has, has-append, has-filter, has-filter_map, has-found, has-left, has-right, filter_map-has, cases_Option}
 use Rattle.turn_client_laws.proofs.InAllocationLemmas.{same_family-true}
 use Rattle.turn_client_api.proofs.HasLemmas.{has-unreversed}
-use Rattle.turn_client_laws.proofs.MoveLemmas.{Never, Remains, by_test, remains-here, cases_Option}
+use Rattle.turn_client_laws.proofs.MoveLemmas.{Never, Remains, by_test, remains-here}
 use Rattle.turn_client_laws.proofs.MovePollLemmas.{reported-loses}
 use Rattle.turn_client_laws.proofs.NumberLemmas.{AreApart, all-of, numbers}
 use Rattle.turn_client_laws.proofs.StandLemmas.{contains-has, has-contains}

@@ -49,18 +49,20 @@ pub record KeepsAllPhaseEdits (HasAccepted : Type 0) (R : State → State → Ty
 
 pub phase-edits : (R : State → State → Type 0) → KeepsPhaseEdits R → KeepsEdits R
 phase-edits R k = record {
-  same = λ s. k.rest s s;
-  trans = k.trans;
-  aside = λ s t. k.rest s (record s { ids = t.ids; events = t.events; closes = t.closes });
-  queues = λ queue s begun. k.rest s (record s { queue = queue });
-  dequeues = λ queue s fewer. k.rest s (record s { queue = queue });
-  families = λ families s may. k.rest s (record s { families = families });
-  sends = λ now s waits. k.sends now s;
-  begins = k.begins;
-  ends = λ s none. k.ends s;
+  rest = record {
+    same = λ s. k.rest s s;
+    trans = k.trans;
+    aside = λ s t. k.rest s (record s { ids = t.ids; events = t.events; closes = t.closes });
+    queues = λ queue s begun. k.rest s (record s { queue = queue });
+    dequeues = λ queue s fewer. k.rest s (record s { queue = queue });
+    families = λ families s may. k.rest s (record s { families = families });
+    sends = λ now s waits. k.sends now s;
+    begins = k.begins;
+    ends = λ s none. k.ends s;
+    finishes = λ id s. k.rest s (transaction_ended id s);
+    resends = λ id now s. k.rest s (record s { transactions = resent id now s.transactions });
+  };
   asks = λ id text purposes now s begun askable spelled. k.rest s (request_started id text purposes now s);
-  finishes = λ id s. k.rest s (transaction_ended id s);
-  resends = λ id now s. k.rest s (record s { transactions = resent id now s.transactions });
   unlists = λ which s. k.rest s (record s { listed = filter which s.listed });
   removes = λ which s spares. k.rest s (without_grants which s);
   removes_family = λ family s. k.rest s (without_grants (is_of family) s);

@@ -1,5 +1,5 @@
 -- When a client with nothing pending is idle, and when it has something to send.
-use Rattle.std.proofs.Common.{◌≡◌, ◌≢◌, ℕ, suc, ◌+◌, ◌*◌, ◌-◌, ◌^◌, ◌<◌, ◌≤◌, min, max, Bool, true, false, ◌&&◌, not, ltb, leb, List, [], ◌∷◌, ◌++◌, length}
+use Rattle.std.proofs.Common.{drop, ◌≡◌, ◌≢◌, ℕ, suc, ◌+◌, ◌*◌, ◌-◌, ◌^◌, ◌<◌, ◌≤◌, min, max, Bool, true, false, ◌&&◌, not, ltb, leb, List, [], ◌∷◌, ◌++◌, length}
 use Rattle.std.proofs.lemmas.Bool.Decides.{nat_tests}
 use Rattle.std.proofs.Common.{map, filter, flat_map, filter_map, fold, Option, Some, None, ◌⊎◌, inl, inr, refl, sym, subst, ◌∙◌, arith}
 use Rattle.std.specs.Prelude.{if◌then◌else◌, is_some, IsSome, IfSome, ⊤, slice_get, option_to_list}
@@ -36,8 +36,8 @@ use Rattle.turn_client_api.specs.Transmit.{refreshes_of_rank, reply_in}
 use Rattle.turn_client_api.specs.Transmit.{reply_step, sent, sent_at_once, transmit_step, without_first_reply}
 use Rattle.turn_client_api.specs.Alarm.{IsIdleUntil, Lasts}
 use Rattle.turn_client_api.proofs.HasLemmas.{Has, has-append, has-left, has-right, map-has, flat_map-has, has-flat_map, has-found, filter-has, filter_map-has, has-filter_map, find-none, filter-none}
-use Rattle.turn_client_api.proofs.HasLemmas.{least-le, all-has}
-use Rattle.turn_client_laws.proofs.MoveLemmas.{cases_Option, none-found}
+use Rattle.turn_client_api.proofs.HasLemmas.{least-le, all-has, cases_Option}
+use Rattle.turn_client_laws.proofs.MoveLemmas.{none-found}
 use Rattle.turn_client_laws.proofs.GrantOriginLemmas.{has-mapped}
 use Rattle.std.proofs.lemmas.Bool.{and_parts}
 
@@ -163,12 +163,16 @@ idle_silent now m t before idle Allocated old =
 idle_silent now m t before idle p old = refl
 
 -- what is sent if nothing is to be retransmitted
-not_due-transmit : (m : ℕ) (t : State) → due (agent_of t) m ≡ None → transmit_step m t ≡ (if is_paused m t then reply_step t else queue_step m t)
+pub not_due-transmit : (m : ℕ) (t : State) → due (agent_of t) m ≡ None → transmit_step m t ≡ (if is_paused m t then reply_step t else queue_step m t)
 not_due-transmit m t none = rw (none, transmit_step) refl
 
-no_reply-kept : (qs : List Queued) → list_any (λ q. not q.is_request) qs ≡ false → without_first_reply qs ≡ qs
+pub no_reply-kept : (qs : List Queued) → list_any (λ q. not q.is_request) qs ≡ false → without_first_reply qs ≡ qs
 no_reply-kept [] none = refl
 no_reply-kept (q ∷ qs) none = grind (arith, no_reply-kept qs)
+
+pub no_reply-left : (qs : List Queued) → list_any (λ q. not q.is_request) qs ≡ false → list_any (λ q. not q.is_request) (drop 1 qs) ≡ false
+no_reply-left [] none = none
+no_reply-left (q ∷ qs) none = (Rattle.std.proofs.lemmas.Bool.or_parts (not q.is_request) (list_any (λ q. not q.is_request) qs) none).1
 
 reply-none : (t : State) → has_reply t ≡ false → reply_step t ≡ (None, t)
 reply-none t none = rw (no_replies t.queue none, no_reply-kept t.queue none) refl
@@ -218,16 +222,8 @@ later-least now start [] first later = first
 later-least now start (m ∷ ms) first later =
     later-least now (min start m) ms (omega (arith, le-min {k = suc now} {a = start} {b = m} (omega (arith, first)) (omega (arith, later m (inl refl))))) (λ k h. later k (inr h))
 
-has-one : (m k : ℕ) → Has m (k ∷ []) → m ≡ k
-has-one m k (inl same) = same
-has-one m k (inr none) = absurd none
-
 has-queued : (now m : ℕ) (t : State) → (has_queued_request t ≡ true → now < pause_end t) → Has m (queued_part t) → now < m
 has-queued now m t queued h = grind arith
-
-and_false_left : (x y : Bool) → y ≡ true → (x && y) ≡ false → x ≡ false
-and_false_left true y passes fails = sym passes ∙ fails
-and_false_left false y passes fails = refl
 
 waits_on : (timers : Timers) (transport : TransportType) (now : ℕ) (t : Transaction) → is_due timers transport now t ≡ false → is_timed_out timers transport now t ≡ false
     → now < transaction_timeout timers transport t
@@ -257,9 +253,16 @@ all-later now t ready range queued none_due each alive = later-least now max_tim
         whole (inl p) = grants (has-append m (queued_part t ++ transactions_part t) (flat_map (grant_part now t) t.grants) p)
         whole (inr k) = alive m k
 
-refresh-sends : (now : ℕ) (t : State) (ps : List Purpose) → flat_map (refreshes_in now t) (allocations t) ≡ ps → (p : Purpose) → Has p ps → IsSome (refresh_step now t).0
+refresh-sends : (now : ℕ) (t : State) (ps : List Purpose) → flat_map (refreshes_in now t) (allocations t) ≡ ps → (p : Purpose) → Has p ps → IsSome (next_refresh now t)
 refresh-sends now t [] e p h = absurd h
 refresh-sends now t (q ∷ qs) e p h = rw e refl
+
+-- with something to refresh, a packet is sent
+pub next-sends : (now : ℕ) (t : State) → IsSome (next_refresh now t) → IsSome (refresh_step now t).0
+next-sends now t some = elim (cases_Option (next_refresh now t)) [
+  | inl e ↦ let no : false ≡ true = rw e at some in cc
+  | inr (purpose, e) ↦ rw e refl
+]
 
 same_family-swap : (a b : AddressFamily) → same_family a b ≡ true → same_family b a ≡ true
 same_family-swap a b e = grind arith
@@ -269,9 +272,9 @@ same_family-self IPV4 = refl
 same_family-self IPV6 = refl
 
 -- a grant in use whose allocation is active, and which may be refreshed, is refreshed when its time has
--- come
-refreshed-once : (now : ℕ) (t : State) (g : Grant) (a : Relay) (rank : ℕ) (p : Purpose) → Has g t.grants → Has a (allocations t) → now ≤ a.expiry → is_of (family_of a.relayed) g ≡ true
-    → Has rank (0 ∷ 1 ∷ 2 ∷ []) → is_ranked rank g ≡ true → is_refresh_due now t g ≡ true → refresh_purpose now g ≡ Some p → IsSome (refresh_step now t).0
+-- come, or another one before it
+pub refreshed-once : (now : ℕ) (t : State) (g : Grant) (a : Relay) (rank : ℕ) (p : Purpose) → Has g t.grants → Has a (allocations t) → now ≤ a.expiry → is_of (family_of a.relayed) g ≡ true
+    → Has rank (0 ∷ 1 ∷ 2 ∷ []) → is_ranked rank g ≡ true → is_refresh_due now t g ≡ true → refresh_purpose now g ≡ Some p → IsSome (next_refresh now t)
 refreshed-once now t g a rank p h inside goes_on here ranked is due gives =
     let test = is_due_in rank (family_of a.relayed) now t in
     let of_rank = refreshes_of_rank now t (family_of a.relayed) in
@@ -291,10 +294,10 @@ used-due now t g due = grind arith
 -- in `Allocated`, with nothing queued and the pause over, a refresh whose time has come is sent
 refresh-busy : (now : ℕ) (t : State) → IsReady now t → (g : Grant) → Has g t.grants → is_refresh_due now t g ≡ true → IsSome (refresh_step now t).0
 unfolding refresh_time
-refresh-busy now t ready g h due = by g h due
+refresh-busy now t ready g h due = next-sends now t (by g h due)
   where
     Sends : Type 0
-    Sends = IsSome (refresh_step now t).0
+    Sends = IsSome (next_refresh now t)
 
     -- of a permission or channel, its allocation is in use and has not expired
     within : (g : Grant) → Has g t.grants → is_refresh_due now t g ≡ true → (rank : ℕ) → Has rank (0 ∷ 1 ∷ 2 ∷ []) → is_ranked rank g ≡ true → (p : Purpose) → refresh_purpose now g ≡ Some p

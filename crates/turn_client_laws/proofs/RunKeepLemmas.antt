@@ -27,9 +27,6 @@ pub record IsKept (R : State → State → Type 0) : Type 0 where
   pub gone : (local : SocketAddr) (s : State) → R s (connection_gone local s)
 
 module _ (R : State → State → Type 0) (k : IsKept R) where
-  pub datagram-kept : (bytes : List ℕ) (now : ℕ) (s : State) → R s (datagram_step bytes now s).1
-  datagram-kept bytes now s = datagram-by (R s) bytes now s (k.same s) (λ whole. k.message bytes now s)
-
   pub frame-kept : (stream : Stream) (frame : List ℕ) (now : ℕ) (s : State) → R s (frame_step stream frame now s).1
   frame-kept stream frame now s =
       frame-by (R s) frame now s (k.same s) stream (λ mode whole. k.message frame now s) (λ mode whole. k.binds stream.local frame now s)

@@ -29,6 +29,7 @@ use Rattle.turn_client_laws.proofs.InAllocationLemmas.{any-has, has-any}
 use Rattle.turn_client_laws.proofs.Edits.{KeepsAllEdits, KeepsEdits, aged-outlines, outline}
 use Rattle.turn_client_laws.proofs.EditsOfCalls.{leaves-walk}
 use Rattle.turn_client_laws.proofs.PhasesGoOn.{Keeps, Keeps-KeepsAllEdits, Keeps-KeepsEdits, keeps-same, keeps-trans, rank-with}
+use Rattle.turn_client_laws.proofs.DistinctGrants.{empty-outline}
 
 -- what is kept, by a client that goes on
 abbrev Steadies : State → State → Type 0
@@ -57,10 +58,6 @@ counts-steady p challenges s h = grind arith
 
 -- ---- lists
 
-empty-outline : (gs : List Grant) → map outline gs ≡ [] → gs ≡ []
-empty-outline [] e = refl
-empty-outline (g ∷ gs) e = cc
-
 fewer-empty : (queue was : List Queued) → ((q : Queued) → Has q queue → Has q was) → was ≡ [] → queue ≡ []
 fewer-empty [] was fewer none = refl
 fewer-empty (q ∷ queue) was fewer none = absurd (rw none at (fewer q (inl refl)))
@@ -73,19 +70,21 @@ fewer-queued queue s fewer some =
 
 Steadies-KeepsEdits : KeepsEdits Steadies
 Steadies-KeepsEdits = record {
-  same = λ s. (λ h. h, keeps-same s);
-  trans = λ s t u first second. (λ h. second.0 (first.0 h), keeps-trans s t u first.1 second.1);
-  aside = λ s t. (λ h. h, keeps-same s);
-  queues = λ queue s begun. (λ h. (λ new. absurd (rw new at begun), h.1, λ q. h.1 begun, h.3), keeps-same s);
-  dequeues = λ queue s fewer.
-      (λ h. (λ new. ((h.0 new).0, fewer-empty queue s.queue fewer (h.0 new).1, (h.0 new).2), h.1, λ q. h.2 (fewer-queued queue s fewer q), h.3), keeps-same s);
-  families = λ families s may. (λ h. h, keeps-same s);
-  sends = λ now s waits. (λ h. (λ new. absurd (waits new (h.0 new).1 (h.0 new).2), λ b. refl, λ q. refl, h.3), Keeps-KeepsEdits.sends now s waits);
-  begins = λ now s new. (λ h. (λ e. cc, λ b. refl, λ q. refl, λ u. h.3 (rw new tt)), Keeps-KeepsEdits.begins now s new);
-  ends = λ s none. (λ h. (λ e. cc, λ b. absurd b, h.2, λ u. absurd u), Keeps-KeepsEdits.ends s none);
+  rest = record {
+    same = λ s. (λ h. h, keeps-same s);
+    trans = λ s t u first second. (λ h. second.0 (first.0 h), keeps-trans s t u first.1 second.1);
+    aside = λ s t. (λ h. h, keeps-same s);
+    queues = λ queue s begun. (λ h. (λ new. absurd (rw new at begun), h.1, λ q. h.1 begun, h.3), keeps-same s);
+    dequeues = λ queue s fewer.
+        (λ h. (λ new. ((h.0 new).0, fewer-empty queue s.queue fewer (h.0 new).1, (h.0 new).2), h.1, λ q. h.2 (fewer-queued queue s fewer q), h.3), keeps-same s);
+    families = λ families s may. (λ h. h, keeps-same s);
+    sends = λ now s waits. (λ h. (λ new. absurd (waits new (h.0 new).1 (h.0 new).2), λ b. refl, λ q. refl, h.3), Keeps-KeepsEdits.sends now s waits);
+    begins = λ now s new. (λ h. (λ e. cc, λ b. refl, λ q. refl, λ u. h.3 (rw new tt)), Keeps-KeepsEdits.begins now s new);
+    ends = λ s none. (λ h. (λ e. cc, λ b. absurd b, h.2, λ u. absurd u), Keeps-KeepsEdits.ends s none);
+    finishes = λ id s. (λ h. (λ new. ((h.0 new).0, (h.0 new).1, ap (A.without_transaction id) (h.0 new).2), h.1, h.2, h.3), keeps-same s);
+    resends = λ id now s. (λ h. (λ new. ((h.0 new).0, (h.0 new).1, ap (resent id now) (h.0 new).2), h.1, h.2, h.3), keeps-same s);
+  };
   asks = λ id text purposes now s begun askable spelled. (λ h. (λ new. absurd (rw new at begun), h.1, h.2, h.3), keeps-same s);
-  finishes = λ id s. (λ h. (λ new. ((h.0 new).0, (h.0 new).1, ap (A.without_transaction id) (h.0 new).2), h.1, h.2, h.3), keeps-same s);
-  resends = λ id now s. (λ h. (λ new. ((h.0 new).0, (h.0 new).1, ap (resent id now) (h.0 new).2), h.1, h.2, h.3), keeps-same s);
   unlists = λ which s. (λ h. h, keeps-same s);
   removes = λ which s spares. (λ h. (h.0, h.1, h.2, λ u. ap (filter (λ g. not (which g))) (h.3 u)), keeps-same s);
   removes_family = λ family s. (λ h. (h.0, h.1, h.2, λ u. ap (filter (λ g. not (is_of family g))) (h.3 u)), keeps-same s);

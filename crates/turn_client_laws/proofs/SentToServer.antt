@@ -43,18 +43,20 @@ StayTo s t = AllTo s.remote s.transactions → AllTo t.remote t.transactions
 
 StayTo-KeepsEdits : KeepsEdits StayTo
 StayTo-KeepsEdits = record {
-  same = λ s h. h;
-  trans = λ s t u first second h. second (first h);
-  aside = λ s t h. h;
-  queues = λ queue s begun h. h;
-  dequeues = λ queue s fewer h. h;
-  families = λ families s may h. h;
-  sends = λ now s waits h. h;
-  begins = λ now s new h. h;
-  ends = λ s none h. h;
+  rest = record {
+    same = λ s h. h;
+    trans = λ s t u first second h. second (first h);
+    aside = λ s t h. h;
+    queues = λ queue s begun h. h;
+    dequeues = λ queue s fewer h. h;
+    families = λ families s may h. h;
+    sends = λ now s waits h. h;
+    begins = λ now s new h. h;
+    ends = λ s none h. h;
+    finishes = λ id s h t there. h t (has-filter (λ (x : Transaction). not (eqb x.id id)) t s.transactions there).0;
+    resends = λ id now s h. to-resent s.remote id now s.transactions h;
+  };
   asks = λ id text purposes now s begun askable spelled h. to-append s.remote s.transactions (first_sent id s.remote now text) refl h;
-  finishes = λ id s h t there. h t (has-filter (λ (x : Transaction). not (eqb x.id id)) t s.transactions there).0;
-  resends = λ id now s h. to-resent s.remote id now s.transactions h;
   unlists = λ which s h. h;
   removes = λ which s spares h. h;
   removes_family = λ family s h. h;

@@ -26,7 +26,7 @@ twice a first later (x ∷ xs) = rw (once a first later x, twice a first later x
 pub bytes-twice : (a : SocketAddr) (first later : List ℕ) (s : State) → with_bytes a later (with_bytes a first s) ≡ with_bytes a later s
 bytes-twice a first later s = ap (λ (x : List Stream). record s { streams = x }) (twice a first later s.streams)
 
-abbrev broken_by : SocketAddr → Stream → Stream
+abbrev pub broken_by : SocketAddr → Stream → Stream
 broken_by a stream = cond (same_address stream.local a) (record stream { mode = Broken; bytes = [] }) stream
 
 broken-once : (a : SocketAddr) (first : List ℕ) (x : Stream) → broken_by a (bytes_by a first x) ≡ broken_by a x

@@ -64,7 +64,7 @@ found-NotBroken p (x ∷ xs) stream e whole h = by (p x) refl (found-NotBroken p
 
 -- ---- a change of each stream
 
-ends-map : (f : Stream → Stream) → ((x : Stream) → (f x).local ≡ x.local) → (xs : List Stream) → ends (map f xs) ≡ ends xs
+pub ends-map : (f : Stream → Stream) → ((x : Stream) → (f x).local ≡ x.local) → (xs : List Stream) → ends (map f xs) ≡ ends xs
 ends-map f same [] = refl
 ends-map f same (x ∷ xs) = rw (same x, ends-map f same xs) refl
 

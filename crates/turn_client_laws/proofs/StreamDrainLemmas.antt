@@ -17,10 +17,10 @@ use Rattle.turn_client_api.specs.Streams.{steps_until_payload, with_bytes}
 use Rattle.turn_client_api.specs.Receive.{first_frame_step, piece_step, then_all}
 use Rattle.turn_client_laws.specs.LawsPeers.{HasNoPeer}
 use Rattle.turn_client_laws.specs.LawsStreams.{HasNoFrame, NeedsMoreBytes}
-use Rattle.turn_client_laws.proofs.MoveLemmas.{on_choice, cases_Option, none-found}
+use Rattle.turn_client_laws.proofs.MoveLemmas.{on_choice, none-found}
 use Rattle.turn_client_laws.proofs.StreamMessageLemmas.{Rebound, frame-rebound}
 use Rattle.turn_client_laws.proofs.StreamWeightLemmas.{KeepsHeld, Sets, kept-Sets, later-Sets, weight, weight-le, weight-less}
-use Rattle.turn_client_api.proofs.HasLemmas.{has-found, all-has}
+use Rattle.turn_client_api.proofs.HasLemmas.{has-found, all-has, cases_Option}
 
 -- ---- the bytes in a stream
 
@@ -146,30 +146,33 @@ step-lighter stream now s found = detached-lighter stream.mode stream now s foun
 
 -- ---- as many steps as there are bytes
 
--- two ways to go on that agree on all that is lighter
-go_on-same : (next other : State → Option Payload × State) (p : Outcome × State) → next p.1 ≡ other p.1 → go_on next p ≡ go_on other p
-go_on-same next other p same = grind arith
-
 pub none-ready : (now : ℕ) (s : State) → weight s.streams ≤ 0 → (o : Option Stream) → find is_ready s.streams ≡ o → o ≡ None
 none-ready now s empty None e = refl
 none-ready now s empty (Some stream) e = let less = step-lighter stream now s e in absurd (omega (arith, empty, less))
 
--- more steps than the streams' weight give the same
+-- A walk makes a step of the first stream that is ready, and goes on, or rests: with more steps than the streams' weight it
+-- gives the same.
+module _ {R : Type 0} (walk : ℕ → State → R) (rest : State → R) (goes_on : (State → R) → Outcome × State → R) (now : ℕ) (none : (s : State) → walk zero s ≡ rest s)
+    (rests : (n : ℕ) (s : State) → find is_ready s.streams ≡ None → walk (suc n) s ≡ rest s)
+    (steps : (n : ℕ) (s : State) (stream : Stream) → find is_ready s.streams ≡ Some stream → walk (suc n) s ≡ goes_on (walk n) (next_frame_step stream now s))
+    (same : (next other : State → R) (p : Outcome × State) → next p.1 ≡ other p.1 → goes_on next p ≡ goes_on other p) where
+  pub walk-enough : (n m : ℕ) (s : State) → weight s.streams ≤ n → weight s.streams ≤ m → walk n s ≡ walk m s
+  walk-enough zero zero s hn hm = refl
+  walk-enough zero (suc m) s hn hm = none s ∙ sym (rests m s (none-ready now s hn _ refl))
+  walk-enough (suc n) zero s hn hm = rests n s (none-ready now s hm _ refl) ∙ sym (none s)
+  walk-enough (suc n) (suc m) s hn hm = by (find is_ready s.streams) refl (λ t p q. walk-enough n m t p q)
+    where
+      by : (o : Option Stream) → find is_ready s.streams ≡ o → ((t : State) → weight t.streams ≤ n → weight t.streams ≤ m → walk n t ≡ walk m t) → walk (suc n) s ≡ walk (suc m) s
+      by None e more = rests n s e ∙ sym (rests m s e)
+      by (Some stream) e more =
+          let less = step-lighter stream now s e in
+          let p = next_frame_step stream now s in
+          steps n s stream e ∙ (same (walk n) (walk m) p (more p.1 (omega (arith, less, hn)) (omega (arith, less, hm))) ∙ sym (steps m s stream e))
+
 pub steps-enough : (n m now : ℕ) (s : State) → weight s.streams ≤ n → weight s.streams ≤ m → steps_until_payload n now s ≡ steps_until_payload m now s
 unfolding steps_until_payload
-steps-enough zero zero now s hn hm = refl
-steps-enough zero (suc m) now s hn hm = rw (none-ready now s hn _ refl) refl
-steps-enough (suc n) zero now s hn hm = rw (none-ready now s hm _ refl) refl
-steps-enough (suc n) (suc m) now s hn hm = by (find is_ready s.streams) refl (λ t p q. steps-enough n m now t p q)
-  where
-    Later : Type 0
-    Later = (t : State) → weight t.streams ≤ n → weight t.streams ≤ m → steps_until_payload n now t ≡ steps_until_payload m now t
-
-    by : (o : Option Stream) → find is_ready s.streams ≡ o → Later → first_ready_step (steps_until_payload n now) now s o ≡ first_ready_step (steps_until_payload m now) now s o
-    by None e more = refl
-    by (Some stream) e more =
-        let less = step-lighter stream now s e in
-        go_on-same (steps_until_payload n now) (steps_until_payload m now) (next_frame_step stream now s) (more (next_frame_step stream now s).1 (omega (arith, less)) (omega (arith, less)))
+steps-enough n m now =
+    walk-enough (λ n. steps_until_payload n now) (λ s. (None, s)) go_on now (λ s. refl) (λ n s e. rw e refl) (λ n s stream e. rw e refl) (λ next other p same. grind arith) n m
 
 pub poll_recv-enough : (n now : ℕ) (s : State) → max_steps s ≤ n → steps_until_payload n now s ≡ poll_recv_step now s
 poll_recv-enough n now s h =

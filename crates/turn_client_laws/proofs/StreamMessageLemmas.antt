@@ -17,7 +17,7 @@ use Rattle.turn_client_laws.proofs.Edits.{KeepsEdits}
 use Rattle.turn_client_laws.proofs.EditsOfMessages.{message-walk}
 use Rattle.turn_client_laws.proofs.FixedFields.{fixed-all-edits, fixed-edits}
 use Rattle.turn_client_laws.proofs.OneInputLemmas.{bind-by, frame-by}
-use Rattle.turn_client_laws.proofs.MoveLemmas.{cases_Option}
+use Rattle.turn_client_api.proofs.HasLemmas.{cases_Option}
 
 -- the streams stay unchanged
 abbrev pub Same : State → State → Type 0

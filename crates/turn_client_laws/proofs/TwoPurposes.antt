@@ -166,7 +166,7 @@ lists-two call s = (ForAllocation, ForAllocation, λ p l. absurd l.2)
 -- ---- calls that process no input
 
 -- what holds for each listing that is added
-abbrev IsListingHere : Call → State → Listing → Type 0
+abbrev pub IsListingHere : Call → State → Listing → Type 0
 IsListingHere call s l =
     (purpose : Purpose) × (at : ℕ) × AsksFor call s purpose at × IsListedFor purpose l.purpose × IsListedAs purpose at s (state_after call s) l
 

@@ -7,6 +7,7 @@ use Rattle.turn_client_api.specs.State.{State, agent_of, max_time, later_by}
 use Rattle.turn_client_api.specs.declared.grant.Grant.{Grant}
 use Rattle.turn_client_api.specs.Due.{end_of, has_queued_request, keepalive_times, least_due, max_wait, pause_end, refresh_of, refresh_time}
 use Rattle.turn_client_laws.specs.LawsBodies.{soonest, soonest_keepalive, soonest_queued, soonest_transaction}
+use Rattle.turn_client_api.proofs.HasLemmas.{least-start}
 
 -- any start that is not above the greatest
 least-from : (greatest start : ℕ) (ms : List ℕ) → start ≤ greatest → fold min start ms ≡ min start (fold min greatest ms)
@@ -22,9 +23,6 @@ least-from greatest start (m ∷ ms) h =
 least-append : (greatest start : ℕ) (xs ys : List ℕ) → start ≤ greatest → fold min start (xs ++ ys) ≡ min (fold min start xs) (fold min greatest ys)
 least-append greatest start [] ys h = least-from greatest start ys h
 least-append greatest start (x ∷ xs) ys h = least-append greatest (min start x) xs ys (omega (arith, h))
-
-least-le_greatest : (greatest : ℕ) (ms : List ℕ) → fold min greatest ms ≤ greatest
-least-le_greatest greatest ms = omega (arith, least-from greatest greatest ms (omega arith))
 
 pause-within : (s : State) → pause_end s ≤ max_time
 pause-within s = grind arith
@@ -45,7 +43,7 @@ module _ (now : ℕ) (s : State) (greatest : ℕ) (within : pause_end s ≤ grea
 
   cons-part : (o : Option ℕ) (g : Grant) (gs : List Grant) → refresh_time s g ≡ o
       → fold min greatest (filter_map (refresh_time s) (g ∷ gs)) ≡ min (fold min greatest (option_to_list o)) (fold min greatest (filter_map (refresh_time s) gs))
-  cons-part None g gs e = rw e (omega (arith, least-le_greatest greatest (filter_map (refresh_time s) gs)))
+  cons-part None g gs e = rw e (omega (arith, least-start greatest (filter_map (refresh_time s) gs)))
   cons-part (Some m) g gs e = rw e (least-append greatest greatest (m ∷ []) (filter_map (refresh_time s) gs) (omega arith))
 
   abbrev ends : List Grant → ℕ

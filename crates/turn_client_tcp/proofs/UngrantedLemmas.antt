@@ -53,18 +53,20 @@ empty-outline (g ∷ gs) e = cc
 
 Stays-KeepsEdits : KeepsEdits Stays
 Stays-KeepsEdits = record {
-  same = λ s. (λ h. h, keeps-same s);
-  trans = λ s t u first second. (λ h. second.0 (first.0 h), keeps-trans s t u first.1 second.1);
-  aside = λ s t. (λ h. h, keeps-same s);
-  queues = λ queue s begun. (λ h. h, keeps-same s);
-  dequeues = λ queue s fewer. (λ h. h, keeps-same s);
-  families = λ families s may. (λ h. h, keeps-same s);
-  sends = λ now s waits. (λ h. h, Keeps-KeepsEdits.sends now s waits);
-  begins = λ now s new. (λ h. λ u. h (rw new tt), Keeps-KeepsEdits.begins now s new);
-  ends = λ s none. (λ h. λ u. absurd u, Keeps-KeepsEdits.ends s none);
+  rest = record {
+    same = λ s. (λ h. h, keeps-same s);
+    trans = λ s t u first second. (λ h. second.0 (first.0 h), keeps-trans s t u first.1 second.1);
+    aside = λ s t. (λ h. h, keeps-same s);
+    queues = λ queue s begun. (λ h. h, keeps-same s);
+    dequeues = λ queue s fewer. (λ h. h, keeps-same s);
+    families = λ families s may. (λ h. h, keeps-same s);
+    sends = λ now s waits. (λ h. h, Keeps-KeepsEdits.sends now s waits);
+    begins = λ now s new. (λ h. λ u. h (rw new tt), Keeps-KeepsEdits.begins now s new);
+    ends = λ s none. (λ h. λ u. absurd u, Keeps-KeepsEdits.ends s none);
+    finishes = λ id s. (λ h. h, keeps-same s);
+    resends = λ id now s. (λ h. h, keeps-same s);
+  };
   asks = λ id text purposes now s begun askable spelled. (λ h. h, keeps-same s);
-  finishes = λ id s. (λ h. h, keeps-same s);
-  resends = λ id now s. (λ h. h, keeps-same s);
   unlists = λ which s. (λ h. h, keeps-same s);
   removes = λ which s spares. (λ h. λ u. ap (filter (λ g. not (which g))) (h u), keeps-same s);
   removes_family = λ family s. (λ h. λ u. ap (filter (λ g. not (is_of family g))) (h u), keeps-same s);
