@@ -1,17 +1,8 @@
 -- A reply that is accepted is to an outstanding request, and ends it.
-use Rattle.std.proofs.Common.{◌≡◌, ◌∙◌, sym, ℕ, true, false, not, List, inl, inr, refl}
-use Rattle.std.specs.declared.net.socket_addr.SocketAddr.{SocketAddr}
-use Rattle.std.proofs.lemmas.Bool.{cases_Bool}
-use Rattle.turn_stun.specs.Message.{id_of}
-use Rattle.turn_agent.specs.Agent.{is_outstanding}
+use Rattle.turn_client_laws.proofs.Common.{◌≡◌, ◌∙◌, sym, ℕ, true, false, List, inl, inr, refl, SocketAddr, cases_Bool}
+use Rattle.turn_client_laws.proofs.Machine.{id_of, is_outstanding, is_outstanding-without, State, DataConnection, fresh_id, is_taken, Judgement, SignedSuccess, SignedError, bind_judgement}
+use Rattle.turn_client_laws.proofs.Machine.{judgement_of, bind_answered, message_step}
 use Rattle.turn_agent.specs.Agent as A
-use Rattle.turn_agent.proofs.TransactionLemmas.{is_outstanding-without}
-use Rattle.turn_client_api.specs.State.{State}
-use Rattle.turn_client_api.specs.declared.grant.DataConnection.{DataConnection}
-use Rattle.turn_client_api.specs.Requests.{fresh_id, is_taken}
-use Rattle.turn_client_api.specs.Judgement.{Judgement, SignedSuccess, SignedError, bind_judgement, judgement_of}
-use Rattle.turn_client_api.specs.Connections.{bind_answered}
-use Rattle.turn_client_api.specs.Payloads.{message_step}
 use Rattle.turn_client_laws.specs.LawsReplies.{IsAccepted}
 use Rattle.turn_client_laws.proofs.ChallengeJudgement.{Says, bind-says, judgement-says}
 use Rattle.turn_client_laws.proofs.NewIdMessageLemmas.{IsOneOf, signed-one}

@@ -1,33 +1,14 @@
 -- What remains after time has passed.
-use Rattle.std.proofs.Common.{◌≡◌, ℕ, ◌<◌, Bool, true, false, ◌&&◌, ◌||◌, not, List, [], ◌∷◌, ◌++◌, filter, filter_map, find, fold, reverse, Option, Some, None, ◌⊎◌, inl, inr, refl, sym, subst, ◌∙◌}
-use Rattle.std.proofs.Common.{leb}
-use Rattle.std.specs.Prelude.{All, ⊤, slice_get}
-use Rattle.std.proofs.lemmas.Option.{none-some}
-use Rattle.std.proofs.lemmas.Bool.{not-true, leb-false, and_parts, cases_Bool, or_parts}
-use Rattle.std.specs.declared.net.socket_addr.SocketAddr.{SocketAddr}
-use Rattle.turn_types.specs.declared.family.AddressFamily.{AddressFamily}
-use Rattle.turn_client_api.specs.Config.{same_family}
-use Rattle.turn_client_api.specs.Alarm.{HasAllocation}
-use Rattle.turn_client_api.specs.State.{State, agent_of, later_by}
-use Rattle.turn_client_api.specs.declared.grant.DataOffer.{DataOffer}
-use Rattle.turn_client_api.specs.declared.grant.Grant.{Grant}
-use Rattle.turn_client_api.specs.declared.grant.Grant.TheVariants.{Allocation, Permission, Channel, Connect, Offer, Connection}
-use Rattle.turn_client_api.specs.declared.grant.Relay.{Relay}
-use Rattle.turn_client_api.specs.declared.grant.Progress.TheVariants.{Active, Reserved}
-use Rattle.turn_client_api.specs.declared.grant.Purpose.{Purpose}
-use Rattle.turn_client_api.specs.Grants.{allocations, as_allocation, find_allocation, family_of_grant, has_request, is_past, failures_among, family_of, is_channel_of, is_for_any, is_connect, is_of}
-use Rattle.turn_client_api.specs.Grants.{is_pending_channel, is_pending_permission, jump, unlisted, without_grants}
-use Rattle.turn_client_api.specs.Effect.{reserved, reserved_time}
-use Rattle.turn_client_api.specs.Calls.{is_allocated}
-use Rattle.turn_client_api.specs.Poll.{first_unreported, timed_out_purposes, next_offer, unreported_in, channel_expired, connections_unbound, failed_by_timeout, last_channel_expired, offers_timed_out}
-use Rattle.turn_client_api.specs.Poll.{permissions_expired, refreshes_timed_out, failed, allocation_expires, is_expired_channel}
-use Rattle.turn_client_api.specs.Poll.{is_expired_permission, is_unbound, expired_at, expired_allocation, expired_in}
-use Rattle.turn_client_api.specs.Poll.{unbound}
-use Rattle.turn_client_api.specs.declared.event.TurnEvent.{TurnEvent}
-use Rattle.turn_client_api.specs.declared.event.TurnEvent.TheVariants.{ChannelCreateFailed}
-use Rattle.turn_client_api.proofs.HasLemmas.{Has, has-all, has-reverse, has-unreversed, has-append, has-filter, filter_map-has, has-filter_map, has-found, cases_Option, first-has}
+use Rattle.turn_client_laws.proofs.Common.{◌≡◌, ℕ, ◌<◌, Bool, true, false, ◌&&◌, ◌||◌, not, List, [], ◌∷◌, ◌++◌, filter, filter_map, find, fold, reverse, Option, Some, None, ◌⊎◌, inl, inr, refl, sym}
+use Rattle.turn_client_laws.proofs.Common.{subst, ◌∙◌, leb, All, ⊤, slice_get, none-some, not-true, leb-false, and_parts, cases_Bool, or_parts, SocketAddr}
+use Rattle.turn_client_laws.proofs.Machine.{AddressFamily, same_family, HasAllocation, State, agent_of, later_by, DataOffer, Grant, Allocation, Permission, Channel, Connect, Offer, Connection, Relay}
+use Rattle.turn_client_laws.proofs.Machine.{Active, Reserved, Purpose, allocations, as_allocation, find_allocation, family_of_grant, has_request, is_past, failures_among, family_of, is_channel_of}
+use Rattle.turn_client_laws.proofs.Machine.{is_for_any, is_connect, is_of, is_pending_channel, is_pending_permission, jump, unlisted, without_grants, reserved, reserved_time, is_allocated}
+use Rattle.turn_client_laws.proofs.Machine.{first_unreported, timed_out_purposes, next_offer, unreported_in, channel_expired, connections_unbound, failed_by_timeout, last_channel_expired}
+use Rattle.turn_client_laws.proofs.Machine.{offers_timed_out, permissions_expired, refreshes_timed_out, failed, allocation_expires, is_expired_channel, is_expired_permission, is_unbound, expired_at}
+use Rattle.turn_client_laws.proofs.Machine.{expired_allocation, expired_in, unbound, TurnEvent, ChannelCreateFailed, Has, has-all, has-reverse, has-unreversed, has-append, has-filter, filter_map-has}
+use Rattle.turn_client_laws.proofs.Machine.{has-filter_map, has-found, cases_Option, first-has, expired_in-does}
 use Rattle.turn_client_laws.proofs.ReadyLemmas.{Alive}
-use Rattle.turn_client_api.proofs.ExpirySteps.{expired_in-does}
 use Rattle.turn_client_laws.proofs.CaseLemmas.{all-expire}
 use Rattle.turn_client_laws.proofs.InAllocationLemmas.{same_family-self, same_family-true}
 use Rattle.turn_client_laws.proofs.MoveLemmas.{none-found}

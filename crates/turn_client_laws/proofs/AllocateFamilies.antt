@@ -1,30 +1,11 @@
 -- An ALLOCATE requests the families of which an address is still requested.
-use Rattle.std.proofs.Common.{◌≡◌, ◌⊎◌, ◌≤◌, ◌+◌, ℕ, Bool, true, false, not, cond, ◌&&◌, eqb, List, [], ◌∷◌, ◌++◌, filter, length, Some, inl, inr, refl, sym, subst, ap, ◌∙◌, arith}
-use Rattle.std.specs.List.{Contains, list_any}
-use Rattle.std.proofs.lemmas.Bool.{eq-eqb, eqb-true}
-use Rattle.std.specs.declared.net.socket_addr.SocketAddr.{SocketAddr}
-use Rattle.turn_stun.specs.Message.{id_of}
-use Rattle.turn_stun.specs.declared.transport.TransportType.{TransportType}
-use Rattle.turn_types.specs.declared.family.AddressFamily.{AddressFamily}
-use Rattle.turn_types.specs.declared.family.AddressFamily.TheVariants.{IPV6}
-use Rattle.turn_agent.specs.Agent.{first_sent, is_outstanding, resent, sent_again}
-use Rattle.turn_agent.specs.declared.transaction.Transaction.{Transaction}
-use Rattle.turn_client_api.specs.Config.{Config}
-use Rattle.turn_client_api.specs.State.{State, initial}
-use Rattle.turn_client_api.specs.declared.state.Phase.{Phase}
-use Rattle.turn_client_api.specs.declared.state.Phase.TheVariants.{New, Requesting, Allocated, Closed}
-use Rattle.turn_client_api.specs.declared.grant.Grant.{Grant}
-use Rattle.turn_client_api.specs.declared.grant.Grant.TheVariants.{Allocation}
-use Rattle.turn_client_api.specs.declared.grant.Purpose.{Purpose}
-use Rattle.turn_client_api.specs.declared.grant.Purpose.TheVariants.{ForAllocation}
-use Rattle.turn_client_api.specs.declared.grant.Listing.{Listing}
-use Rattle.turn_client_api.specs.Grants.{is_channel_of, is_connect_to, is_for, is_of, is_permission_of, purposes_of, without_grants}
-use Rattle.turn_client_api.specs.Requests.{request_started, listings, request_for}
-use Rattle.turn_client_api.specs.Effect.{transaction_ended, phase_with, relayed_in, taken_addresses}
-use Rattle.turn_client_api.specs.Retry.{phase_after}
+use Rattle.turn_client_laws.proofs.Common.{◌≡◌, ◌⊎◌, ◌≤◌, ◌+◌, ℕ, Bool, true, false, not, cond, ◌&&◌, eqb, List, [], ◌∷◌, ◌++◌, filter, length, Some, inl, inr, refl, sym, subst, ap, ◌∙◌, arith}
+use Rattle.turn_client_laws.proofs.Common.{Contains, list_any, eq-eqb, eqb-true, SocketAddr}
+use Rattle.turn_client_laws.proofs.Machine.{id_of, TransportType, AddressFamily, IPV6, first_sent, is_outstanding, resent, sent_again, Transaction, Config, State, initial, Phase, New, Requesting}
+use Rattle.turn_client_laws.proofs.Machine.{Allocated, Closed, Grant, Allocation, Purpose, ForAllocation, Listing, is_channel_of, is_connect_to, is_for, is_of, is_permission_of, purposes_of}
+use Rattle.turn_client_laws.proofs.Machine.{without_grants, request_started, listings, request_for, transaction_ended, phase_with, relayed_in, taken_addresses, phase_after, Leaves, Call, Has}
+use Rattle.turn_client_laws.proofs.Machine.{filter-has, has-append, has-filter, has-left, has-right, map-has}
 use Rattle.turn_client_laws.specs.Handled.{Input, handled}
-use Rattle.turn_client_api.specs.Steps.{Leaves}
-use Rattle.turn_client_api.specs.declared.call.Call.{Call}
 use Rattle.turn_client_laws.specs.LawsAllocates.{AllocatesAsAsked, AllocatesInOrder, AsksForFamilies, HasConfiguredFamilies, IsAllocate, IsAllocationInput, IsAskedForFamilies}
 use Rattle.turn_client_laws.specs.LawsGranted.{IsGrantInput}
 use Rattle.turn_client_laws.specs.LawsOrder.{IsUngranted}
@@ -33,7 +14,6 @@ use Rattle.turn_client_laws.proofs.EditsOfCalls.{leaves-walk}
 use Rattle.turn_client_laws.proofs.EditsOfMessages.{edits-IsKept, granted-with}
 use Rattle.turn_client_laws.proofs.GrantedLemmas.{leaves-grants}
 use Rattle.turn_client_laws.proofs.GrantOriginLemmas.{has-mapped}
-use Rattle.turn_client_api.proofs.HasLemmas.{Has, filter-has, has-append, has-filter, has-left, has-right, map-has}
 use Rattle.turn_client_laws.proofs.InAllocationLemmas.{any-has, has-any}
 use Rattle.turn_client_laws.proofs.StandLemmas.{contains-has, has-contains}
 use Rattle.turn_client_laws.proofs.InputKeepLemmas.{before-kept}

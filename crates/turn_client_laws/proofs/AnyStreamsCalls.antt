@@ -1,34 +1,14 @@
 -- What the caller asks for is independent of the streams.
-use Rattle.std.proofs.Common.{◌≡◌, ℕ, Bool, true, false, not, ◌&&◌, ◌||◌, List, [], ◌∷◌, Option, Some, None, refl, leb}
-use Rattle.std.specs.Prelude.{Result, Ok, Err, is_some, find, filter_map}
-use Rattle.std.specs.List.{list_any}
-use Rattle.std.specs.Net.Socket.{socket_ip}
-use Rattle.std.specs.declared.net.ip_addr.IpAddr.{IpAddr}
-use Rattle.std.specs.declared.net.socket_addr.SocketAddr.{SocketAddr}
-use Rattle.turn_stun.specs.declared.transport.TransportType.{TransportType}
-use Rattle.turn_stun.specs.declared.transport.TransportType.TheVariants.{Udp, Tcp}
-use Rattle.turn_stun.specs.declared.transport.Transmit.{Transmit}
-use Rattle.turn_agent.specs.Agent.{same_address}
-use Rattle.turn_client_api.specs.Answers.{event_step}
-use Rattle.turn_client_api.specs.Calls.{active_channel, bind_channel_step, bound_by, bound_to, can_send_to, channel_kept_step}
-use Rattle.turn_client_api.specs.Calls.{channel_step, channels_to, connect_step, create_permission_step, delete_step, free_number}
-use Rattle.turn_client_api.specs.Calls.{in_allocation, is_allocated, is_closed, is_in_progress, is_open_to, keep_step}
-use Rattle.turn_client_api.specs.Calls.{on_channel, on_connection, permission_kept_step, permission_step, protocol_error_step, reserved_from}
-use Rattle.turn_client_api.specs.Calls.{send_over, send_to_step, tcp_connect_step}
-use Rattle.turn_client_api.specs.Connections.{connection_at, is_connected, is_connecting}
-use Rattle.turn_client_api.specs.Effect.{closed}
-use Rattle.turn_client_api.specs.Grants.{as_connection, find_allocation_to, has_active_permission, is_past, is_permission_of, permission_state, same_transport}
-use Rattle.turn_client_api.specs.Receive.{connection_gone, tcp_closed_step}
-use Rattle.turn_client_api.specs.State.{State}
-use Rattle.turn_client_api.specs.declared.error.BindChannelError.{BindChannelError}
+use Rattle.turn_client_laws.proofs.Common.{◌≡◌, ℕ, Bool, true, false, not, ◌&&◌, ◌||◌, List, [], ◌∷◌, Option, Some, None, refl, leb, Result, is_some, find, filter_map, list_any, socket_ip, IpAddr}
+use Rattle.turn_client_laws.proofs.Common.{SocketAddr}
+use Rattle.turn_client_laws.proofs.Machine.{TransportType, Udp, Tcp, same_address, event_step, active_channel, bind_channel_step, bound_by, bound_to, can_send_to, channel_kept_step, channel_step}
+use Rattle.turn_client_laws.proofs.Machine.{channels_to, connect_step, create_permission_step, delete_step, free_number, in_allocation, is_allocated, is_closed, is_in_progress, is_open_to, keep_step}
+use Rattle.turn_client_laws.proofs.Machine.{on_channel, on_connection, permission_kept_step, permission_step, protocol_error_step, reserved_from, send_over, send_to_step, tcp_connect_step}
+use Rattle.turn_client_laws.proofs.Machine.{connection_at, is_connected, is_connecting, as_connection, find_allocation_to, has_active_permission, is_past, is_permission_of, permission_state}
+use Rattle.turn_client_laws.proofs.Machine.{same_transport, connection_gone, tcp_closed_step, State, Grant, DataConnection, Relay, Stream}
 use Rattle.turn_client_api.specs.declared.error.BindChannelError.TheVariants as Bind
 use Rattle.turn_client_api.specs.declared.error.CreatePermissionError.TheVariants as Create
-use Rattle.turn_client_api.specs.declared.error.SendError.{SendError}
 use Rattle.turn_client_api.specs.declared.error.TcpConnectError.TheVariants as Join
-use Rattle.turn_client_api.specs.declared.grant.Grant.{Grant}
-use Rattle.turn_client_api.specs.declared.grant.DataConnection.{DataConnection}
-use Rattle.turn_client_api.specs.declared.grant.Relay.{Relay}
-use Rattle.turn_client_api.specs.declared.state.Stream.{Stream}
 use Rattle.turn_client_laws.proofs.AnyStreamsLemmas.{alike-cond, both_with, pair-cond, with_streams}
 
 module _ (x : List Stream) where

@@ -1,33 +1,10 @@
 -- The two places where a call or a message concerns a stream: one is opened, or is bound to its peer.
-use Rattle.std.proofs.Common.{◌≡◌, ℕ, Bool, true, false, cond, ◌&&◌, List, filter_map, Option, Some, None, refl, ap, eqb, subst, inl, inr}
-use Rattle.std.specs.Prelude.{find, Result, Ok}
-use Rattle.std.specs.Option.{option_map_or}
-use Rattle.std.proofs.lemmas.Bool.{cases_Bool}
-use Rattle.std.specs.declared.net.socket_addr.SocketAddr.{SocketAddr}
-use Rattle.turn_stun.specs.Message.{id_of}
-use Rattle.turn_stun.specs.declared.transport.TransportType.TheVariants.{Tcp}
-use Rattle.turn_auth.specs.LongTerm.{Challenge}
-use Rattle.turn_agent.proofs.AgentLemmas.{find-passes}
-use Rattle.turn_agent.specs.Agent.{same_address}
-use Rattle.turn_client_api.proofs.AddressLemmas.{same_address-true}
-use Rattle.turn_client_api.proofs.HasLemmas.{cases_Option}
-use Rattle.turn_client_api.specs.Calls.{allocated_tcp_socket_step, is_allocated, is_control, is_local_taken, offer_origin, socket_opened, socket_refused, socket_step, with_stream}
-use Rattle.turn_client_api.specs.Connections.{bind_again, bind_answered, bind_step, connection_at, with_mode}
-use Rattle.turn_client_api.specs.Grants.{as_connection, purposes_of, same_transport}
-use Rattle.turn_client_api.specs.Judgement.{Judgement, Challenged, SignedSuccess, SignedError, bind_judgement, is_bind_of, method_in}
-use Rattle.turn_client_api.specs.Requests.{connection_bind_method}
-use Rattle.turn_client_api.specs.State.{State}
-use Rattle.turn_client_api.specs.declared.error.TcpAllocateError.{TcpAllocateError}
-use Rattle.turn_client_api.specs.declared.grant.DataConnection.{DataConnection}
-use Rattle.turn_client_api.specs.declared.grant.Origin.{Origin}
-use Rattle.turn_client_api.specs.declared.grant.Origin.TheVariants.{OwnConnect, ServerIndication, ServerRequest}
-use Rattle.turn_client_api.specs.declared.poll.Socket5Tuple.{Socket5Tuple}
-use Rattle.turn_client_api.specs.declared.state.Mode.{Mode}
-use Rattle.turn_client_api.specs.declared.state.Mode.TheVariants.{Bound}
-use Rattle.turn_client_api.specs.declared.state.Phase.{Phase}
-use Rattle.turn_client_api.specs.declared.state.Phase.TheVariants.{Allocated}
-use Rattle.turn_client_api.specs.declared.state.Stream.{Stream}
-use Rattle.turn_client_laws.proofs.AnyStreamsLemmas.{both_with, with_streams}
+use Rattle.turn_client_laws.proofs.Common.{◌≡◌, ℕ, Bool, true, false, cond, ◌&&◌, List, filter_map, Option, Some, None, refl, ap, eqb, subst, inl, inr, find, Result, Ok, cases_Bool, SocketAddr}
+use Rattle.turn_client_laws.proofs.Machine.{id_of, Tcp, Challenge, find-passes, same_address, same_address-true, cases_Option, allocated_tcp_socket_step, is_allocated, is_control, is_local_taken}
+use Rattle.turn_client_laws.proofs.Machine.{offer_origin, socket_opened, socket_refused, socket_step, with_stream, bind_again, bind_answered, bind_step, connection_at, as_connection, purposes_of}
+use Rattle.turn_client_laws.proofs.Machine.{same_transport, Judgement, Challenged, SignedSuccess, bind_judgement, is_bind_of, method_in, connection_bind_method, State, TcpAllocateError}
+use Rattle.turn_client_laws.proofs.Machine.{DataConnection, Origin, OwnConnect, ServerIndication, ServerRequest, Socket5Tuple, Phase, Allocated, Stream}
+use Rattle.turn_client_laws.proofs.AnyStreamsLemmas.{with_streams}
 use Rattle.turn_client_laws.specs.StreamEffects.{binds_if, binds_to, opens_at, opens_for, with_stream_bound, with_stream_at}
 
 -- ---- a stream is opened

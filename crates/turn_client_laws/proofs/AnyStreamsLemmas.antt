@@ -1,32 +1,13 @@
 -- The effect of a message is independent of the streams.
-use Rattle.turn_client_api.proofs.HasLemmas.{cases_Option}
-use Rattle.std.proofs.Common.{◌≡◌, ℕ, Bool, true, false, not, cond, ◌&&◌, ◌||◌, eqb, ltb, leb, List, [], ◌∷◌, length, fold, Option, Some, None, refl, ap, ◌∙◌, inl, inr}
-use Rattle.std.specs.Prelude.{is_some}
-use Rattle.std.specs.Option.{option_map_or}
-use Rattle.std.specs.Net.Socket.{socket_ip}
-use Rattle.std.specs.declared.net.ip_addr.IpAddr.{IpAddr}
-use Rattle.std.specs.declared.net.socket_addr.SocketAddr.{SocketAddr}
-use Rattle.std.proofs.lemmas.Bool.{cases_Bool}
-use Rattle.turn_stun.specs.Message.{id_of}
-use Rattle.turn_stun.specs.declared.transport.TransportType.TheVariants.{Tcp}
-use Rattle.turn_types.specs.declared.family.AddressFamily.{AddressFamily}
-use Rattle.turn_auth.specs.LongTerm.{Challenge}
-use Rattle.turn_client_api.specs.State.{State}
-use Rattle.turn_client_api.specs.declared.state.Stream.{Stream}
-use Rattle.turn_client_api.specs.declared.grant.Progress.{Progress}
-use Rattle.turn_client_api.specs.declared.grant.Progress.TheVariants.{Pending, Active}
-use Rattle.turn_client_api.specs.declared.state.Phase.{Phase}
-use Rattle.turn_client_api.specs.declared.state.Phase.TheVariants.{New, Authenticating}
-use Rattle.turn_client_api.specs.declared.grant.Purpose.{Purpose}
-use Rattle.turn_client_api.specs.declared.grant.Purpose.TheVariants.{ForRefresh, ForPermission, ForChannel, ForConnect}
-use Rattle.turn_client_api.specs.Grants.{find_allocation_to, channel_at, first_in, permission_state, purposes_of}
-use Rattle.turn_client_api.specs.Requests.{connection_attempt_method, fresh_id}
-use Rattle.turn_client_api.specs.Judgement.{Judgement, Challenged, Fatal, ConnectionAttempt, SignedRequest, SignedSuccess, SignedError, judgement_of, connection_id_in, lifetime_in, method_in, peer_in}
-use Rattle.turn_client_api.specs.Effect.{allocate_denied, allocate_granted, allocation_mismatch, channel_answered, connect_answered, effect, transaction_ended, family_not_supported, has_code}
-use Rattle.turn_client_api.specs.Effect.{min_lifetime, permission_answered, permission_answered_for, listed_permissions_answered, prolonged, refreshed}
-use Rattle.turn_client_api.specs.Retry.{retried}
-use Rattle.turn_client_api.specs.Connections.{attempt_indicated, attempt_requested, is_connected, accepts_attempt}
-use Rattle.turn_client_api.specs.Payloads.{Outcome, Handled, Ignored, answered_purposes, challenge_step, message_step, response_step, signed_step, wrong_step}
+use Rattle.turn_client_laws.proofs.Common.{◌≡◌, ℕ, Bool, true, false, not, cond, ◌&&◌, ◌||◌, eqb, ltb, leb, List, [], ◌∷◌, length, fold, Option, Some, None, refl, ap, ◌∙◌, inl, inr, is_some}
+use Rattle.turn_client_laws.proofs.Common.{option_map_or, socket_ip, IpAddr, SocketAddr, cases_Bool}
+use Rattle.turn_client_laws.proofs.Machine.{cases_Option, id_of, Tcp, AddressFamily, Challenge, State, Stream, Progress, Pending, Active, Phase, New, Authenticating, Purpose, ForRefresh}
+use Rattle.turn_client_laws.proofs.Machine.{ForPermission, ForChannel, ForConnect, find_allocation_to, channel_at, first_in, permission_state, purposes_of, connection_attempt_method, fresh_id}
+use Rattle.turn_client_laws.proofs.Machine.{Judgement, Challenged, Fatal, ConnectionAttempt, SignedRequest, SignedSuccess, SignedError, judgement_of, connection_id_in, lifetime_in, method_in, peer_in}
+use Rattle.turn_client_laws.proofs.Machine.{allocate_denied, allocate_granted, allocation_mismatch, channel_answered, connect_answered, effect, transaction_ended, family_not_supported, has_code}
+use Rattle.turn_client_laws.proofs.Machine.{min_lifetime, permission_answered, permission_answered_for, listed_permissions_answered, prolonged, refreshed, retried, attempt_indicated}
+use Rattle.turn_client_laws.proofs.Machine.{attempt_requested, is_connected, accepts_attempt, Outcome, Handled, Ignored, answered_purposes, challenge_step, message_step, response_step, signed_step}
+use Rattle.turn_client_laws.proofs.Machine.{wrong_step}
 
 -- the state with these streams
 abbrev pub with_streams : List Stream → State → State

@@ -1,33 +1,14 @@
 -- What time brings, and what is sent, is independent of the streams.
-use Rattle.std.proofs.Common.{◌≡◌, ℕ, Bool, true, false, cond, ◌&&◌, ◌||◌, leb, List, [], ◌∷◌, ◌++◌, filter, filter_map, fold, map, Option, Some, None, refl, ap, ◌∙◌}
-use Rattle.std.specs.Prelude.{find, flat_map, is_some, max, min, option_to_list, reverse, slice_get}
-use Rattle.std.specs.List.{list_any}
-use Rattle.std.specs.Option.{option_map_or}
-use Rattle.std.specs.declared.net.socket_addr.SocketAddr.{SocketAddr}
-use Rattle.turn_types.specs.declared.family.AddressFamily.{AddressFamily}
-use Rattle.turn_agent.specs.Agent.{due, timed_out_transaction, transaction_timeout}
-use Rattle.turn_agent.specs.declared.transaction.Transaction.{Transaction}
-use Rattle.turn_client_api.specs.Calls.{is_allocated}
-use Rattle.turn_client_api.specs.Due.{end_of, has_event, has_queued_request, has_reply, is_new, is_paused, is_refreshable, keepalive_times, max_wait, next_wakeup, pause_end, refresh_time}
-use Rattle.turn_client_api.specs.Effect.{closed, transaction_ended}
-use Rattle.turn_client_api.specs.Grants.{allocations, family_of, is_connect, is_of, is_pending_channel, is_pending_permission}
-use Rattle.turn_client_api.specs.Poll.{allocation_expires, answer_by, answer_step, channel_expired, connections_unbound, failed_by_timeout, is_expired_channel, is_listed_for_allocation, expired_at}
-use Rattle.turn_client_api.specs.Poll.{expired_allocation, expired_in, last_channel_expired, next_offer, offer_step}
-use Rattle.turn_client_api.specs.Poll.{offers_timed_out, permissions_expired, poll_step, refreshes_timed_out, set_free, timed_out_purposes}
-use Rattle.turn_client_api.specs.Poll.{timed_out_step, timed_step}
-use Rattle.turn_client_api.specs.State.{State, agent_of, later_by, max_time}
-use Rattle.turn_client_api.specs.Transmit.{idle_step, is_ranked, is_refresh_due, keepalive_step, next_refresh, queue_step, refresh_purpose, refresh_step, reply_step, transmit_step}
-use Rattle.turn_client_api.specs.declared.grant.DataOffer.{DataOffer}
-use Rattle.turn_client_api.specs.declared.grant.Grant.{Grant}
-use Rattle.turn_client_api.specs.declared.grant.Grant.TheVariants.{Allocation, Channel}
-use Rattle.turn_client_api.specs.declared.grant.Progress.TheVariants.{Active}
-use Rattle.turn_client_api.specs.declared.grant.Purpose.{Purpose}
-use Rattle.turn_client_api.specs.declared.grant.Relay.{Relay}
+use Rattle.turn_client_laws.proofs.Common.{◌≡◌, ℕ, Bool, true, false, cond, ◌&&◌, ◌||◌, leb, List, [], ◌∷◌, ◌++◌, filter, filter_map, fold, map, Option, Some, None, refl, ap, ◌∙◌, find, flat_map}
+use Rattle.turn_client_laws.proofs.Common.{is_some, max, min, option_to_list, reverse, slice_get, list_any, option_map_or, SocketAddr}
+use Rattle.turn_client_laws.proofs.Machine.{AddressFamily, due, timed_out_transaction, transaction_timeout, is_allocated, end_of, has_event, has_queued_request, has_reply, is_new, is_paused}
+use Rattle.turn_client_laws.proofs.Machine.{is_refreshable, keepalive_times, max_wait, next_wakeup, pause_end, refresh_time, closed, transaction_ended, allocations, family_of, is_connect, is_of}
+use Rattle.turn_client_laws.proofs.Machine.{is_pending_channel, is_pending_permission, allocation_expires, answer_by, answer_step, channel_expired, connections_unbound, failed_by_timeout}
+use Rattle.turn_client_laws.proofs.Machine.{is_expired_channel, is_listed_for_allocation, expired_at, expired_allocation, expired_in, next_offer, offers_timed_out, permissions_expired, poll_step}
+use Rattle.turn_client_laws.proofs.Machine.{refreshes_timed_out, set_free, timed_out_purposes, timed_out_step, timed_step, State, agent_of, later_by, max_time, idle_step, is_ranked, is_refresh_due}
+use Rattle.turn_client_laws.proofs.Machine.{keepalive_step, next_refresh, queue_step, refresh_purpose, refresh_step, transmit_step, Grant, Allocation, Channel, Active, Purpose, Relay, Phase, New}
+use Rattle.turn_client_laws.proofs.Machine.{Requesting, Authenticating, Allocated, Closed, Stream}
 use Rattle.turn_client_api.specs.declared.poll.TurnPollRet.TheVariants as Do
-use Rattle.turn_client_api.specs.declared.state.Phase.{Phase}
-use Rattle.turn_client_api.specs.declared.state.Phase.TheVariants.{New, Requesting, Authenticating, Allocated, Closed}
-use Rattle.turn_client_api.specs.declared.state.Queued.{Queued}
-use Rattle.turn_client_api.specs.declared.state.Stream.{Stream}
 use Rattle.turn_client_laws.proofs.AnyStreamsLemmas.{alike-cond, alike-fold, both_with, pair-cond, with_streams}
 
 -- functions that give the same everywhere are the same

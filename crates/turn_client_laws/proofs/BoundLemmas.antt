@@ -1,25 +1,9 @@
 -- A connection is bound by a signed success on it.
-use Rattle.std.proofs.Common.{◌≡◌, ℕ, true, List, [], ◌∷◌, Some, refl, sym, subst, ap, inl, inr}
-use Rattle.std.specs.Prelude.{find}
-use Rattle.std.specs.List.{list_any}
-use Rattle.std.specs.declared.net.socket_addr.SocketAddr.{SocketAddr}
-use Rattle.std.proofs.lemmas.Bool.{cases_Bool}
-use Rattle.turn_stun.specs.Message.{id_of}
-use Rattle.turn_stun.specs.declared.message.header.MessageClass.TheVariants.{Success}
-use Rattle.turn_agent.specs.Agent.{same_address}
-use Rattle.turn_client_api.specs.State.{State}
-use Rattle.turn_client_api.specs.declared.state.Mode.TheVariants.{Waiting}
-use Rattle.turn_client_api.specs.declared.state.Stream.{Stream}
-use Rattle.turn_client_api.specs.declared.grant.DataConnection.{DataConnection}
-use Rattle.turn_client_api.specs.declared.grant.Purpose.{Purpose}
-use Rattle.turn_client_api.specs.declared.grant.Purpose.TheVariants.{ForBind}
-use Rattle.turn_client_api.specs.Grants.{purposes_of}
-use Rattle.turn_client_api.specs.Judgement.{is_bind_of}
-use Rattle.turn_client_api.specs.Payloads.{is_message}
+use Rattle.turn_client_laws.proofs.Common.{◌≡◌, ℕ, true, List, [], ◌∷◌, Some, refl, sym, subst, ap, inl, inr, find, list_any, SocketAddr, cases_Bool}
+use Rattle.turn_client_laws.proofs.Machine.{id_of, Success, same_address, State, Waiting, Stream, DataConnection, Purpose, ForBind, purposes_of, is_bind_of, is_message, same_address-true, Has}
+use Rattle.turn_client_laws.proofs.Machine.{has-found}
 use Rattle.turn_client_laws.specs.Handled.{Input}
 use Rattle.turn_client_laws.specs.LawsBound.{IsBindInput}
-use Rattle.turn_client_api.proofs.AddressLemmas.{same_address-true}
-use Rattle.turn_client_api.proofs.HasLemmas.{Has, has-found}
 use Rattle.turn_client_laws.proofs.ChallengeJudgement.{AnswersBind, IsSignedReply, bind-says}
 use Rattle.turn_client_laws.proofs.StandLemmas.{has-contains}
 use Rattle.turn_client_laws.proofs.GrantOriginCallLemmas.{Binds}

@@ -1,29 +1,11 @@
 -- A stream is bound only by a signed success on it.
-use Rattle.std.proofs.Common.{◌≡◌, ◌⊎◌, true, not, cond, List, [], ◌∷◌, Some, refl, sym, subst, ap, ◌∙◌, inl, inr}
-use Rattle.std.specs.Prelude.{filter, is_some}
-use Rattle.std.specs.List.{Contains}
-use Rattle.std.specs.declared.net.socket_addr.SocketAddr.{SocketAddr}
-use Rattle.std.proofs.lemmas.Bool.{cases_Bool}
-use Rattle.turn_agent.specs.Agent.{same_address}
-use Rattle.turn_client_api.specs.State.{State}
-use Rattle.turn_client_api.specs.declared.state.Mode.{Mode}
-use Rattle.turn_client_api.specs.declared.state.Mode.TheVariants.{Waiting, Bound}
-use Rattle.turn_client_api.specs.declared.state.Stream.{Stream}
-use Rattle.turn_client_api.specs.declared.grant.Grant.TheVariants.{Permission, Channel, Connection}
-use Rattle.turn_client_api.specs.declared.grant.DataConnection.{DataConnection}
-use Rattle.turn_client_api.specs.declared.grant.Progress.TheVariants.{Pending}
-use Rattle.turn_client_api.specs.Connections.{bind_step, connection_at}
-use Rattle.turn_client_api.specs.Payloads.{is_message, message_step}
-use Rattle.turn_client_api.specs.Receive.{connection_gone}
+use Rattle.turn_client_laws.proofs.Common.{◌≡◌, ◌⊎◌, true, not, cond, List, [], ◌∷◌, Some, refl, sym, subst, ap, ◌∙◌, inl, inr, filter, is_some, Contains, SocketAddr, cases_Bool}
+use Rattle.turn_client_laws.proofs.Machine.{same_address, State, Mode, Waiting, Bound, Stream, Permission, Channel, Connection, DataConnection, Pending, bind_step, connection_at, is_message}
+use Rattle.turn_client_laws.proofs.Machine.{message_step, connection_gone, Leaves, state_after, Call, Delete, same_address-true, Has, has-append, has-filter}
 use Rattle.turn_client_laws.specs.Handled.{Input}
-use Rattle.turn_client_api.specs.Steps.{Leaves, state_after}
-use Rattle.turn_client_api.specs.declared.call.Call.{Call}
-use Rattle.turn_client_api.specs.declared.call.Call.TheVariants.{Delete}
 use Rattle.turn_client_laws.specs.LawsBound.{IsBindInput, IsBoundBy, IsBoundConnection, IsConnectedBy}
 use Rattle.turn_client_laws.specs.LawsGranted.{IsEndedNow, WasActive}
 use Rattle.turn_client_laws.specs.LawsHandled.{IsBoundAt}
-use Rattle.turn_client_api.proofs.AddressLemmas.{same_address-true}
-use Rattle.turn_client_api.proofs.HasLemmas.{Has, has-append, has-filter}
 use Rattle.turn_client_laws.proofs.StandLemmas.{contains-has, has-contains}
 use Rattle.turn_client_laws.proofs.GrantOriginLemmas.{has-mapped}
 use Rattle.turn_client_laws.proofs.GrantOriginCallLemmas.{Binds, BindsOrLeaves, bind-leaves}

@@ -1,33 +1,11 @@
 -- What holds in each case of a step holds of the step.
-use Rattle.std.proofs.Common.{◌≡◌, ℕ, Bool, true, false, cond, not, eqb, List, Option, Some, None, refl, inr, inl, [], ◌∷◌, leb}
-use Rattle.std.specs.Prelude.{fold, is_some, IfSome, Ok, Err, filter_map, find}
-use Rattle.std.specs.Option.{option_map_or}
-use Rattle.std.specs.Net.Socket.{socket_ip}
-use Rattle.std.proofs.lemmas.Bool.{cases_Bool, eqb-true}
-use Rattle.std.specs.declared.net.socket_addr.SocketAddr.{SocketAddr}
-use Rattle.turn_stun.specs.Message.{id_of}
-use Rattle.turn_stun.specs.declared.transport.TransportType.TheVariants.{Tcp, Udp}
-use Rattle.turn_types.specs.declared.family.AddressFamily.{AddressFamily}
-use Rattle.turn_client_api.specs.State.{State}
-use Rattle.turn_client_api.specs.declared.state.Phase.{Phase}
-use Rattle.turn_client_api.specs.declared.state.Phase.TheVariants.{Allocated}
-use Rattle.turn_client_api.specs.declared.state.Queued.{Queued}
-use Rattle.turn_client_api.specs.declared.grant.DataConnection.{DataConnection}
-use Rattle.turn_client_api.specs.declared.grant.Origin.TheVariants.{ServerIndication, ServerRequest}
-use Rattle.turn_client_api.specs.declared.grant.Purpose.{Purpose}
-use Rattle.turn_client_api.specs.Grants.{find_allocation_to, allocations, family_of, is_of, without_grants, as_connection}
-use Rattle.turn_client_api.specs.Requests.{connection_bind_method, to_server}
-use Rattle.turn_client_api.specs.Judgement.{connection_id_in, method_in, peer_in}
-use Rattle.turn_client_api.specs.Effect.{with_offer}
-use Rattle.turn_client_api.specs.Connections.{accepts_attempt, attempt_indicated, attempt_requested, bind_answered, bind_step, connection_at, is_connected}
-use Rattle.turn_client_api.specs.Payloads.{Outcome, Handled, Ignored}
-use Rattle.turn_agent.specs.TransactionIds.{Source}
-use Rattle.turn_client_api.specs.Calls.{active_channel, as_indication, bound_to, can_send_to, on_channel, on_connection, send_over, send_to_step}
-use Rattle.turn_types.specs.Channel.{channel_frame}
-use Rattle.turn_stun.specs.declared.transport.TransportType.{TransportType}
-use Rattle.turn_client_api.specs.Poll.{allocation_expires, answer_step, answer_by, expired_allocation, expired_in}
-use Rattle.turn_client_api.specs.declared.grant.Relay.{Relay}
-use Rattle.turn_client_api.proofs.HasLemmas.{cases_Option}
+use Rattle.turn_client_laws.proofs.Common.{◌≡◌, ℕ, Bool, true, false, cond, not, eqb, List, Option, Some, None, refl, inr, inl, [], ◌∷◌, leb, fold, is_some, IfSome, Ok, Err, filter_map, find}
+use Rattle.turn_client_laws.proofs.Common.{option_map_or, socket_ip, cases_Bool, eqb-true, SocketAddr}
+use Rattle.turn_client_laws.proofs.Machine.{id_of, Tcp, Udp, AddressFamily, State, Phase, Allocated, Queued, DataConnection, ServerIndication, ServerRequest, Purpose, find_allocation_to, allocations}
+use Rattle.turn_client_laws.proofs.Machine.{family_of, is_of, without_grants, as_connection, connection_bind_method, to_server, connection_id_in, method_in, peer_in, with_offer, accepts_attempt}
+use Rattle.turn_client_laws.proofs.Machine.{attempt_indicated, attempt_requested, bind_answered, bind_step, connection_at, is_connected, Outcome, Handled, Ignored, Source, active_channel}
+use Rattle.turn_client_laws.proofs.Machine.{as_indication, bound_to, can_send_to, on_channel, on_connection, send_over, send_to_step, channel_frame, TransportType, allocation_expires, answer_step}
+use Rattle.turn_client_laws.proofs.Machine.{answer_by, expired_allocation, expired_in, Relay, cases_Option}
 use Rattle.turn_client_api.specs.declared.error.SendError.TheVariants as Send
 
 -- ---- a test and a look-up

@@ -1,26 +1,11 @@
 -- What the judgement of a message says of it.
+use Rattle.turn_client_laws.proofs.Common.{◌≡◌, ℕ, Bool, true, false, cond, ◌&&◌, not, eqb, List, Option, Some, None, refl, sym, ◌∙◌, ⊤, list_any, and_parts, SocketAddr}
+use Rattle.turn_client_laws.proofs.Machine.{id_of, MessageClass, Request, Indication, Success, Error, Challenge, IsValidated, validation_of, Validation, Validated, ResendRequest, Refused}
+use Rattle.turn_client_laws.proofs.Machine.{is_outstanding, is_response, State, auth_of, Phase, Requesting, Authenticating, Allocated, purposes_of, connection_attempt_method, data_method, Judgement}
+use Rattle.turn_client_laws.proofs.Machine.{Unrelated, Challenged, Fatal, LateResponse, DataIndication, ConnectionAttempt, SignedRequest, SignedSuccess, SignedError, allocated_judgement}
+use Rattle.turn_client_laws.proofs.Machine.{answers_allocate, answers_one, authenticating_judgement, bind_judgement, by_class, challenge_in, challenged_or, class_in, is_bind_of, judgement_of}
+use Rattle.turn_client_laws.proofs.Machine.{method_in}
 use Rattle.turn_client_laws.proofs.CaseLemmas.{by_test}
-use Rattle.std.proofs.Common.{◌≡◌, ℕ, Bool, true, false, cond, ◌&&◌, not, eqb, List, Option, Some, None, refl, sym, ◌∙◌}
-use Rattle.std.specs.Prelude.{⊤}
-use Rattle.std.specs.List.{list_any}
-use Rattle.std.proofs.lemmas.Bool.{and_parts}
-use Rattle.std.specs.declared.net.socket_addr.SocketAddr.{SocketAddr}
-use Rattle.turn_stun.specs.Message.{id_of}
-use Rattle.turn_stun.specs.declared.message.header.MessageClass.{MessageClass}
-use Rattle.turn_stun.specs.declared.message.header.MessageClass.TheVariants.{Request, Indication, Success, Error}
-use Rattle.turn_auth.specs.LongTerm.{Challenge}
-use Rattle.turn_auth.specs.Validation.{IsValidated, validation_of}
-use Rattle.turn_auth.specs.declared.validation.Validation.{Validation}
-use Rattle.turn_auth.specs.declared.validation.Validation.TheVariants.{Validated, ResendRequest, Refused}
-use Rattle.turn_agent.specs.Agent.{is_outstanding, is_response}
-use Rattle.turn_client_api.specs.State.{State, auth_of}
-use Rattle.turn_client_api.specs.declared.state.Phase.{Phase}
-use Rattle.turn_client_api.specs.declared.state.Phase.TheVariants.{Requesting, Authenticating, Allocated}
-use Rattle.turn_client_api.specs.Grants.{purposes_of}
-use Rattle.turn_client_api.specs.Requests.{connection_attempt_method, data_method}
-use Rattle.turn_client_api.specs.Judgement.{Judgement, Unrelated, Challenged, Fatal, LateResponse, DataIndication, ConnectionAttempt, SignedRequest, SignedSuccess, SignedError, allocated_judgement}
-use Rattle.turn_client_api.specs.Judgement.{answers_allocate, answers_one, authenticating_judgement, bind_judgement, by_class, challenge_in, challenged_or, class_in, is_bind_of, judgement_of}
-use Rattle.turn_client_api.specs.Judgement.{method_in}
 
 -- the message is a reply of this class that is signed as the client requires, to an outstanding request
 pub record IsSignedReply (class : MessageClass) (message : List ℕ) (s : State) : Type 0 where

@@ -1,28 +1,15 @@
 -- Channels have numbers in the range that a client may bind.
-use Rattle.std.proofs.Common.{◌≡◌, ℕ, zero, suc, ◌+◌, ◌<◌, ◌≤◌, Bool, not, List, [], ◌∷◌, ◌++◌, map, filter, filter_map, Some, inl, inr, refl, sym, subst, ap, ◌∙◌, arith}
-use Rattle.std.specs.List.{range_with_len}
-use Rattle.std.proofs.lemmas.Option.{none-some, same_Some}
-use Rattle.std.specs.declared.net.socket_addr.SocketAddr.{SocketAddr}
-use Rattle.turn_stun.specs.declared.transport.TransportType.{TransportType}
-use Rattle.turn_client_api.specs.Config.{Config}
-use Rattle.turn_client_api.specs.State.{State, initial}
-use Rattle.turn_client_api.specs.declared.grant.Grant.{Grant}
-use Rattle.turn_client_api.specs.declared.grant.Grant.TheVariants.{Allocation, Permission, Channel, Connect, Offer, Connection}
-use Rattle.turn_client_api.specs.declared.grant.Progress.TheVariants.{Pending}
-use Rattle.turn_client_api.specs.Grants.{is_channel_of}
-use Rattle.turn_client_api.specs.Effect.{new_allocation, taken_addresses}
-use Rattle.turn_client_api.specs.Calls.{channel_numbers, is_offer_of}
-use Rattle.turn_client_api.specs.Steps.{Leaves}
-use Rattle.turn_client_api.specs.declared.call.Call.{Call}
+use Rattle.turn_client_laws.proofs.Common.{◌≡◌, ℕ, zero, suc, ◌+◌, ◌<◌, ◌≤◌, Bool, not, List, [], ◌∷◌, ◌++◌, map, filter, filter_map, Some, inl, inr, refl, sym, subst, ap, ◌∙◌, arith, range_with_len}
+use Rattle.turn_client_laws.proofs.Common.{none-some, same_Some, SocketAddr, true}
+use Rattle.turn_client_laws.proofs.Machine.{TransportType, Config, State, initial, Grant, Allocation, Permission, Channel, Connect, Offer, Connection, Pending, is_channel_of, new_allocation}
+use Rattle.turn_client_laws.proofs.Machine.{taken_addresses, channel_numbers, is_offer_of, Leaves, Call, Has, all-has, filter_map-has, has-all, has-append, has-filter, has-filter_map}
 use Rattle.turn_client_laws.specs.LawsNumbers.{number_of_channel}
 use Rattle.turn_client_laws.specs.LawsStates.{HasNumbersInRange, IsInRange}
-use Rattle.turn_client_api.proofs.HasLemmas.{Has, all-has, filter_map-has, has-all, has-append, has-filter, has-filter_map}
 use Rattle.turn_client_laws.proofs.GrantOriginLemmas.{has-mapped}
 use Rattle.turn_client_laws.proofs.TakenOfferLemmas.{was-first}
 use Rattle.turn_client_laws.proofs.Edits.{outline}
 use Rattle.turn_client_laws.proofs.GrantEdits.{KeepsGrants, grants-KeepsAllEdits}
 use Rattle.turn_client_laws.proofs.EditsOfCalls.{leaves-walk}
-use Rattle.std.proofs.Common.{true}
 
 has-range : (n place count : ℕ) → Has n (range_with_len place count) → (place ≤ n) × (n < place + count)
 has-range n place zero none = absurd none

@@ -1,9 +1,6 @@
 -- What a client was made with never changes.
-use Rattle.std.proofs.Common.{◌≡◌, ℕ, List, refl}
-use Rattle.turn_client_api.specs.State.{State}
-use Rattle.turn_client_api.specs.declared.call.Call.{Call}
-use Rattle.turn_client_api.specs.Payloads.{message_step}
-use Rattle.turn_client_api.specs.Steps.{Leaves, state_after}
+use Rattle.turn_client_laws.proofs.Common.{◌≡◌, ℕ, List, refl}
+use Rattle.turn_client_laws.proofs.Machine.{State, Call, message_step, Leaves, state_after}
 use Rattle.turn_client_laws.proofs.Edits.{KeepsAllEdits}
 use Rattle.turn_client_laws.proofs.EditsOfCalls.{calls-walk, leaves-walk}
 use Rattle.turn_client_laws.proofs.EditsOfMessages.{edits-IsKept}

@@ -1,20 +1,9 @@
 -- The request that binds a data connection is for the peer that the connection has.
-use Rattle.std.proofs.Common.{◌≡◌, ◌∙◌, ℕ, true, false, List, [], ◌∷◌, sym, subst, ap, inl, inr}
-use Rattle.std.specs.List.{AllByRecursion, IsDistinct}
-use Rattle.std.proofs.lemmas.Bool.{and_parts}
-use Rattle.std.specs.declared.net.socket_addr.SocketAddr.{SocketAddr}
-use Rattle.turn_agent.specs.Agent.{same_address}
-use Rattle.turn_client_api.specs.State.{State}
-use Rattle.turn_client_api.specs.declared.grant.DataConnection.{DataConnection}
-use Rattle.turn_client_api.specs.declared.grant.Grant.{Grant}
-use Rattle.turn_client_api.specs.declared.grant.Grant.TheVariants.{Connection}
-use Rattle.turn_client_api.specs.declared.grant.Listing.{Listing}
-use Rattle.turn_client_api.specs.declared.grant.Purpose.TheVariants.{ForBind}
+use Rattle.turn_client_laws.proofs.Common.{◌≡◌, ◌∙◌, ℕ, true, false, List, [], ◌∷◌, sym, subst, ap, inl, inr, AllByRecursion, IsDistinct, and_parts, SocketAddr}
+use Rattle.turn_client_laws.proofs.Machine.{same_address, State, DataConnection, Grant, Connection, Listing, ForBind, same_address-self, same_address-true, Has}
 use Rattle.turn_client_laws.specs.LawsDoubles.{is_double}
 use Rattle.turn_client_laws.specs.LawsStates.{is_asked_by}
-use Rattle.turn_client_api.proofs.AddressLemmas.{same_address-self, same_address-true}
 use Rattle.turn_client_laws.proofs.DoubleLemmas.{AreSingle}
-use Rattle.turn_client_api.proofs.HasLemmas.{Has}
 use Rattle.turn_client_laws.proofs.InAllocationLemmas.{any-has}
 use Rattle.turn_client_laws.proofs.ListedGrants.{AllHaveGrant, HasGrant}
 

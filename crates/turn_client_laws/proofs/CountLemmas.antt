@@ -1,12 +1,6 @@
 -- Only a signed reply decreases the count of challenges.
-use Rattle.std.proofs.Common.{◌⊎◌, ◌<◌, ◌≤◌, ℕ, inl, inr, arith}
-use Rattle.turn_client_api.specs.State.{State}
-use Rattle.turn_client_api.specs.Connections.{bind_step}
-use Rattle.turn_client_api.specs.Payloads.{message_step}
-use Rattle.turn_client_api.specs.Receive.{connection_gone}
-use Rattle.turn_client_api.specs.Steps.{Leaves, state_after}
-use Rattle.turn_client_api.specs.declared.call.Call.{Call}
-use Rattle.turn_client_api.specs.declared.call.Call.TheVariants.{Delete, AllocatedTcpSocket, Recv, PollRecv}
+use Rattle.turn_client_laws.proofs.Common.{◌⊎◌, ◌<◌, ◌≤◌, ℕ, inl, inr, arith}
+use Rattle.turn_client_laws.proofs.Machine.{State, bind_step, message_step, connection_gone, Leaves, state_after, Call, Delete, AllocatedTcpSocket, Recv, PollRecv}
 use Rattle.turn_client_laws.specs.LawsHandled.{TakesInput}
 use Rattle.turn_client_laws.specs.LawsReplies.{IsReplyAccepted}
 use Rattle.turn_client_laws.specs.LawsInputs.{IsBroughtBy}

@@ -1,43 +1,21 @@
 -- No two grants are for the same.
-use Rattle.std.proofs.Common.{◌≡◌, ℕ, Bool, true, false, not, List, [], ◌∷◌, ◌++◌, map, filter, filter_map, Some, refl, sym, ◌∙◌, ap, subst, inr, inl}
-use Rattle.std.specs.Prelude.{slice_get}
-use Rattle.std.specs.List.{list_any, IsDistinct}
-use Rattle.std.proofs.lemmas.Bool.{or_parts, cases_Bool}
-use Rattle.std.proofs.lemmas.Option.{none-some}
-use Rattle.std.specs.declared.net.ip_addr.IpAddr.{IpAddr}
-use Rattle.std.specs.declared.net.socket_addr.SocketAddr.{SocketAddr}
-use Rattle.turn_stun.specs.declared.transport.TransportType.{TransportType}
-use Rattle.turn_types.specs.declared.family.AddressFamily.{AddressFamily}
-use Rattle.turn_types.specs.declared.family.AddressFamily.TheVariants.{IPV4, IPV6}
-use Rattle.turn_client_api.specs.Config.{Config, same_family}
-use Rattle.turn_client_api.specs.State.{State, initial}
-use Rattle.turn_client_api.specs.declared.state.Phase.{Phase}
-use Rattle.turn_client_api.specs.declared.state.Phase.TheVariants.{New, Requesting, Authenticating, Allocated, Closed}
-use Rattle.turn_client_api.specs.declared.grant.Grant.{Grant}
-use Rattle.turn_client_api.specs.declared.grant.Grant.TheVariants.{Allocation, Permission, Channel, Connect, Connection}
-use Rattle.turn_client_api.specs.declared.grant.Progress.{Progress}
-use Rattle.turn_client_api.specs.declared.grant.Progress.TheVariants.{Pending, Active, Reserved}
-use Rattle.turn_client_api.specs.Grants.{family_of, is_channel_of, is_connect_to, is_connection_from, is_of, is_of_family, is_permission_of, permission_state, permission_progress, with_grant}
-use Rattle.turn_client_api.specs.Grants.{without_grants}
-use Rattle.turn_client_api.specs.Effect.{new_allocation, phase_with, relayed_in, taken_addresses}
-use Rattle.turn_client_api.specs.Retry.{phase_after}
-use Rattle.turn_client_api.specs.Calls.{is_offer_of, offer_taken, without_first}
-use Rattle.turn_client_api.specs.Steps.{Leaves}
-use Rattle.turn_client_api.specs.declared.call.Call.{Call}
-use Rattle.std.specs.List.{Contains}
+use Rattle.turn_client_laws.proofs.Common.{◌≡◌, ℕ, Bool, true, false, not, List, [], ◌∷◌, ◌++◌, map, filter, filter_map, Some, refl, sym, ◌∙◌, ap, subst, inr, inl, slice_get, list_any, IsDistinct}
+use Rattle.turn_client_laws.proofs.Common.{or_parts, cases_Bool, none-some, IpAddr, SocketAddr, Contains}
+use Rattle.turn_client_laws.proofs.Machine.{TransportType, AddressFamily, IPV4, IPV6, Config, same_family, State, initial, Phase, New, Requesting, Authenticating, Allocated, Closed, Grant, Allocation}
+use Rattle.turn_client_laws.proofs.Machine.{Permission, Channel, Connect, Connection, Progress, Pending, Active, Reserved, family_of, is_channel_of, is_connect_to, is_connection_from, is_of}
+use Rattle.turn_client_laws.proofs.Machine.{is_of_family, is_permission_of, permission_state, permission_progress, with_grant, without_grants, new_allocation, phase_with, relayed_in, taken_addresses}
+use Rattle.turn_client_laws.proofs.Machine.{phase_after, is_offer_of, offer_taken, without_first, Leaves, Call, Has}
 use Rattle.turn_client_laws.specs.Handled.{Input, handled}
-use Rattle.turn_client_laws.proofs.EditsOfMessages.{edits-IsKept}
+use Rattle.turn_client_laws.proofs.EditsOfMessages.{edits-IsKept, granted-with}
 use Rattle.turn_client_laws.proofs.InputKeepLemmas.{before-kept}
 use Rattle.turn_client_laws.specs.LawsDoubles.{HasNoDoubles, is_double}
 use Rattle.turn_client_laws.specs.LawsOrder.{FitsPhase, IsUngranted}
-use Rattle.turn_client_api.proofs.HasLemmas.{Has}
 use Rattle.turn_client_laws.proofs.InAllocationLemmas.{Room}
 use Rattle.turn_client_laws.proofs.NumberLemmas.{none-filter}
 use Rattle.turn_client_laws.proofs.DoubleLemmas.{AreSingle, IsNew, IsSingle, channel-which, connect-which, connection-which, none-IsNew, none-without_first, offer-IsNew, permission-which}
 use Rattle.turn_client_laws.proofs.DoubleLemmas.{single-filter, single-last, single-map, single-unmap, single-without_first, outline-alike}
 use Rattle.turn_client_laws.proofs.Edits.{aged-outlines, KeepsAllEdits, KeepsEdits, outline}
 use Rattle.turn_client_laws.proofs.EditsOfCalls.{leaves-walk}
-use Rattle.turn_client_laws.proofs.EditsOfMessages.{granted-with}
 
 -- ---- the first allocations
 

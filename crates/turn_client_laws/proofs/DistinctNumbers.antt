@@ -1,16 +1,7 @@
 -- No two channels have one number.
-use Rattle.std.proofs.Common.{◌≡◌, ℕ, eqb, not, List, [], ◌∷◌, map, filter, refl, sym, subst, true}
-use Rattle.std.specs.List.{IsDistinct}
-use Rattle.std.specs.declared.net.socket_addr.SocketAddr.{SocketAddr}
-use Rattle.turn_stun.specs.declared.transport.TransportType.{TransportType}
-use Rattle.turn_client_api.specs.Config.{Config}
-use Rattle.turn_client_api.specs.State.{State, initial}
-use Rattle.turn_client_api.specs.declared.grant.Grant.TheVariants.{Permission, Channel, Connect, Offer, Connection}
-use Rattle.turn_client_api.specs.declared.grant.Progress.TheVariants.{Pending}
-use Rattle.turn_client_api.specs.Grants.{is_channel_of}
-use Rattle.turn_client_api.specs.Effect.{new_allocation, taken_addresses}
-use Rattle.turn_client_api.specs.Steps.{Leaves}
-use Rattle.turn_client_api.specs.declared.call.Call.{Call}
+use Rattle.turn_client_laws.proofs.Common.{◌≡◌, ℕ, eqb, not, List, [], ◌∷◌, map, filter, refl, sym, subst, true, IsDistinct, SocketAddr}
+use Rattle.turn_client_laws.proofs.Machine.{TransportType, Config, State, initial, Permission, Channel, Connect, Offer, Connection, Pending, is_channel_of, new_allocation, taken_addresses, Leaves}
+use Rattle.turn_client_laws.proofs.Machine.{Call}
 use Rattle.turn_client_laws.specs.LawsNumbers.{HasDistinctNumbers}
 use Rattle.turn_client_laws.proofs.NumberLemmas.{AreApart, apart-channel, apart-filter, apart-others, none-filter, numbers, numbers-without_first}
 use Rattle.turn_client_laws.proofs.ChannelRange.{numbers-alike}

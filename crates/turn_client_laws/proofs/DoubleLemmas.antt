@@ -1,18 +1,8 @@
 -- Grants are for different things when they are added and removed.
-use Rattle.std.proofs.Common.{◌≡◌, ℕ, Bool, true, false, List, [], ◌∷◌, ◌++◌, map, filter, filter_map, refl, sym, ◌∙◌, inr, inl}
-use Rattle.std.specs.Prelude.{is_some, find, slice_get}
-use Rattle.std.specs.List.{list_any, IsDistinct, AllByRecursion}
-use Rattle.std.proofs.lemmas.Bool.{or_parts, cases_Bool}
-use Rattle.std.specs.declared.net.ip_addr.IpAddr.{IpAddr}
-use Rattle.std.specs.declared.net.socket_addr.SocketAddr.{SocketAddr}
-use Rattle.turn_agent.specs.Agent.{same_address}
-use Rattle.turn_client_api.specs.declared.grant.Grant.{Grant}
-use Rattle.turn_client_api.specs.declared.grant.Grant.TheVariants.{Allocation, Permission, Channel, Connect, Offer, Connection}
-use Rattle.turn_client_api.specs.declared.grant.Progress.{Progress}
-use Rattle.turn_client_api.specs.declared.grant.DataConnection.{DataConnection}
-use Rattle.turn_client_api.specs.declared.grant.DataOffer.{DataOffer}
-use Rattle.turn_client_api.specs.Grants.{as_connection, is_channel_of, is_connect_to, is_connection_from, is_permission_of, permission_progress, same_ip}
-use Rattle.turn_client_api.specs.Calls.{without_first}
+use Rattle.turn_client_laws.proofs.Common.{◌≡◌, ℕ, Bool, true, false, List, [], ◌∷◌, ◌++◌, map, filter, filter_map, refl, sym, ◌∙◌, inr, inl, is_some, find, slice_get, list_any, IsDistinct}
+use Rattle.turn_client_laws.proofs.Common.{AllByRecursion, or_parts, cases_Bool, IpAddr, SocketAddr}
+use Rattle.turn_client_laws.proofs.Machine.{same_address, Grant, Allocation, Permission, Channel, Connect, Offer, Connection, Progress, DataConnection, DataOffer, as_connection, is_channel_of}
+use Rattle.turn_client_laws.proofs.Machine.{is_connect_to, is_connection_from, is_permission_of, permission_progress, same_ip, without_first}
 use Rattle.turn_client_laws.specs.LawsDoubles.{is_double}
 use Rattle.turn_client_laws.proofs.Edits.{outline}
 

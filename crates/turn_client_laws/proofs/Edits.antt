@@ -1,42 +1,16 @@
 -- The edits of which all calls and messages are made. A relation that holds for each of them holds for each
 -- call: a new law of what calls keep is one record.
-use Rattle.std.proofs.Common.{arith, ◌≡◌, ℕ, Bool, true, false, List, [], ◌∷◌, ◌++◌, map, filter, length, Some, None, ◌⊎◌, ◌<◌, ◌≤◌, ◌+◌, ◌∙◌, sym, ap, refl}
-use Rattle.std.specs.Prelude.{IsSome, ⊤}
-use Rattle.std.specs.List.{list_any}
-use Rattle.std.specs.declared.net.ip_addr.IpAddr.{IpAddr}
-use Rattle.std.specs.declared.net.socket_addr.SocketAddr.{SocketAddr}
-use Rattle.turn_types.specs.declared.family.AddressFamily.{AddressFamily}
-use Rattle.turn_types.specs.declared.family.AddressFamily.TheVariants.{IPV6}
-use Rattle.turn_auth.specs.LongTerm.{Challenge}
-use Rattle.turn_agent.specs.Agent.{resent}
-use Rattle.turn_client_api.specs.State.{State}
-use Rattle.turn_client_api.specs.declared.state.Phase.TheVariants.{New, Requesting, Authenticating, Allocated, Closed}
-use Rattle.turn_client_api.specs.declared.grant.Grant.{Grant}
-use Rattle.turn_client_api.specs.declared.grant.Grant.TheVariants.{Allocation, Permission, Channel, Connect, Offer, Connection}
-use Rattle.turn_client_api.specs.declared.grant.DataConnection.{DataConnection}
-use Rattle.turn_client_api.specs.declared.grant.Relay.{Relay}
-use Rattle.turn_client_api.specs.declared.grant.Progress.{Progress}
-use Rattle.turn_client_api.specs.declared.grant.Progress.TheVariants.{Pending, Active, Reserved}
-use Rattle.turn_client_api.specs.declared.grant.Origin.{Origin}
-use Rattle.turn_client_api.specs.declared.grant.Origin.TheVariants.{OwnConnect, ServerIndication}
-use Rattle.turn_client_api.specs.declared.grant.Purpose.{Purpose}
-use Rattle.turn_client_api.specs.declared.grant.Purpose.TheVariants.{ForAllocation, ForConnect}
-use Rattle.turn_client_api.specs.declared.grant.Listing.{Listing}
-use Rattle.turn_client_api.specs.declared.state.Queued.{Queued}
-use Rattle.turn_client_api.specs.declared.state.Stream.{Stream}
-use Rattle.turn_client_api.specs.Grants.{family_of, family_of_ip, is_channel_of, is_connect_to, is_connection_from, is_of, is_permission_of, permission_state, purposes_of, with_grant, without_grants}
-use Rattle.turn_client_api.specs.Requests.{request_started, first_allocate, request_for}
-use Rattle.turn_client_api.specs.Judgement.{challenge_in}
-use Rattle.turn_client_api.specs.Effect.{challenges_reset, transaction_ended, new_allocation, phase_with, relayed_in, taken_addresses, with_offer}
-use Rattle.turn_client_api.specs.Retry.{phase_after, with_held}
-use Rattle.turn_client_api.specs.Calls.{channel_numbers, offer_origin, offer_taken}
-use Rattle.turn_client_api.specs.Connections.{is_connecting, is_indicated, max_indicated}
-use Rattle.turn_client_api.specs.Transmit.{sent}
+use Rattle.turn_client_laws.proofs.Common.{arith, ◌≡◌, ℕ, Bool, true, false, List, [], ◌∷◌, ◌++◌, map, filter, length, Some, None, ◌⊎◌, ◌<◌, ◌≤◌, ◌+◌, ◌∙◌, sym, ap, refl, IsSome, ⊤, list_any, IpAddr}
+use Rattle.turn_client_laws.proofs.Common.{SocketAddr}
+use Rattle.turn_client_laws.proofs.Machine.{AddressFamily, IPV6, Challenge, resent, State, New, Requesting, Authenticating, Allocated, Closed, Grant, Allocation, Permission, Channel, Connect, Offer}
+use Rattle.turn_client_laws.proofs.Machine.{Connection, DataConnection, Relay, Progress, Pending, Active, Reserved, Origin, OwnConnect, ServerIndication, Purpose, ForAllocation, ForConnect, Listing}
+use Rattle.turn_client_laws.proofs.Machine.{Queued, Stream, family_of, family_of_ip, is_channel_of, is_connect_to, is_connection_from, is_of, is_permission_of, permission_state, purposes_of}
+use Rattle.turn_client_laws.proofs.Machine.{with_grant, without_grants, request_started, first_allocate, request_for, challenge_in, challenges_reset, transaction_ended, new_allocation, phase_with}
+use Rattle.turn_client_laws.proofs.Machine.{relayed_in, taken_addresses, with_offer, phase_after, with_held, channel_numbers, offer_origin, offer_taken, is_connecting, is_indicated, max_indicated}
+use Rattle.turn_client_laws.proofs.Machine.{sent, Has, Lease}
 use Rattle.turn_client_laws.specs.LawsOrder.{IsBegun, IsUngranted}
 use Rattle.turn_client_laws.specs.LawsStates.{is_asked_by}
-use Rattle.turn_client_api.proofs.HasLemmas.{Has}
 use Rattle.turn_client_laws.proofs.InAllocationLemmas.{Room}
-use Rattle.turn_client_api.specs.declared.grant.Lease.{Lease}
 
 -- ---- what identifies an edit
 

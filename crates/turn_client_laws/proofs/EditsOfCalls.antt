@@ -1,53 +1,21 @@
 -- The edits of which calls are made: a relation that holds for each edit holds for each call.
-use Rattle.std.proofs.Common.{◌≡◌, ℕ, Bool, true, false, not, leb, ◌&&◌, ◌||◌, List, [], ◌∷◌, map, filter_map, Option, Some, None, Result, Ok, Err, refl, inl, inr, sym, subst, ◌∙◌}
-use Rattle.std.specs.Prelude.{⊤, is_some, find}
-use Rattle.std.specs.List.{list_any}
-use Rattle.std.proofs.lemmas.Bool.{and_parts, not-false, not-true, or_parts}
-use Rattle.std.proofs.lemmas.List.{append_assoc}
-use Rattle.std.proofs.lemmas.List.Folds.{list_any-append}
-use Rattle.std.specs.declared.net.ip_addr.IpAddr.{IpAddr}
-use Rattle.std.specs.declared.net.socket_addr.SocketAddr.{SocketAddr}
-use Rattle.std.specs.Net.Socket.{socket_ip}
-use Rattle.turn_stun.specs.declared.transport.TransportType.{TransportType}
-use Rattle.turn_stun.specs.declared.transport.TransportType.TheVariants.{Udp, Tcp}
-use Rattle.turn_agent.specs.Agent.{same_address}
-use Rattle.turn_client_api.specs.State.{State, later_by}
-use Rattle.turn_client_api.specs.declared.state.Phase.{Phase}
-use Rattle.turn_client_api.specs.declared.state.Phase.TheVariants.{Allocated}
-use Rattle.turn_client_api.specs.declared.grant.Grant.{Grant}
-use Rattle.turn_client_api.specs.declared.grant.Grant.TheVariants.{Allocation, Permission, Channel, Connect, Connection}
-use Rattle.turn_client_api.specs.declared.grant.DataConnection.{DataConnection}
-use Rattle.turn_client_api.specs.declared.grant.Relay.{Relay}
-use Rattle.turn_client_api.specs.declared.grant.Progress.{Progress}
-use Rattle.turn_client_api.specs.declared.grant.Progress.TheVariants.{Pending}
-use Rattle.turn_client_api.specs.declared.grant.Origin.{Origin}
-use Rattle.turn_client_api.specs.declared.grant.Origin.TheVariants.{ServerRequest}
-use Rattle.turn_client_api.specs.declared.grant.Purpose.{Purpose}
-use Rattle.turn_client_api.specs.declared.grant.Purpose.TheVariants.{ForAllocation, ForRefresh, ForPermission, ForChannel, ForConnect, ForBind}
-use Rattle.turn_client_api.specs.declared.state.Queued.{Queued}
-use Rattle.turn_client_api.specs.Grants.{find_allocation_to, allocations, changed_allocation, as_connection, family_of, family_of_ip, is_past, is_permission_of, has_active_permission}
-use Rattle.turn_client_api.specs.Grants.{permission_state, same_transport, with_expired, with_grant, with_more_grants, without_grants}
-use Rattle.turn_client_api.specs.Requests.{accepted_reply, request_started, fresh_id, replied, request_for, requested}
-use Rattle.turn_client_api.specs.Retry.{bind_time}
-use Rattle.turn_client_api.specs.Connections.{connection_at, is_connected, is_connecting}
-use Rattle.turn_client_api.specs.Calls.{active_channel, all_expired, allocated_tcp_socket_step, bind_channel, bind_channel_step, bound_by, bound_to, channel_numbers, channel_step, channels_to}
-use Rattle.turn_client_api.specs.Calls.{connect_step, create_permission_step, delete_step, delete_text, deleted, free_number, can_send_to, in_allocation, is_allocated, is_closed, is_control}
-use Rattle.turn_client_api.specs.Calls.{is_granted_in, is_in_progress, is_local_taken, is_number_taken, offer_origin, offer_taken, on_channel, on_connection, permission_step, protocol_error_step}
-use Rattle.turn_client_api.specs.Calls.{reserved_from, send_over, send_to_step, socket_opened, socket_refused, socket_step, tcp_connect_step, with_stream}
-use Rattle.turn_client_api.specs.declared.poll.Socket5Tuple.{Socket5Tuple}
+use Rattle.turn_client_laws.proofs.Common.{◌≡◌, ℕ, Bool, true, false, not, ◌&&◌, ◌||◌, List, [], ◌∷◌, map, filter_map, Option, Some, None, Result, Ok, Err, refl, inl, inr, sym, subst, ◌∙◌, ⊤, is_some}
+use Rattle.turn_client_laws.proofs.Common.{list_any, and_parts, not-false, not-true, or_parts, append_assoc, list_any-append, IpAddr, SocketAddr, socket_ip}
+use Rattle.turn_client_laws.proofs.Machine.{TransportType, Tcp, same_address, State, later_by, Phase, Allocated, Grant, Allocation, Permission, Channel, Connect, Connection, DataConnection, Relay}
+use Rattle.turn_client_laws.proofs.Machine.{Progress, Pending, Origin, ServerRequest, Purpose, ForAllocation, ForRefresh, ForPermission, ForChannel, ForConnect, ForBind, Queued, find_allocation_to}
+use Rattle.turn_client_laws.proofs.Machine.{allocations, changed_allocation, family_of, family_of_ip, is_past, is_permission_of, has_active_permission, permission_state, same_transport, with_expired}
+use Rattle.turn_client_laws.proofs.Machine.{with_grant, with_more_grants, without_grants, accepted_reply, request_started, fresh_id, replied, request_for, requested, bind_time, connection_at}
+use Rattle.turn_client_laws.proofs.Machine.{is_connected, is_connecting, all_expired, allocated_tcp_socket_step, bind_channel, bind_channel_step, bound_by, channel_numbers, channel_step, channels_to}
+use Rattle.turn_client_laws.proofs.Machine.{connect_step, create_permission_step, delete_step, delete_text, deleted, free_number, in_allocation, is_allocated, is_closed, is_control, is_granted_in}
+use Rattle.turn_client_laws.proofs.Machine.{is_in_progress, is_local_taken, is_number_taken, offer_origin, offer_taken, permission_step, protocol_error_step, reserved_from, send_to_step}
+use Rattle.turn_client_laws.proofs.Machine.{socket_opened, socket_refused, socket_step, tcp_connect_step, with_stream, Socket5Tuple, tcp_closed_step, event_step, Leaves, state_after, Call, Delete}
+use Rattle.turn_client_laws.proofs.Machine.{CreatePermission, BindChannel, TcpConnect, AllocatedTcpSocket, TcpClosed, SendTo, Recv, PollRecv, Poll, PollTransmit, PollEvent, RelayedAddresses}
+use Rattle.turn_client_laws.proofs.Machine.{Permissions, HavePermission, ProtocolError, SetPermissionKept, SetChannelKept, same_address-self, Has, filter-has, has-found, has-left, has-right, map-has}
+use Rattle.turn_client_laws.proofs.Machine.{allocation-there, keep_step, is_open_to, with_marks}
 use Rattle.turn_client_api.specs.declared.error.BindChannelError.TheVariants as Bind
-use Rattle.turn_client_api.specs.Receive.{tcp_closed_step}
-use Rattle.turn_client_api.specs.Answers.{event_step}
 use Rattle.turn_client_laws.specs.LawsOrder.{IsBegun}
-use Rattle.turn_client_api.specs.Steps.{Leaves, state_after}
-use Rattle.turn_client_api.specs.declared.call.Call.{Call}
-use Rattle.turn_client_api.specs.declared.call.Call.TheVariants.{Delete, CreatePermission, BindChannel, TcpConnect, AllocatedTcpSocket, TcpClosed, SendTo, Recv, PollRecv, Poll, PollTransmit}
-use Rattle.turn_client_api.specs.declared.call.Call.TheVariants.{PollEvent, RelayedAddresses, Permissions, HavePermission, ProtocolError, SetPermissionKept, SetChannelKept}
 use Rattle.turn_client_laws.specs.LawsStates.{is_asked_by}
-use Rattle.turn_client_api.proofs.AddressLemmas.{same_address-self}
-use Rattle.turn_client_api.proofs.HasLemmas.{Has, filter-has, has-found, has-left, has-right, map-has}
 use Rattle.turn_client_laws.proofs.InAllocationLemmas.{allocation-room, Room, room-more, same_family-self}
-use Rattle.turn_client_api.proofs.AllocationLemmas.{allocation-there}
 use Rattle.turn_client_laws.proofs.GrantOriginLemmas.{has-mapped}
 use Rattle.turn_client_laws.proofs.GrantOriginEffectLemmas.{same_ip-same}
 use Rattle.turn_client_laws.proofs.DoubleLemmas.{no-connection, no-permission}
@@ -57,8 +25,6 @@ use Rattle.turn_client_laws.proofs.Edits.{IsAskable, KeepsAllEdits, KeepsEdits, 
 use Rattle.turn_client_laws.proofs.EditsOfReplies.{allocations-change, marked-alike, closed-walk, either, fail-walk, found, gone-walk, one-of, requested-walk, asked-walk, spelled-else, expired-alike}
 use Rattle.turn_client_laws.proofs.EditsOfTime.{channel-asked, for-there, poll-walk, transmit-walk}
 use Rattle.turn_client_laws.proofs.EditsOfMessages.{edits-IsKept}
-use Rattle.turn_client_api.specs.Calls.{keep_step, is_open_to}
-use Rattle.turn_client_api.specs.Calls.{is_open_to, keep_step, with_marks}
 use Rattle.turn_client_laws.proofs.CaseLemmas.{send_to-by}
 
 -- ---- requests are for grants that exist

@@ -1,43 +1,19 @@
 -- The edits of which messages are made.
-use Rattle.std.proofs.Common.{◌≡◌, ◌≤◌, ◌∙◌, ◌+◌, ℕ, Bool, true, false, not, cond, ◌&&◌, ◌||◌, eqb, ltb, leb, List, [], ◌∷◌, filter, filter_map, length, Option, Some, None, inl, inr, refl, sym, subst}
-use Rattle.std.proofs.Common.{ap, ◌++◌}
-use Rattle.std.specs.Prelude.{is_some, find, IfSome, ⊤}
-use Rattle.std.specs.List.{list_any}
-use Rattle.std.specs.Option.{option_map_or}
-use Rattle.std.specs.Net.Socket.{socket_ip}
-use Rattle.std.proofs.lemmas.Bool.{and_parts, eq-eqb, leb-true, ltb-true, cases_Bool, or_parts, or_right}
-use Rattle.std.proofs.lemmas.Option.{same_Some}
-use Rattle.std.specs.declared.net.socket_addr.SocketAddr.{SocketAddr}
-use Rattle.turn_stun.specs.Message.{id_of}
-use Rattle.turn_stun.specs.declared.transport.TransportType.TheVariants.{Tcp}
-use Rattle.turn_types.specs.declared.family.AddressFamily.TheVariants.{IPV4, IPV6}
-use Rattle.turn_auth.specs.LongTerm.{Challenge}
-use Rattle.turn_agent.specs.Agent.{is_outstanding, same_address}
-use Rattle.turn_client_api.specs.State.{State, later_by}
-use Rattle.turn_client_api.specs.declared.state.Phase.{Phase}
-use Rattle.turn_client_api.specs.declared.state.Phase.TheVariants.{New, Requesting, Authenticating, Allocated, Closed}
-use Rattle.turn_client_api.specs.declared.grant.Grant.{Grant}
-use Rattle.turn_client_api.specs.declared.grant.Grant.TheVariants.{Connection}
-use Rattle.turn_client_api.specs.declared.grant.DataConnection.{DataConnection}
-use Rattle.turn_client_api.specs.declared.grant.Origin.TheVariants.{ServerIndication, ServerRequest}
-use Rattle.turn_client_api.specs.declared.grant.Purpose.{Purpose}
-use Rattle.turn_client_api.specs.declared.grant.Purpose.TheVariants.{ForAllocation}
-use Rattle.turn_client_api.specs.declared.grant.Listing.{Listing}
-use Rattle.turn_client_api.specs.declared.state.Mode.TheVariants.{Bound}
-use Rattle.turn_client_api.specs.Grants.{find_allocation_to, as_connection, is_connection_from, is_for, is_listed, is_of_request, has_active_permission, purposes_of, unlisted, wait}
-use Rattle.turn_client_api.specs.Requests.{request_started, connection_attempt_method, fresh_id, request_for, requested}
-use Rattle.turn_client_api.specs.Judgement.{Judgement, Unrelated, Challenged, Fatal, ConnectionAttempt, SignedRequest, SignedSuccess, SignedError, answers_one, challenge_in, challenged_or}
-use Rattle.turn_client_api.specs.Judgement.{judgement_of, bind_judgement, is_bind_of, lifetime_in, method_in}
-use Rattle.turn_client_api.specs.Effect.{allocate_denied, allocate_granted, allocated, closed, transaction_ended, fail_all, family_not_supported, has_code, in_phase, phase_with, relayed_in}
-use Rattle.turn_client_api.specs.Effect.{taken_addresses, with_offer}
-use Rattle.turn_client_api.specs.Retry.{bind_time, first_or, is_allocate_or_connect, is_channel_bind, is_create_permission, is_refresh, phase_after, retried, state_after_retry, with_held}
-use Rattle.turn_client_api.specs.Connections.{attempt_indicated, attempt_requested, bind_again, bind_answered, bind_step, bound, connection_at, is_connected, is_connecting, accepts_attempt}
-use Rattle.turn_client_api.specs.Connections.{is_indicated, max_indicated, not_bound, with_deadline, with_mode}
-use Rattle.turn_client_api.specs.Payloads.{Outcome, Handled, Ignored, answered_purposes, challenge_step, is_answered, message_step, response_step, signed_step, wrong_step}
-use Rattle.turn_client_api.specs.declared.event.TurnEvent.TheVariants.{AllocationCreateFailed}
+use Rattle.turn_client_laws.proofs.Common.{◌≡◌, ◌≤◌, ◌∙◌, ◌+◌, ℕ, Bool, true, false, not, cond, ◌&&◌, ◌||◌, eqb, ltb, leb, List, [], ◌∷◌, filter, filter_map, length, Option, Some, None, inl, inr}
+use Rattle.turn_client_laws.proofs.Common.{refl, sym, subst, ap, ◌++◌, is_some, find, IfSome, ⊤, list_any, option_map_or, socket_ip, and_parts, eq-eqb, leb-true, ltb-true, cases_Bool, or_parts}
+use Rattle.turn_client_laws.proofs.Common.{or_right, same_Some, SocketAddr}
+use Rattle.turn_client_laws.proofs.Machine.{id_of, Tcp, IPV4, IPV6, Challenge, is_outstanding, same_address, State, later_by, Phase, New, Requesting, Authenticating, Allocated, Closed, Grant}
+use Rattle.turn_client_laws.proofs.Machine.{Connection, DataConnection, ServerIndication, ServerRequest, Purpose, ForAllocation, Listing, Bound, find_allocation_to, as_connection, is_connection_from}
+use Rattle.turn_client_laws.proofs.Machine.{is_for, is_listed, is_of_request, has_active_permission, purposes_of, unlisted, wait, request_started, connection_attempt_method, fresh_id, request_for}
+use Rattle.turn_client_laws.proofs.Machine.{requested, Judgement, Unrelated, Challenged, Fatal, ConnectionAttempt, SignedRequest, SignedSuccess, SignedError, answers_one, challenge_in, challenged_or}
+use Rattle.turn_client_laws.proofs.Machine.{judgement_of, bind_judgement, is_bind_of, lifetime_in, method_in, allocate_denied, allocate_granted, allocated, closed, transaction_ended, fail_all}
+use Rattle.turn_client_laws.proofs.Machine.{family_not_supported, has_code, in_phase, phase_with, relayed_in, taken_addresses, with_offer, bind_time, first_or, is_allocate_or_connect, is_channel_bind}
+use Rattle.turn_client_laws.proofs.Machine.{is_create_permission, is_refresh, phase_after, retried, state_after_retry, with_held, attempt_indicated, attempt_requested, bind_again, bind_answered}
+use Rattle.turn_client_laws.proofs.Machine.{bind_step, bound, connection_at, is_connected, is_connecting, accepts_attempt, is_indicated, max_indicated, not_bound, with_deadline, with_mode, Outcome}
+use Rattle.turn_client_laws.proofs.Machine.{Handled, Ignored, answered_purposes, challenge_step, is_answered, message_step, response_step, signed_step, wrong_step, AllocationCreateFailed, Has}
+use Rattle.turn_client_laws.proofs.Machine.{has-filter, has-filter_map, has-found, cases_Option}
 use Rattle.turn_client_laws.specs.LawsReplies.{IsAccepted, IsReplyAccepted}
 use Rattle.turn_client_laws.specs.LawsOrder.{IsBegun, IsUngranted}
-use Rattle.turn_client_api.proofs.HasLemmas.{Has, has-filter, has-filter_map, has-found, cases_Option}
 use Rattle.turn_client_laws.proofs.InAllocationLemmas.{allocation-room, has-any, not-both}
 use Rattle.turn_client_laws.proofs.NewIdLemmas.{fresh-free}
 use Rattle.turn_client_laws.proofs.GrantOriginLemmas.{has-mapped}

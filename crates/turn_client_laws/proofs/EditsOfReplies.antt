@@ -1,41 +1,18 @@
 -- The edits of which the effects of a reply are made.
-use Rattle.std.proofs.Common.{◌≡◌, ℕ, Bool, true, false, not, cond, ◌&&◌, ◌||◌, eqb, leb, List, [], ◌∷◌, map, filter_map, fold, Option, Some, None, inl, inr, refl, sym, subst, ap, ◌∙◌, arith}
-use Rattle.std.specs.Prelude.{is_some}
-use Rattle.std.specs.Option.{option_map_or}
-use Rattle.std.proofs.lemmas.Bool.{eqb-true}
-use Rattle.std.proofs.lemmas.Option.{cond_some}
-use Rattle.std.specs.declared.net.ip_addr.IpAddr.{IpAddr}
-use Rattle.std.specs.declared.net.socket_addr.SocketAddr.{SocketAddr}
-use Rattle.turn_types.specs.declared.family.AddressFamily.{AddressFamily}
-use Rattle.turn_agent.specs.Agent.{same_address}
-use Rattle.turn_client_api.specs.State.{State, later_by, seconds}
-use Rattle.turn_client_api.specs.declared.state.Phase.TheVariants.{Allocated}
-use Rattle.turn_client_api.specs.declared.grant.Grant.{Grant}
-use Rattle.turn_client_api.specs.declared.grant.Grant.TheVariants.{Allocation, Permission, Channel, Offer, Connection}
-use Rattle.turn_client_api.specs.declared.grant.Relay.{Relay}
-use Rattle.turn_client_api.specs.declared.grant.Progress.{Progress}
-use Rattle.turn_client_api.specs.declared.grant.Progress.TheVariants.{Pending, Active, Reserved}
-use Rattle.turn_client_api.specs.declared.grant.Purpose.{Purpose}
-use Rattle.turn_client_api.specs.declared.grant.Purpose.TheVariants.{ForAllocation, ForRefresh, ForPermission, ForChannel, ForConnect}
-use Rattle.turn_client_api.specs.declared.grant.Listing.{Listing}
-use Rattle.turn_client_api.specs.Grants.{as_allocation, changed_allocation, channel_at, first_in, is_channel_of, is_connect_to, is_connection_from, is_for_allocation, is_of, is_of_family}
-use Rattle.turn_client_api.specs.Grants.{is_permission_of, permission_state, purposes_of, unlisted, with_allocations, without_grants, with_expired}
-use Rattle.turn_client_api.specs.Judgement.{connection_id_in, lifetime_in}
-use Rattle.turn_client_api.specs.Connections.{connection_at, deadline_set, with_deadline}
-use Rattle.turn_client_api.specs.Effect.{active_channel_answered, active_permission_answered, all_gone, allocation_mismatch, challenges_reset, channel_answered, channel_lifetime, closed}
-use Rattle.turn_client_api.specs.Effect.{connect_answered, effect, fail_all, has_code, is_asked_permission, lasting, lasting_if, min_lifetime, listed_permissions_answered, pending_channel_answered}
-use Rattle.turn_client_api.specs.Effect.{pending_permission_answered, permission_answered, permission_answered_for, permission_lifetime, prolonged, refreshed, renewed, reserved}
-use Rattle.turn_client_api.specs.Receive.{connection_gone}
-use Rattle.turn_client_api.specs.Requests.{request_started, channel_bind_method, connect_method, create_permission_method, refresh_method, request_for, requested}
-use Rattle.turn_client_api.specs.Payloads.{is_answered}
+use Rattle.turn_client_laws.proofs.Common.{◌≡◌, ℕ, Bool, true, false, not, cond, ◌&&◌, ◌||◌, eqb, leb, List, [], ◌∷◌, map, filter_map, fold, Option, Some, None, inl, inr, refl, sym, subst, ap, ◌∙◌}
+use Rattle.turn_client_laws.proofs.Common.{arith, is_some, option_map_or, eqb-true, cond_some, IpAddr, SocketAddr}
+use Rattle.turn_client_laws.proofs.Machine.{AddressFamily, same_address, State, later_by, seconds, Allocated, Grant, Allocation, Channel, Offer, Connection, Relay, Progress, Pending, Active, Purpose}
+use Rattle.turn_client_laws.proofs.Machine.{ForAllocation, ForRefresh, ForPermission, ForChannel, ForConnect, Listing, as_allocation, changed_allocation, channel_at, first_in, is_channel_of}
+use Rattle.turn_client_laws.proofs.Machine.{is_connect_to, is_connection_from, is_for_allocation, is_of, is_of_family, is_permission_of, permission_state, purposes_of, unlisted, with_allocations}
+use Rattle.turn_client_laws.proofs.Machine.{without_grants, with_expired, connection_id_in, lifetime_in, connection_at, deadline_set, with_deadline, active_channel_answered}
+use Rattle.turn_client_laws.proofs.Machine.{active_permission_answered, all_gone, allocation_mismatch, challenges_reset, channel_answered, channel_lifetime, closed, connect_answered, effect, fail_all}
+use Rattle.turn_client_laws.proofs.Machine.{has_code, is_asked_permission, lasting, lasting_if, min_lifetime, listed_permissions_answered, pending_channel_answered, pending_permission_answered}
+use Rattle.turn_client_laws.proofs.Machine.{permission_answered, permission_answered_for, permission_lifetime, prolonged, refreshed, renewed, reserved, connection_gone, request_started}
+use Rattle.turn_client_laws.proofs.Machine.{channel_bind_method, connect_method, create_permission_method, refresh_method, request_for, requested, is_answered, as_reported, first_reported}
+use Rattle.turn_client_laws.proofs.Machine.{unreported_in, Has, filter-has, has-filter, has-filter_map, has-left, map-has, first-has, marked, with_marks, granted_until, marked_if}
 use Rattle.turn_client_laws.specs.LawsOrder.{IsBegun, IsUngranted}
-use Rattle.turn_client_api.specs.Poll.{as_reported, first_reported, unreported_in}
-use Rattle.turn_client_api.proofs.HasLemmas.{Has, filter-has, has-filter, has-filter_map, has-left, map-has, first-has}
 use Rattle.turn_client_laws.proofs.Edits.{IsAskable, IsSpelled, KeepsEdits, SparesAllocations, listing, outline, AllocationsStay, KeepsAccepted, aged}
 use Rattle.turn_client_laws.proofs.CaseLemmas.{by_test, by_found}
-use Rattle.turn_client_api.specs.Calls.{marked, with_marks}
-use Rattle.turn_client_api.specs.Effect.{granted_until}
-use Rattle.turn_client_api.specs.Calls.{marked, marked_if, with_marks}
 
 -- ---- grants that change and keep their outlines
 

@@ -1,41 +1,20 @@
 -- The edits that time makes, and those of what is sent.
-use Rattle.std.proofs.Common.{◌≡◌, ℕ, Bool, true, false, cond, eqb, leb, ltb, ◌&&◌, ◌||◌, List, [], ◌∷◌, filter, Option, Some, None, refl, inl, inr, sym, subst, ◌∙◌}
-use Rattle.std.specs.Prelude.{drop, find, reverse, flat_map, nat_le, slice_get}
-use Rattle.std.specs.List.{list_any}
-use Rattle.std.proofs.lemmas.Bool.{and_from, and_left, and_right, eq-eqb}
-use Rattle.std.proofs.lemmas.Option.{cond_some, none-some}
-use Rattle.std.specs.declared.net.socket_addr.SocketAddr.{SocketAddr}
-use Rattle.turn_types.specs.declared.family.AddressFamily.{AddressFamily}
-use Rattle.turn_agent.specs.Agent.{due, timed_out_transaction, resent, same_address}
-use Rattle.turn_agent.specs.declared.transaction.Transaction.{Transaction}
-use Rattle.turn_client_api.specs.State.{State, agent_of}
-use Rattle.turn_client_api.specs.declared.state.Phase.{Phase}
-use Rattle.turn_client_api.specs.declared.state.Phase.TheVariants.{New, Requesting, Authenticating, Allocated}
-use Rattle.turn_client_api.specs.declared.grant.Grant.{Grant}
-use Rattle.turn_client_api.specs.declared.grant.Grant.TheVariants.{Allocation, Permission, Channel}
-use Rattle.turn_client_api.specs.declared.grant.Relay.{Relay}
-use Rattle.turn_client_api.specs.declared.grant.Progress.{Progress}
-use Rattle.turn_client_api.specs.declared.grant.Progress.TheVariants.{Active}
-use Rattle.turn_client_api.specs.declared.grant.Purpose.{Purpose}
-use Rattle.turn_client_api.specs.declared.grant.Purpose.TheVariants.{ForAllocation, ForRefresh, ForPermission, ForChannel}
-use Rattle.turn_client_api.specs.declared.state.Queued.{Queued}
-use Rattle.turn_client_api.specs.Grants.{allocations, family_of, is_connect, is_for_any, is_of, is_pending_channel, is_pending_permission}
-use Rattle.turn_client_api.specs.Requests.{request_started, asked_lifetime, first_allocate, fresh_id, id_used, request_for}
-use Rattle.turn_client_api.specs.Effect.{closed, transaction_ended, reserved}
-use Rattle.turn_client_api.specs.Due.{has_event, has_reply, is_paused, keepalive_times}
-use Rattle.turn_client_api.specs.Poll.{answer_step, channel_expired, connections_unbound, timed_out_purposes, timed_out_step, allocation_expires, failed_by_timeout, is_timed_out_offer}
-use Rattle.turn_client_api.specs.Poll.{is_expired_channel, is_expired_permission, is_listed_for_allocation, is_over, is_unbound, expired_at, expired_allocation, expired_in, next_offer, offer_step}
-use Rattle.turn_client_api.specs.Poll.{offers_timed_out, permissions_expired, poll_step, silent_step, timed_step}
-use Rattle.turn_client_api.specs.Transmit.{idle_step, is_due_in, keepalive_step, queue_step, refresh_purpose, refreshes_in, refreshes_of_rank, sent, transmit_step}
+use Rattle.turn_client_laws.proofs.Common.{◌≡◌, ℕ, Bool, true, false, cond, eqb, leb, ltb, ◌&&◌, ◌||◌, List, [], ◌∷◌, filter, Option, Some, None, refl, inl, inr, sym, subst, ◌∙◌, drop, find, reverse}
+use Rattle.turn_client_laws.proofs.Common.{flat_map, nat_le, slice_get, list_any, and_from, and_left, and_right, eq-eqb, cond_some, none-some, SocketAddr}
+use Rattle.turn_client_laws.proofs.Machine.{AddressFamily, due, timed_out_transaction, resent, same_address, Transaction, State, agent_of, Phase, New, Requesting, Authenticating, Allocated, Grant}
+use Rattle.turn_client_laws.proofs.Machine.{Allocation, Permission, Channel, Relay, Progress, Active, Purpose, ForAllocation, ForRefresh, ForPermission, ForChannel, Queued, allocations, family_of}
+use Rattle.turn_client_laws.proofs.Machine.{is_connect, is_for_any, is_of, is_pending_channel, is_pending_permission, request_started, asked_lifetime, first_allocate, fresh_id, id_used, request_for}
+use Rattle.turn_client_laws.proofs.Machine.{closed, transaction_ended, reserved, has_event, has_reply, is_paused, keepalive_times, answer_step, channel_expired, connections_unbound}
+use Rattle.turn_client_laws.proofs.Machine.{timed_out_purposes, timed_out_step, allocation_expires, failed_by_timeout, is_timed_out_offer, is_expired_channel, is_expired_permission}
+use Rattle.turn_client_laws.proofs.Machine.{is_listed_for_allocation, is_over, is_unbound, expired_at, expired_allocation, expired_in, next_offer, offer_step, offers_timed_out, permissions_expired}
+use Rattle.turn_client_laws.proofs.Machine.{poll_step, silent_step, timed_step, idle_step, is_due_in, keepalive_step, queue_step, refresh_purpose, refreshes_in, refreshes_of_rank, sent, transmit_step}
+use Rattle.turn_client_laws.proofs.Machine.{same_address-self, Has, has-filter, has-filter_map, has-flat_map, has-found, first-has, has-unreversed, expired_in-does}
 use Rattle.turn_client_api.specs.Transmit as T
 use Rattle.turn_client_laws.specs.LawsStates.{is_asked_by}
-use Rattle.turn_client_api.proofs.AddressLemmas.{same_address-self}
-use Rattle.turn_client_api.proofs.HasLemmas.{Has, has-filter, has-filter_map, has-flat_map, has-found, first-has, has-unreversed}
 use Rattle.turn_client_laws.proofs.InAllocationLemmas.{has-any, same_family-self}
 use Rattle.turn_client_laws.proofs.GrantOriginEffectLemmas.{same_ip-same}
 use Rattle.turn_client_laws.proofs.Edits.{IsAskable, KeepsEdits, SparesAllocations}
 use Rattle.turn_client_laws.proofs.EditsOfReplies.{closed-walk, each, either, found, one-of, removed, asked-walk, reserved-walk, spares-kind, spelled-else, unlisted-walk, reported-alike}
-use Rattle.turn_client_api.proofs.ExpirySteps.{expired_in-does}
 use Rattle.turn_client_laws.proofs.CaseLemmas.{by_test, answer-by}
 
 -- ---- what is refreshed exists

@@ -1,39 +1,16 @@
 -- Each event that a poll queues reports a grant that can fail no more.
-use Rattle.std.proofs.Common.{◌≡◌, ◌≢◌, ℕ, ◌≤◌, ◌+◌, Bool, true, false, ◌&&◌, ◌||◌, not, cond, List, [], ◌∷◌, ◌++◌, map, length, filter, filter_map, find, fold, reverse, Option, Some, None, refl, sym}
-use Rattle.std.proofs.Common.{◌∙◌, inl, inr, arith}
-use Rattle.std.specs.Prelude.{is_some}
-use Rattle.std.specs.List.{cons_option}
-use Rattle.std.proofs.lemmas.List.{length-append, length-map, length-reverse}
-use Rattle.std.proofs.lemmas.Bool.{eq-eqb, cases_Bool}
-use Rattle.std.specs.declared.net.socket_addr.SocketAddr.{SocketAddr}
-use Rattle.turn_stun.specs.declared.transport.TransportType.{TransportType}
-use Rattle.turn_types.specs.declared.family.AddressFamily.{AddressFamily}
-use Rattle.turn_agent.specs.Agent.{timed_out_transaction}
-use Rattle.turn_client_api.specs.State.{State, agent_of}
-use Rattle.turn_client_api.specs.declared.grant.DataOffer.{DataOffer}
-use Rattle.turn_client_api.specs.declared.state.Phase.{Phase}
-use Rattle.turn_client_api.specs.declared.state.Phase.TheVariants.{Requesting, Authenticating, Allocated}
-use Rattle.turn_client_api.specs.declared.grant.Grant.{Grant}
-use Rattle.turn_client_api.specs.declared.grant.Grant.TheVariants.{Channel, Offer}
-use Rattle.turn_client_api.specs.declared.grant.Relay.{Relay}
-use Rattle.turn_client_api.specs.declared.grant.Progress.TheVariants.{Active, Reserved}
-use Rattle.turn_client_api.specs.declared.grant.Purpose.{Purpose}
-use Rattle.turn_client_api.specs.Grants.{allocations, failure_of, failures_among, family_of, is_channel_of, is_connect, is_for_any, is_of, is_pending_channel, is_pending_permission, without_grants}
-use Rattle.turn_client_api.specs.Effect.{closed, transaction_ended, reserved}
-use Rattle.turn_client_api.specs.Due.{has_event, has_reply}
-use Rattle.turn_client_api.specs.Poll.{answer_step, channel_expired, connections_unbound, failed, timed_out_step, allocation_expires, failed_by_timeout, is_expired_channel, is_listed_for_allocation}
-use Rattle.turn_client_api.specs.Poll.{is_over, expired_at, expired_allocation, expired_in, last_channel_expired, next_offer, offer_step, offers_timed_out, permissions_expired, poll_step, timed_step}
-use Rattle.turn_client_api.specs.Poll.{as_reported, first_reported, unbound, unreported_in, timed_out_purposes}
+use Rattle.turn_client_laws.proofs.Common.{◌≡◌, ◌≢◌, ℕ, ◌≤◌, ◌+◌, Bool, true, false, ◌&&◌, ◌||◌, not, cond, List, [], ◌∷◌, ◌++◌, map, length, filter, filter_map, find, reverse, Option, Some, None}
+use Rattle.turn_client_laws.proofs.Common.{refl, sym, ◌∙◌, inl, inr, arith, is_some, cons_option, length-append, length-map, length-reverse, eq-eqb, cases_Bool, SocketAddr}
+use Rattle.turn_client_laws.proofs.Machine.{TransportType, AddressFamily, timed_out_transaction, State, agent_of, DataOffer, Phase, Requesting, Authenticating, Allocated, Grant, Channel, Offer}
+use Rattle.turn_client_laws.proofs.Machine.{Active, Reserved, Purpose, allocations, failure_of, failures_among, family_of, is_channel_of, is_connect, is_for_any, is_of, is_pending_channel}
+use Rattle.turn_client_laws.proofs.Machine.{is_pending_permission, without_grants, closed, transaction_ended, reserved, has_event, has_reply, answer_step, channel_expired, connections_unbound, failed}
+use Rattle.turn_client_laws.proofs.Machine.{timed_out_step, failed_by_timeout, is_expired_channel, is_listed_for_allocation, is_over, expired_at, expired_in, last_channel_expired, next_offer}
+use Rattle.turn_client_laws.proofs.Machine.{offer_step, offers_timed_out, permissions_expired, poll_step, timed_step, as_reported, first_reported, unbound, unreported_in, timed_out_purposes}
+use Rattle.turn_client_laws.proofs.Machine.{TurnEvent, AllocationCreateFailed, TurnPollRet, Has, has-found, has-unreversed, expired_in-does, Lease}
 use Rattle.turn_client_laws.specs.LawsBodies.{ReportsOfFailed, can_fail, max_failures}
-use Rattle.turn_client_api.specs.declared.event.TurnEvent.{TurnEvent}
-use Rattle.turn_client_api.specs.declared.event.TurnEvent.TheVariants.{AllocationCreateFailed}
-use Rattle.turn_client_api.specs.declared.poll.TurnPollRet.{TurnPollRet}
-use Rattle.turn_client_api.proofs.HasLemmas.{Has, has-found, has-unreversed}
 use Rattle.turn_client_laws.proofs.AfterExpiryLemmas.{IsReserved}
-use Rattle.turn_client_api.proofs.ExpirySteps.{expired_in-does}
 use Rattle.turn_client_laws.proofs.CaseLemmas.{all-expire, by_test, by_found, answer-by}
 use Rattle.turn_client_laws.proofs.EditsOfReplies.{and-false}
-use Rattle.turn_client_api.specs.declared.grant.Lease.{Lease}
 
 reports-self : (s : State) → ReportsOfFailed s s
 reports-self s = omega arith

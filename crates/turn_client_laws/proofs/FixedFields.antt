@@ -1,10 +1,6 @@
 -- Fields of a client that no edit touches: a law that one of them stays is one line.
-use Rattle.std.proofs.Common.{◌≡◌, ◌∙◌, List, refl}
-use Rattle.std.specs.Prelude.{⊤}
-use Rattle.turn_stun.specs.declared.transport.TransportType.{TransportType}
-use Rattle.turn_client_api.specs.Config.{Config}
-use Rattle.turn_client_api.specs.State.{State}
-use Rattle.turn_client_api.specs.declared.state.Stream.{Stream}
+use Rattle.turn_client_laws.proofs.Common.{◌≡◌, ◌∙◌, List, refl, ⊤}
+use Rattle.turn_client_laws.proofs.Machine.{TransportType, Config, State, Stream}
 use Rattle.turn_client_laws.proofs.Edits.{KeepsAllEdits, KeepsEdits}
 use Rattle.turn_client_laws.proofs.PhaseEdits.{KeepsPhaseEdits, all-phase-edits, phase-edits}
 

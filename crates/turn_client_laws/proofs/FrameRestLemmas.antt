@@ -1,28 +1,10 @@
 -- The effect of a frame is independent of the bytes after it.
-use Rattle.std.proofs.Common.{◌≡◌, ℕ, Bool, true, false, not, cond, eqb, List, [], ◌∷◌, map, Option, Some, None, refl, ap, sym, ◌∙◌, inl, inr}
-use Rattle.std.specs.Prelude.{find}
-use Rattle.std.specs.declared.net.socket_addr.SocketAddr.{SocketAddr}
-use Rattle.std.proofs.lemmas.Bool.{cases_Bool}
-use Rattle.turn_stun.specs.Message.{id_of}
-use Rattle.turn_types.specs.Frames.{begins_message}
-use Rattle.turn_auth.specs.LongTerm.{Challenge}
-use Rattle.turn_agent.specs.Agent.{same_address}
-use Rattle.turn_client_api.specs.State.{State}
-use Rattle.turn_client_api.specs.declared.state.Mode.{Mode}
-use Rattle.turn_client_api.specs.declared.state.Mode.TheVariants.{Control, Waiting, Bound}
-use Rattle.turn_client_api.specs.declared.state.Stream.{Stream}
-use Rattle.turn_client_api.specs.declared.grant.DataConnection.{DataConnection}
-use Rattle.turn_client_api.specs.declared.state.Phase.{Phase}
-use Rattle.turn_client_api.specs.declared.state.Phase.TheVariants.{Allocated}
-use Rattle.turn_client_api.specs.Grants.{purposes_of}
-use Rattle.turn_client_api.specs.Requests.{connection_bind_method}
-use Rattle.turn_client_api.specs.Judgement.{Judgement, Challenged, SignedSuccess, bind_judgement, is_bind_of, method_in}
-use Rattle.turn_client_api.specs.Connections.{bind_again, bind_answered, bind_step, connection_at}
-use Rattle.turn_client_api.specs.Payloads.{Outcome, Handled, is_message, message_step}
-use Rattle.turn_client_api.specs.Streams.{control_frame_step, frame_step, waiting_frame_step, with_bytes}
+use Rattle.turn_client_laws.proofs.Common.{◌≡◌, ℕ, Bool, true, false, not, cond, eqb, List, [], ◌∷◌, map, Option, Some, None, refl, ap, sym, ◌∙◌, inl, inr, find, SocketAddr, cases_Bool}
+use Rattle.turn_client_laws.proofs.Machine.{id_of, begins_message, Challenge, same_address, State, Mode, Control, Waiting, Bound, Stream, DataConnection, Phase, Allocated, purposes_of}
+use Rattle.turn_client_laws.proofs.Machine.{connection_bind_method, Judgement, Challenged, SignedSuccess, bind_judgement, is_bind_of, method_in, bind_again, bind_answered, bind_step, connection_at}
+use Rattle.turn_client_laws.proofs.Machine.{Outcome, Handled, is_message, message_step, control_frame_step, frame_step, waiting_frame_step, with_bytes, cases_Option}
 use Rattle.turn_client_laws.proofs.StreamMessageLemmas.{message-same}
 use Rattle.turn_client_laws.proofs.AnyStreamsLemmas.{both_with, message-alike}
-use Rattle.turn_client_api.proofs.HasLemmas.{cases_Option}
 
 -- ---- bytes and modes
 

@@ -1,11 +1,7 @@
 -- Which channel number is bound.
-use Rattle.std.proofs.Common.{◌≡◌, ◌⊎◌, ℕ, zero, suc, ◌+◌, ◌<◌, ◌≤◌, Bool, true, false, not, Some, None, refl, sym, ap, inl, inr, arith}
-use Rattle.std.specs.Prelude.{find}
-use Rattle.std.specs.List.{range_with_len}
-use Rattle.std.proofs.lemmas.Bool.{cases_lt, not-true, not-false, cases_Bool}
-use Rattle.std.proofs.lemmas.Option.{none-some, same_Some}
-use Rattle.turn_client_api.specs.State.{State}
-use Rattle.turn_client_api.specs.Calls.{channel_numbers, free_number, is_number_taken}
+use Rattle.turn_client_laws.proofs.Common.{◌≡◌, ◌⊎◌, ℕ, zero, suc, ◌+◌, ◌<◌, ◌≤◌, Bool, true, false, not, Some, None, refl, sym, ap, inl, inr, arith, find, range_with_len, cases_lt, not-true}
+use Rattle.turn_client_laws.proofs.Common.{not-false, cases_Bool, none-some, same_Some}
+use Rattle.turn_client_laws.proofs.Machine.{State, channel_numbers, free_number, is_number_taken}
 use Rattle.turn_client_laws.specs.LawsBodies.{AreTakenUpTo, IsLeastFree}
 
 -- ---- a search through numbers that count up

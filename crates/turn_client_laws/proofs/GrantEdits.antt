@@ -1,23 +1,8 @@
 -- What calls keep of the list of grants alone, by what is kept as the list is edited.
-use Rattle.std.proofs.Common.{◌≡◌, ℕ, Bool, true, false, not, List, [], ◌∷◌, ◌++◌, map, filter, length, ◌<◌}
-use Rattle.std.specs.List.{list_any}
-use Rattle.std.specs.declared.net.ip_addr.IpAddr.{IpAddr}
-use Rattle.std.specs.declared.net.socket_addr.SocketAddr.{SocketAddr}
-use Rattle.turn_types.specs.declared.family.AddressFamily.{AddressFamily}
-use Rattle.turn_client_api.specs.State.{State}
-use Rattle.turn_client_api.specs.declared.grant.Grant.{Grant}
-use Rattle.turn_client_api.specs.declared.grant.Grant.TheVariants.{Permission, Channel, Connect, Offer, Connection}
-use Rattle.turn_client_api.specs.declared.grant.DataConnection.{DataConnection}
-use Rattle.turn_client_api.specs.declared.grant.DataOffer.{DataOffer}
-use Rattle.turn_client_api.specs.declared.grant.Progress.{Progress}
-use Rattle.turn_client_api.specs.declared.grant.Progress.TheVariants.{Pending, Active, Reserved}
-use Rattle.turn_client_api.specs.declared.grant.Origin.{Origin}
-use Rattle.turn_client_api.specs.declared.grant.Origin.TheVariants.{OwnConnect, ServerIndication}
-use Rattle.turn_client_api.specs.Grants.{is_channel_of, is_connect_to, is_connection_from, is_of, is_permission_of, without_grants}
-use Rattle.turn_client_api.specs.Effect.{new_allocation, relayed_in, taken_addresses}
-use Rattle.turn_client_api.specs.Calls.{channel_numbers, is_offer_of, offer_taken, without_first}
-use Rattle.turn_client_api.specs.Connections.{is_indicated, max_indicated}
-use Rattle.turn_client_api.proofs.HasLemmas.{Has}
+use Rattle.turn_client_laws.proofs.Common.{◌≡◌, ℕ, Bool, true, false, not, List, [], ◌∷◌, ◌++◌, map, filter, length, ◌<◌, list_any, IpAddr, SocketAddr}
+use Rattle.turn_client_laws.proofs.Machine.{AddressFamily, State, Grant, Permission, Channel, Connect, Offer, Connection, DataConnection, DataOffer, Progress, Pending, Active, Reserved, Origin}
+use Rattle.turn_client_laws.proofs.Machine.{OwnConnect, ServerIndication, is_channel_of, is_connect_to, is_connection_from, is_of, is_permission_of, without_grants, new_allocation, relayed_in}
+use Rattle.turn_client_laws.proofs.Machine.{taken_addresses, channel_numbers, is_offer_of, offer_taken, without_first, is_indicated, max_indicated, Has}
 use Rattle.turn_client_laws.proofs.NumberLemmas.{none-filter}
 use Rattle.turn_client_laws.proofs.DoubleLemmas.{none-without_first}
 use Rattle.turn_client_laws.proofs.Edits.{KeepsAllEdits, KeepsEdits, aged-outlines, outline, rest-ignored}

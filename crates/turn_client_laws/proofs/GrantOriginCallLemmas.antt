@@ -1,25 +1,9 @@
 -- What is active after a call: without a message of the server nothing is granted.
-use Rattle.std.proofs.Common.{◌≡◌, ◌⊎◌, ℕ, Bool, List, [], ◌∷◌, map, Some, None, refl, sym, subst, inl, inr, true}
-use Rattle.std.specs.Prelude.{find, IsSome}
-use Rattle.std.proofs.lemmas.Bool.{cases_Bool}
-use Rattle.std.proofs.lemmas.Option.{none-some}
-use Rattle.std.specs.declared.net.socket_addr.SocketAddr.{SocketAddr}
-use Rattle.turn_stun.specs.Message.{id_of}
-use Rattle.turn_auth.specs.LongTerm.{Challenge}
-use Rattle.turn_agent.specs.Agent.{same_address}
-use Rattle.turn_client_api.specs.State.{State, later_by}
-use Rattle.turn_client_api.specs.declared.state.Mode.TheVariants.{Bound}
-use Rattle.turn_client_api.specs.declared.grant.Grant.{Grant}
-use Rattle.turn_client_api.specs.declared.grant.Grant.TheVariants.{Allocation, Permission, Channel, Connect, Offer, Connection}
-use Rattle.turn_client_api.specs.declared.grant.DataConnection.{DataConnection}
-use Rattle.turn_client_api.specs.declared.grant.Progress.TheVariants.{Pending, Reserved, Active}
-use Rattle.turn_client_api.specs.Grants.{is_channel_of, purposes_of, without_grants}
-use Rattle.turn_client_api.specs.Requests.{connection_bind_method}
-use Rattle.turn_client_api.specs.Judgement.{Judgement, Challenged, SignedSuccess, bind_judgement, is_bind_of, method_in}
-use Rattle.turn_client_api.specs.Connections.{deadline_set, with_deadline, with_mode, bind_again, bind_answered, bind_step, connection_at}
-use Rattle.turn_client_api.specs.Calls.{is_offer_of, offer_taken, without_first}
-use Rattle.turn_client_api.specs.Retry.{bind_time}
-use Rattle.turn_client_api.specs.Receive.{connection_gone}
+use Rattle.turn_client_laws.proofs.Common.{◌≡◌, ◌⊎◌, ℕ, Bool, List, [], ◌∷◌, map, Some, None, refl, sym, subst, inl, inr, true, find, IsSome, cases_Bool, none-some, SocketAddr}
+use Rattle.turn_client_laws.proofs.Machine.{id_of, Challenge, same_address, State, later_by, Bound, Grant, Allocation, Permission, Channel, Connect, Offer, Connection, DataConnection, Pending}
+use Rattle.turn_client_laws.proofs.Machine.{Reserved, Active, is_channel_of, purposes_of, without_grants, connection_bind_method, Judgement, Challenged, SignedSuccess, bind_judgement, is_bind_of}
+use Rattle.turn_client_laws.proofs.Machine.{method_in, deadline_set, with_deadline, with_mode, bind_again, bind_answered, bind_step, connection_at, is_offer_of, offer_taken, without_first, bind_time}
+use Rattle.turn_client_laws.proofs.Machine.{connection_gone}
 use Rattle.turn_client_laws.proofs.Edits.{KeepsEdits, aged, rest-ignored}
 use Rattle.turn_client_laws.proofs.EditsOfReplies.{gone-walk}
 use Rattle.turn_client_laws.specs.LawsGranted.{IsActiveGrant, IsSameGrant}

@@ -1,35 +1,20 @@
 -- What is active after a signed reply, effect by effect.
-use Rattle.std.proofs.Common.{◌≡◌, ◌≤◌, ℕ, zero, suc, Bool, true, false, cond, ◌||◌, eqb, leb, List, map, Option, Some, None, ◌⊎◌, inl, inr, refl, sym, arith}
-use Rattle.std.specs.Option.{option_map_or}
+use Rattle.turn_client_laws.proofs.Common.{◌≡◌, ◌≤◌, ℕ, zero, suc, Bool, true, false, cond, ◌||◌, eqb, leb, List, map, Option, Some, None, ◌⊎◌, inl, inr, refl, sym, arith, option_map_or, IpAddr}
+use Rattle.turn_client_laws.proofs.Common.{SocketAddr, eqb-true, leb-true}
+use Rattle.turn_client_laws.proofs.Machine.{AddressFamily, State, later_by, seconds, Grant, Allocation, Permission, Channel, Connect, Offer, DataOffer, Progress, Pending, Active, Reserved, Purpose}
+use Rattle.turn_client_laws.proofs.Machine.{ForRefresh, ForPermission, ForChannel, ForConnect, OwnConnect, changed_allocation, channel_at, first_in, is_channel_of, is_connect_to, is_of_family}
+use Rattle.turn_client_laws.proofs.Machine.{is_permission_of, permission_state, purposes_of, same_ip, unlisted, with_grant, without_grants, connection_id_in, lifetime_in, lasting, lasting_if}
+use Rattle.turn_client_laws.proofs.Machine.{all_gone, allocation_mismatch, channel_answered, channel_lifetime, connect_answered, effect, has_code, challenges_reset, min_lifetime, permission_answered}
+use Rattle.turn_client_laws.proofs.Machine.{permission_answered_for, permission_lifetime, permission_refused_too, listed_permissions_answered, prolonged, refreshed, reserved_time, Has, granted_until}
 use Rattle.std.specs.Cmp.Lexicographic.{nat_list_eq_equiv}
 use Rattle.std.specs.Net.Addr.{ipv4_octets, ipv6_segments}
-use Rattle.std.specs.declared.net.ip_addr.IpAddr.{IpAddr}
 use Rattle.std.specs.declared.net.ip_addr.IpAddr.TheVariants.{V4, V6}
-use Rattle.std.specs.declared.net.socket_addr.SocketAddr.{SocketAddr}
-use Rattle.std.proofs.lemmas.Bool.{eqb-true, leb-true}
-use Rattle.turn_types.specs.declared.family.AddressFamily.{AddressFamily}
-use Rattle.turn_client_api.specs.State.{State, later_by, seconds}
-use Rattle.turn_client_api.specs.declared.grant.Grant.{Grant}
-use Rattle.turn_client_api.specs.declared.grant.Grant.TheVariants.{Allocation, Permission, Channel, Connect, Offer}
-use Rattle.turn_client_api.specs.declared.grant.DataOffer.{DataOffer}
-use Rattle.turn_client_api.specs.declared.grant.Progress.{Progress}
-use Rattle.turn_client_api.specs.declared.grant.Progress.TheVariants.{Pending, Active, Reserved}
-use Rattle.turn_client_api.specs.declared.grant.Purpose.{Purpose}
-use Rattle.turn_client_api.specs.declared.grant.Purpose.TheVariants.{ForRefresh, ForPermission, ForChannel, ForConnect}
-use Rattle.turn_client_api.specs.declared.grant.Origin.TheVariants.{OwnConnect}
-use Rattle.turn_client_api.specs.Grants.{changed_allocation, channel_at, first_in, is_channel_of, is_connect_to, is_of_family, is_permission_of, permission_state, purposes_of, same_ip, unlisted}
-use Rattle.turn_client_api.specs.Grants.{with_grant, without_grants}
-use Rattle.turn_client_api.specs.Judgement.{connection_id_in, lifetime_in}
-use Rattle.turn_client_api.specs.Effect.{lasting, lasting_if, all_gone, allocation_mismatch, channel_answered, channel_lifetime, connect_answered, effect, has_code, challenges_reset, min_lifetime}
-use Rattle.turn_client_api.specs.Effect.{permission_answered, permission_answered_for, permission_lifetime, permission_refused_too, listed_permissions_answered, prolonged, refreshed, reserved_time}
 use Rattle.turn_client_laws.specs.LawsGranted.{HasChannelTo, IsActiveGrant, IsSameGrant}
-use Rattle.turn_client_api.proofs.HasLemmas.{Has}
 use Rattle.turn_client_laws.proofs.StandLemmas.{has-contains, kept-same, left-filter}
 use Rattle.turn_client_laws.proofs.GrantOriginLemmas.{ChannelsWithin, IsChannelIn, IsGivenOf, KeepsChannels, Takes, channels-append, channels-filter, channels-map, gives-left, gives-map, gives-one}
 use Rattle.turn_client_laws.proofs.GrantOriginLemmas.{gives-trans, takes-fold, takes-same, takes-trans, within-filter}
 use Rattle.turn_client_laws.proofs.CaseLemmas.{by_test, by_found}
 use Rattle.turn_client_laws.proofs.EditsOfReplies.{channel-there}
-use Rattle.turn_client_api.specs.Effect.{granted_until}
 
 pub same_ip-same : (ip : IpAddr) → same_ip ip ip ≡ true
 same_ip-same (V4 a) = nat_list_eq_equiv.refl (ipv4_octets a)

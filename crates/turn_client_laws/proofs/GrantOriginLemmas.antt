@@ -1,15 +1,7 @@
 -- What a success grants for the purposes of its request, list by list.
-use Rattle.std.proofs.Common.{◌≡◌, ℕ, Bool, eqb, List, [], ◌∷◌, ◌++◌, map, filter, fold, ◌⊎◌, inl, inr, refl, sym, subst}
-use Rattle.std.specs.declared.net.socket_addr.SocketAddr.{SocketAddr}
-use Rattle.turn_client_api.specs.State.{State}
-use Rattle.turn_client_api.specs.declared.grant.Grant.{Grant}
-use Rattle.turn_client_api.specs.declared.grant.Grant.TheVariants.{Channel}
-use Rattle.turn_client_api.specs.declared.grant.Progress.{Progress}
-use Rattle.turn_client_api.specs.declared.grant.Purpose.{Purpose}
-use Rattle.turn_client_api.specs.declared.grant.Listing.{Listing}
-use Rattle.turn_client_api.specs.Grants.{purposes_of}
+use Rattle.turn_client_laws.proofs.Common.{◌≡◌, ℕ, Bool, eqb, List, [], ◌∷◌, ◌++◌, map, filter, fold, ◌⊎◌, inl, inr, refl, sym, subst, SocketAddr}
+use Rattle.turn_client_laws.proofs.Machine.{State, Grant, Channel, Progress, Purpose, Listing, purposes_of, Has, has-append, has-filter, filter-has, map-has}
 use Rattle.turn_client_laws.specs.LawsGranted.{IsActiveGrant, IsSameGrant, IsGivenFor}
-use Rattle.turn_client_api.proofs.HasLemmas.{Has, has-append, has-filter, filter-has, map-has}
 use Rattle.turn_client_laws.proofs.StandLemmas.{Covers, Left, covers-has, kept-same, kept-stood, kept-trans}
 
 -- the message grants it for one of these purposes

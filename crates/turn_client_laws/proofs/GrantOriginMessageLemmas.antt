@@ -1,33 +1,12 @@
 -- What is active after a message: only a signed success grants more.
-use Rattle.std.proofs.Common.{◌≡◌, ℕ, Bool, true, false, not, ◌&&◌, eqb, ltb, leb, List, [], ◌∷◌, map, filter, length, ◌⊎◌, inl, inr, refl, subst, sym, cond}
-use Rattle.std.specs.Prelude.{IfSome}
-use Rattle.std.specs.List.{list_any}
-use Rattle.std.specs.declared.net.socket_addr.SocketAddr.{SocketAddr}
-use Rattle.std.proofs.lemmas.Bool.{and_parts, cases_Bool}
-use Rattle.std.specs.Option.{option_map_or}
-use Rattle.turn_types.specs.declared.family.AddressFamily.{AddressFamily}
-use Rattle.turn_stun.specs.Message.{id_of}
-use Rattle.turn_stun.specs.declared.message.header.MessageClass.TheVariants.{Success}
-use Rattle.turn_auth.specs.LongTerm.{Challenge}
-use Rattle.turn_agent.specs.Agent.{is_response}
-use Rattle.turn_client_api.specs.State.{State}
-use Rattle.turn_client_api.specs.declared.state.Phase.{Phase}
-use Rattle.turn_client_api.specs.declared.state.Phase.TheVariants.{New, Authenticating}
-use Rattle.turn_client_api.specs.declared.grant.Grant.{Grant}
-use Rattle.turn_client_api.specs.declared.grant.Grant.TheVariants.{Offer}
-use Rattle.turn_client_api.specs.declared.grant.Origin.{Origin}
-use Rattle.turn_client_api.specs.declared.grant.Origin.TheVariants.{ServerRequest, ServerIndication}
-use Rattle.turn_client_api.specs.declared.grant.Purpose.{Purpose}
-use Rattle.turn_client_api.specs.declared.grant.Purpose.TheVariants.{ForAllocation}
-use Rattle.turn_client_api.specs.Grants.{is_for_allocation, is_of_family, purposes_of}
-use Rattle.turn_client_api.specs.Requests.{connection_attempt_method}
-use Rattle.turn_client_api.specs.Judgement.{Judgement, Challenged, Fatal, ConnectionAttempt, SignedRequest, SignedSuccess, SignedError, judgement_of, class_in, lifetime_in, method_in}
-use Rattle.turn_client_api.specs.Effect.{allocate_granted, effect, transaction_ended, family_not_supported, has_code, new_allocation, relayed_in, taken_addresses, with_offer}
-use Rattle.turn_client_api.specs.Retry.{retried}
-use Rattle.turn_client_api.specs.Connections.{attempt_indicated, attempt_requested}
-use Rattle.turn_client_api.specs.Payloads.{Outcome, Handled, Ignored, answered_purposes, challenge_step, is_answered, message_step, response_step, signed_step, wrong_step}
+use Rattle.turn_client_laws.proofs.Common.{◌≡◌, ℕ, Bool, true, false, not, ◌&&◌, eqb, ltb, leb, List, [], ◌∷◌, map, filter, length, ◌⊎◌, inl, inr, refl, subst, sym, cond, IfSome, list_any, SocketAddr}
+use Rattle.turn_client_laws.proofs.Common.{and_parts, cases_Bool, option_map_or}
+use Rattle.turn_client_laws.proofs.Machine.{AddressFamily, id_of, Success, Challenge, is_response, State, Phase, New, Authenticating, Grant, Offer, Origin, ServerRequest, ServerIndication, Purpose}
+use Rattle.turn_client_laws.proofs.Machine.{ForAllocation, is_for_allocation, is_of_family, purposes_of, connection_attempt_method, Judgement, Challenged, Fatal, ConnectionAttempt, SignedRequest}
+use Rattle.turn_client_laws.proofs.Machine.{SignedSuccess, SignedError, judgement_of, class_in, lifetime_in, method_in, allocate_granted, effect, transaction_ended, family_not_supported, has_code}
+use Rattle.turn_client_laws.proofs.Machine.{new_allocation, relayed_in, taken_addresses, with_offer, retried, attempt_indicated, attempt_requested, Outcome, Handled, Ignored, answered_purposes}
+use Rattle.turn_client_laws.proofs.Machine.{challenge_step, is_answered, message_step, response_step, signed_step, wrong_step, Has, has-filter, cases_Option}
 use Rattle.turn_client_laws.specs.LawsGranted.{IsGrant}
-use Rattle.turn_client_api.proofs.HasLemmas.{Has, has-filter, cases_Option}
 use Rattle.turn_client_laws.proofs.ChallengeJudgement.{AnswersAllocate, IsSignedReply, judgement-says}
 use Rattle.turn_client_laws.proofs.StandLemmas.{Covers, Leaves, Left, covers-left, has-contains, leaves-cond, leaves-same, left-one, left-same}
 use Rattle.turn_client_laws.proofs.GrantOriginLemmas.{ChannelsWithin, Gives, IsGiven, IsGivenOf, Takes, gives-append, gives-covers, gives-left, has-mapped, purposes-within, takes-fold}

@@ -1,40 +1,20 @@
 -- What is active after all calls: only a signed success grants more.
-use Rattle.std.proofs.Common.{◌≡◌, ℕ, Bool, true, false, not, cond, List, filter, Some, None, Result, Ok, Err, refl, subst, sym, ap, ◌∙◌, inl, inr, ◌⊎◌}
-use Rattle.std.specs.List.{Contains}
-use Rattle.turn_client_api.specs.State.{State}
-use Rattle.std.specs.declared.net.socket_addr.SocketAddr.{SocketAddr}
-use Rattle.std.proofs.lemmas.Bool.{cases_Bool}
-use Rattle.turn_client_api.specs.declared.grant.Grant.{Grant}
-use Rattle.turn_client_api.specs.declared.grant.Grant.TheVariants.{Allocation, Permission, Channel, Connect, Offer, Connection}
-use Rattle.turn_client_api.specs.declared.grant.DataConnection.{DataConnection}
-use Rattle.turn_client_api.specs.declared.grant.Purpose.{Purpose}
-use Rattle.turn_client_api.specs.declared.grant.Purpose.TheVariants.{ForAllocation}
-use Rattle.turn_client_api.specs.declared.state.Mode.TheVariants.{Waiting}
-use Rattle.turn_client_api.specs.declared.grant.Progress.TheVariants.{Pending}
-use Rattle.turn_client_api.specs.declared.state.Stream.{Stream}
-use Rattle.turn_client_api.specs.Grants.{changed_allocation}
+use Rattle.turn_client_laws.proofs.Common.{◌≡◌, ℕ, Bool, true, false, not, cond, List, filter, Some, None, Result, Ok, Err, refl, subst, sym, ap, ◌∙◌, inl, inr, ◌⊎◌, Contains, SocketAddr, cases_Bool}
+use Rattle.turn_client_laws.proofs.Machine.{State, Grant, Allocation, Permission, Channel, Connect, Offer, Connection, DataConnection, Purpose, ForAllocation, Waiting, Pending, Stream}
+use Rattle.turn_client_laws.proofs.Machine.{changed_allocation, bind_step, deadline_set, same_address, connection_gone, deleted, is_allocated, is_granted_in, is_message, message_step, state_after}
+use Rattle.turn_client_laws.proofs.Machine.{Call, Delete, AllocatedTcpSocket, Recv, PollRecv, Has, has-filter, same_address-true}
 use Rattle.turn_client_api.specs.declared.error.DeleteError.{DeleteError}
 use Rattle.turn_client_api.specs.declared.error.DeleteError.TheVariants as No
-use Rattle.turn_client_api.specs.Connections.{bind_step, deadline_set}
-use Rattle.turn_agent.specs.Agent.{same_address}
-use Rattle.turn_client_api.specs.Receive.{connection_gone}
-use Rattle.turn_client_api.specs.Calls.{deleted, is_allocated, is_granted_in}
 use Rattle.turn_client_laws.specs.Handled.{Input}
-use Rattle.turn_client_api.specs.Payloads.{is_message, message_step}
 use Rattle.turn_client_laws.specs.LawsHandled.{IsOverControl, TakesInput}
 use Rattle.turn_client_laws.specs.LawsBound.{IsBindInput}
 use Rattle.turn_client_laws.specs.LawsGranted.{HasCause, IsEndedNow, IsGivenFor, IsGrant, IsGrantInput, IsGrantedBy, IsGrantedIn, IsSameGrant, IsActiveGrant, WasActive}
-use Rattle.turn_client_api.specs.Steps.{state_after}
-use Rattle.turn_client_api.specs.declared.call.Call.{Call}
-use Rattle.turn_client_api.specs.declared.call.Call.TheVariants.{Delete, AllocatedTcpSocket, Recv, PollRecv}
 use Rattle.turn_client_api.specs.Steps as S
-use Rattle.turn_client_api.proofs.HasLemmas.{Has, has-filter}
 use Rattle.turn_client_laws.proofs.StandLemmas.{Covers, Leaves, contains-has, covers-has, covers-left, covers-stood, has-contains, kept-stood, kept-trans, leaves-same}
 use Rattle.turn_client_laws.proofs.GrantOriginLemmas.{has-mapped}
 use Rattle.turn_client_laws.proofs.GrantOriginMessageLemmas.{message-brings}
 use Rattle.turn_client_laws.proofs.GrantOriginCallLemmas.{Binds, BindsOrLeaves, Leaves-KeepsEdits, bind-leaves, gone-leaves}
 use Rattle.turn_client_laws.proofs.EditsOfCalls.{quiet-walk, tcp_socket-walk}
-use Rattle.turn_client_api.proofs.AddressLemmas.{same_address-true}
 use Rattle.turn_client_laws.proofs.BoundLemmas.{binds-input, found-local}
 use Rattle.turn_client_laws.proofs.InputBringLemmas.{IsBrought, leaves-bring}
 

@@ -1,28 +1,13 @@
 -- The payloads that a call returns are those of its inputs.
-use Rattle.std.proofs.Common.{◌≡◌, ℕ, zero, suc, Bool, true, false, cond, List, [], ◌∷◌, ◌++◌, take, Option, Some, None, refl, sym, subst, ap, ◌∙◌, inl, inr}
-use Rattle.std.specs.Prelude.{find, option_to_list, ⊤}
-use Rattle.std.specs.Option.{option_map_or}
-use Rattle.std.proofs.lemmas.List.Elements.{filter_map-append}
-use Rattle.std.specs.declared.net.socket_addr.SocketAddr.{SocketAddr}
-use Rattle.std.proofs.lemmas.Bool.{cases_Bool}
-use Rattle.turn_stun.specs.declared.transport.Transmit.{Transmit}
-use Rattle.turn_types.specs.Frames.{begins_no_frame, frame_len}
-use Rattle.turn_agent.specs.Agent.{same_address}
-use Rattle.turn_client_api.specs.State.{State}
-use Rattle.turn_client_api.specs.declared.state.Mode.{Mode}
-use Rattle.turn_client_api.specs.declared.state.Mode.TheVariants.{Control, Waiting, Bound, Broken}
-use Rattle.turn_client_api.specs.declared.state.Stream.{Stream}
-use Rattle.turn_client_api.specs.Payloads.{Payload, Outcome, Handled, Ignored, PeerData, PeerIcmp}
-use Rattle.turn_client_api.specs.Streams.{broken_at, framed_by, framed_stream_step, go_on, is_ready, max_steps, owned, payload_in, poll_recv_step, next_frame_step, detached_frame_step}
-use Rattle.turn_client_api.specs.Streams.{steps_until_payload, with_bytes, stream_with_piece}
-use Rattle.turn_client_api.specs.Receive.{first_frame_step, piece_step, place_kept, stream_step, then_all}
-use Rattle.turn_client_api.specs.Steps.{packet_step}
-use Rattle.turn_client_api.specs.declared.call.Call.{Call}
-use Rattle.turn_client_api.specs.declared.call.Call.TheVariants.{PollRecv, Recv}
-use Rattle.turn_client_laws.specs.Handled.{Input, datagram_input, fed_taken, frame_taken, handled, is_front, processed, payloads, piece_inputs, poll_recv_inputs, stream_inputs}
-use Rattle.turn_client_laws.specs.Handled.{stream_inputs_taken, taken_in, taken_of_len, then_taken, stream_input, input_payload, inputs_taken, unless_given}
+use Rattle.turn_client_laws.proofs.Common.{◌≡◌, ℕ, zero, suc, Bool, true, false, cond, List, [], ◌∷◌, ◌++◌, take, Option, Some, None, refl, sym, subst, ap, ◌∙◌, inl, inr, find, option_to_list, ⊤}
+use Rattle.turn_client_laws.proofs.Common.{option_map_or, filter_map-append, SocketAddr, cases_Bool}
+use Rattle.turn_client_laws.proofs.Machine.{Transmit, begins_no_frame, frame_len, same_address, State, Mode, Control, Waiting, Bound, Broken, Stream, Payload, Outcome, Handled, Ignored, PeerData}
+use Rattle.turn_client_laws.proofs.Machine.{PeerIcmp, broken_at, framed_by, framed_stream_step, go_on, is_ready, max_steps, owned, payload_in, poll_recv_step, next_frame_step, detached_frame_step}
+use Rattle.turn_client_laws.proofs.Machine.{steps_until_payload, with_bytes, stream_with_piece, first_frame_step, piece_step, place_kept, stream_step, then_all, packet_step, Call, PollRecv, Recv, Has}
+use Rattle.turn_client_laws.proofs.Machine.{has-filter_map, has-left, cases_Option}
+use Rattle.turn_client_laws.specs.Handled.{Input, datagram_input, fed_taken, frame_taken, handled, is_front, processed, payloads, piece_inputs, poll_recv_inputs, stream_inputs, stream_inputs_taken}
+use Rattle.turn_client_laws.specs.Handled.{taken_in, taken_of_len, then_taken, stream_input, input_payload, inputs_taken, unless_given}
 use Rattle.turn_client_laws.specs.LawsPeers.{IsDeliveredByInput, IsPermittedInput, IsReportedBy}
-use Rattle.turn_client_api.proofs.HasLemmas.{Has, has-filter_map, has-left, cases_Option}
 use Rattle.turn_client_laws.proofs.StandLemmas.{has-contains}
 use Rattle.turn_client_laws.proofs.PeerLemmas.{datagram-IsMessageFromPermitted, frame-IsFromPermitted}
 use Rattle.turn_client_laws.proofs.PacketLemmas.{packet-by}

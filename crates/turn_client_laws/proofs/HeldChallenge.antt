@@ -1,17 +1,6 @@
 -- A challenge is held from the first one on.
-use Rattle.std.proofs.Common.{ℕ, List, [], ◌∷◌, Option, Some, refl, subst}
-use Rattle.std.specs.Prelude.{⊤, IsSome}
-use Rattle.std.specs.declared.net.socket_addr.SocketAddr.{SocketAddr}
-use Rattle.turn_stun.specs.declared.transport.TransportType.{TransportType}
-use Rattle.turn_auth.specs.LongTerm.{Challenge}
-use Rattle.turn_client_api.specs.Config.{Config}
-use Rattle.turn_client_api.specs.State.{State, initial}
-use Rattle.turn_client_api.specs.declared.state.Phase.{Phase}
-use Rattle.turn_client_api.specs.declared.state.Phase.TheVariants.{Authenticating, Allocated}
-use Rattle.turn_client_api.specs.Effect.{phase_with}
-use Rattle.turn_client_api.specs.Retry.{phase_after}
-use Rattle.turn_client_api.specs.Steps.{Leaves}
-use Rattle.turn_client_api.specs.declared.call.Call.{Call}
+use Rattle.turn_client_laws.proofs.Common.{ℕ, List, [], ◌∷◌, Option, Some, refl, subst, ⊤, IsSome, SocketAddr}
+use Rattle.turn_client_laws.proofs.Machine.{TransportType, Challenge, Config, State, initial, Phase, Authenticating, Allocated, phase_with, phase_after, Leaves, Call}
 use Rattle.turn_client_laws.specs.LawsStates.{HoldsChallenge, IsHeldIn}
 use Rattle.turn_client_laws.proofs.Edits.{KeepsAllEdits}
 use Rattle.turn_client_laws.proofs.PhaseEdits.{all-phase-edits}

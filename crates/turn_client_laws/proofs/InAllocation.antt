@@ -1,41 +1,17 @@
 -- All grants have allocations, and so does what a reply may add.
-use Rattle.std.proofs.Common.{◌≡◌, ℕ, Bool, true, false, eqb, ◌&&◌, List, [], ◌∷◌, ◌++◌, map, filter, filter_map, Option, Some, None, inl, inr, refl, sym, subst, ap, ◌∙◌}
-use Rattle.std.specs.Prelude.{IfSome, slice_get}
-use Rattle.std.proofs.lemmas.Bool.{and_from, and_parts}
-use Rattle.std.proofs.lemmas.Option.{cond_some, none-some, same_Some}
-use Rattle.std.specs.declared.net.ip_addr.IpAddr.{IpAddr}
-use Rattle.std.specs.declared.net.socket_addr.SocketAddr.{SocketAddr}
+use Rattle.turn_client_laws.proofs.Common.{◌≡◌, ℕ, Bool, true, false, eqb, ◌&&◌, List, [], ◌∷◌, ◌++◌, map, filter, filter_map, Option, Some, None, inl, inr, refl, sym, subst, ap, ◌∙◌, IfSome}
+use Rattle.turn_client_laws.proofs.Common.{slice_get, and_from, and_parts, cond_some, none-some, same_Some, IpAddr, SocketAddr}
+use Rattle.turn_client_laws.proofs.Machine.{TransportType, AddressFamily, same_address, Config, same_family, AllHaveAllocation, HasAllocation, State, initial, DataOffer, Grant, Allocation, Permission}
+use Rattle.turn_client_laws.proofs.Machine.{Channel, Connect, Offer, Connection, Progress, Pending, Active, Reserved, Origin, OwnConnect, Purpose, ForAllocation, ForRefresh, ForPermission, ForChannel}
+use Rattle.turn_client_laws.proofs.Machine.{ForConnect, ForBind, Listing, family_of, family_of_grant, family_of_ip, is_channel_of, is_connect_to, is_for, is_of, is_permission_of, as_offer}
+use Rattle.turn_client_laws.proofs.Machine.{permission_state, permission_progress, purposes_of, same_ip, with_grant, without_grants, new_allocation, relayed_in, taken_addresses, is_offer_of}
+use Rattle.turn_client_laws.proofs.Machine.{offer_origin, offer_taken, Leaves, Call, same_ip-true, Has, all-has, has-all, has-filter, has-filter_map, has-right, cases_Option, first-has}
 use Rattle.std.specs.declared.net.socket_addr.SocketAddr.TheVariants.{V4, V6}
-use Rattle.turn_stun.specs.declared.transport.TransportType.{TransportType}
-use Rattle.turn_types.specs.declared.family.AddressFamily.{AddressFamily}
-use Rattle.turn_agent.specs.Agent.{same_address}
-use Rattle.turn_client_api.specs.Config.{Config, same_family}
-use Rattle.turn_client_api.specs.Alarm.{AllHaveAllocation, HasAllocation}
-use Rattle.turn_client_api.specs.State.{State, initial}
-use Rattle.turn_client_api.specs.declared.grant.DataOffer.{DataOffer}
-use Rattle.turn_client_api.specs.declared.grant.Grant.{Grant}
-use Rattle.turn_client_api.specs.declared.grant.Grant.TheVariants.{Allocation, Permission, Channel, Connect, Offer, Connection}
-use Rattle.turn_client_api.specs.declared.grant.Progress.{Progress}
-use Rattle.turn_client_api.specs.declared.grant.Progress.TheVariants.{Pending, Active, Reserved}
-use Rattle.turn_client_api.specs.declared.grant.Origin.{Origin}
-use Rattle.turn_client_api.specs.declared.grant.Origin.TheVariants.{OwnConnect}
-use Rattle.turn_client_api.specs.declared.grant.Purpose.{Purpose}
-use Rattle.turn_client_api.specs.declared.grant.Purpose.TheVariants.{ForAllocation, ForRefresh, ForPermission, ForChannel, ForConnect, ForBind}
-use Rattle.turn_client_api.specs.declared.grant.Listing.{Listing}
-use Rattle.turn_client_api.specs.Grants.{family_of, family_of_grant, family_of_ip, is_channel_of, is_connect_to, is_for, is_of, is_permission_of, as_offer, permission_state, permission_progress}
-use Rattle.turn_client_api.specs.Grants.{purposes_of, same_ip, with_grant, without_grants}
-use Rattle.turn_client_api.specs.Effect.{new_allocation, relayed_in, taken_addresses}
-use Rattle.turn_client_api.specs.Calls.{is_offer_of, offer_origin, offer_taken}
-use Rattle.turn_client_api.specs.Steps.{Leaves}
-use Rattle.turn_client_api.specs.declared.call.Call.{Call}
 use Rattle.turn_client_laws.specs.LawsGrantAllocations.{asked_family, IsAskedIn, ReplyHasAllocation, GrantsHaveAllocations}
 use Rattle.turn_client_laws.specs.LawsStates.{is_asked_by}
-use Rattle.turn_client_api.proofs.AddressLemmas.{same_ip-true}
-use Rattle.turn_client_api.proofs.HasLemmas.{Has, all-has, has-all, has-filter, has-filter_map, has-right, cases_Option, first-has}
-use Rattle.turn_client_laws.proofs.InAllocationLemmas.{Backed, AreInAllocations, KeepsInAllocations, Room, Spares, SparesAll}
-use Rattle.turn_client_laws.proofs.InAllocationLemmas.{all-spared, any-has, asked-more, has-any, in_allocations-filter, in_allocations-grant, in_allocations-grants}
-use Rattle.turn_client_laws.proofs.InAllocationLemmas.{in_allocations-listings, in_allocations-shaped, in_allocations-without, of-room, room-more}
-use Rattle.turn_client_laws.proofs.InAllocationLemmas.{room-of, room-without, same_family-self, same_family-true, shape}
+use Rattle.turn_client_laws.proofs.InAllocationLemmas.{Backed, AreInAllocations, KeepsInAllocations, Room, Spares, SparesAll, all-spared, any-has, asked-more, has-any, in_allocations-filter}
+use Rattle.turn_client_laws.proofs.InAllocationLemmas.{in_allocations-grant, in_allocations-grants, in_allocations-listings, in_allocations-shaped, in_allocations-without, of-room, room-more, room-of}
+use Rattle.turn_client_laws.proofs.InAllocationLemmas.{room-without, same_family-self, same_family-true, shape}
 use Rattle.turn_client_laws.proofs.TakenOfferLemmas.{no-offer, stays-first, was-first}
 use Rattle.turn_client_laws.proofs.GrantOriginLemmas.{has-mapped}
 use Rattle.turn_client_laws.proofs.Edits.{IsAskable, KeepsAllEdits, KeepsEdits, aged-outlines, outline, rest-ignored}

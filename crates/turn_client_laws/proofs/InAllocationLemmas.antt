@@ -1,28 +1,12 @@
 -- Grants that have allocations: what happens to lists of grants and of listings.
-use Rattle.std.proofs.Common.{◌≡◌, ℕ, Bool, true, false, not, ◌&&◌, List, [], ◌∷◌, ◌++◌, map, filter, find, Some, None, inl, inr, refl, sym, subst, ap, ◌∙◌}
-use Rattle.std.specs.Prelude.{is_some}
-use Rattle.std.specs.List.{list_any}
-use Rattle.std.proofs.lemmas.Bool.{and_from, not_from_false, or_left, or_right, cases_Bool}
-use Rattle.std.specs.declared.net.ip_addr.IpAddr.{IpAddr}
-use Rattle.turn_stun.specs.declared.transport.TransportType.{TransportType}
-use Rattle.turn_types.specs.declared.family.AddressFamily.{AddressFamily}
-use Rattle.turn_types.specs.declared.family.AddressFamily.TheVariants.{IPV4, IPV6}
-use Rattle.turn_client_api.specs.Config.{same_family}
-use Rattle.turn_client_api.specs.State.{State}
-use Rattle.turn_client_api.specs.declared.grant.Grant.{Grant}
-use Rattle.turn_client_api.specs.declared.grant.Grant.TheVariants.{Allocation, Permission, Channel, Connect, Offer, Connection}
-use Rattle.turn_client_api.specs.declared.grant.Relay.{Relay}
-use Rattle.turn_client_api.specs.declared.grant.Progress.TheVariants.{Pending}
-use Rattle.turn_client_api.specs.declared.grant.Origin.TheVariants.{OwnConnect}
-use Rattle.turn_client_api.specs.declared.grant.Purpose.{Purpose}
-use Rattle.turn_client_api.specs.declared.grant.Purpose.TheVariants.{ForAllocation, ForRefresh, ForPermission, ForChannel, ForConnect, ForBind}
-use Rattle.turn_client_api.specs.declared.grant.Listing.{Listing}
-use Rattle.turn_client_api.specs.Grants.{find_allocation_to, as_allocation, find_allocation, allocations, family_of, family_of_grant, family_of_ip, is_for, same_transport}
-use Rattle.turn_client_api.specs.Requests.{listings}
+use Rattle.turn_client_laws.proofs.Common.{◌≡◌, ℕ, Bool, true, false, not, ◌&&◌, List, [], ◌∷◌, ◌++◌, map, filter, find, Some, None, inl, inr, refl, sym, subst, ap, ◌∙◌, is_some, list_any, and_from}
+use Rattle.turn_client_laws.proofs.Common.{not_from_false, or_left, or_right, cases_Bool, IpAddr}
+use Rattle.turn_client_laws.proofs.Machine.{TransportType, AddressFamily, IPV4, IPV6, same_family, State, Grant, Allocation, Permission, Channel, Connect, Offer, Connection, Relay, Pending}
+use Rattle.turn_client_laws.proofs.Machine.{OwnConnect, Purpose, ForAllocation, ForRefresh, ForPermission, ForChannel, ForConnect, ForBind, Listing, find_allocation_to, as_allocation, find_allocation}
+use Rattle.turn_client_laws.proofs.Machine.{allocations, family_of, family_of_grant, family_of_ip, is_for, same_transport, listings, Has, has-left, has-append, has-filter, filter-has, map-has}
+use Rattle.turn_client_laws.proofs.Machine.{filter_map-has, has-found, cases_Option, allocation-there}
 use Rattle.turn_client_laws.specs.LawsGrantAllocations.{asked_family}
-use Rattle.turn_client_api.proofs.HasLemmas.{Has, has-left, has-append, has-filter, filter-has, map-has, filter_map-has, has-found, cases_Option}
 use Rattle.turn_client_laws.proofs.GrantOriginLemmas.{has-mapped}
-use Rattle.turn_client_api.proofs.AllocationLemmas.{allocation-there}
 
 -- ---- families and tests
 

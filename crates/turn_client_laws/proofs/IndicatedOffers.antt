@@ -1,24 +1,8 @@
 -- Offers by indications are few.
-use Rattle.std.proofs.Common.{◌≡◌, ℕ, ◌+◌, ◌<◌, ◌≤◌, Bool, true, false, not, List, [], ◌∷◌, ◌++◌, map, filter, length, refl, sym, ap, ◌∙◌, subst, arith, inl, inr}
-use Rattle.std.proofs.lemmas.List.{length-append}
-use Rattle.std.proofs.lemmas.List.Elements.{filter-append}
-use Rattle.std.specs.declared.net.socket_addr.SocketAddr.{SocketAddr}
-use Rattle.std.proofs.lemmas.Bool.{cases_Bool}
-use Rattle.turn_stun.specs.declared.transport.TransportType.{TransportType}
-use Rattle.turn_client_api.specs.Config.{Config}
-use Rattle.turn_client_api.specs.State.{State, initial}
-use Rattle.turn_client_api.specs.declared.grant.Grant.{Grant}
-use Rattle.turn_client_api.specs.declared.grant.Grant.TheVariants.{Allocation, Permission, Channel, Connect, Offer, Connection}
-use Rattle.turn_client_api.specs.declared.grant.DataOffer.{DataOffer}
-use Rattle.turn_client_api.specs.declared.grant.Origin.{Origin}
-use Rattle.turn_client_api.specs.declared.grant.Origin.TheVariants.{OwnConnect, ServerRequest, ServerIndication}
-use Rattle.turn_client_api.specs.declared.grant.Progress.TheVariants.{Pending}
-use Rattle.turn_client_api.specs.Grants.{is_channel_of}
-use Rattle.turn_client_api.specs.Effect.{new_allocation, taken_addresses}
-use Rattle.turn_client_api.specs.Calls.{is_offer_of, without_first}
-use Rattle.turn_client_api.specs.Connections.{is_indicated, max_indicated}
-use Rattle.turn_client_api.specs.Steps.{Leaves}
-use Rattle.turn_client_api.specs.declared.call.Call.{Call}
+use Rattle.turn_client_laws.proofs.Common.{◌≡◌, ℕ, ◌+◌, ◌<◌, ◌≤◌, Bool, true, false, not, List, [], ◌∷◌, ◌++◌, map, filter, length, refl, sym, ap, ◌∙◌, subst, arith, inl, inr, length-append}
+use Rattle.turn_client_laws.proofs.Common.{filter-append, SocketAddr, cases_Bool}
+use Rattle.turn_client_laws.proofs.Machine.{TransportType, Config, State, initial, Grant, Allocation, Permission, Channel, Connect, Offer, Connection, DataOffer, Origin, OwnConnect, ServerRequest}
+use Rattle.turn_client_laws.proofs.Machine.{ServerIndication, Pending, is_channel_of, new_allocation, taken_addresses, is_offer_of, without_first, is_indicated, max_indicated, Leaves, Call}
 use Rattle.turn_client_laws.specs.LawsStates.{HasFewIndicated}
 use Rattle.turn_client_laws.proofs.Edits.{outline}
 use Rattle.turn_client_laws.proofs.GrantEdits.{KeepsGrants, grants-KeepsAllEdits}

@@ -1,25 +1,11 @@
 -- A call whose memory allocation fails processed the first of its inputs.
-use Rattle.std.proofs.Common.{◌≡◌, ◌≢◌, ℕ, zero, suc, ◌≤◌, Bool, true, false, cond, List, [], ◌∷◌, ◌++◌, Option, Some, None, refl, ap, sym, subst, ◌∙◌, inl, inr, arith}
-use Rattle.std.specs.Prelude.{IsSomeAnd, find}
-use Rattle.std.proofs.lemmas.List.{append_assoc}
-use Rattle.std.specs.declared.net.socket_addr.SocketAddr.{SocketAddr}
-use Rattle.turn_stun.specs.declared.transport.TransportType.{TransportType}
-use Rattle.turn_stun.specs.declared.transport.TransportType.TheVariants.{Udp, Tcp}
-use Rattle.turn_agent.specs.Agent.{same_address}
-use Rattle.turn_client_api.specs.State.{State}
-use Rattle.turn_client_api.specs.declared.state.Mode.{Mode}
-use Rattle.turn_client_api.specs.declared.state.Mode.TheVariants.{Control, Broken}
-use Rattle.turn_client_api.specs.declared.state.Stream.{Stream}
-use Rattle.turn_client_api.specs.Answers.{EndsAfterSteps, RecvEnds, before_others, takes_no_memory}
-use Rattle.turn_client_api.specs.Effect.{closed}
-use Rattle.turn_client_api.specs.Payloads.{Payload, Outcome, Handled, Ignored}
-use Rattle.turn_client_api.specs.Streams.{broken_at, is_ready, max_steps, payload_in, stream_at, next_frame_step}
-use Rattle.turn_client_api.specs.Receive.{first_frame_step, is_from_server}
+use Rattle.turn_client_laws.proofs.Common.{◌≡◌, ◌≢◌, ℕ, zero, suc, ◌≤◌, Bool, true, false, cond, List, [], ◌∷◌, ◌++◌, Option, Some, None, refl, ap, sym, subst, ◌∙◌, inl, inr, arith, IsSomeAnd, find}
+use Rattle.turn_client_laws.proofs.Common.{append_assoc, SocketAddr}
+use Rattle.turn_client_laws.proofs.Machine.{TransportType, Udp, Tcp, same_address, State, Mode, Control, Broken, Stream, EndsAfterSteps, RecvEnds, before_others, takes_no_memory, closed, Payload}
+use Rattle.turn_client_laws.proofs.Machine.{Outcome, Handled, Ignored, broken_at, is_ready, max_steps, payload_in, stream_at, next_frame_step, first_frame_step, is_from_server, EndsWithoutMemory}
+use Rattle.turn_client_laws.proofs.Machine.{Call, Recv, PollRecv}
 use Rattle.turn_client_laws.specs.Handled.{Input, fed_taken, handled, piece_inputs, poll_recv_inputs, recv_inputs, stream_inputs, stream_inputs_taken, taken_first, then_taken, inputs_taken}
 use Rattle.turn_client_laws.specs.Handled.{unless_given}
-use Rattle.turn_client_api.specs.Steps.{EndsWithoutMemory}
-use Rattle.turn_client_api.specs.declared.call.Call.{Call}
-use Rattle.turn_client_api.specs.declared.call.Call.TheVariants.{Recv, PollRecv}
 use Rattle.turn_client_laws.specs.LawsHandled.{EndsAmidInputs, TakesInput, InputsLead}
 use Rattle.turn_client_laws.proofs.StreamDrainLemmas.{step-lighter}
 use Rattle.turn_client_laws.proofs.MemoryLemmas.{behind}

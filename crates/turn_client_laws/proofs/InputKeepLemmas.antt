@@ -1,13 +1,8 @@
 -- What messages keep, the inputs of a call keep, up to each of them.
-use Rattle.std.proofs.Common.{List, [], ◌∷◌, inl, inr, sym, subst}
-use Rattle.std.specs.List.{Contains}
-use Rattle.turn_client_api.specs.State.{State}
+use Rattle.turn_client_laws.proofs.Common.{List, [], ◌∷◌, inl, inr, sym, subst, Contains}
+use Rattle.turn_client_laws.proofs.Machine.{State, state_after, Call, Recv, PollRecv, Has}
 use Rattle.turn_client_laws.specs.Handled.{Input, handled, processed}
-use Rattle.turn_client_api.specs.Steps.{state_after}
-use Rattle.turn_client_api.specs.declared.call.Call.{Call}
-use Rattle.turn_client_api.specs.declared.call.Call.TheVariants.{Recv, PollRecv}
 use Rattle.turn_client_laws.specs.LawsHandled.{ProcessesInputs, InputsLead}
-use Rattle.turn_client_api.proofs.HasLemmas.{Has}
 use Rattle.turn_client_laws.proofs.RunKeepLemmas.{IsKept, differs-kept, input-kept}
 use Rattle.turn_client_laws.proofs.StandLemmas.{contains-has}
 use Rattle.turn_client_laws.proofs.InputChainLemmas.{calls-do}

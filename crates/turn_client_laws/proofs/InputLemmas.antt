@@ -1,15 +1,7 @@
 -- What messages cause, a call causes by processing them.
-use Rattle.std.proofs.Common.{◌≡◌, ◌⊎◌, ℕ, true, List, inl, inr, subst}
-use Rattle.std.specs.declared.net.socket_addr.SocketAddr.{SocketAddr}
-use Rattle.turn_client_api.specs.State.{State}
-use Rattle.turn_client_api.specs.declared.state.Stream.{Stream}
-use Rattle.turn_client_api.specs.Connections.{bind_step}
-use Rattle.turn_client_api.specs.Effect.{closed}
-use Rattle.turn_client_api.specs.Payloads.{is_message, message_step}
-use Rattle.turn_client_api.specs.Receive.{connection_gone}
+use Rattle.turn_client_laws.proofs.Common.{◌≡◌, ◌⊎◌, ℕ, true, List, inl, inr, subst, SocketAddr}
+use Rattle.turn_client_laws.proofs.Machine.{State, Stream, bind_step, closed, is_message, message_step, connection_gone, Leaves, state_after, Call}
 use Rattle.turn_client_laws.specs.Handled.{Input}
-use Rattle.turn_client_api.specs.Steps.{Leaves, state_after}
-use Rattle.turn_client_api.specs.declared.call.Call.{Call}
 use Rattle.turn_client_laws.specs.LawsHandled.{TakesInput}
 use Rattle.turn_client_laws.specs.LawsInputs.{Deed, IsBroughtBy}
 use Rattle.turn_client_laws.proofs.InputBringLemmas.{IsBrought, leaves-bring}

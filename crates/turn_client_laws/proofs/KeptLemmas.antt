@@ -1,21 +1,8 @@
 -- What is not kept is not refreshed, and otherwise as before.
-use Rattle.std.proofs.Common.{arith, ◌≡◌, ℕ, Bool, true, false, not, List, [], ◌∷◌, map, None, Some, refl, sym, ap, ◌∙◌, ◌&&◌, inl, inr}
-use Rattle.std.specs.Prelude.{All}
-use Rattle.std.specs.List.{list_any}
-use Rattle.turn_client_api.specs.State.{State}
-use Rattle.turn_client_api.specs.declared.grant.Grant.{Grant}
-use Rattle.turn_client_api.specs.declared.grant.Grant.TheVariants.{Allocation, Permission, Channel, Connect, Offer, Connection}
-use Rattle.turn_client_api.specs.declared.grant.Progress.TheVariants.{Pending, Active, Reserved}
-use Rattle.turn_stun.specs.declared.transport.TransportType.{TransportType}
-use Rattle.turn_client_api.specs.Due.{is_kept, refresh_time}
-use Rattle.turn_client_api.specs.Grants.{is_permission_of, same_transport}
-use Rattle.std.specs.declared.net.ip_addr.IpAddr.{IpAddr}
-use Rattle.std.specs.declared.net.socket_addr.SocketAddr.{SocketAddr}
-use Rattle.turn_client_api.specs.Effect.{lasting}
-use Rattle.turn_client_api.specs.Calls.{is_open_to, keep_step, marked, marked_if, with_marks}
+use Rattle.turn_client_laws.proofs.Common.{arith, ◌≡◌, ℕ, Bool, true, false, List, [], ◌∷◌, map, None, refl, sym, ap, ◌∙◌, inl, inr, list_any, IpAddr, SocketAddr}
+use Rattle.turn_client_laws.proofs.Machine.{State, Grant, Allocation, Permission, Channel, Pending, Active, Reserved, TransportType, is_kept, refresh_time, is_permission_of, same_transport, lasting}
+use Rattle.turn_client_laws.proofs.Machine.{is_open_to, keep_step, marked, marked_if, Has, has-all}
 use Rattle.turn_client_laws.specs.LawsKept.{IsSameButKept, KeepsAll}
-use Rattle.turn_client_laws.proofs.CaseLemmas.{by_test}
-use Rattle.turn_client_api.proofs.HasLemmas.{Has, has-all}
 
 pub unkept-never : (s : State) (g : Grant) → is_kept g ≡ false → refresh_time s g ≡ None
 unfolding refresh_time

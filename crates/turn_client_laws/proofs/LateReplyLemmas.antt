@@ -1,24 +1,8 @@
 -- A response to no outstanding request changes no grant, and binds no connection.
-use Rattle.std.proofs.Common.{◌≡◌, ℕ, true, false, List, [], ◌∷◌, Some, None, inl, inr, refl, sym, ◌∙◌, ap}
-use Rattle.std.specs.Prelude.{find}
-use Rattle.std.specs.List.{Contains}
-use Rattle.std.proofs.lemmas.Option.{none-some}
-use Rattle.std.specs.declared.net.socket_addr.SocketAddr.{SocketAddr}
-use Rattle.std.proofs.lemmas.Bool.{cases_Bool}
-use Rattle.turn_stun.specs.Message.{id_of}
-use Rattle.turn_stun.specs.declared.message.header.MessageClass.TheVariants.{Request, Indication}
-use Rattle.turn_auth.specs.LongTerm.{Challenge}
-use Rattle.turn_agent.specs.Agent.{is_outstanding, is_response, same_address}
-use Rattle.turn_client_api.specs.State.{State, later_by}
-use Rattle.turn_client_api.specs.declared.grant.DataConnection.{DataConnection}
-use Rattle.turn_client_api.specs.declared.grant.Grant.{Grant}
-use Rattle.turn_client_api.specs.declared.grant.Grant.TheVariants.{Connection}
-use Rattle.turn_client_api.specs.Grants.{purposes_of}
-use Rattle.turn_client_api.specs.Judgement.{Judgement, Challenged, Fatal, bind_judgement, class_in, is_bind_of, judgement_of, ConnectionAttempt, SignedRequest, SignedSuccess, SignedError}
-use Rattle.turn_client_api.specs.Retry.{bind_time}
-use Rattle.turn_client_api.specs.Connections.{bind_again, bind_answered, bind_step, with_deadline}
-use Rattle.turn_client_api.specs.Payloads.{message_step}
-use Rattle.turn_client_api.proofs.HasLemmas.{Has, has-filter}
+use Rattle.turn_client_laws.proofs.Common.{◌≡◌, ℕ, true, false, List, [], ◌∷◌, Some, None, inl, inr, refl, sym, ◌∙◌, ap, find, Contains, none-some, SocketAddr, cases_Bool}
+use Rattle.turn_client_laws.proofs.Machine.{id_of, Request, Indication, Challenge, is_outstanding, is_response, same_address, State, later_by, DataConnection, Grant, Connection, purposes_of}
+use Rattle.turn_client_laws.proofs.Machine.{Judgement, Challenged, Fatal, bind_judgement, class_in, is_bind_of, judgement_of, ConnectionAttempt, SignedRequest, SignedSuccess, SignedError, bind_time}
+use Rattle.turn_client_laws.proofs.Machine.{bind_again, bind_answered, bind_step, with_deadline, message_step, Has, has-filter}
 use Rattle.turn_client_laws.proofs.ChallengeJudgement.{AnswersAllocate, AnswersBind, Says, bind-says, judgement-says}
 use Rattle.turn_client_laws.proofs.StandLemmas.{contains-has, has-contains}
 use Rattle.turn_client_laws.proofs.CaseLemmas.{bind-by, by_found}

@@ -11,6 +11,7 @@ pub mod CaseLemmas
 pub mod ChallengeJudgement
 pub mod ChannelPeers
 pub mod ChannelRange
+pub mod Common
 pub mod ConfiguredLemmas
 pub mod ConnectionPeers
 pub mod CountLemmas
@@ -44,7 +45,9 @@ pub mod InputKeepLemmas
 pub mod InputLemmas
 pub mod KeptLemmas
 pub mod LateReplyLemmas
+pub mod Laws
 pub mod ListedGrants
+pub mod Machine
 pub mod MemoryLemmas
 pub mod MoveCallLemmas
 pub mod MoveInputLemmas

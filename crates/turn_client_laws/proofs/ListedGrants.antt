@@ -1,25 +1,10 @@
 -- What a request is listed for exists.
-use Rattle.std.proofs.Common.{arith, ◌≡◌, ℕ, Bool, true, not, eqb, ◌&&◌, List, [], ◌∷◌, ◌++◌, map, ◌⊎◌, inl, inr, refl, sym, subst, ap, ◌∙◌}
-use Rattle.std.specs.List.{list_any}
-use Rattle.std.proofs.lemmas.Bool.{and_from, and_parts, or_left, cases_Bool}
-use Rattle.std.proofs.lemmas.List.Folds.{list_any-append}
-use Rattle.std.specs.declared.net.socket_addr.SocketAddr.{SocketAddr}
-use Rattle.turn_stun.specs.declared.transport.TransportType.{TransportType}
-use Rattle.turn_agent.specs.Agent.{same_address}
-use Rattle.turn_client_api.specs.Config.{Config}
-use Rattle.turn_client_api.specs.State.{State, initial}
-use Rattle.turn_client_api.specs.declared.grant.Grant.{Grant}
-use Rattle.turn_client_api.specs.declared.grant.Grant.TheVariants.{Allocation, Channel, Connection}
-use Rattle.turn_client_api.specs.declared.grant.Purpose.{Purpose}
-use Rattle.turn_client_api.specs.declared.grant.Purpose.TheVariants.{ForAllocation, ForRefresh, ForPermission, ForChannel, ForConnect, ForBind}
-use Rattle.turn_client_api.specs.declared.grant.Listing.{Listing}
-use Rattle.turn_client_api.specs.Grants.{is_connect_to, is_for, is_of, is_permission_of, is_channel_of, with_grant, without_grants}
-use Rattle.turn_client_api.specs.Requests.{listings}
-use Rattle.turn_client_api.specs.Calls.{is_offer_of, offer_taken}
-use Rattle.turn_client_api.specs.Steps.{Leaves}
-use Rattle.turn_client_api.specs.declared.call.Call.{Call}
+use Rattle.turn_client_laws.proofs.Common.{arith, ◌≡◌, ℕ, Bool, true, not, eqb, ◌&&◌, List, [], ◌∷◌, ◌++◌, map, ◌⊎◌, inl, inr, refl, sym, subst, ap, ◌∙◌, list_any, and_from, and_parts, or_left}
+use Rattle.turn_client_laws.proofs.Common.{cases_Bool, list_any-append, SocketAddr}
+use Rattle.turn_client_laws.proofs.Machine.{TransportType, same_address, Config, State, initial, Grant, Channel, Connection, Purpose, ForAllocation, ForChannel, ForBind, Listing, is_connect_to}
+use Rattle.turn_client_laws.proofs.Machine.{is_for, is_of, is_permission_of, is_channel_of, with_grant, without_grants, listings, is_offer_of, offer_taken, Leaves, Call, Has, all-has, has-all}
+use Rattle.turn_client_laws.proofs.Machine.{has-append, has-filter}
 use Rattle.turn_client_laws.specs.LawsStates.{HasGrantsAsked, HasItsGrant, is_asked_by}
-use Rattle.turn_client_api.proofs.HasLemmas.{Has, all-has, has-all, has-append, has-filter}
 use Rattle.turn_client_laws.proofs.InAllocationLemmas.{any-has, has-any, not-both, stays}
 use Rattle.turn_client_laws.proofs.TakenOfferLemmas.{no-offer, stays-first}
 use Rattle.turn_client_laws.proofs.GrantOriginLemmas.{has-mapped}

@@ -1,22 +1,8 @@
 -- What a call leaves if memory allocation fails: what messages and the end of a client keep is kept.
-use Rattle.std.proofs.Common.{◌≡◌, ◌⊎◌, ℕ, Bool, true, false, cond, List, Option, Some, None, refl, subst, sym, inl, inr, arith}
-use Rattle.std.specs.Prelude.{IsSomeAnd, find}
-use Rattle.std.proofs.lemmas.Option.{none-some, same_Some}
-use Rattle.std.specs.declared.net.socket_addr.SocketAddr.{SocketAddr}
-use Rattle.turn_agent.specs.Agent.{same_address}
-use Rattle.turn_client_api.specs.State.{State}
-use Rattle.turn_client_api.specs.declared.state.Mode.{Mode}
-use Rattle.turn_client_api.specs.declared.state.Mode.TheVariants.{Control, Broken}
-use Rattle.turn_client_api.specs.declared.state.Stream.{Stream}
-use Rattle.turn_client_api.specs.Effect.{closed}
-use Rattle.turn_client_api.specs.Payloads.{Payload, Outcome, PeerData, PeerIcmp}
-use Rattle.turn_client_api.specs.Streams.{broken_at, is_ready, stream_at}
-use Rattle.turn_client_api.specs.Receive.{first_frame_step}
-use Rattle.turn_client_api.specs.Answers.{EndsAfterSteps, RecvEnds, before_others}
-use Rattle.turn_client_api.specs.Steps.{EndsWithoutMemory, Leaves, state_after}
-use Rattle.turn_client_api.specs.declared.call.Call.{Call}
-use Rattle.turn_client_api.specs.declared.call.Call.TheVariants.{SendTo, Recv, PollRecv, Poll, PollTransmit, PollEvent, RelayedAddresses, Permissions}
-use Rattle.turn_client_api.specs.declared.call.Call.TheVariants.{HavePermission, ProtocolError, SetPermissionKept, SetChannelKept, TcpClosed}
+use Rattle.turn_client_laws.proofs.Common.{◌≡◌, ◌⊎◌, ℕ, Bool, true, false, cond, List, Option, Some, None, refl, subst, sym, inl, inr, arith, IsSomeAnd, find, none-some, same_Some, SocketAddr}
+use Rattle.turn_client_laws.proofs.Machine.{same_address, State, Mode, Control, Broken, Stream, closed, Payload, Outcome, PeerData, PeerIcmp, broken_at, is_ready, stream_at, first_frame_step}
+use Rattle.turn_client_laws.proofs.Machine.{EndsAfterSteps, RecvEnds, before_others, EndsWithoutMemory, Leaves, state_after, Call, SendTo, Recv, PollRecv, Poll, PollTransmit, PollEvent}
+use Rattle.turn_client_laws.proofs.Machine.{RelayedAddresses, Permissions, HavePermission, ProtocolError, SetPermissionKept, SetChannelKept, TcpClosed}
 use Rattle.turn_client_laws.specs.LawsHandled.{TakesInput}
 use Rattle.turn_client_laws.proofs.RunKeepLemmas.{IsKept, first_frame_step-kept, steps-kept}
 

@@ -1,40 +1,17 @@
 -- What each call requests, and what it removes.
-use Rattle.std.proofs.Common.{◌≡◌, ◌⊎◌, ℕ, Bool, true, false, not, cond, ◌||◌, List, [], ◌∷◌, map, Option, Some, None, Result, Err, refl, inl, inr, arith, ◌&&◌}
-use Rattle.std.specs.Prelude.{filter_map, is_some, is_none}
-use Rattle.std.specs.List.{list_any}
-use Rattle.std.specs.Net.Socket.{socket_ip}
-use Rattle.std.specs.declared.net.ip_addr.IpAddr.{IpAddr}
-use Rattle.std.specs.declared.net.socket_addr.SocketAddr.{SocketAddr}
-use Rattle.turn_stun.specs.declared.transport.TransportType.{TransportType}
-use Rattle.turn_stun.specs.declared.transport.TransportType.TheVariants.{Tcp}
-use Rattle.turn_types.specs.declared.family.AddressFamily.{AddressFamily}
-use Rattle.turn_agent.specs.Agent.{first_sent}
-use Rattle.turn_agent.specs.declared.transaction.Transaction.{Transaction}
-use Rattle.turn_client_api.specs.State.{State}
-use Rattle.turn_client_api.specs.declared.grant.Grant.{Grant}
-use Rattle.turn_client_api.specs.declared.grant.Grant.TheVariants.{Permission, Connect}
-use Rattle.turn_client_api.specs.declared.grant.Relay.{Relay}
-use Rattle.turn_client_api.specs.declared.grant.Listing.{Listing}
-use Rattle.turn_client_api.specs.declared.grant.Progress.TheVariants.{Pending}
-use Rattle.turn_client_api.specs.declared.grant.Purpose.{Purpose}
-use Rattle.turn_client_api.specs.declared.grant.Purpose.TheVariants.{ForPermission, ForChannel, ForConnect}
-use Rattle.turn_client_api.specs.Grants.{find_allocation_to, changed_allocation, family_of_ip, is_of_family, is_past, has_active_permission, permission_state, with_expired, with_grant}
-use Rattle.turn_client_api.specs.Requests.{fresh_id, listings, request_for, requested}
-use Rattle.turn_client_api.specs.Connections.{is_connected, is_connecting}
-use Rattle.turn_client_api.specs.Calls.{bind_channel, bind_channel_step, bound_by, channel_step, channels_to, connect_step, create_permission_step, free_number, in_allocation, is_allocated}
-use Rattle.turn_client_api.specs.Calls.{is_in_progress, missing_permission, permission_step, reserved_from, tcp_connect_step}
+use Rattle.turn_client_laws.proofs.Common.{◌≡◌, ◌⊎◌, ℕ, Bool, true, false, not, cond, ◌||◌, List, [], ◌∷◌, map, Option, Some, None, Result, Err, refl, inl, inr, arith, ◌&&◌, filter_map, is_some}
+use Rattle.turn_client_laws.proofs.Common.{is_none, list_any, socket_ip, IpAddr, SocketAddr}
+use Rattle.turn_client_laws.proofs.Machine.{TransportType, Tcp, AddressFamily, first_sent, Transaction, State, Grant, Permission, Connect, Relay, Listing, Pending, Purpose, ForPermission, ForChannel}
+use Rattle.turn_client_laws.proofs.Machine.{ForConnect, find_allocation_to, changed_allocation, family_of_ip, is_of_family, is_past, has_active_permission, permission_state, with_expired, with_grant}
+use Rattle.turn_client_laws.proofs.Machine.{fresh_id, listings, request_for, requested, is_connected, is_connecting, bind_channel, bind_channel_step, bound_by, channel_step, channels_to, connect_step}
+use Rattle.turn_client_laws.proofs.Machine.{create_permission_step, free_number, in_allocation, is_allocated, is_in_progress, missing_permission, permission_step, reserved_from, tcp_connect_step}
+use Rattle.turn_client_laws.proofs.Machine.{Call, CreatePermission, BindChannel, TcpConnect, Has, keep_step, marked_if, with_marks, same_transport}
 use Rattle.turn_client_api.specs.declared.error.BindChannelError.TheVariants as Bind
-use Rattle.turn_client_api.specs.declared.call.Call.{Call}
-use Rattle.turn_client_api.specs.declared.call.Call.TheVariants.{CreatePermission, BindChannel, TcpConnect}
 use Rattle.turn_client_laws.specs.LawsRequests.{AsksFor, IsListedAs, IsListedFor, IsMade, IsMadeAs, IsSentAgain}
 use Rattle.turn_client_laws.specs.LawsGone.{IsTakenBy, grant_identity}
-use Rattle.turn_client_api.proofs.HasLemmas.{Has}
-use Rattle.turn_client_laws.proofs.MoveLemmas.{Moves, Never, Settles, adds-more, adds-one, adds-never, adds-same, by_test, loses-map}
-use Rattle.turn_client_laws.proofs.MoveLemmas.{loses-more, loses-same, settles-moves, settles-same}
+use Rattle.turn_client_laws.proofs.MoveLemmas.{Moves, Never, Settles, adds-more, adds-one, adds-never, adds-same, by_test, loses-map, loses-more, loses-same, settles-moves, settles-same}
 use Rattle.turn_client_laws.proofs.MoveMessageLemmas.{each-listing, made-of, request_made, requested-made}
 use Rattle.turn_client_laws.proofs.GrantOriginLemmas.{has-mapped}
-use Rattle.turn_client_api.specs.Calls.{keep_step, marked_if, with_marks}
-use Rattle.turn_client_api.specs.Grants.{same_transport}
 
 -- what the call makes, if it leaves this state
 abbrev pub MadeAt : Call → State → State → Transaction → Type 0

@@ -1,28 +1,14 @@
 -- What all calls request and remove, including those that process inputs.
-use Rattle.std.proofs.Common.{◌≡◌, ◌⊎◌, ℕ, List, [], ◌∷◌, Option, Some, None, true, refl, sym, subst, ◌∙◌, inl, inr}
-use Rattle.std.specs.List.{Contains}
-use Rattle.turn_stun.specs.declared.transport.Transmit.{Transmit}
-use Rattle.turn_agent.specs.declared.transaction.Transaction.{Transaction}
-use Rattle.turn_client_api.specs.State.{State}
-use Rattle.turn_client_api.specs.declared.grant.Grant.{Grant}
-use Rattle.turn_client_api.specs.declared.grant.Listing.{Listing}
-use Rattle.turn_client_api.specs.declared.grant.Purpose.TheVariants.{ForBind}
-use Rattle.turn_client_api.specs.declared.state.Stream.{Stream}
-use Rattle.turn_client_api.specs.Grants.{is_connection_from, is_permission_of}
-use Rattle.turn_client_api.specs.Streams.{max_steps}
+use Rattle.turn_client_laws.proofs.Common.{◌≡◌, ◌⊎◌, ℕ, List, [], ◌∷◌, Option, Some, None, true, refl, sym, subst, ◌∙◌, inl, inr, Contains}
+use Rattle.turn_client_laws.proofs.Machine.{Transmit, Transaction, State, Grant, Listing, ForBind, Stream, is_connection_from, is_permission_of, max_steps, closed, EndsWithoutMemory, Leaves}
+use Rattle.turn_client_laws.proofs.Machine.{state_after, Call, Delete, CreatePermission, BindChannel, TcpConnect, AllocatedTcpSocket, TcpClosed, SendTo, Recv, PollRecv, Poll, PollTransmit, PollEvent}
+use Rattle.turn_client_laws.proofs.Machine.{ProtocolError, SetPermissionKept, SetChannelKept, Has, has-filter, is_open_to}
 use Rattle.turn_client_laws.specs.Handled.{Input, handled, processed}
-use Rattle.turn_client_api.specs.Effect.{closed}
-use Rattle.turn_client_api.specs.Steps.{EndsWithoutMemory, Leaves, state_after}
-use Rattle.turn_client_api.specs.declared.call.Call.{Call}
-use Rattle.turn_client_api.specs.declared.call.Call.TheVariants.{Delete, CreatePermission, BindChannel, TcpConnect, AllocatedTcpSocket, TcpClosed, SendTo, Recv, PollRecv, Poll}
-use Rattle.turn_client_api.specs.declared.call.Call.TheVariants.{PollTransmit, PollEvent, ProtocolError, SetPermissionKept, SetChannelKept}
 use Rattle.turn_client_laws.specs.LawsHandled.{DiffersInStreams, ProcessesInputs, EndsAmidInputs, IsDoneBy, IsStreamEnd, TakesInput, InputsLead}
 use Rattle.turn_client_laws.specs.LawsRequests.{IsListedByInput, IsListingOf, IsMadeByInput, IsRequestOf}
 use Rattle.turn_client_laws.specs.LawsGone.{IsOverItself, IsStillThere, IsTakenBy, IsRemovedByInput}
-use Rattle.turn_client_api.proofs.HasLemmas.{Has, has-filter}
-use Rattle.turn_client_laws.proofs.MoveCallLemmas.{channel-does, connect-does, does-same, does-settled, permission-does}
-use Rattle.turn_client_laws.proofs.MoveLemmas.{IsOfBare, Moves, Remains, Settles, adds-filter, adds-same, loses-same, loses-wider, moves-same}
-use Rattle.turn_client_laws.proofs.MoveLemmas.{remains-here, settles-moves, settles-same, settles-wider}
+use Rattle.turn_client_laws.proofs.MoveCallLemmas.{channel-does, connect-does, does-same, does-settled, permission-does, keep-does}
+use Rattle.turn_client_laws.proofs.MoveLemmas.{IsOfBare, Moves, Remains, Settles, adds-filter, adds-same, loses-same, loses-wider, moves-same, remains-here, settles-moves, settles-same, settles-wider}
 use Rattle.turn_client_laws.proofs.MoveMessageLemmas.{input-moves}
 use Rattle.turn_client_laws.proofs.MovePollLemmas.{poll-does, transmit-does}
 use Rattle.turn_client_laws.proofs.MoveReplyLemmas.{is_for-whole}
@@ -32,8 +18,6 @@ use Rattle.turn_client_laws.proofs.MemoryLemmas.{memory-ends}
 use Rattle.turn_client_laws.proofs.InputBringLemmas.{Among, among-done, front-done, later-among, leads-back}
 use Rattle.turn_client_laws.proofs.InputChainLemmas.{calls-do, steps-lead}
 use Rattle.turn_client_laws.proofs.InputEndLemmas.{calls-end}
-use Rattle.turn_client_api.specs.Calls.{is_open_to}
-use Rattle.turn_client_laws.proofs.MoveCallLemmas.{keep-does}
 
 -- ---- inputs in sequence
 

@@ -1,13 +1,7 @@
 -- How requests, listings and grants are added and removed.
-use Rattle.std.proofs.Common.{◌≡◌, ◌⊎◌, Bool, true, false, not, cond, List, [], ◌∷◌, ◌++◌, map, filter, find, Option, Some, None, refl, sym, subst}
-use Rattle.std.proofs.Common.{◌∙◌, inl, inr}
-use Rattle.std.proofs.lemmas.Bool.{cases_Bool}
-use Rattle.turn_agent.specs.declared.transaction.Transaction.{Transaction}
-use Rattle.turn_client_api.specs.State.{State}
-use Rattle.turn_client_api.specs.declared.grant.Grant.{Grant}
-use Rattle.turn_client_api.specs.declared.grant.Listing.{Listing}
+use Rattle.turn_client_laws.proofs.Common.{◌≡◌, ◌⊎◌, Bool, true, false, not, cond, List, [], ◌∷◌, ◌++◌, map, filter, find, Some, None, refl, sym, subst, ◌∙◌, inl, inr, cases_Bool}
+use Rattle.turn_client_laws.proofs.Machine.{Transaction, State, Grant, Listing, Has, filter-has, has-append, has-filter, has-left, map-has}
 use Rattle.turn_client_laws.specs.LawsGone.{grant_identity}
-use Rattle.turn_client_api.proofs.HasLemmas.{Has, filter-has, has-append, has-filter, has-left, map-has}
 
 -- ---- lists
 

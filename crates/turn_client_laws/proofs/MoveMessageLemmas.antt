@@ -1,46 +1,21 @@
 -- What messages request, and what they remove.
-use Rattle.std.proofs.Common.{◌≡◌, ◌⊎◌, ℕ, eqb, ltb, leb, Bool, true, false, not, cond, ◌&&◌, List, [], ◌∷◌, ◌++◌, filter, length, Option, Some, None}
-use Rattle.std.proofs.Common.{refl, subst, inl, inr, sym}
-use Rattle.std.proofs.Common.{arith}
-use Rattle.std.specs.Prelude.{find, is_some, IfSome}
-use Rattle.std.specs.List.{list_any}
-use Rattle.std.specs.Option.{option_map_or}
-use Rattle.std.proofs.lemmas.Bool.{and_parts}
-use Rattle.std.specs.Net.Socket.{socket_ip}
-use Rattle.turn_types.specs.declared.family.AddressFamily.TheVariants.{IPV4, IPV6}
-use Rattle.turn_client_api.specs.declared.event.TurnEvent.TheVariants.{AllocationCreateFailed}
-use Rattle.std.specs.declared.net.socket_addr.SocketAddr.{SocketAddr}
-use Rattle.turn_stun.specs.Message.{id_of}
-use Rattle.turn_stun.specs.declared.transport.TransportType.TheVariants.{Tcp}
-use Rattle.turn_auth.specs.LongTerm.{Challenge}
+use Rattle.turn_client_laws.proofs.Common.{◌≡◌, ◌⊎◌, ℕ, eqb, ltb, leb, Bool, true, false, not, cond, ◌&&◌, List, [], ◌∷◌, ◌++◌, filter, length, Option, Some, None, refl, subst, inl, inr, sym, arith}
+use Rattle.turn_client_laws.proofs.Common.{find, is_some, IfSome, list_any, option_map_or, and_parts, socket_ip, SocketAddr}
+use Rattle.turn_client_laws.proofs.Machine.{IPV4, IPV6, AllocationCreateFailed, id_of, Tcp, Challenge, first_sent, is_response, Transaction, State, later_by, Grant, DataConnection, Listing, Purpose}
+use Rattle.turn_client_laws.proofs.Machine.{ForAllocation, Phase, Requesting, Authenticating, find_allocation_to, is_connection_from, is_for, is_for_allocation, purposes_of, unlisted, wait}
+use Rattle.turn_client_laws.proofs.Machine.{connection_attempt_method, fresh_id, listings, request_for, requested, Judgement, Unrelated, Challenged, Fatal, ConnectionAttempt, SignedRequest}
+use Rattle.turn_client_laws.proofs.Machine.{SignedSuccess, SignedError, answers_allocate, authenticating_judgement, bind_judgement, class_in, connection_id_in, is_bind_of, judgement_of, lifetime_in}
+use Rattle.turn_client_laws.proofs.Machine.{method_in, peer_in, allocate_denied, allocate_granted, transaction_ended, family_not_supported, has_code, in_phase, bind_time, retried, state_after_retry}
+use Rattle.turn_client_laws.proofs.Machine.{with_held, attempt_indicated, attempt_requested, bind_again, bind_answered, bind_step, deadline_set, is_connected, accepts_attempt, bound, not_bound}
+use Rattle.turn_client_laws.proofs.Machine.{with_deadline, Outcome, Handled, Ignored, challenge_step, message_step, response_step, signed_step, wrong_step, Has, has-right}
 use Rattle.turn_agent.specs.Agent as A
-use Rattle.turn_agent.specs.Agent.{first_sent, is_response}
-use Rattle.turn_agent.specs.declared.transaction.Transaction.{Transaction}
-use Rattle.turn_client_api.specs.State.{State, later_by}
-use Rattle.turn_client_api.specs.declared.grant.Grant.{Grant}
-use Rattle.turn_client_api.specs.declared.grant.DataConnection.{DataConnection}
-use Rattle.turn_client_api.specs.declared.grant.Listing.{Listing}
-use Rattle.turn_client_api.specs.declared.grant.Purpose.{Purpose}
-use Rattle.turn_client_api.specs.declared.grant.Purpose.TheVariants.{ForAllocation}
-use Rattle.turn_client_api.specs.declared.state.Phase.{Phase}
-use Rattle.turn_client_api.specs.declared.state.Phase.TheVariants.{Requesting, Authenticating}
 use Rattle.turn_client_laws.specs.Handled.{Input, processed}
-use Rattle.turn_client_api.specs.Grants.{find_allocation_to, is_connection_from, is_for, is_for_allocation, purposes_of, unlisted, wait}
-use Rattle.turn_client_api.specs.Requests.{connection_attempt_method, fresh_id, listings, request_for, requested}
-use Rattle.turn_client_api.specs.Judgement.{Judgement, Unrelated, Challenged, Fatal, ConnectionAttempt, SignedRequest, SignedSuccess, SignedError, answers_allocate}
-use Rattle.turn_client_api.specs.Judgement.{authenticating_judgement, bind_judgement, class_in, connection_id_in, is_bind_of, judgement_of, lifetime_in, method_in, peer_in}
-use Rattle.turn_client_api.specs.Effect.{allocate_denied, allocate_granted, transaction_ended, family_not_supported, has_code, in_phase}
-use Rattle.turn_client_api.specs.Retry.{bind_time, retried, state_after_retry, with_held}
-use Rattle.turn_client_api.specs.Connections.{attempt_indicated, attempt_requested, bind_again, bind_answered, bind_step, deadline_set, is_connected}
-use Rattle.turn_client_api.specs.Connections.{accepts_attempt, bound, not_bound, with_deadline}
-use Rattle.turn_client_api.specs.Payloads.{Outcome, Handled, Ignored, challenge_step, message_step, response_step, signed_step, wrong_step}
 use Rattle.turn_client_laws.specs.LawsReplies.{IsAccepted}
 use Rattle.turn_client_laws.specs.LawsRequests.{IsAnswer, IsListedAgain, IsMade, IsMadeAgain, Spells}
 use Rattle.turn_client_laws.specs.LawsGone.{GivesBack, IsTakenByReply, IsRemovedByInput, grant_identity}
 use Rattle.turn_client_laws.proofs.EditsOfMessages.{found-has, retried-has}
-use Rattle.turn_client_api.proofs.HasLemmas.{Has, has-right}
-use Rattle.turn_client_laws.proofs.MoveLemmas.{Moves, Never, Settles, adds-filter, adds-more, adds-one, adds-same, loses-filter, loses-map, loses-more}
-use Rattle.turn_client_laws.proofs.MoveLemmas.{loses-same, loses-wider, on_test, settles-moves, settles-same, settles-wider}
+use Rattle.turn_client_laws.proofs.MoveLemmas.{Moves, Never, Settles, adds-filter, adds-more, adds-one, adds-same, loses-filter, loses-map, loses-more, loses-same, loses-wider, on_test, settles-moves}
+use Rattle.turn_client_laws.proofs.MoveLemmas.{settles-same, settles-wider}
 use Rattle.turn_client_laws.proofs.MoveReplyLemmas.{IsFor, response-fits}
 use Rattle.turn_client_laws.proofs.OneInputLemmas.{bind-by, input-by}
 use Rattle.turn_client_laws.proofs.GrantOriginLemmas.{has-mapped}

@@ -1,47 +1,24 @@
 -- What time removes, and what is requested as it passes.
-use Rattle.std.proofs.Common.{◌≡◌, ◌⊎◌, ℕ, ◌<◌, ◌≤◌, eqb, leb, Bool, true, false, cond, ◌&&◌, ◌||◌, List, [], ◌∷◌, fold, Option, Some, None, refl}
-use Rattle.std.proofs.Common.{sym, subst, inl, inr, arith}
-use Rattle.std.specs.Prelude.{All, IsSome, drop, find, flat_map, is_some, nat_le, reverse, slice_get}
-use Rattle.std.specs.List.{Contains, list_any}
-use Rattle.std.proofs.lemmas.Bool.{leb-false, leb-true}
-use Rattle.std.specs.declared.net.socket_addr.SocketAddr.{SocketAddr}
-use Rattle.turn_types.specs.declared.family.AddressFamily.{AddressFamily}
-use Rattle.turn_agent.specs.Agent.{due, first_sent, timed_out_transaction, resent, sent_again}
-use Rattle.turn_agent.specs.declared.transaction.Transaction.{Transaction}
-use Rattle.turn_client_api.specs.State.{State, agent_of}
-use Rattle.turn_client_api.specs.declared.grant.DataOffer.{DataOffer}
-use Rattle.turn_client_api.specs.declared.grant.Grant.{Grant}
-use Rattle.turn_client_api.specs.declared.grant.Grant.TheVariants.{Channel}
-use Rattle.turn_client_api.specs.declared.grant.Relay.{Relay}
-use Rattle.turn_client_api.specs.declared.grant.Progress.TheVariants.{Active}
-use Rattle.turn_client_api.specs.declared.grant.Purpose.{Purpose}
-use Rattle.turn_client_api.specs.declared.grant.Purpose.TheVariants.{ForAllocation}
-use Rattle.turn_client_api.specs.declared.state.Phase.{Phase}
-use Rattle.turn_client_api.specs.declared.state.Phase.TheVariants.{New, Requesting, Authenticating, Allocated}
-use Rattle.turn_client_api.specs.Grants.{allocations, family_of, is_of, without_grants}
-use Rattle.turn_client_api.specs.Requests.{first_allocate, fresh_id, id_used, request_for, to_server}
-use Rattle.turn_client_api.specs.Effect.{closed, transaction_ended}
-use Rattle.turn_client_api.specs.Due.{has_event, has_reply, is_paused, keepalive_times, expiry_times}
-use Rattle.turn_client_api.specs.Poll.{answer_by, answer_step, channel_expired, timed_out_purposes, timed_out_step, allocation_expires, is_expired_channel}
-use Rattle.turn_client_api.specs.Poll.{is_listed_for_allocation, expired_at, expired_allocation, expired_in, next_offer, offer_step, poll_step}
-use Rattle.turn_client_api.specs.Poll.{timed_step, as_reported, first_reported, unreported_in}
-use Rattle.turn_client_api.specs.Transmit.{idle_step, keepalive_step, queue_step, refreshes_in, reply_step, sent, sent_at_once, transmit_step}
-use Rattle.turn_client_api.specs.declared.call.Call.{Call}
-use Rattle.turn_client_api.specs.declared.call.Call.TheVariants.{Poll, PollTransmit}
+use Rattle.turn_client_laws.proofs.Common.{◌≡◌, ◌⊎◌, ℕ, ◌<◌, ◌≤◌, eqb, leb, Bool, true, false, cond, ◌&&◌, ◌||◌, List, [], ◌∷◌, fold, Option, Some, None, refl, sym, subst, inl, inr, arith, All}
+use Rattle.turn_client_laws.proofs.Common.{IsSome, drop, find, flat_map, is_some, nat_le, reverse, slice_get, Contains, list_any, leb-false, leb-true, SocketAddr}
+use Rattle.turn_client_laws.proofs.Machine.{AddressFamily, due, first_sent, timed_out_transaction, resent, sent_again, Transaction, State, agent_of, DataOffer, Grant, Channel, Relay, Active, Purpose}
+use Rattle.turn_client_laws.proofs.Machine.{ForAllocation, Phase, New, Requesting, Authenticating, Allocated, allocations, family_of, is_of, first_allocate, fresh_id, id_used, request_for, to_server}
+use Rattle.turn_client_laws.proofs.Machine.{closed, transaction_ended, has_event, has_reply, is_paused, keepalive_times, expiry_times, answer_by, answer_step, channel_expired, timed_out_purposes}
+use Rattle.turn_client_laws.proofs.Machine.{timed_out_step, is_expired_channel, is_listed_for_allocation, expired_at, expired_allocation, expired_in, next_offer, offer_step, poll_step, timed_step}
+use Rattle.turn_client_laws.proofs.Machine.{as_reported, first_reported, unreported_in, idle_step, keepalive_step, queue_step, refreshes_in, reply_step, sent, sent_at_once, transmit_step, Call, Poll}
+use Rattle.turn_client_laws.proofs.Machine.{PollTransmit, Has, all-has, has-found, expired_in-does}
 use Rattle.turn_client_laws.specs.LawsRequests.{AsksFor, IsMade}
 use Rattle.turn_client_laws.specs.LawsGone.{IsTakenBy, IsTimeUp, grant_identity}
 use Rattle.turn_client_api.proofs.EarlyExpiryLemmas.{expired_at-none}
-use Rattle.turn_client_api.proofs.HasLemmas.{Has, all-has, has-found}
 use Rattle.turn_client_laws.proofs.AfterExpiryLemmas.{expired_at-shrinks}
 use Rattle.turn_client_laws.proofs.MoveCallLemmas.{Does, ListedAt, MadeAt, does-same, does-settled}
 use Rattle.turn_client_laws.proofs.CaseLemmas.{all-expire}
-use Rattle.turn_client_laws.proofs.MoveLemmas.{Adds, Loses, Never, Settles, adds-filter, adds-never, adds-one, adds-same, adds-then, by_test, loses-same}
-use Rattle.turn_client_laws.proofs.MoveLemmas.{none-found, on_choice, on_test, settles-same, loses-cons}
+use Rattle.turn_client_laws.proofs.MoveLemmas.{Adds, Loses, Never, Settles, adds-filter, adds-never, adds-one, adds-same, adds-then, by_test, loses-same, none-found, on_choice, settles-same}
+use Rattle.turn_client_laws.proofs.MoveLemmas.{loses-cons}
 use Rattle.turn_client_laws.proofs.GrantOriginLemmas.{has-mapped}
 use Rattle.turn_client_laws.proofs.MoveMessageLemmas.{made-of}
 use Rattle.turn_client_laws.proofs.MoveSocketLemmas.{by_found}
 use Rattle.turn_client_laws.proofs.StandLemmas.{has-contains}
-use Rattle.turn_client_api.proofs.ExpirySteps.{expired_in-does}
 
 -- ---- what is listed as time passes
 

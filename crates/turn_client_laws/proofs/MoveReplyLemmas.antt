@@ -1,29 +1,13 @@
 -- What signed replies remove: grants that their requests were made for.
-use Rattle.std.proofs.Common.{◌≡◌, ◌⊎◌, ℕ, eqb, leb, Bool, true, false, cond, ◌||◌, List, [], ◌∷◌, ◌++◌, filter, fold, Option, Some, None, refl, sym}
-use Rattle.std.proofs.Common.{ap, ◌∙◌, inl, inr, arith}
-use Rattle.std.specs.Option.{option_map_or}
-use Rattle.std.proofs.lemmas.Bool.{and_parts, eqb-true, cases_Bool}
-use Rattle.std.specs.declared.net.ip_addr.IpAddr.{IpAddr}
-use Rattle.std.specs.declared.net.socket_addr.SocketAddr.{SocketAddr}
-use Rattle.turn_stun.specs.Message.{id_of}
-use Rattle.turn_types.specs.declared.family.AddressFamily.{AddressFamily}
-use Rattle.turn_client_api.specs.State.{State}
-use Rattle.turn_client_api.specs.declared.grant.Grant.{Grant}
-use Rattle.turn_client_api.specs.declared.grant.Relay.{Relay}
-use Rattle.turn_client_api.specs.declared.grant.Progress.{Progress}
-use Rattle.turn_client_api.specs.declared.grant.Progress.TheVariants.{Pending, Active}
-use Rattle.turn_client_api.specs.declared.grant.Listing.{Listing}
-use Rattle.turn_client_api.specs.declared.grant.Purpose.{Purpose}
-use Rattle.turn_client_api.specs.declared.grant.Purpose.TheVariants.{ForRefresh, ForPermission, ForChannel, ForConnect}
-use Rattle.turn_client_api.specs.Grants.{changed_allocation, channel_at, first_in, is_channel_of, is_connect_to, is_for, is_for_any, is_permission_of, permission_state, purposes_of, unlisted}
-use Rattle.turn_client_api.specs.Grants.{without_grants}
-use Rattle.turn_client_api.specs.Judgement.{connection_id_in, lifetime_in}
-use Rattle.turn_client_api.specs.Effect.{all_gone, allocation_mismatch, channel_answered, connect_answered, effect, transaction_ended, delete_answered, has_code, is_asked_permission, lasting}
-use Rattle.turn_client_api.specs.Effect.{lasting_if, min_lifetime, listed_permissions_answered, pending_channel_answered, permission_answered, permission_answered_for, prolonged, refreshed, renewed}
-use Rattle.turn_client_api.specs.Payloads.{answered_purposes, response_step}
+use Rattle.turn_client_laws.proofs.Common.{◌≡◌, ◌⊎◌, ℕ, eqb, leb, Bool, true, false, cond, ◌||◌, List, [], ◌∷◌, ◌++◌, filter, fold, Option, Some, None, refl, sym, ap, ◌∙◌, inl, inr, arith}
+use Rattle.turn_client_laws.proofs.Common.{option_map_or, and_parts, eqb-true, cases_Bool, IpAddr, SocketAddr}
+use Rattle.turn_client_laws.proofs.Machine.{id_of, AddressFamily, State, Grant, Relay, Progress, Pending, Active, Listing, Purpose, ForRefresh, ForPermission, ForChannel, ForConnect}
+use Rattle.turn_client_laws.proofs.Machine.{changed_allocation, channel_at, first_in, is_channel_of, is_connect_to, is_for, is_for_any, is_permission_of, permission_state, purposes_of, unlisted}
+use Rattle.turn_client_laws.proofs.Machine.{without_grants, connection_id_in, lifetime_in, all_gone, allocation_mismatch, channel_answered, connect_answered, effect, transaction_ended}
+use Rattle.turn_client_laws.proofs.Machine.{delete_answered, has_code, is_asked_permission, lasting, lasting_if, min_lifetime, listed_permissions_answered, pending_channel_answered}
+use Rattle.turn_client_laws.proofs.Machine.{permission_answered, permission_answered_for, prolonged, refreshed, renewed, answered_purposes, response_step, Has, filter-has, has-filter, map-has}
 use Rattle.turn_client_laws.specs.LawsGone.{GivesBack, grant_identity}
 use Rattle.turn_client_laws.proofs.GrantOriginLemmas.{has-mapped}
-use Rattle.turn_client_api.proofs.HasLemmas.{Has, filter-has, has-filter, map-has}
 use Rattle.turn_client_laws.proofs.MoveLemmas.{Adds, IsOfBare, Never, Settles, adds-filter, adds-same, loses-filter, loses-map, loses-more, loses-same, on_test, settles-same, settles-then}
 
 -- one of these purposes is for the grant, or deletes all allocations

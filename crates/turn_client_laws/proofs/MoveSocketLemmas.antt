@@ -1,43 +1,16 @@
 -- What is requested and removed with data connections, with data, and when allocations are deleted.
-use Rattle.std.proofs.Common.{◌≡◌, ◌⊎◌, ℕ, leb, Bool, true, not, ◌&&◌, List, [], ◌∷◌, ◌++◌, map, filter, Option, Some, None, refl, ◌∙◌, inl, inr, arith}
-use Rattle.std.proofs.lemmas.Bool.{cases_Bool}
-use Rattle.std.specs.Prelude.{filter_map, find, is_some}
-use Rattle.std.specs.Option.{option_map_or}
-use Rattle.std.specs.Net.Socket.{socket_ip}
-use Rattle.std.specs.declared.net.socket_addr.SocketAddr.{SocketAddr}
-use Rattle.turn_stun.specs.declared.transport.TransportType.{TransportType}
-use Rattle.turn_stun.specs.declared.transport.TransportType.TheVariants.{Udp, Tcp}
-use Rattle.turn_types.specs.declared.family.AddressFamily.{AddressFamily}
-use Rattle.turn_types.specs.declared.family.AddressFamily.TheVariants.{IPV4}
-use Rattle.turn_agent.specs.Agent.{first_sent, same_address}
-use Rattle.turn_agent.specs.declared.transaction.Transaction.{Transaction}
-use Rattle.turn_client_api.specs.State.{State, later_by}
-use Rattle.turn_client_api.specs.declared.grant.Grant.{Grant}
-use Rattle.turn_client_api.specs.declared.grant.Grant.TheVariants.{Connection}
-use Rattle.turn_client_api.specs.declared.grant.DataConnection.{DataConnection}
-use Rattle.turn_client_api.specs.declared.grant.Listing.{Listing}
-use Rattle.turn_client_api.specs.declared.grant.Origin.{Origin}
-use Rattle.turn_client_api.specs.declared.grant.Origin.TheVariants.{OwnConnect, ServerRequest}
-use Rattle.turn_client_api.specs.declared.grant.Purpose.{Purpose}
-use Rattle.turn_client_api.specs.declared.grant.Purpose.TheVariants.{ForRefresh, ForBind}
-use Rattle.turn_client_api.specs.declared.grant.Relay.{Relay}
-use Rattle.turn_client_api.specs.Grants.{allocations, changed_allocation, as_connection, family_of, is_connection_from, same_transport, with_grant}
-use Rattle.turn_client_api.specs.Requests.{accepted_reply, fresh_id, listings, request_for, requested}
-use Rattle.turn_client_api.specs.Retry.{bind_time}
-use Rattle.turn_client_api.specs.Connections.{connection_at}
-use Rattle.turn_client_api.specs.Receive.{connection_gone, tcp_closed_step}
-use Rattle.turn_client_api.specs.Streams.{without_stream}
-use Rattle.turn_client_api.specs.Calls.{active_channel, allocated_tcp_socket_step, answered_with, bound_to, delete_step, delete_text, deleted, can_send_to, is_allocated, is_closed, is_control}
-use Rattle.turn_client_api.specs.Calls.{is_granted_in, is_local_taken, is_offer_of, offer_origin, offer_taken, on_channel, on_connection, protocol_error_step, send_over, send_to_step, socket_opened}
-use Rattle.turn_client_api.specs.Calls.{socket_refused, socket_step, with_stream, without_first}
-use Rattle.turn_client_api.specs.declared.poll.Socket5Tuple.{Socket5Tuple}
-use Rattle.turn_client_api.specs.declared.call.Call.{Call}
-use Rattle.turn_client_api.specs.declared.call.Call.TheVariants.{Delete, AllocatedTcpSocket, TcpClosed, SendTo, ProtocolError}
+use Rattle.turn_client_laws.proofs.Common.{◌≡◌, ◌⊎◌, ℕ, Bool, true, not, ◌&&◌, List, [], ◌∷◌, ◌++◌, map, filter, Option, Some, None, refl, ◌∙◌, inl, inr, arith, cases_Bool, is_some, option_map_or}
+use Rattle.turn_client_laws.proofs.Common.{SocketAddr}
+use Rattle.turn_client_laws.proofs.Machine.{TransportType, Tcp, AddressFamily, IPV4, first_sent, same_address, Transaction, State, later_by, Grant, Connection, Listing, Origin, OwnConnect}
+use Rattle.turn_client_laws.proofs.Machine.{ServerRequest, Purpose, ForRefresh, ForBind, Relay, allocations, changed_allocation, family_of, is_connection_from, same_transport, with_grant}
+use Rattle.turn_client_laws.proofs.Machine.{accepted_reply, fresh_id, listings, request_for, requested, bind_time, connection_at, connection_gone, tcp_closed_step, without_stream}
+use Rattle.turn_client_laws.proofs.Machine.{allocated_tcp_socket_step, answered_with, delete_step, delete_text, deleted, is_allocated, is_closed, is_control, is_granted_in, is_local_taken}
+use Rattle.turn_client_laws.proofs.Machine.{is_offer_of, offer_origin, offer_taken, protocol_error_step, send_to_step, socket_opened, socket_refused, socket_step, with_stream, without_first}
+use Rattle.turn_client_laws.proofs.Machine.{Socket5Tuple, Call, Delete, AllocatedTcpSocket, TcpClosed, SendTo, ProtocolError, Has, map-has}
 use Rattle.turn_client_laws.specs.LawsRequests.{IsMade}
 use Rattle.turn_client_laws.specs.LawsGone.{IsTakenBy, grant_identity}
-use Rattle.turn_client_api.proofs.HasLemmas.{Has, map-has}
-use Rattle.turn_client_laws.proofs.MoveLemmas.{Loses, Never, Remains, Settles, adds-filter, adds-more, adds-one, adds-same, by_test, loses-filter, loses-more}
-use Rattle.turn_client_laws.proofs.MoveLemmas.{loses-same, on_test, settles-same, adds-never, loses-cons, loses-one}
+use Rattle.turn_client_laws.proofs.MoveLemmas.{Loses, Never, Remains, Settles, adds-filter, adds-more, adds-one, adds-same, by_test, loses-filter, loses-more, loses-same, on_test, settles-same}
+use Rattle.turn_client_laws.proofs.MoveLemmas.{adds-never, loses-cons, loses-one}
 use Rattle.turn_client_laws.proofs.MoveCallLemmas.{Does, ListedAt, MadeAt, does-same, does-settled}
 use Rattle.turn_client_laws.proofs.MoveMessageLemmas.{each-listing, made-of, request_made}
 use Rattle.turn_client_laws.proofs.GrantOriginLemmas.{has-mapped}

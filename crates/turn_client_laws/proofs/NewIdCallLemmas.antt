@@ -1,21 +1,10 @@
 -- Which requests are outstanding after a call: those that were, and one with an ID that was used.
-use Rattle.std.proofs.Common.{◌≡◌, ◌⊎◌, ℕ, true, List, refl, inl, inr}
-use Rattle.std.specs.Prelude.{is_some}
-use Rattle.std.specs.declared.net.socket_addr.SocketAddr.{SocketAddr}
-use Rattle.turn_agent.specs.Agent.{is_outstanding}
-use Rattle.turn_agent.specs.declared.transaction.Transaction.{Transaction}
-use Rattle.turn_client_api.specs.State.{State}
-use Rattle.turn_client_api.specs.Requests.{fresh_id}
-use Rattle.turn_client_api.specs.Connections.{connection_at}
-use Rattle.turn_client_api.specs.Receive.{connection_gone}
-use Rattle.turn_client_api.specs.Steps.{Leaves, state_after}
-use Rattle.turn_client_api.specs.declared.call.Call.{Call}
-use Rattle.turn_client_api.specs.declared.call.Call.TheVariants.{Recv, PollRecv, PollTransmit}
+use Rattle.turn_client_laws.proofs.Common.{◌≡◌, ◌⊎◌, ℕ, true, List, refl, inl, inr, is_some, SocketAddr}
+use Rattle.turn_client_laws.proofs.Machine.{is_outstanding, Transaction, State, fresh_id, connection_at, connection_gone, Leaves, state_after, Call, Recv, PollRecv, PollTransmit, Has}
 use Rattle.turn_client_laws.specs.LawsReplies.{IsDrawn}
 use Rattle.turn_client_laws.specs.LawsRequests.{IsMadeAgain, IsRequestOf}
 use Rattle.turn_client_laws.specs.LawsHandled.{TakesInput}
 use Rattle.turn_client_laws.specs.LawsInputs.{IsBroughtBy}
-use Rattle.turn_client_api.proofs.HasLemmas.{Has}
 use Rattle.turn_client_laws.proofs.MoveLemmas.{Adds}
 use Rattle.turn_client_laws.proofs.MoveMessageLemmas.{bind-moves, message-moves}
 use Rattle.turn_client_laws.proofs.MoveInputLemmas.{all-obey}

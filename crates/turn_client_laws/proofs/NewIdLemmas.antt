@@ -1,30 +1,17 @@
 -- Of more IDs than are taken one is free.
-use Rattle.std.proofs.Common.{◌≡◌, ℕ, zero, suc, ◌+◌, ◌/◌, ◌%◌, ◌<◌, ◌≤◌, ◌^◌, Bool, true, false, not, eqb, leb, ltb, List, [], ◌∷◌, ◌++◌, map, filter_map, find, length, Option, Some, None, refl, sym}
-use Rattle.std.proofs.Common.{◌∙◌, arith, inl, inr}
-use Rattle.std.specs.List.{list_any, range_with_len, IsDistinct, AllByRecursion}
+use Rattle.turn_client_laws.proofs.Common.{◌≡◌, ℕ, zero, suc, ◌+◌, ◌/◌, ◌%◌, ◌<◌, ◌≤◌, ◌^◌, Bool, true, false, not, eqb, leb, ltb, List, [], ◌∷◌, ◌++◌, map, filter_map, find, length, Option, Some}
+use Rattle.turn_client_laws.proofs.Common.{None, refl, sym, ◌∙◌, arith, inl, inr, list_any, range_with_len, IsDistinct, AllByRecursion, div-add-mod, mul-le-mul_left, mul-suc, eqb-true, leb-true}
+use Rattle.turn_client_laws.proofs.Common.{leb-false, le-ltb, lt-ltb, ltb-false, ltb-true, ne_eqb, not-false, not-true, length-append, length-map, list_any-append}
+use Rattle.turn_client_laws.proofs.Machine.{is_outstanding, next_id, find-passes, State, Grant, Offer, Origin, ServerRequest, is_of_request, as_offer, counted_up, fresh_id, is_taken, max_ids_taken}
+use Rattle.turn_client_laws.proofs.Machine.{cases_Option}
 use Rattle.std.specs.Prelude.{option_and_then}
 use Rattle.std.specs.Set.{is_member}
 use Rattle.std.proofs.Math.Bool.{or_assoc}
-use Rattle.std.proofs.Math.Nat.{div-add-mod, mul-le-mul_left, mul-suc}
-use Rattle.std.proofs.lemmas.Bool.{eqb-true, leb-true, leb-false, le-ltb, lt-ltb, ltb-false, ltb-true, ne_eqb, not-false, not-true}
 use Rattle.std.proofs.lemmas.Cmp.{nat_eq_equiv}
-use Rattle.std.proofs.lemmas.List.{length-append, length-map}
-use Rattle.std.proofs.lemmas.List.Folds.{list_any-append}
 use Rattle.std.proofs.lemmas.List.FromFn.{length-map-range_with_len}
 use Rattle.std.proofs.lemmas.Map.Made.{length-le_from_is_member}
-use Rattle.turn_agent.specs.Agent.{is_outstanding}
-use Rattle.turn_agent.specs.TransactionIds.{next_id}
-use Rattle.turn_agent.proofs.AgentLemmas.{find-passes}
-use Rattle.turn_client_api.specs.State.{State}
-use Rattle.turn_client_api.specs.declared.grant.Grant.{Grant}
-use Rattle.turn_client_api.specs.declared.grant.Grant.TheVariants.{Offer}
-use Rattle.turn_client_api.specs.declared.grant.Origin.{Origin}
-use Rattle.turn_client_api.specs.declared.grant.Origin.TheVariants.{ServerRequest}
-use Rattle.turn_client_api.specs.Grants.{is_of_request, as_offer}
-use Rattle.turn_client_api.specs.Requests.{counted_up, fresh_id, is_taken, max_ids_taken}
 use Rattle.turn_client_laws.proofs.MoveLemmas.{none-found}
 use Rattle.turn_client_laws.proofs.InAllocationLemmas.{any-has}
-use Rattle.turn_client_api.proofs.HasLemmas.{cases_Option}
 
 -- ---- candidates
 

@@ -1,29 +1,11 @@
 -- Which requests are outstanding after a message: those that were, and one with an ID that was used.
-use Rattle.std.proofs.Common.{◌≡◌, ℕ, Bool, true, false, cond, ◌&&◌, eqb, leb, List, [], ◌∷◌, ◌++◌, fold, length, Option, Some, None, ◌⊎◌, inl}
-use Rattle.std.proofs.Common.{inr, refl, subst, ◌∙◌, arith}
-use Rattle.std.proofs.lemmas.Bool.{eqb-true, eq-eqb}
-use Rattle.std.specs.declared.net.ip_addr.IpAddr.{IpAddr}
-use Rattle.std.specs.declared.net.socket_addr.SocketAddr.{SocketAddr}
-use Rattle.turn_stun.specs.Message.{id_of}
-use Rattle.turn_types.specs.declared.family.AddressFamily.{AddressFamily}
-use Rattle.turn_agent.specs.Agent.{is_outstanding}
+use Rattle.turn_client_laws.proofs.Common.{◌≡◌, ℕ, Bool, true, false, cond, ◌&&◌, eqb, leb, List, [], ◌∷◌, ◌++◌, fold, length, Option, Some, None, ◌⊎◌, inl, inr, refl, subst, ◌∙◌, arith, eqb-true}
+use Rattle.turn_client_laws.proofs.Common.{eq-eqb, IpAddr, SocketAddr}
+use Rattle.turn_client_laws.proofs.Machine.{id_of, AddressFamily, is_outstanding, Transaction, State, Progress, Pending, Active, Purpose, ForRefresh, ForPermission, ForChannel, ForConnect, Phase}
+use Rattle.turn_client_laws.proofs.Machine.{Authenticating, channel_at, first_in, purposes_of, fresh_id, connection_id_in, allocate_denied, allocate_granted, channel_answered, connect_answered}
+use Rattle.turn_client_laws.proofs.Machine.{effect, transaction_ended, family_not_supported, has_code, permission_answered, permission_answered_for, listed_permissions_answered, refreshed}
+use Rattle.turn_client_laws.proofs.Machine.{answered_purposes, response_step, signed_step, Has, has-append}
 use Rattle.turn_agent.specs.Agent as A
-use Rattle.turn_agent.specs.declared.transaction.Transaction.{Transaction}
-use Rattle.turn_client_api.specs.State.{State}
-use Rattle.turn_client_api.specs.declared.grant.Progress.{Progress}
-use Rattle.turn_client_api.specs.declared.grant.Progress.TheVariants.{Pending, Active}
-use Rattle.turn_client_api.specs.declared.grant.Purpose.{Purpose}
-use Rattle.turn_client_api.specs.declared.grant.Purpose.TheVariants.{ForRefresh, ForPermission, ForChannel, ForConnect}
-use Rattle.turn_client_api.specs.declared.state.Phase.{Phase}
-use Rattle.turn_client_api.specs.declared.state.Phase.TheVariants.{Authenticating}
-use Rattle.turn_client_api.specs.Grants.{channel_at, first_in, purposes_of}
-use Rattle.turn_client_api.specs.Requests.{fresh_id}
-use Rattle.turn_client_api.specs.Judgement.{connection_id_in}
-use Rattle.turn_client_api.specs.Effect.{allocate_denied, allocate_granted, channel_answered, connect_answered, effect, transaction_ended}
-use Rattle.turn_client_api.specs.Effect.{family_not_supported, has_code}
-use Rattle.turn_client_api.specs.Effect.{permission_answered, permission_answered_for, listed_permissions_answered, refreshed}
-use Rattle.turn_client_api.specs.Payloads.{answered_purposes, response_step, signed_step}
-use Rattle.turn_client_api.proofs.HasLemmas.{Has, has-append}
 use Rattle.turn_client_laws.proofs.InAllocationLemmas.{any-has, has-any}
 
 -- ---- effects request nothing

@@ -1,16 +1,8 @@
 -- Channels keep numbers of their own when grants are added and removed, and so in all calls.
-use Rattle.std.proofs.Common.{◌≡◌, ℕ, Bool, true, false, not, cond, eqb, List, [], ◌∷◌, ◌++◌, filter, filter_map, Option, Some, None, refl, inl, inr}
-use Rattle.std.specs.List.{list_any, IsDistinct, AllByRecursion}
-use Rattle.std.proofs.lemmas.Bool.{or_parts, cases_Bool}
-use Rattle.std.proofs.lemmas.List.{append-nil}
-use Rattle.std.proofs.lemmas.List.Elements.{filter_map-append}
-use Rattle.std.specs.declared.net.socket_addr.SocketAddr.{SocketAddr}
-use Rattle.turn_client_api.specs.declared.grant.Grant.{Grant}
-use Rattle.turn_client_api.specs.declared.grant.Grant.TheVariants.{Channel, Offer}
-use Rattle.turn_client_api.specs.Grants.{is_channel_of}
-use Rattle.turn_client_api.specs.Calls.{is_offer_of, without_first}
+use Rattle.turn_client_laws.proofs.Common.{◌≡◌, ℕ, Bool, true, false, not, cond, eqb, List, [], ◌∷◌, ◌++◌, filter, filter_map, Option, Some, None, refl, inl, inr, list_any, IsDistinct, AllByRecursion}
+use Rattle.turn_client_laws.proofs.Common.{or_parts, cases_Bool, append-nil, filter_map-append, SocketAddr}
+use Rattle.turn_client_laws.proofs.Machine.{Grant, Channel, Offer, is_channel_of, is_offer_of, without_first, Has}
 use Rattle.turn_client_laws.specs.LawsNumbers.{number_of_channel}
-use Rattle.turn_client_api.proofs.HasLemmas.{Has}
 
 -- the numbers of the channels among these grants
 abbrev pub numbers : List Grant → List ℕ

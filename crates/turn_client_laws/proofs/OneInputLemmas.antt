@@ -1,26 +1,10 @@
 -- What one input leaves: the state as it was, or what its message leaves.
-use Rattle.std.proofs.Common.{◌≡◌, ℕ, eqb, Bool, true, false, not, cond, List, Option, Some, None, refl}
-use Rattle.std.specs.Prelude.{filter_map}
-use Rattle.std.specs.declared.net.socket_addr.SocketAddr.{SocketAddr}
-use Rattle.turn_types.specs.Frames.{begins_message}
-use Rattle.turn_agent.specs.Agent.{same_address}
-use Rattle.turn_client_api.specs.State.{State}
-use Rattle.turn_client_api.specs.declared.state.Mode.{Mode}
-use Rattle.turn_client_api.specs.declared.state.Mode.TheVariants.{Control, Waiting}
-use Rattle.turn_client_api.specs.declared.state.Stream.{Stream}
-use Rattle.turn_client_api.specs.declared.state.Phase.{Phase}
-use Rattle.turn_client_api.specs.declared.state.Phase.TheVariants.{Allocated}
-use Rattle.turn_client_api.specs.declared.grant.DataConnection.{DataConnection}
-use Rattle.turn_client_api.specs.Grants.{as_connection}
-use Rattle.turn_client_api.specs.Requests.{connection_bind_method}
-use Rattle.turn_client_api.specs.Judgement.{method_in}
-use Rattle.turn_client_api.specs.Connections.{bind_answered, bind_step, connection_at}
-use Rattle.turn_client_api.specs.Payloads.{Outcome, Handled, Ignored, channel_sent, datagram_step, is_channel_frame, is_message, message_step}
-use Rattle.turn_client_api.specs.Streams.{frame_step}
+use Rattle.turn_client_laws.proofs.Common.{◌≡◌, ℕ, eqb, Bool, true, false, not, cond, List, Option, Some, None, refl, filter_map, SocketAddr}
+use Rattle.turn_client_laws.proofs.Machine.{begins_message, same_address, State, Mode, Control, Waiting, Stream, Phase, Allocated, DataConnection, as_connection, connection_bind_method, method_in}
+use Rattle.turn_client_laws.proofs.Machine.{bind_answered, bind_step, connection_at, Outcome, Handled, Ignored, channel_sent, datagram_step, is_channel_frame, is_message, message_step, frame_step}
+use Rattle.turn_client_laws.proofs.Machine.{same_address-true, has-found}
 use Rattle.turn_client_laws.specs.Handled.{Input, processed}
 use Rattle.turn_client_laws.specs.LawsHandled.{IsOverControl}
-use Rattle.turn_client_api.proofs.AddressLemmas.{same_address-true}
-use Rattle.turn_client_api.proofs.HasLemmas.{has-found}
 use Rattle.turn_client_laws.proofs.MoveLemmas.{on_test}
 
 module _ (P : State → Type 0) (bytes : List ℕ) (now : ℕ) (s : State) (same : P s) where

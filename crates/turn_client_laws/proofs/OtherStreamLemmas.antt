@@ -1,14 +1,7 @@
 -- How the step of a stream leaves the other streams.
-use Rattle.std.proofs.Common.{◌≡◌, ℕ, Bool, true, false, cond, List, [], ◌∷◌, map, take, drop, Option, Some, None, refl, sym, ap, ◌∙◌, inl, inr}
-use Rattle.std.specs.declared.net.socket_addr.SocketAddr.{SocketAddr}
-use Rattle.turn_types.specs.Frames.{begins_no_frame, frame_len}
-use Rattle.turn_client_api.specs.State.{State}
-use Rattle.turn_client_api.specs.declared.state.Mode.{Mode}
-use Rattle.turn_client_api.specs.declared.state.Mode.TheVariants.{Bound, Broken}
-use Rattle.turn_client_api.specs.declared.state.Stream.{Stream}
-use Rattle.turn_client_api.specs.Connections.{with_mode}
-use Rattle.turn_client_api.specs.Payloads.{Outcome, Handled}
-use Rattle.turn_client_api.specs.Streams.{broken_at, frame_step, framed_by, framed_stream_step, next_frame_step, detached_frame_step, with_bytes}
+use Rattle.turn_client_laws.proofs.Common.{◌≡◌, ℕ, Bool, true, false, cond, List, [], ◌∷◌, map, take, drop, Option, Some, None, refl, sym, ap, ◌∙◌, inl, inr, SocketAddr}
+use Rattle.turn_client_laws.proofs.Machine.{begins_no_frame, frame_len, State, Mode, Bound, Broken, Stream, with_mode, Outcome, Handled, broken_at, frame_step, framed_by, framed_stream_step}
+use Rattle.turn_client_laws.proofs.Machine.{next_frame_step, detached_frame_step, with_bytes}
 use Rattle.turn_client_laws.specs.LawsBodies.{IsAsideFrom}
 use Rattle.turn_client_laws.proofs.StreamDrainLemmas.{broken_by, broken_by-Sets, bytes_by, bytes_by-Sets, map-map, mode_by, mode_by-KeepsHeld}
 use Rattle.turn_client_laws.proofs.StreamMessageLemmas.{ReboundAt, Same, frame-rebound-at}

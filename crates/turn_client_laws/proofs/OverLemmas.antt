@@ -1,45 +1,21 @@
 -- As time passes, a grant is removed only when it has expired.
-use Rattle.std.proofs.Common.{◌≡◌, ◌⊎◌, ◌≤◌, ℕ, eqb, leb, Bool, true, false, not, cond, ◌&&◌, ◌||◌, List, [], ◌∷◌, ◌++◌, filter, find, fold, reverse, Option, Some, None, refl, sym, subst, ◌∙◌, inl}
-use Rattle.std.proofs.Common.{inr, arith}
-use Rattle.std.specs.Option.{option_map_or}
-use Rattle.std.specs.List.{Contains, IsDistinct, AllByRecursion}
-use Rattle.std.proofs.lemmas.Bool.{and_parts, eqb-true, eq-eqb, leb-true, ltb-true, cases_Bool}
-use Rattle.std.proofs.lemmas.Option.{none-some, same_Some}
-use Rattle.std.specs.declared.net.socket_addr.SocketAddr.{SocketAddr}
-use Rattle.turn_types.specs.declared.family.AddressFamily.{AddressFamily}
-use Rattle.turn_agent.specs.Agent.{timed_out_transaction}
-use Rattle.turn_agent.specs.declared.transaction.Transaction.{Transaction}
-use Rattle.turn_client_api.specs.State.{State, agent_of, later_by}
-use Rattle.turn_client_api.specs.declared.grant.DataOffer.{DataOffer}
-use Rattle.turn_client_api.specs.declared.grant.Grant.{Grant}
-use Rattle.turn_client_api.specs.declared.grant.Grant.TheVariants.{Allocation, Permission, Channel, Offer, Connection}
-use Rattle.turn_client_api.specs.declared.grant.DataConnection.{DataConnection}
-use Rattle.turn_client_api.specs.declared.grant.Relay.{Relay}
-use Rattle.turn_client_api.specs.declared.grant.Progress.{Progress}
-use Rattle.turn_client_api.specs.declared.grant.Progress.TheVariants.{Active, Reserved}
-use Rattle.turn_client_api.specs.declared.grant.Purpose.{Purpose}
-use Rattle.turn_client_api.specs.declared.state.Phase.{Phase}
-use Rattle.turn_client_api.specs.declared.state.Phase.TheVariants.{Requesting, Authenticating, Allocated}
-use Rattle.turn_client_api.specs.Grants.{as_allocation, allocations, family_of, family_of_grant, is_channel_of, is_connect, is_for_any, is_of, is_of_request, is_pending_channel, is_pending_permission}
-use Rattle.turn_client_api.specs.Effect.{closed, transaction_ended, reserved_time}
-use Rattle.turn_client_api.specs.Due.{has_event, has_reply}
-use Rattle.turn_client_api.specs.Poll.{answer_step, channel_expired, connections_unbound, timed_out_purposes, timed_out_step, allocation_expires}
-use Rattle.turn_client_api.specs.Poll.{failed_by_timeout, is_timed_out_offer}
-use Rattle.turn_client_api.specs.Poll.{is_expired_channel, is_expired_permission, is_listed_for_allocation, is_over, is_unbound}
-use Rattle.turn_client_api.specs.Poll.{expired_at, expired_allocation, expired_in, last_channel_expired, next_offer}
-use Rattle.turn_client_api.specs.Poll.{offer_step, offers_timed_out, permissions_expired, poll_step, timed_step}
-use Rattle.turn_client_api.specs.Steps.{Leaves}
-use Rattle.turn_client_api.specs.declared.call.Call.TheVariants.{Poll}
+use Rattle.turn_client_laws.proofs.Common.{◌≡◌, ◌⊎◌, ◌≤◌, ℕ, eqb, leb, Bool, true, false, not, cond, ◌&&◌, ◌||◌, List, [], ◌∷◌, ◌++◌, filter, find, fold, reverse, Option, Some, None, refl, sym, subst}
+use Rattle.turn_client_laws.proofs.Common.{◌∙◌, inl, inr, arith, option_map_or, Contains, IsDistinct, AllByRecursion, and_parts, eqb-true, eq-eqb, leb-true, ltb-true, cases_Bool, none-some, same_Some}
+use Rattle.turn_client_laws.proofs.Common.{SocketAddr}
+use Rattle.turn_client_laws.proofs.Machine.{AddressFamily, timed_out_transaction, Transaction, State, agent_of, later_by, DataOffer, Grant, Allocation, Permission, Channel, Offer, Connection}
+use Rattle.turn_client_laws.proofs.Machine.{DataConnection, Relay, Progress, Active, Reserved, Purpose, Phase, Requesting, Authenticating, Allocated, as_allocation, allocations, family_of}
+use Rattle.turn_client_laws.proofs.Machine.{family_of_grant, is_channel_of, is_connect, is_for_any, is_of, is_of_request, is_pending_channel, is_pending_permission, closed, transaction_ended}
+use Rattle.turn_client_laws.proofs.Machine.{reserved_time, has_event, has_reply, answer_step, channel_expired, connections_unbound, timed_out_purposes, timed_out_step, allocation_expires}
+use Rattle.turn_client_laws.proofs.Machine.{failed_by_timeout, is_timed_out_offer, is_expired_channel, is_expired_permission, is_listed_for_allocation, is_over, is_unbound, expired_at}
+use Rattle.turn_client_laws.proofs.Machine.{expired_allocation, expired_in, last_channel_expired, next_offer, offer_step, offers_timed_out, permissions_expired, poll_step, timed_step, Leaves, Poll}
+use Rattle.turn_client_laws.proofs.Machine.{Has, filter-has, has-append, has-filter, has-filter_map, has-found, has-left, has-right, filter_map-has, cases_Option, has-unreversed, Lease}
 use Rattle.turn_client_laws.specs.LawsNumbers.{HasDistinctNumbers, number_of_channel}
 use Rattle.turn_client_laws.specs.LawsGone.{IsGivenUp, IsOver, IsPastWith, HasExpiredOrFailed, IsStillThere, grant_identity}
-use Rattle.turn_client_api.proofs.HasLemmas.{Has, filter-has, has-append, has-filter, has-filter_map, has-found, has-left, has-right, filter_map-has, cases_Option}
 use Rattle.turn_client_laws.proofs.InAllocationLemmas.{same_family-true}
-use Rattle.turn_client_api.proofs.HasLemmas.{has-unreversed}
 use Rattle.turn_client_laws.proofs.MoveLemmas.{Never, Remains, by_test, remains-here}
 use Rattle.turn_client_laws.proofs.MovePollLemmas.{reported-loses}
 use Rattle.turn_client_laws.proofs.NumberLemmas.{AreApart, all-of, numbers}
 use Rattle.turn_client_laws.proofs.StandLemmas.{contains-has, has-contains}
-use Rattle.turn_client_api.specs.declared.grant.Lease.{Lease}
 
 -- ---- channels of one number are one
 

@@ -1,15 +1,7 @@
 -- What holds of the inputs and the step of a packet: it does if it holds of a datagram's, of those of a piece
 -- of a stream, and of none.
-use Rattle.std.proofs.Common.{◌≡◌, ℕ, Bool, true, cond, List, [], ◌∷◌, Option, Some, None, refl}
-use Rattle.std.specs.declared.net.socket_addr.SocketAddr.{SocketAddr}
-use Rattle.turn_stun.specs.declared.transport.TransportType.{TransportType}
-use Rattle.turn_stun.specs.declared.transport.TransportType.TheVariants.{Udp, Tcp}
-use Rattle.turn_agent.specs.Agent.{same_address}
-use Rattle.turn_client_api.specs.State.{State}
-use Rattle.turn_client_api.specs.declared.state.Stream.{Stream}
-use Rattle.turn_client_api.specs.Streams.{stream_at}
-use Rattle.turn_client_api.specs.Payloads.{Outcome, Ignored, datagram_step}
-use Rattle.turn_client_api.specs.Receive.{is_from_server, recv_step, stream_step}
+use Rattle.turn_client_laws.proofs.Common.{◌≡◌, ℕ, Bool, true, cond, List, [], ◌∷◌, Option, Some, None, refl, SocketAddr}
+use Rattle.turn_client_laws.proofs.Machine.{TransportType, Udp, Tcp, same_address, State, Stream, stream_at, Outcome, Ignored, datagram_step, is_from_server, recv_step, stream_step}
 use Rattle.turn_client_laws.specs.Handled.{Input, datagram_input, recv_inputs, stream_inputs}
 
 module _ (P : State → List Input → Outcome × State → Type 0) (transport : TransportType) (from to : SocketAddr) (bytes : List ℕ) (now : ℕ)

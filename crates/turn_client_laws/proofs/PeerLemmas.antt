@@ -1,49 +1,16 @@
 -- The peers whose data is returned.
-use Rattle.std.proofs.Common.{◌≡◌, ℕ, suc, arith, Bool, true, false, not, cond, eqb, List, [], ◌∷◌, Option, Some, None, refl, inl, inr}
-use Rattle.std.specs.Prelude.{slice_get, filter_map}
-use Rattle.std.specs.List.{Contains}
-use Rattle.std.specs.Net.Socket.{socket_ip}
-use Rattle.std.proofs.lemmas.Bool.{eqb-true}
-use Rattle.std.specs.declared.net.ip_addr.IpAddr.{IpAddr}
-use Rattle.std.specs.declared.net.socket_addr.SocketAddr.{SocketAddr}
-use Rattle.turn_stun.specs.Message.{Attribute, id_of}
-use Rattle.turn_stun.specs.declared.message.header.MessageClass.{MessageClass}
-use Rattle.turn_types.specs.Channel.{channel_data_at}
-use Rattle.turn_types.specs.Frames.{begins_message}
-use Rattle.turn_types.specs.Send.{data_kind}
+use Rattle.turn_client_laws.proofs.Common.{◌≡◌, ℕ, suc, arith, Bool, true, false, not, cond, eqb, List, [], ◌∷◌, Option, Some, None, refl, inl, inr, slice_get, filter_map, Contains, socket_ip}
+use Rattle.turn_client_laws.proofs.Common.{eqb-true, IpAddr, SocketAddr, option_map_or}
+use Rattle.turn_client_laws.proofs.Machine.{Attribute, id_of, MessageClass, channel_data_at, begins_message, data_kind, validation_of, Validation, Validated, ResendRequest, Refused, Challenge, State}
+use Rattle.turn_client_laws.proofs.Machine.{auth_of, Phase, Requesting, Authenticating, Allocated, Grant, Permission, Channel, Progress, Active, Mode, Control, Waiting, Bound, Broken, Stream, Purpose}
+use Rattle.turn_client_laws.proofs.Machine.{channel_peer, first_in, has_active_permission, permission_progress, is_active, same_ip, Judgement, Unrelated, Challenged, Fatal, LateResponse}
+use Rattle.turn_client_laws.proofs.Machine.{DataIndication, ConnectionAttempt, SignedRequest, SignedSuccess, SignedError, judgement_of, has_unknown, last_in, last_peer_in, last_icmp_in}
+use Rattle.turn_client_laws.proofs.Machine.{is_data_indication, attempt_indicated, attempt_requested, connection_attempt_method, is_outstanding, method_in, class_in, by_class, challenged_or}
+use Rattle.turn_client_laws.proofs.Machine.{challenge_in, answers_allocate, requesting_judgement, authenticating_judgement, allocated_judgement, Handled, Ignored, PeerData, PeerIcmp, outcome_for}
+use Rattle.turn_client_laws.proofs.Machine.{signed_step, challenge_step, Outcome, data_indicated, data_of, channel_sent, message_step, datagram_step, is_message, is_channel_frame, frame_step}
+use Rattle.turn_client_laws.proofs.Machine.{control_frame_step, waiting_frame_step, same_ip-true, Lease}
 use Rattle.turn_types.specs.declared.attribute.icmp_report.Icmp.{Icmp}
-use Rattle.turn_auth.specs.Validation.{validation_of}
-use Rattle.turn_auth.specs.declared.validation.Validation.{Validation}
-use Rattle.turn_auth.specs.declared.validation.Validation.TheVariants.{Validated, ResendRequest, Refused}
-use Rattle.turn_auth.specs.LongTerm.{Challenge}
-use Rattle.turn_client_api.specs.State.{State, auth_of}
-use Rattle.turn_client_api.specs.declared.state.Phase.{Phase}
-use Rattle.turn_client_api.specs.declared.state.Phase.TheVariants.{Requesting, Authenticating, Allocated}
-use Rattle.turn_client_api.specs.declared.grant.Grant.{Grant}
-use Rattle.turn_client_api.specs.declared.grant.Grant.TheVariants.{Permission, Channel}
-use Rattle.turn_client_api.specs.declared.grant.Progress.{Progress}
-use Rattle.turn_client_api.specs.declared.grant.Progress.TheVariants.{Active}
-use Rattle.turn_client_api.specs.declared.state.Mode.{Mode}
-use Rattle.turn_client_api.specs.declared.state.Mode.TheVariants.{Control, Waiting, Bound, Broken}
-use Rattle.turn_client_api.specs.declared.state.Stream.{Stream}
-use Rattle.turn_client_api.specs.declared.grant.Purpose.{Purpose}
-use Rattle.turn_client_api.specs.Grants.{channel_peer, first_in, has_active_permission, permission_progress, is_active, same_ip}
-use Rattle.turn_client_api.specs.Judgement.{Judgement, Unrelated, Challenged, Fatal, LateResponse, DataIndication, ConnectionAttempt, SignedRequest, SignedSuccess, SignedError, judgement_of}
-use Rattle.turn_client_api.specs.Judgement.{has_unknown, last_in, last_peer_in, last_icmp_in}
-use Rattle.turn_client_api.specs.Answers.{is_data_indication}
-use Rattle.turn_client_api.specs.Connections.{attempt_indicated, attempt_requested}
-use Rattle.std.specs.Option.{option_map_or}
-use Rattle.turn_client_api.specs.Requests.{connection_attempt_method}
-use Rattle.turn_agent.specs.Agent.{is_outstanding}
-use Rattle.turn_client_api.specs.Judgement.{method_in, class_in, by_class, challenged_or, challenge_in, answers_allocate, requesting_judgement}
-use Rattle.turn_client_api.specs.Judgement.{authenticating_judgement}
-use Rattle.turn_client_api.specs.Judgement.{allocated_judgement}
-use Rattle.turn_client_api.specs.Payloads.{Handled, Ignored, PeerData, PeerIcmp, outcome_for, signed_step, challenge_step}
-use Rattle.turn_client_api.specs.Payloads.{Outcome, data_indicated, data_of, channel_sent, message_step, datagram_step, is_message, is_channel_frame}
-use Rattle.turn_client_api.specs.Streams.{frame_step, control_frame_step, waiting_frame_step}
 use Rattle.turn_client_laws.specs.LawsPeers.{IsIndicated, IsMessageFromPermitted, IsFromPermitted, HasNoPeer}
-use Rattle.turn_client_api.proofs.AddressLemmas.{same_ip-true}
-use Rattle.turn_client_api.specs.declared.grant.Lease.{Lease}
 
 pub Contains-here : {X : Type 0} (x : X) (xs : List X) → Contains (x ∷ xs) x
 Contains-here x xs = (0, omega (arith), refl)

@@ -1,21 +1,8 @@
 -- What calls keep whatever the grants, the requests and the queues are, by what the few other edits keep.
-use Rattle.std.proofs.Common.{◌≡◌, ◌+◌, ◌<◌, ◌++◌, ℕ, List, map, filter, true, Some}
-use Rattle.std.specs.Prelude.{IsSome}
-use Rattle.std.specs.declared.net.socket_addr.SocketAddr.{SocketAddr}
-use Rattle.turn_auth.specs.LongTerm.{Challenge}
-use Rattle.turn_client_api.specs.State.{State}
-use Rattle.turn_client_api.specs.declared.state.Phase.TheVariants.{New, Requesting, Authenticating, Closed}
-use Rattle.turn_client_api.specs.declared.grant.Grant.TheVariants.{Permission, Channel, Connect, Connection}
-use Rattle.turn_client_api.specs.declared.grant.Progress.TheVariants.{Pending, Active, Reserved}
-use Rattle.turn_client_api.specs.declared.grant.Origin.TheVariants.{OwnConnect}
-use Rattle.turn_client_api.specs.Grants.{is_channel_of, is_connect_to, is_of, is_permission_of, with_grant, without_grants}
-use Rattle.turn_client_api.specs.Requests.{request_started}
-use Rattle.turn_client_api.specs.Judgement.{challenge_in}
-use Rattle.turn_client_api.specs.Effect.{challenges_reset, transaction_ended, new_allocation, phase_with, relayed_in, taken_addresses, with_offer}
-use Rattle.turn_client_api.specs.Retry.{phase_after, with_held}
-use Rattle.turn_client_api.specs.Calls.{offer_taken}
-use Rattle.turn_client_api.specs.Transmit.{sent}
-use Rattle.turn_agent.specs.Agent.{resent}
+use Rattle.turn_client_laws.proofs.Common.{◌≡◌, ◌+◌, ◌<◌, ◌++◌, ℕ, List, map, filter, true, Some, IsSome, SocketAddr}
+use Rattle.turn_client_laws.proofs.Machine.{Challenge, State, New, Requesting, Authenticating, Closed, Permission, Channel, Connect, Connection, Pending, Active, Reserved, OwnConnect, is_channel_of}
+use Rattle.turn_client_laws.proofs.Machine.{is_connect_to, is_of, is_permission_of, with_grant, without_grants, request_started, challenge_in, challenges_reset, transaction_ended, new_allocation}
+use Rattle.turn_client_laws.proofs.Machine.{phase_with, relayed_in, taken_addresses, with_offer, phase_after, with_held, offer_taken, sent, resent}
 use Rattle.turn_client_laws.proofs.Edits.{KeepsEdits, KeepsAccepted}
 
 -- a state with grants, requests and queues as in another one

@@ -1,30 +1,10 @@
 -- What calls keep: that the client has ended, its phase, how many challenges were answered, realm and
 -- algorithm.
-use Rattle.std.proofs.Common.{◌≡◌, ℕ, Bool, true, false, ltb, List, [], Option, Some, None, refl, ap, ◌∙◌, inl, inr, arith, ◌≤◌}
-use Rattle.std.specs.Prelude.{⊤}
-use Rattle.std.proofs.lemmas.Bool.{ltb-true, ltb-false}
-use Rattle.std.proofs.lemmas.Option.{none-some, same_Some}
-use Rattle.std.specs.declared.net.socket_addr.SocketAddr.{SocketAddr}
-use Rattle.turn_stun.specs.Message.{id_of}
-use Rattle.turn_auth.specs.Challenge.{challenge_of}
-use Rattle.turn_auth.proofs.ChallengeLemmas.{challenge_of-sound}
-use Rattle.turn_auth.specs.LongTerm.{Challenge}
-use Rattle.turn_client_api.specs.State.{State, auth_of}
-use Rattle.turn_client_api.specs.declared.state.Phase.{Phase}
-use Rattle.turn_client_api.specs.declared.state.Phase.TheVariants.{New, Requesting, Authenticating, Closed}
-use Rattle.turn_client_api.specs.declared.grant.Purpose.{Purpose}
-use Rattle.turn_client_api.specs.Grants.{purposes_of}
-use Rattle.turn_client_api.specs.Judgement.{Challenged, challenge_in, judgement_of}
-use Rattle.turn_client_api.specs.Connections.{bind_step}
-use Rattle.turn_client_api.specs.Due.{has_reply}
-use Rattle.turn_client_api.specs.Effect.{phase_with}
-use Rattle.turn_client_api.specs.Payloads.{challenge_step, message_step}
-use Rattle.turn_client_api.specs.Poll.{poll_step}
-use Rattle.turn_client_api.specs.Retry.{phase_after, retried}
-use Rattle.turn_client_api.specs.Steps.{Leaves, state_after}
-use Rattle.turn_client_api.specs.declared.call.Call.{Call}
+use Rattle.turn_client_laws.proofs.Common.{◌≡◌, ℕ, Bool, true, false, ltb, List, [], Option, Some, None, refl, ap, ◌∙◌, inl, inr, arith, ◌≤◌, ⊤, ltb-true, ltb-false, none-some, same_Some, SocketAddr}
+use Rattle.turn_client_laws.proofs.Machine.{id_of, challenge_of, challenge_of-sound, Challenge, State, auth_of, Phase, New, Requesting, Authenticating, Closed, Purpose, purposes_of, Challenged}
+use Rattle.turn_client_laws.proofs.Machine.{challenge_in, judgement_of, bind_step, has_reply, phase_with, challenge_step, message_step, poll_step, phase_after, retried, Leaves, state_after, Call}
+use Rattle.turn_client_laws.proofs.Machine.{TurnEvent}
 use Rattle.turn_client_laws.specs.LawsSteps.{GoesOn, IsChallengeCounted, KeepsRealm, StaysClosed, KeepsChallengeLimit, rank}
-use Rattle.turn_client_api.specs.declared.event.TurnEvent.{TurnEvent}
 use Rattle.turn_client_api.specs.declared.poll.TurnPollRet.TheVariants as Do
 use Rattle.turn_client_laws.proofs.Edits.{KeepsAllEdits, KeepsEdits}
 use Rattle.turn_client_laws.proofs.PhaseEdits.{KeepsPhaseEdits, all-phase-edits, phase-edits}

@@ -1,45 +1,19 @@
 -- When a client with nothing pending is idle, and when it has something to send.
-use Rattle.std.proofs.Common.{drop, ◌≡◌, ◌≢◌, ℕ, suc, ◌+◌, ◌*◌, ◌-◌, ◌^◌, ◌<◌, ◌≤◌, min, max, Bool, true, false, ◌&&◌, not, ltb, leb, List, [], ◌∷◌, ◌++◌, length}
+use Rattle.turn_client_laws.proofs.Common.{drop, ◌≡◌, ◌≢◌, ℕ, suc, ◌+◌, ◌*◌, ◌-◌, ◌^◌, ◌<◌, ◌≤◌, min, max, Bool, true, false, not, ltb, leb, List, [], ◌∷◌, ◌++◌, length, map, filter, flat_map}
+use Rattle.turn_client_laws.proofs.Common.{filter_map, fold, Option, Some, None, ◌⊎◌, inl, inr, refl, sym, subst, ◌∙◌, arith, if◌then◌else◌, is_some, IsSome, IfSome, ⊤, slice_get, option_to_list}
+use Rattle.turn_client_laws.proofs.Common.{list_any, option_map_or, le-min, none-some, same_Some, not-true, false_from_ne_true, lt-ltb, le-leb, ltb-true, ltb-false, and_right, lt-leb, or_parts}
+use Rattle.turn_client_laws.proofs.Common.{cases_Bool, and_parts}
+use Rattle.turn_client_laws.proofs.Machine.{timed_out_transaction, due, is_due, is_timed_out, transaction_timeout, Transaction, Transmit, TransportType, Timers, AddressFamily, IPV4, IPV6, same_family}
+use Rattle.turn_client_laws.proofs.Machine.{State, agent_of, later_by, max_time, Purpose, ForRefresh, ForPermission, ForChannel, Phase, New, Allocated, Grant, Allocation, Permission, Channel}
+use Rattle.turn_client_laws.proofs.Machine.{Connection, Relay, Active, Queued, allocations, as_allocation, find_allocation, family_of, family_of_grant, family_of_ip, is_of, asked_lifetime}
+use Rattle.turn_client_laws.proofs.Machine.{binding_indication, fresh_id, id_used, request_for, to_server, due_times, end_of, is_refreshable, has_allocation_in_use, has_queued_request, has_reply}
+use Rattle.turn_client_laws.proofs.Machine.{keepalive_times, is_paused, least_due, pause_end, refresh_of, refresh_time, next_offer, idle_step, is_due_in, is_ranked, is_refresh_due, keepalive_step}
+use Rattle.turn_client_laws.proofs.Machine.{next_refresh, next_transmit, queue_step, refresh_purpose, refresh_step, refreshes_in, refreshes_of_rank, reply_in, reply_step, sent, sent_at_once}
+use Rattle.turn_client_laws.proofs.Machine.{transmit_step, without_first_reply, IsIdleUntil, Lasts, Has, has-append, has-left, has-right, map-has, flat_map-has, has-flat_map, has-found, filter-has}
+use Rattle.turn_client_laws.proofs.Machine.{filter_map-has, has-filter_map, find-none, filter-none, least-le, all-has, cases_Option}
 use Rattle.std.proofs.lemmas.Bool.Decides.{nat_tests}
-use Rattle.std.proofs.Common.{map, filter, flat_map, filter_map, fold, Option, Some, None, ◌⊎◌, inl, inr, refl, sym, subst, ◌∙◌, arith}
-use Rattle.std.specs.Prelude.{if◌then◌else◌, is_some, IsSome, IfSome, ⊤, slice_get, option_to_list}
-use Rattle.std.specs.List.{list_any}
-use Rattle.std.specs.Option.{option_map_or}
-use Rattle.std.proofs.Math.Nat.{le-min}
-use Rattle.std.proofs.lemmas.Option.{none-some, same_Some}
-use Rattle.std.proofs.lemmas.Bool.{not-true, false_from_ne_true, lt-ltb, le-leb, ltb-true, ltb-false, and_right, lt-leb, or_parts, cases_Bool}
-use Rattle.turn_agent.specs.Agent.{timed_out_transaction, due, is_due, is_timed_out, transaction_timeout}
-use Rattle.turn_agent.specs.declared.transaction.Transaction.{Transaction}
-use Rattle.turn_stun.specs.declared.transport.Transmit.{Transmit}
-use Rattle.turn_stun.specs.declared.transport.TransportType.{TransportType}
-use Rattle.turn_agent.specs.Schedule.{Timers}
-use Rattle.turn_types.specs.declared.family.AddressFamily.{AddressFamily}
-use Rattle.turn_types.specs.declared.family.AddressFamily.TheVariants.{IPV4, IPV6}
-use Rattle.turn_client_api.specs.Config.{same_family}
-use Rattle.turn_client_api.specs.State.{State, agent_of, later_by, max_time}
-use Rattle.turn_client_api.specs.declared.grant.Purpose.{Purpose}
-use Rattle.turn_client_api.specs.declared.grant.Purpose.TheVariants.{ForRefresh, ForPermission, ForChannel}
-use Rattle.turn_client_api.specs.declared.state.Phase.{Phase}
-use Rattle.turn_client_api.specs.declared.state.Phase.TheVariants.{New, Allocated}
-use Rattle.turn_client_api.specs.declared.grant.Grant.{Grant}
-use Rattle.turn_client_api.specs.declared.grant.Grant.TheVariants.{Allocation, Permission, Channel, Connection}
-use Rattle.turn_client_api.specs.declared.grant.Relay.{Relay}
-use Rattle.turn_client_api.specs.declared.grant.Progress.TheVariants.{Active}
-use Rattle.turn_client_api.specs.declared.state.Queued.{Queued}
-use Rattle.turn_client_api.specs.Grants.{allocations, as_allocation, find_allocation, family_of, family_of_grant, family_of_ip, is_of}
-use Rattle.turn_client_api.specs.Requests.{asked_lifetime, binding_indication, fresh_id, id_used, request_for, to_server}
-use Rattle.turn_client_api.specs.Due.{due_times, end_of, is_refreshable, has_allocation_in_use, has_queued_request, has_reply, keepalive_times, is_paused, least_due, pause_end, refresh_of}
-use Rattle.turn_client_api.specs.Due.{refresh_time}
-use Rattle.turn_client_api.specs.Poll.{next_offer}
-use Rattle.turn_client_api.specs.Transmit.{idle_step, is_due_in, is_ranked, is_refresh_due, keepalive_step, next_refresh, next_transmit, queue_step, refresh_purpose, refresh_step, refreshes_in}
-use Rattle.turn_client_api.specs.Transmit.{refreshes_of_rank, reply_in}
-use Rattle.turn_client_api.specs.Transmit.{reply_step, sent, sent_at_once, transmit_step, without_first_reply}
-use Rattle.turn_client_api.specs.Alarm.{IsIdleUntil, Lasts}
-use Rattle.turn_client_api.proofs.HasLemmas.{Has, has-append, has-left, has-right, map-has, flat_map-has, has-flat_map, has-found, filter-has, filter_map-has, has-filter_map, find-none, filter-none}
-use Rattle.turn_client_api.proofs.HasLemmas.{least-le, all-has, cases_Option}
 use Rattle.turn_client_laws.proofs.MoveLemmas.{none-found}
 use Rattle.turn_client_laws.proofs.GrantOriginLemmas.{has-mapped}
-use Rattle.std.proofs.lemmas.Bool.{and_parts}
 
 -- the grant has not expired by now, if its expiry is one to wait for
 abbrev pub Alive : ℕ → Grant → Type 0

@@ -1,15 +1,8 @@
 -- If no stream is ready, nothing is processed.
-use Rattle.std.proofs.Common.{◌≡◌, ℕ, zero, suc, false, cond, List, [], length, Some, None, refl, Bool, Option, arith}
-use Rattle.std.specs.Prelude.{All, find}
-use Rattle.turn_types.specs.Frames.{begins_no_frame, frame_len}
-use Rattle.turn_client_api.specs.State.{State}
-use Rattle.turn_client_api.specs.declared.state.Mode.{Mode}
-use Rattle.turn_client_api.specs.declared.state.Mode.TheVariants.{Bound, Broken}
-use Rattle.turn_client_api.specs.declared.state.Stream.{Stream}
-use Rattle.turn_client_api.specs.Streams.{is_ready, max_steps, poll_recv_step, ready_len, steps_until_payload}
+use Rattle.turn_client_laws.proofs.Common.{◌≡◌, ℕ, zero, suc, false, cond, List, [], length, Some, None, refl, Bool, Option, arith, All, find}
+use Rattle.turn_client_laws.proofs.Machine.{begins_no_frame, frame_len, State, Mode, Bound, Broken, Stream, is_ready, max_steps, poll_recv_step, ready_len, steps_until_payload, find-none, has-all}
 use Rattle.turn_client_laws.specs.Handled.{poll_recv_inputs, inputs_taken}
 use Rattle.turn_client_laws.specs.LawsStreams.{HasNoFrame, NeedsMoreBytes}
-use Rattle.turn_client_api.proofs.HasLemmas.{find-none, has-all}
 use Rattle.turn_client_laws.proofs.StreamShortLemmas.{no_frame-none}
 
 none-by : (b : Bool) (some other : Option ℕ) → b ≡ false → other ≡ None → cond b some other ≡ None

@@ -1,19 +1,10 @@
 -- What each message keeps, the streams keep, however many steps they take.
-use Rattle.std.proofs.Common.{ℕ, List, [], ◌∷◌, inl, inr, sym, subst}
-use Rattle.std.specs.declared.net.socket_addr.SocketAddr.{SocketAddr}
-use Rattle.turn_stun.specs.declared.transport.TransportType.{TransportType}
-use Rattle.turn_client_api.specs.State.{State}
-use Rattle.turn_client_api.specs.declared.state.Stream.{Stream}
-use Rattle.turn_client_api.specs.Connections.{bind_step}
-use Rattle.turn_client_api.specs.Payloads.{datagram_step, message_step}
-use Rattle.turn_client_api.specs.Streams.{frame_step, max_steps, poll_recv_step, steps_until_payload, without_stream}
-use Rattle.turn_client_api.specs.Receive.{connection_gone, first_frame_step, recv_step}
-use Rattle.turn_client_api.specs.Steps.{state_after}
-use Rattle.turn_client_api.specs.declared.call.Call.{Call}
-use Rattle.turn_client_api.specs.declared.call.Call.TheVariants.{Recv}
+use Rattle.turn_client_laws.proofs.Common.{ℕ, List, [], ◌∷◌, inl, inr, sym, subst, SocketAddr}
+use Rattle.turn_client_laws.proofs.Machine.{TransportType, State, Stream, bind_step, message_step, frame_step, max_steps, poll_recv_step, steps_until_payload, without_stream, connection_gone}
+use Rattle.turn_client_laws.proofs.Machine.{first_frame_step, recv_step, state_after, Call, Recv}
 use Rattle.turn_client_laws.specs.Handled.{Input, fed_taken, handled, inputs_taken, processed}
 use Rattle.turn_client_laws.specs.LawsHandled.{DiffersInStreams, ProcessesInputs, InputsLead}
-use Rattle.turn_client_laws.proofs.OneInputLemmas.{datagram-by, frame-by, input-by}
+use Rattle.turn_client_laws.proofs.OneInputLemmas.{frame-by, input-by}
 use Rattle.turn_client_laws.proofs.InputChainLemmas.{calls-do, fed-leads, steps-lead}
 
 -- Of a relation between a state and a later one: each state is as itself, later is later again, streams

@@ -1,30 +1,11 @@
 -- What holds for every client: nothing is sent before the first packet, and nothing is granted before the
 -- server allocates.
-use Rattle.std.proofs.Common.{◌≡◌, ◌∙◌, ℕ, ◌+◌, ◌≤◌, true, not, List, [], ◌∷◌, ◌++◌, map, filter, inl, refl, ap, arith}
-use Rattle.std.specs.Prelude.{IsSome}
-use Rattle.std.proofs.lemmas.Option.{none-some}
-use Rattle.std.specs.declared.net.socket_addr.SocketAddr.{SocketAddr}
-use Rattle.turn_stun.specs.declared.transport.TransportType.{TransportType}
+use Rattle.turn_client_laws.proofs.Common.{◌≡◌, ◌∙◌, ℕ, ◌+◌, ◌≤◌, true, not, List, [], ◌∷◌, ◌++◌, map, filter, inl, refl, ap, arith, IsSome, none-some, SocketAddr}
+use Rattle.turn_client_laws.proofs.Machine.{TransportType, resent, Config, State, initial, Phase, New, Allocated, Closed, Pending, Queued, is_of, new_allocation, phase_with, relayed_in}
+use Rattle.turn_client_laws.proofs.Machine.{taken_addresses, phase_after, is_offer_of, without_first, has_queued_request, FitsPhaseForPoll, Leaves, Call, Has}
 use Rattle.turn_agent.specs.Agent as A
-use Rattle.turn_agent.specs.Agent.{resent}
-use Rattle.turn_client_api.specs.Config.{Config}
-use Rattle.turn_client_api.specs.State.{State, initial}
-use Rattle.turn_client_api.specs.declared.state.Phase.{Phase}
-use Rattle.turn_client_api.specs.declared.state.Phase.TheVariants.{New, Allocated, Closed}
-use Rattle.turn_client_api.specs.declared.grant.Grant.{Grant}
-use Rattle.turn_client_api.specs.declared.grant.Progress.TheVariants.{Pending}
-use Rattle.turn_client_api.specs.declared.state.Queued.{Queued}
-use Rattle.turn_client_api.specs.Grants.{is_of}
-use Rattle.turn_client_api.specs.Effect.{new_allocation, phase_with, relayed_in, taken_addresses}
-use Rattle.turn_client_api.specs.Retry.{phase_after}
-use Rattle.turn_client_api.specs.Calls.{is_offer_of, without_first}
-use Rattle.turn_client_api.specs.Due.{has_queued_request}
-use Rattle.turn_client_api.specs.Alarm.{FitsPhaseForPoll}
-use Rattle.turn_client_api.specs.Steps.{Leaves}
-use Rattle.turn_client_api.specs.declared.call.Call.{Call}
 use Rattle.turn_client_laws.specs.LawsSteps.{GoesOn, rank}
 use Rattle.turn_client_laws.specs.LawsOrder.{FitsPhase, IsUngranted}
-use Rattle.turn_client_api.proofs.HasLemmas.{Has}
 use Rattle.turn_client_laws.proofs.InAllocationLemmas.{any-has, has-any}
 use Rattle.turn_client_laws.proofs.Edits.{KeepsAllEdits, KeepsEdits, aged-outlines, outline}
 use Rattle.turn_client_laws.proofs.EditsOfCalls.{leaves-walk}

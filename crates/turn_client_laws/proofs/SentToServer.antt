@@ -1,15 +1,7 @@
 -- Requests are sent to the server.
-use Rattle.std.proofs.Common.{◌≡◌, ℕ, Bool, true, false, not, cond, eqb, List, [], ◌∷◌, ◌++◌, ◌⊎◌, inl, inr, refl, ap, ◌∙◌}
-use Rattle.std.specs.declared.net.socket_addr.SocketAddr.{SocketAddr}
-use Rattle.turn_stun.specs.declared.transport.TransportType.{TransportType}
-use Rattle.turn_agent.specs.Agent.{first_sent, resent, sent_again}
-use Rattle.turn_agent.specs.declared.transaction.Transaction.{Transaction}
-use Rattle.turn_client_api.specs.Config.{Config}
-use Rattle.turn_client_api.specs.State.{State, initial}
-use Rattle.turn_client_api.specs.Steps.{Leaves}
-use Rattle.turn_client_api.specs.declared.call.Call.{Call}
+use Rattle.turn_client_laws.proofs.Common.{◌≡◌, ℕ, Bool, true, false, not, cond, eqb, List, [], ◌∷◌, ◌++◌, ◌⊎◌, inl, inr, refl, ap, ◌∙◌, SocketAddr}
+use Rattle.turn_client_laws.proofs.Machine.{TransportType, first_sent, resent, sent_again, Transaction, Config, State, initial, Leaves, Call, Has, all-has, has-all, has-append, has-filter}
 use Rattle.turn_client_laws.specs.LawsStates.{AsksServer, IsToServer}
-use Rattle.turn_client_api.proofs.HasLemmas.{Has, all-has, has-all, has-append, has-filter}
 use Rattle.turn_client_laws.proofs.GrantOriginLemmas.{has-mapped}
 use Rattle.turn_client_laws.proofs.Edits.{KeepsAllEdits, KeepsEdits}
 use Rattle.turn_client_laws.proofs.EditsOfCalls.{leaves-walk}

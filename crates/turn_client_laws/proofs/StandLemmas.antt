@@ -1,10 +1,7 @@
 -- What is active in a list of grants, and what a change of the list leaves of it.
-use Rattle.std.proofs.Common.{zero, suc, Bool, true, false, cond, List, [], ◌∷◌, ◌++◌, map, filter, inl, inr, refl, sym, arith}
-use Rattle.std.specs.List.{Contains}
-use Rattle.turn_client_api.specs.State.{State}
-use Rattle.turn_client_api.specs.declared.grant.Grant.{Grant}
+use Rattle.turn_client_laws.proofs.Common.{zero, suc, Bool, true, false, cond, List, [], ◌∷◌, ◌++◌, map, filter, inl, inr, refl, sym, arith, Contains}
+use Rattle.turn_client_laws.proofs.Machine.{State, Grant, Has, has-append, has-filter}
 use Rattle.turn_client_laws.specs.LawsGranted.{IsActiveGrant, IsSameGrant, WasActive}
-use Rattle.turn_client_api.proofs.HasLemmas.{Has, has-append, has-filter}
 use Rattle.turn_client_laws.proofs.PeerLemmas.{Contains-here, Contains-later}
 
 -- ---- both ways to say that something is in a list

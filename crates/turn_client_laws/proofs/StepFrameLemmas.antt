@@ -1,16 +1,8 @@
 -- A step of a stream is one frame.
-use Rattle.std.proofs.Common.{◌≡◌, ℕ, Bool, true, false, cond, List, [], ◌∷◌, map, drop, Option, Some, None, refl, ap, sym, inl, inr, arith}
-use Rattle.std.proofs.lemmas.List.{append-nil, take-append-drop}
-use Rattle.std.specs.declared.net.socket_addr.SocketAddr.{SocketAddr}
-use Rattle.std.proofs.lemmas.Bool.{cases_Bool}
-use Rattle.turn_types.specs.Frames.{begins_no_frame, frame_len}
-use Rattle.turn_agent.specs.Agent.{same_address}
-use Rattle.turn_client_api.specs.State.{State}
-use Rattle.turn_client_api.specs.declared.state.Mode.{Mode}
-use Rattle.turn_client_api.specs.declared.state.Mode.TheVariants.{Bound, Broken}
-use Rattle.turn_client_api.specs.declared.state.Stream.{Stream}
-use Rattle.turn_client_api.specs.Payloads.{Outcome, Handled}
-use Rattle.turn_client_api.specs.Streams.{broken_at, framed_by, framed_stream_step, next_frame_step, with_bytes}
+use Rattle.turn_client_laws.proofs.Common.{◌≡◌, ℕ, Bool, true, false, cond, List, [], ◌∷◌, map, drop, Option, Some, None, refl, ap, sym, inl, inr, arith, append-nil, take-append-drop, SocketAddr}
+use Rattle.turn_client_laws.proofs.Common.{cases_Bool}
+use Rattle.turn_client_laws.proofs.Machine.{begins_no_frame, frame_len, same_address, State, Mode, Bound, Broken, Stream, Outcome, Handled, broken_at, framed_by, framed_stream_step, next_frame_step}
+use Rattle.turn_client_laws.proofs.Machine.{with_bytes}
 use Rattle.turn_client_laws.specs.Handled.{frame_taken, stream_inputs_taken, taken_of_len}
 use Rattle.turn_client_laws.specs.LawsHandled.{IsInputOf}
 use Rattle.turn_client_laws.proofs.FrameRestLemmas.{bytes_by}

@@ -1,20 +1,10 @@
 -- Streams keep distinct local addresses when their bytes and modes change and when they are added and
 -- removed.
-use Rattle.std.proofs.Common.{◌≡◌, ◌≢◌, ℕ, Bool, true, false, not, cond, List, [], ◌∷◌, ◌++◌, map, filter, Some, refl, sym, ◌∙◌, inl, inr}
-use Rattle.std.specs.Prelude.{All, find}
-use Rattle.std.specs.List.{IsDistinct, AllByRecursion}
-use Rattle.std.proofs.lemmas.Bool.{cases_Bool}
-use Rattle.std.proofs.lemmas.List.{map-append}
-use Rattle.std.proofs.lemmas.List.Elements.{All-nil, All-cons, All-head, All-tail, All-push}
-use Rattle.std.specs.declared.net.socket_addr.SocketAddr.{SocketAddr}
-use Rattle.turn_agent.specs.Agent.{same_address}
-use Rattle.turn_client_api.specs.declared.state.Mode.TheVariants.{Waiting, Bound, Broken}
-use Rattle.turn_client_api.specs.declared.state.Stream.{Stream}
+use Rattle.turn_client_laws.proofs.Common.{◌≡◌, ◌≢◌, ℕ, Bool, true, false, not, cond, List, [], ◌∷◌, ◌++◌, map, filter, Some, refl, sym, ◌∙◌, inl, inr, All, find, IsDistinct, AllByRecursion}
+use Rattle.turn_client_laws.proofs.Common.{cases_Bool, map-append, All-nil, All-cons, All-head, All-tail, All-push, SocketAddr}
+use Rattle.turn_client_laws.proofs.Machine.{same_address, Waiting, Bound, Broken, Stream, differ-sym, ends, IsNoneOf, has-found, map-has}
 use Rattle.turn_client_laws.specs.LawsStreams.{IsEmptyIfBroken}
-use Rattle.turn_client_api.proofs.AddressLemmas.{differ-sym}
-use Rattle.turn_client_api.proofs.StreamEnds.{ends, IsNoneOf}
 use Rattle.turn_client_laws.proofs.MoveLemmas.{on_choice}
-use Rattle.turn_client_api.proofs.HasLemmas.{has-found, map-has}
 use Rattle.turn_client_laws.proofs.NumberLemmas.{all-of, distinct-last}
 use Rattle.turn_client_laws.proofs.StreamDrainLemmas.{broken_by, broken_by-Sets, bytes_by, bytes_by-Sets, mode_by, mode_by-KeepsHeld}
 

@@ -1,22 +1,8 @@
 -- Calls keep the local addresses of the streams distinct: most leave the streams unchanged.
-use Rattle.std.proofs.Common.{◌≡◌, ◌⊎◌, ℕ, ◌&&◌, List, [], Option, Some, None, Err, refl, sym, subst, inl, inr, arith}
-use Rattle.std.specs.List.{IsDistinct}
-use Rattle.std.specs.Option.{option_map_or}
-use Rattle.std.proofs.lemmas.List.Elements.{All-nil, All-cons}
-use Rattle.std.specs.declared.net.socket_addr.SocketAddr.{SocketAddr}
-use Rattle.turn_stun.specs.declared.transport.TransportType.{TransportType}
-use Rattle.turn_stun.specs.declared.transport.TransportType.TheVariants.{Udp, Tcp}
-use Rattle.turn_client_api.specs.Config.{Config}
-use Rattle.turn_client_api.specs.State.{State, initial}
-use Rattle.turn_client_api.specs.declared.state.Mode.TheVariants.{Control}
-use Rattle.turn_client_api.specs.declared.grant.Origin.{Origin}
-use Rattle.turn_client_api.specs.Grants.{same_transport}
-use Rattle.turn_client_api.specs.Calls.{allocated_tcp_socket_step, is_allocated, is_control, is_local_taken, offer_origin, socket_opened, socket_refused, socket_step, with_stream}
-use Rattle.turn_client_api.specs.declared.poll.Socket5Tuple.{Socket5Tuple}
+use Rattle.turn_client_laws.proofs.Common.{◌≡◌, ◌⊎◌, ℕ, ◌&&◌, List, [], Option, Some, None, Err, refl, sym, subst, inl, inr, arith, IsDistinct, option_map_or, All-nil, All-cons, SocketAddr}
+use Rattle.turn_client_laws.proofs.Machine.{TransportType, Udp, Tcp, Config, State, initial, Control, Origin, same_transport, allocated_tcp_socket_step, is_allocated, is_control, is_local_taken}
+use Rattle.turn_client_laws.proofs.Machine.{offer_origin, socket_opened, socket_refused, socket_step, with_stream, Socket5Tuple, state_after, Call, Delete, AllocatedTcpSocket, Recv, PollRecv}
 use Rattle.turn_client_api.specs.declared.error.TcpAllocateError.TheVariants as Socket
-use Rattle.turn_client_api.specs.Steps.{state_after}
-use Rattle.turn_client_api.specs.declared.call.Call.{Call}
-use Rattle.turn_client_api.specs.declared.call.Call.TheVariants.{Delete, AllocatedTcpSocket, Recv, PollRecv}
 use Rattle.turn_client_laws.specs.LawsHandled.{TakesInput}
 use Rattle.turn_client_laws.specs.LawsStreams.{AreApart, IsEmptyIfBroken}
 use Rattle.turn_client_laws.proofs.MoveLemmas.{by_test}

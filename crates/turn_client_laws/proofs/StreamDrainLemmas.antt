@@ -1,26 +1,16 @@
 -- The steps of `poll_recv` are enough: what they leave in the streams waits for more bytes.
-use Rattle.std.proofs.Common.{◌≡◌, ℕ, zero, suc, ◌<◌, ◌≤◌, Bool, true, false, cond, List, [], ◌∷◌, ◌++◌, length, map, take, drop, Option, Some, None, refl, sym, ap, ◌∙◌, inl, inr, arith}
-use Rattle.std.specs.Prelude.{All, find, is_some}
+use Rattle.turn_client_laws.proofs.Common.{◌≡◌, ℕ, zero, suc, ◌<◌, ◌≤◌, Bool, true, false, cond, List, [], ◌∷◌, ◌++◌, length, map, take, drop, Option, Some, None, refl, sym, ap, ◌∙◌, inl, inr, arith}
+use Rattle.turn_client_laws.proofs.Common.{All, find, is_some, SocketAddr}
+use Rattle.turn_client_laws.proofs.Machine.{IsFrame, begins_no_frame, frame_len, frame_len-IsWhole, same_address, State, Mode, Control, Bound, Broken, Stream, Payload, Outcome, Handled, Ignored}
+use Rattle.turn_client_laws.proofs.Machine.{broken_at, frame_step, framed_by, framed_stream_step, go_on, is_ready, max_steps, poll_recv_step, ready_len, next_frame_step, first_ready_step}
+use Rattle.turn_client_laws.proofs.Machine.{steps_until_payload, with_bytes, first_frame_step, piece_step, then_all, has-found, all-has, cases_Option}
 use Rattle.std.proofs.lemmas.List.{length-drop}
-use Rattle.std.specs.declared.net.socket_addr.SocketAddr.{SocketAddr}
-use Rattle.turn_types.specs.Frames.{IsFrame, begins_no_frame, frame_len}
-use Rattle.turn_types.proofs.FrameLemmas.{frame_len-IsWhole}
 use Rattle.turn_types.proofs.SplitLemmas.{IsFrame-frame_len}
-use Rattle.turn_agent.specs.Agent.{same_address}
-use Rattle.turn_client_api.specs.State.{State}
-use Rattle.turn_client_api.specs.declared.state.Mode.{Mode}
-use Rattle.turn_client_api.specs.declared.state.Mode.TheVariants.{Control, Bound, Broken}
-use Rattle.turn_client_api.specs.declared.state.Stream.{Stream}
-use Rattle.turn_client_api.specs.Payloads.{Payload, Outcome, Handled, Ignored}
-use Rattle.turn_client_api.specs.Streams.{broken_at, frame_step, framed_by, framed_stream_step, go_on, is_ready, max_steps, poll_recv_step, ready_len, next_frame_step, first_ready_step}
-use Rattle.turn_client_api.specs.Streams.{steps_until_payload, with_bytes}
-use Rattle.turn_client_api.specs.Receive.{first_frame_step, piece_step, then_all}
 use Rattle.turn_client_laws.specs.LawsPeers.{HasNoPeer}
 use Rattle.turn_client_laws.specs.LawsStreams.{HasNoFrame, NeedsMoreBytes}
 use Rattle.turn_client_laws.proofs.MoveLemmas.{on_choice, none-found}
 use Rattle.turn_client_laws.proofs.StreamMessageLemmas.{Rebound, frame-rebound}
 use Rattle.turn_client_laws.proofs.StreamWeightLemmas.{KeepsHeld, Sets, kept-Sets, later-Sets, weight, weight-le, weight-less}
-use Rattle.turn_client_api.proofs.HasLemmas.{has-found, all-has, cases_Option}
 
 -- ---- the bytes in a stream
 

@@ -1,17 +1,8 @@
 -- With each payload that `poll_recv` returns, the streams hold fewer bytes.
-use Rattle.std.proofs.Common.{◌≡◌, ℕ, zero, suc, ◌<◌, List, [], ◌∷◌, length, Option, Some, None, refl, arith}
-use Rattle.std.specs.Prelude.{IsSome, find, sum_by}
-use Rattle.std.specs.List.{IsDistinct}
-use Rattle.std.proofs.lemmas.List.Sums.{sum_by-cons}
-use Rattle.std.specs.declared.net.socket_addr.SocketAddr.{SocketAddr}
-use Rattle.turn_agent.specs.Agent.{same_address}
-use Rattle.turn_client_api.specs.State.{State}
-use Rattle.turn_client_api.specs.declared.state.Stream.{Stream}
-use Rattle.turn_client_api.specs.Payloads.{Payload, Outcome}
-use Rattle.turn_client_api.specs.Streams.{go_on, is_ready, max_steps, poll_recv_step, next_frame_step, first_ready_step, steps_until_payload}
+use Rattle.turn_client_laws.proofs.Common.{◌≡◌, ℕ, zero, suc, ◌<◌, List, [], ◌∷◌, length, Option, Some, None, refl, arith, IsSome, find, sum_by, IsDistinct, sum_by-cons, SocketAddr}
+use Rattle.turn_client_laws.proofs.Machine.{same_address, State, Stream, Payload, Outcome, go_on, is_ready, max_steps, poll_recv_step, next_frame_step, first_ready_step, steps_until_payload, IsNoneOf}
+use Rattle.turn_client_laws.proofs.Machine.{ends, differ-sym}
 use Rattle.turn_client_laws.specs.LawsStreams.{AreApart}
-use Rattle.turn_client_api.proofs.StreamEnds.{IsNoneOf, ends}
-use Rattle.turn_client_api.proofs.AddressLemmas.{differ-sym}
 use Rattle.turn_client_laws.proofs.StreamDrainLemmas.{step-lighter}
 use Rattle.turn_client_laws.proofs.StreamStepLemmas.{poll_recv-apart}
 use Rattle.turn_client_laws.proofs.StreamWeightLemmas.{top, weight}

@@ -1,19 +1,7 @@
 -- The streams keep distinct local addresses, even if memory allocation fails.
-use Rattle.std.proofs.Common.{◌≡◌, ◌≢◌, ◌⊎◌, ℕ, List, Option, Some, None, refl, subst, sym, inl, inr, arith}
-use Rattle.std.specs.Prelude.{IsSomeAnd, find}
-use Rattle.std.specs.declared.net.socket_addr.SocketAddr.{SocketAddr}
-use Rattle.turn_agent.specs.Agent.{same_address}
-use Rattle.turn_client_api.specs.State.{State}
-use Rattle.turn_client_api.specs.declared.state.Mode.{Mode}
-use Rattle.turn_client_api.specs.declared.state.Mode.TheVariants.{Control, Broken}
-use Rattle.turn_client_api.specs.declared.state.Stream.{Stream}
-use Rattle.turn_client_api.specs.Effect.{closed}
-use Rattle.turn_client_api.specs.Payloads.{Payload}
-use Rattle.turn_client_api.specs.Streams.{broken_at, is_ready}
-use Rattle.turn_client_api.specs.Answers.{EndsAfterSteps, RecvEnds, before_others}
-use Rattle.turn_client_api.specs.Steps.{EndsWithoutMemory, Leaves, state_after}
-use Rattle.turn_client_api.specs.declared.call.Call.{Call}
-use Rattle.turn_client_api.specs.declared.call.Call.TheVariants.{Recv, PollRecv}
+use Rattle.turn_client_laws.proofs.Common.{◌≡◌, ◌≢◌, ◌⊎◌, ℕ, List, Option, Some, None, refl, subst, sym, inl, inr, arith, IsSomeAnd, find, SocketAddr}
+use Rattle.turn_client_laws.proofs.Machine.{same_address, State, Mode, Control, Broken, Stream, closed, Payload, broken_at, is_ready, EndsAfterSteps, RecvEnds, before_others, EndsWithoutMemory}
+use Rattle.turn_client_laws.proofs.Machine.{Leaves, state_after, Call, Recv, PollRecv}
 use Rattle.turn_client_laws.specs.LawsHandled.{TakesInput}
 use Rattle.turn_client_laws.specs.LawsStreams.{AreApart}
 use Rattle.turn_client_laws.proofs.MemoryLemmas.{IsBehind, before-IsBehind, memory-ends}

@@ -1,23 +1,11 @@
 -- Messages leave the streams unchanged, except that a stream may be bound.
-use Rattle.std.proofs.Common.{◌≡◌, ◌⊎◌, ℕ, Bool, true, false, cond, List, refl, sym, inl, inr}
-use Rattle.std.specs.Prelude.{find, ⊤}
-use Rattle.std.specs.declared.net.socket_addr.SocketAddr.{SocketAddr}
-use Rattle.turn_stun.specs.Message.{id_of}
-use Rattle.turn_auth.specs.LongTerm.{Challenge}
-use Rattle.turn_client_api.specs.State.{State}
-use Rattle.turn_client_api.specs.declared.state.Mode.TheVariants.{Bound}
-use Rattle.turn_client_api.specs.declared.state.Stream.{Stream}
-use Rattle.turn_client_api.specs.declared.grant.DataConnection.{DataConnection}
-use Rattle.turn_client_api.specs.Grants.{purposes_of}
-use Rattle.turn_client_api.specs.Judgement.{Judgement, Challenged, SignedSuccess, bind_judgement, is_bind_of}
-use Rattle.turn_client_api.specs.Connections.{bind_again, bind_answered, with_mode}
-use Rattle.turn_client_api.specs.Payloads.{message_step}
-use Rattle.turn_client_api.specs.Streams.{frame_step}
+use Rattle.turn_client_laws.proofs.Common.{◌≡◌, ◌⊎◌, ℕ, Bool, true, false, cond, List, refl, sym, inl, inr, find, ⊤, SocketAddr}
+use Rattle.turn_client_laws.proofs.Machine.{id_of, Challenge, State, Bound, Stream, DataConnection, purposes_of, Judgement, Challenged, SignedSuccess, bind_judgement, is_bind_of, bind_again}
+use Rattle.turn_client_laws.proofs.Machine.{bind_answered, with_mode, message_step, frame_step, cases_Option}
 use Rattle.turn_client_laws.proofs.Edits.{KeepsEdits}
 use Rattle.turn_client_laws.proofs.EditsOfMessages.{message-walk}
 use Rattle.turn_client_laws.proofs.FixedFields.{fixed-all-edits, fixed-edits}
 use Rattle.turn_client_laws.proofs.OneInputLemmas.{bind-by, frame-by}
-use Rattle.turn_client_api.proofs.HasLemmas.{cases_Option}
 
 -- the streams stay unchanged
 abbrev pub Same : State → State → Type 0

@@ -1,16 +1,8 @@
 -- A stream that holds no whole frame holds less than the longest frame.
-use Rattle.std.proofs.Common.{◌≡◌, ◌≢◌, ℕ, ◌+◌, ◌<◌, ◌≤◌, Bool, true, false, cond, leb, ltb, List, length, take, drop, Option, Some, None, refl, sym, arith}
-use Rattle.std.specs.Prelude.{All}
-use Rattle.std.proofs.lemmas.Bool.{leb-false, ltb-true, ltb-false}
-use Rattle.std.proofs.lemmas.List.{take-append-drop}
-use Rattle.turn_stun.specs.Message.{padded_len}
-use Rattle.turn_stun.specs.Number.{u16_at}
-use Rattle.turn_types.specs.Frames.{begins_message, begins_no_frame, frame_len, frame_size}
-use Rattle.turn_types.proofs.FrameLemmas.{frame_len-IsWhole}
+use Rattle.turn_client_laws.proofs.Common.{◌≡◌, ◌≢◌, ℕ, ◌+◌, ◌<◌, ◌≤◌, Bool, true, false, cond, leb, ltb, List, length, take, drop, Option, Some, None, refl, sym, arith, All, leb-false, ltb-true}
+use Rattle.turn_client_laws.proofs.Common.{ltb-false, take-append-drop}
+use Rattle.turn_client_laws.proofs.Machine.{padded_len, u16_at, begins_message, begins_no_frame, frame_len, frame_size, frame_len-IsWhole, Mode, Bound, Broken, Stream}
 use Rattle.turn_types.proofs.SplitLemmas.{IsWhole-IsFrame}
-use Rattle.turn_client_api.specs.declared.state.Mode.{Mode}
-use Rattle.turn_client_api.specs.declared.state.Mode.TheVariants.{Bound, Broken}
-use Rattle.turn_client_api.specs.declared.state.Stream.{Stream}
 use Rattle.turn_client_laws.specs.LawsStreams.{HasNoFrame, NeedsMoreBytes}
 
 u16-most : (bytes : List ℕ) → 3 < length bytes → All (λ b. b < 256) bytes → u16_at bytes 2 ≤ 65535

@@ -1,20 +1,10 @@
 -- Bytes received over streams keep their local addresses distinct.
-use Rattle.std.proofs.Common.{◌≡◌, ◌≢◌, ℕ, zero, suc, ◌++◌, Bool, true, false, not, cond, List, [], ◌∷◌, take, drop, Option, Some, None, refl, subst}
-use Rattle.std.proofs.Common.{sym, inl, inr, arith}
-use Rattle.std.specs.Prelude.{find, is_some}
-use Rattle.std.specs.declared.net.socket_addr.SocketAddr.{SocketAddr}
-use Rattle.turn_stun.specs.declared.transport.TransportType.{TransportType}
-use Rattle.turn_types.specs.Frames.{begins_no_frame, frame_len}
-use Rattle.turn_agent.specs.Agent.{same_address}
-use Rattle.turn_client_api.specs.State.{State}
-use Rattle.turn_client_api.specs.declared.state.Mode.{Mode}
-use Rattle.turn_client_api.specs.declared.state.Mode.TheVariants.{Control, Waiting, Bound, Broken}
-use Rattle.turn_client_api.specs.declared.state.Stream.{Stream}
-use Rattle.turn_client_api.specs.Connections.{connection_at}
-use Rattle.turn_client_api.specs.Payloads.{Payload, Outcome, Handled, Ignored, PeerData, datagram_step}
-use Rattle.turn_client_api.specs.Streams.{broken_at, frame_step, framed_by, framed_stream_step, go_on, is_ready, max_steps, poll_recv_step, stream_at, next_frame_step, detached_frame_step}
-use Rattle.turn_client_api.specs.Streams.{first_ready_step, steps_until_payload, with_bytes}
-use Rattle.turn_client_api.specs.Receive.{connection_gone, first_frame_step, piece_step, recv_step, stream_step, then_all}
+use Rattle.turn_client_laws.proofs.Common.{◌≡◌, ◌≢◌, ℕ, zero, suc, ◌++◌, Bool, true, false, not, cond, List, [], ◌∷◌, take, drop, Option, Some, None, refl, subst, sym, inl, inr, arith, find, is_some}
+use Rattle.turn_client_laws.proofs.Common.{SocketAddr}
+use Rattle.turn_client_laws.proofs.Machine.{TransportType, begins_no_frame, frame_len, same_address, State, Mode, Control, Waiting, Bound, Broken, Stream, connection_at, Payload, Outcome, Handled}
+use Rattle.turn_client_laws.proofs.Machine.{Ignored, PeerData, datagram_step, broken_at, frame_step, framed_by, framed_stream_step, go_on, is_ready, max_steps, poll_recv_step, stream_at}
+use Rattle.turn_client_laws.proofs.Machine.{next_frame_step, detached_frame_step, first_ready_step, steps_until_payload, with_bytes, connection_gone, first_frame_step, piece_step, recv_step}
+use Rattle.turn_client_laws.proofs.Machine.{stream_step, then_all}
 use Rattle.turn_client_laws.specs.LawsStreams.{AreApart}
 use Rattle.turn_client_laws.proofs.MoveLemmas.{by_test}
 use Rattle.turn_client_laws.proofs.OneInputLemmas.{datagram-by}

@@ -1,14 +1,8 @@
 -- How many bytes the streams hold, where those of one local address count once: a step decreases the
 -- number.
-use Rattle.std.proofs.Common.{◌≡◌, ℕ, ◌+◌, ◌-◌, ◌<◌, ◌≤◌, max, Bool, true, false, cond, List, [], ◌∷◌, length, map, Some, refl, sym, ap, ◌∙◌, arith, inl, inr}
-use Rattle.std.specs.Prelude.{find, sum_by}
-use Rattle.std.proofs.lemmas.Bool.{false_from_ne_true}
-use Rattle.std.proofs.lemmas.List.Sums.{sum_by-cons}
-use Rattle.std.specs.declared.net.socket_addr.SocketAddr.{SocketAddr}
-use Rattle.turn_agent.specs.Agent.{same_address}
-use Rattle.turn_client_api.specs.declared.state.Stream.{Stream}
-use Rattle.turn_client_api.proofs.AddressLemmas.{same_address-true, same_address-self}
-use Rattle.turn_client_api.proofs.HasLemmas.{Has, has-found}
+use Rattle.turn_client_laws.proofs.Common.{◌≡◌, ℕ, ◌+◌, ◌-◌, ◌<◌, ◌≤◌, max, Bool, true, false, cond, List, [], ◌∷◌, length, map, Some, refl, sym, ap, ◌∙◌, arith, inl, inr, find, sum_by}
+use Rattle.turn_client_laws.proofs.Common.{false_from_ne_true, sum_by-cons, SocketAddr}
+use Rattle.turn_client_laws.proofs.Machine.{same_address, Stream, same_address-true, same_address-self, Has, has-found}
 
 -- the most bytes of the streams at this local address
 unfoldable pub top : SocketAddr → List Stream → ℕ

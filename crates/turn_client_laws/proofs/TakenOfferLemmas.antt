@@ -1,12 +1,6 @@
 -- What remains when an offer is removed.
-use Rattle.std.proofs.Common.{◌≡◌, ℕ, Bool, true, false, List, [], ◌∷◌, inl, inr, refl, arith}
-use Rattle.std.specs.declared.net.socket_addr.SocketAddr.{SocketAddr}
-use Rattle.std.proofs.lemmas.Bool.{cases_Bool}
-use Rattle.turn_client_api.specs.declared.grant.Grant.{Grant}
-use Rattle.turn_client_api.specs.declared.grant.Purpose.{Purpose}
-use Rattle.turn_client_api.specs.Grants.{is_for}
-use Rattle.turn_client_api.specs.Calls.{is_offer_of, without_first}
-use Rattle.turn_client_api.proofs.HasLemmas.{Has}
+use Rattle.turn_client_laws.proofs.Common.{◌≡◌, ℕ, Bool, true, false, List, [], ◌∷◌, inl, inr, refl, arith, SocketAddr, cases_Bool}
+use Rattle.turn_client_laws.proofs.Machine.{Grant, Purpose, is_for, is_offer_of, without_first, Has}
 
 pub was-first : (which : Grant → Bool) (g : Grant) (gs : List Grant) → Has g (without_first which gs) → Has g gs
 was-first which g [] none = absurd none

@@ -1,29 +1,11 @@
 -- The time that `poll` returns is timely.
-use Rattle.std.proofs.Common.{◌≡◌, ◌≢◌, ℕ, ◌^◌, ◌<◌, ◌≤◌, max, Bool, true, false, ltb, eqb, List, [], ◌∷◌, length, Option, Some, None, ◌⊎◌, inl, inr, refl, sym, subst, ◌∙◌, arith}
-use Rattle.turn_agent.proofs.TransactionLemmas.{is_outstanding-without}
-use Rattle.std.specs.Prelude.{if◌then◌else◌, is_some}
-use Rattle.std.specs.Option.{option_map_or}
-use Rattle.std.proofs.Math.Nat.{max-le, le-max_right}
-use Rattle.std.proofs.lemmas.Bool.{ltb-true, ltb-false, eq-eqb}
-use Rattle.std.specs.declared.net.socket_addr.SocketAddr.{SocketAddr}
-use Rattle.turn_agent.specs.Agent.{timed_out_transaction, is_timed_out, is_outstanding}
-use Rattle.turn_agent.specs.declared.transaction.Transaction.{Transaction}
-use Rattle.turn_client_api.specs.State.{State, agent_of}
-use Rattle.turn_client_api.specs.declared.grant.DataOffer.{DataOffer}
-use Rattle.turn_client_api.specs.declared.state.Phase.{Phase}
-use Rattle.turn_client_api.specs.declared.state.Phase.TheVariants.{New, Requesting, Authenticating, Allocated, Closed}
-use Rattle.turn_client_api.specs.declared.grant.Grant.{Grant}
-use Rattle.turn_client_api.specs.declared.grant.Relay.{Relay}
-use Rattle.turn_client_api.specs.Grants.{allocations}
-use Rattle.turn_client_api.specs.Effect.{closed, transaction_ended}
-use Rattle.turn_client_api.specs.Calls.{is_allocated}
-use Rattle.turn_client_api.specs.Due.{has_event, has_reply, is_new, least_due, next_wakeup}
-use Rattle.turn_client_api.specs.Poll.{answer_by, answer_step, timed_out_step, is_listed_for_allocation, expired_at, next_offer, offer_step, poll_step, timed_step}
-use Rattle.turn_client_api.specs.Alarm.{AllHaveAllocation, IsBeforeGrants, HasWorkNow, FitsPhaseForPoll, IsIdleUntil, IsTimely}
-use Rattle.turn_client_api.specs.declared.event.TurnEvent.{TurnEvent}
-use Rattle.turn_client_api.specs.declared.poll.TurnPollRet.{TurnPollRet}
+use Rattle.turn_client_laws.proofs.Common.{◌≡◌, ◌≢◌, ℕ, ◌^◌, ◌<◌, ◌≤◌, max, Bool, true, false, ltb, eqb, List, [], ◌∷◌, length, Option, Some, None, ◌⊎◌, inl, inr, refl, sym, subst, ◌∙◌, arith}
+use Rattle.turn_client_laws.proofs.Common.{if◌then◌else◌, is_some, option_map_or, max-le, le-max_right, ltb-true, ltb-false, eq-eqb, SocketAddr}
+use Rattle.turn_client_laws.proofs.Machine.{is_outstanding-without, timed_out_transaction, is_timed_out, is_outstanding, Transaction, State, agent_of, DataOffer, Phase, New, Requesting}
+use Rattle.turn_client_laws.proofs.Machine.{Authenticating, Allocated, Closed, Grant, Relay, allocations, closed, transaction_ended, is_allocated, has_event, has_reply, is_new, least_due, next_wakeup}
+use Rattle.turn_client_laws.proofs.Machine.{answer_by, answer_step, timed_out_step, is_listed_for_allocation, expired_at, next_offer, offer_step, poll_step, timed_step, AllHaveAllocation}
+use Rattle.turn_client_laws.proofs.Machine.{IsBeforeGrants, HasWorkNow, FitsPhaseForPoll, IsIdleUntil, IsTimely, TurnEvent, TurnPollRet, Has, has-found}
 use Rattle.turn_client_api.specs.declared.poll.TurnPollRet.TheVariants as Do
-use Rattle.turn_client_api.proofs.HasLemmas.{Has, has-found}
 use Rattle.turn_client_laws.proofs.ReadyLemmas.{Alive, IsReady, new-busy, ready-busy, ready-silent, reply-busy}
 use Rattle.turn_client_laws.proofs.AfterExpiryLemmas.{expired_at-alive, expired_at-no_offer, expired_at-shrinks}
 use Rattle.turn_client_laws.proofs.WakeupLemmas.{phase-old}

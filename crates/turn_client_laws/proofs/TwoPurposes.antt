@@ -1,36 +1,14 @@
 -- A request is listed for two purposes at most.
-use Rattle.std.proofs.Common.{◌≡◌, ◌⊎◌, ℕ, Bool, true, false, not, eqb, List, filter, Option, Some, inl, inr, refl, sym, subst, ◌∙◌, arith}
-use Rattle.std.specs.Prelude.{flat_map, slice_get, unwrap_or}
-use Rattle.std.specs.List.{Contains, list_any}
-use Rattle.std.specs.Net.Socket.{socket_ip}
-use Rattle.std.proofs.lemmas.Bool.{eq-eqb, eqb-true, or_parts}
-use Rattle.std.specs.declared.net.socket_addr.SocketAddr.{SocketAddr}
-use Rattle.turn_stun.specs.Message.{id_of}
-use Rattle.turn_stun.specs.declared.transport.TransportType.{TransportType}
-use Rattle.turn_types.specs.declared.family.AddressFamily.{AddressFamily}
-use Rattle.turn_types.specs.declared.family.AddressFamily.TheVariants.{IPV4, IPV6}
-use Rattle.turn_agent.specs.Agent.{is_outstanding}
-use Rattle.turn_client_api.specs.Config.{Config}
-use Rattle.turn_client_api.specs.State.{State, initial}
-use Rattle.turn_client_api.specs.declared.state.Phase.{Phase}
-use Rattle.turn_client_api.specs.declared.state.Phase.TheVariants.{New, Allocated}
-use Rattle.turn_client_api.specs.declared.grant.Purpose.{Purpose}
-use Rattle.turn_client_api.specs.declared.grant.Purpose.TheVariants.{ForAllocation, ForRefresh, ForPermission, ForChannel, ForConnect, ForBind}
-use Rattle.turn_client_api.specs.declared.grant.Listing.{Listing}
-use Rattle.turn_client_api.specs.Grants.{allocations, is_for_allocation, is_of_request, purposes_of}
-use Rattle.turn_client_api.specs.Requests.{fresh_id}
-use Rattle.turn_client_api.specs.Effect.{closed}
-use Rattle.turn_client_api.specs.Calls.{free_number}
-use Rattle.turn_client_api.specs.Transmit.{refreshes_in}
-use Rattle.turn_client_api.specs.Receive.{connection_gone}
-use Rattle.turn_client_api.specs.Steps.{Leaves, state_after}
-use Rattle.turn_client_api.specs.declared.call.Call.{Call}
-use Rattle.turn_client_api.specs.declared.call.Call.TheVariants.{Delete, CreatePermission, BindChannel, TcpConnect, AllocatedTcpSocket, Recv, PollRecv}
-use Rattle.turn_client_api.specs.declared.call.Call.TheVariants.{PollTransmit}
+use Rattle.turn_client_laws.proofs.Common.{◌≡◌, ◌⊎◌, ℕ, Bool, true, false, not, eqb, List, filter, Option, Some, inl, inr, refl, sym, subst, ◌∙◌, arith, flat_map, slice_get, Contains, list_any}
+use Rattle.turn_client_laws.proofs.Common.{socket_ip, eq-eqb, eqb-true, or_parts, SocketAddr}
+use Rattle.turn_client_laws.proofs.Machine.{id_of, TransportType, AddressFamily, IPV4, IPV6, is_outstanding, Config, State, initial, Phase, New, Allocated, Purpose, ForAllocation, ForRefresh}
+use Rattle.turn_client_laws.proofs.Machine.{ForPermission, ForChannel, ForConnect, ForBind, Listing, allocations, is_for_allocation, is_of_request, purposes_of, fresh_id, closed, free_number}
+use Rattle.turn_client_laws.proofs.Machine.{refreshes_in, connection_gone, Leaves, state_after, Call, Delete, CreatePermission, BindChannel, TcpConnect, AllocatedTcpSocket, Recv, PollRecv}
+use Rattle.turn_client_laws.proofs.Machine.{PollTransmit, Has, filter-has, has-filter, map-has}
+use Rattle.std.specs.Prelude.{unwrap_or}
 use Rattle.turn_client_laws.specs.LawsPurposes.{HasTwoPurposes}
 use Rattle.turn_client_laws.specs.LawsRequests.{AsksFor, IsListedAgain, IsListedAs, IsListedFor}
 use Rattle.turn_client_laws.proofs.Edits.{listing}
-use Rattle.turn_client_api.proofs.HasLemmas.{Has, filter-has, has-filter, map-has}
 use Rattle.turn_client_laws.proofs.InAllocationLemmas.{has-any}
 use Rattle.turn_client_laws.proofs.MemoryLemmas.{leaves-kept}
 use Rattle.turn_client_laws.proofs.MoveLemmas.{Adds}

@@ -1,17 +1,8 @@
 -- When a caller is to call again.
-use Rattle.std.proofs.Common.{◌≡◌, ◌⊎◌, ℕ, ◌+◌, ◌≤◌, Bool, true, false, cond, ltb, length, List, [], ◌∷◌, fold, min, max, refl, ap, ◌∙◌, inl, inr, arith, ◌||◌}
-use Rattle.std.specs.Prelude.{◌≢◌, All}
-use Rattle.std.specs.List.{Contains}
-use Rattle.std.proofs.Math.Nat.{min-le_left, min-le_right, min-eq_left}
-use Rattle.std.proofs.lemmas.Bool.{cases_lt, lt-ltb, or_left, or_right}
-use Rattle.std.proofs.lemmas.List.Elements.{All-nil, All-cons}
-use Rattle.turn_client_api.specs.State.{State, max_time, later_by}
-use Rattle.turn_client_api.specs.declared.state.Phase.{Phase}
-use Rattle.turn_client_api.specs.declared.state.Phase.TheVariants.{New, Allocated}
-use Rattle.turn_client_api.specs.Due.{due_times, has_event, has_reply, is_new, least_due, max_wait, next_wakeup}
-use Rattle.turn_client_api.specs.Calls.{is_allocated}
+use Rattle.turn_client_laws.proofs.Common.{◌≡◌, ◌⊎◌, ℕ, ◌+◌, ◌≤◌, Bool, true, false, cond, ltb, length, List, [], ◌∷◌, fold, min, max, refl, ap, ◌∙◌, inl, inr, arith, ◌||◌, ◌≢◌, All, Contains}
+use Rattle.turn_client_laws.proofs.Common.{min-le_left, min-le_right, min-eq_left, cases_lt, lt-ltb, or_left, or_right, All-nil, All-cons}
+use Rattle.turn_client_laws.proofs.Machine.{State, max_time, later_by, Phase, New, Allocated, due_times, has_event, has_reply, is_new, least_due, max_wait, next_wakeup, is_allocated, TurnEvent}
 use Rattle.turn_client_laws.specs.LawsWakeup.{IsLeast}
-use Rattle.turn_client_api.specs.declared.event.TurnEvent.{TurnEvent}
 use Rattle.turn_client_laws.proofs.PeerLemmas.{Contains-here, Contains-later}
 
 -- the earliest of some times and one more

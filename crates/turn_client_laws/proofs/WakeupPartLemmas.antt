@@ -1,13 +1,9 @@
 -- The returned time, part by part.
-use Rattle.std.proofs.Common.{◌≡◌, ℕ, ◌+◌, ◌≤◌, max, min, cond, List, [], ◌∷◌, ◌++◌, map, filter_map, flat_map, fold, Option, Some, None, refl, ap, ◌∙◌, arith}
-use Rattle.std.specs.Prelude.{option_to_list}
-use Rattle.std.proofs.Math.Nat.{min-le_right}
-use Rattle.turn_agent.specs.Agent.{transaction_timeout}
-use Rattle.turn_client_api.specs.State.{State, agent_of, max_time, later_by}
-use Rattle.turn_client_api.specs.declared.grant.Grant.{Grant}
-use Rattle.turn_client_api.specs.Due.{end_of, has_queued_request, keepalive_times, least_due, max_wait, pause_end, refresh_of, refresh_time}
+use Rattle.turn_client_laws.proofs.Common.{◌≡◌, ℕ, ◌+◌, ◌≤◌, max, min, cond, List, [], ◌∷◌, ◌++◌, map, filter_map, flat_map, fold, Option, Some, None, refl, ap, ◌∙◌, arith, option_to_list}
+use Rattle.turn_client_laws.proofs.Common.{min-le_right}
+use Rattle.turn_client_laws.proofs.Machine.{transaction_timeout, State, agent_of, max_time, later_by, Grant, end_of, has_queued_request, keepalive_times, least_due, max_wait, pause_end, refresh_of}
+use Rattle.turn_client_laws.proofs.Machine.{refresh_time, least-start}
 use Rattle.turn_client_laws.specs.LawsBodies.{soonest, soonest_keepalive, soonest_queued, soonest_transaction}
-use Rattle.turn_client_api.proofs.HasLemmas.{least-start}
 
 -- any start that is not above the greatest
 least-from : (greatest start : ℕ) (ms : List ℕ) → start ≤ greatest → fold min start ms ≡ min start (fold min greatest ms)

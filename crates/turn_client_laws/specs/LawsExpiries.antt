@@ -4,7 +4,7 @@ use Rattle.turn_types.specs.declared.family.AddressFamily.TheVariants.{IPV4}
 use Rattle.turn_client_api.specs.State.{State}
 use Rattle.turn_client_api.specs.declared.grant.Grant.TheVariants.{Channel, Permission}
 use Rattle.turn_client_api.specs.declared.grant.Purpose.TheVariants.{ForRefresh}
-use Rattle.turn_client_api.specs.declared.grant.Progress.TheVariants.{Active, Reserved}
+use Rattle.turn_client_api.specs.declared.grant.Progress.TheVariants.{Reserved}
 use Rattle.turn_client_api.specs.Requests.{listings}
 use Rattle.turn_client_laws.specs.LawsRows.{granted_at, peer, ip_of_peer}
 use Rattle.turn_client_laws.specs.LawsMessages.{allocation_of_v4, ms}

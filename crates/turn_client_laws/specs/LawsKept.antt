@@ -1,11 +1,11 @@
 -- What a caller lets go, and keeps again.
-use Rattle.std.specs.Prelude.{◌≡◌, ℕ, Bool, true, false, All}
+use Rattle.std.specs.Prelude.{◌≡◌, ℕ, true, false, All}
 use Rattle.turn_stun.specs.declared.transport.TransportType.{TransportType}
 use Rattle.turn_stun.specs.declared.transport.TransportType.TheVariants.{Udp}
 use Rattle.turn_client_api.specs.State.{State}
 use Rattle.turn_client_api.specs.declared.grant.Grant.{Grant}
 use Rattle.turn_client_api.specs.Due.{end_of, is_kept}
-use Rattle.turn_client_api.specs.Grants.{failure_of, is_active, is_for}
+use Rattle.turn_client_api.specs.Grants.{failure_of}
 use Rattle.turn_client_api.specs.Calls.{channel_kept_step, permission_kept_step}
 use Rattle.turn_client_laws.specs.LawsGone.{grant_identity}
 use Rattle.turn_client_laws.specs.LawsRows.{ip_of_peer, peer}

@@ -12,7 +12,7 @@ use Rattle.turn_client_api.specs.declared.state.Phase.TheVariants.{Authenticatin
 use Rattle.turn_client_api.specs.declared.grant.Grant.{Grant}
 use Rattle.turn_client_api.specs.declared.grant.Grant.TheVariants.{Allocation, Permission, Channel, Connect, Offer}
 use Rattle.turn_client_api.specs.declared.grant.Origin.{Origin}
-use Rattle.turn_client_api.specs.declared.grant.Progress.TheVariants.{Active, Pending}
+use Rattle.turn_client_api.specs.declared.grant.Progress.TheVariants.{Pending}
 use Rattle.turn_client_api.specs.State.{seconds}
 use Rattle.turn_client_api.specs.declared.grant.Purpose.{Purpose}
 use Rattle.turn_client_api.specs.declared.grant.Purpose.TheVariants.{ForAllocation, ForRefresh, ForPermission, ForChannel, ForConnect}

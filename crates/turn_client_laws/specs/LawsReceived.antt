@@ -11,7 +11,6 @@ use Rattle.turn_agent.specs.Agent.{first_sent}
 use Rattle.turn_client_api.specs.State.{State, auth_of, seconds}
 use Rattle.turn_client_api.specs.declared.grant.Grant.{Grant}
 use Rattle.turn_client_api.specs.declared.grant.Grant.TheVariants.{Permission, Channel, Connection}
-use Rattle.turn_client_api.specs.declared.grant.Progress.TheVariants.{Active}
 use Rattle.turn_client_api.specs.declared.state.Mode.{Mode}
 use Rattle.turn_client_api.specs.declared.state.Mode.TheVariants.{Control, Waiting, Bound}
 use Rattle.turn_client_api.specs.declared.state.Stream.{Stream}

@@ -6,7 +6,6 @@ use Rattle.turn_client_api.specs.Config.{default_refresh_ahead, default_request_
 use Rattle.turn_client_api.specs.State.{State, seconds}
 use Rattle.turn_client_api.specs.declared.grant.Grant.{Grant}
 use Rattle.turn_client_api.specs.declared.grant.Grant.TheVariants.{Permission}
-use Rattle.turn_client_api.specs.declared.grant.Progress.TheVariants.{Active}
 use Rattle.turn_client_api.specs.declared.grant.Origin.TheVariants.{ServerIndication}
 use Rattle.turn_client_api.specs.Calls.{allocated_tcp_socket_step}
 use Rattle.turn_client_laws.specs.LawsRows.{ip_of_peer}

@@ -1,6 +1,5 @@
-use Rattle.std.proofs.Common.{refl}
-use Rattle.turn_client_api.specs.Calls.{channel_numbers}
-use Rattle.turn_client_api.specs.Due.{refresh_time}
+use Rattle.turn_client_laws.proofs.Common.{refl}
+use Rattle.turn_client_laws.proofs.Machine.{channel_numbers, refresh_time}
 use Rattle.turn_client_laws.proofs.expiries.grants_expire.Goals as goal
 
 pub returns : goal.returns

@@ -1,6 +1,4 @@
-use Rattle.std.proofs.Common.{refl}
-use Rattle.turn_client_api.specs.Calls.{is_open_to}
-use Rattle.turn_client_api.specs.Grants.{is_permission_of}
+use Rattle.turn_client_laws.proofs.Machine.{is_open_to, is_permission_of}
 use Rattle.turn_client_laws.proofs.KeptLemmas.{channels-ignore, kept-back, marked-same, permissions-ignore, success-keeps, unkept-never}
 use Rattle.turn_client_laws.proofs.kept.unkept_grants_are_not_refreshed.Goals as goal
 

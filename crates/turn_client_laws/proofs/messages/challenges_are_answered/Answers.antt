@@ -1,6 +1,5 @@
-use Rattle.std.proofs.Common.{refl}
-use Rattle.turn_stun.specs.Message.{attributes_from}
-use Rattle.turn_stun.specs.Attributes.{seen_after}
+use Rattle.turn_client_laws.proofs.Common.{refl}
+use Rattle.turn_client_laws.proofs.Machine.{attributes_from, seen_after}
 use Rattle.turn_client_laws.proofs.messages.challenges_are_answered.Goals as goal
 
 pub returns : goal.returns

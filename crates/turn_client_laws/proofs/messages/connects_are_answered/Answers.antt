@@ -1,6 +1,5 @@
-use Rattle.std.proofs.Common.{refl}
-use Rattle.turn_stun.specs.Message.{attributes_from, fault_of}
-use Rattle.turn_stun.specs.Attributes.{seen_after}
+use Rattle.turn_client_laws.proofs.Common.{refl}
+use Rattle.turn_client_laws.proofs.Machine.{attributes_from, fault_of, seen_after}
 use Rattle.turn_client_laws.proofs.messages.connects_are_answered.Goals as goal
 
 pub returns : goal.returns

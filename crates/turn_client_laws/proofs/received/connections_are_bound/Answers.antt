@@ -1,7 +1,5 @@
-use Rattle.std.proofs.Common.{refl}
-use Rattle.turn_stun.specs.Message.{attributes_from, fault_of}
-use Rattle.turn_stun.specs.Attributes.{seen_after}
-use Rattle.turn_client_api.specs.Streams.{steps_until_payload}
+use Rattle.turn_client_laws.proofs.Common.{refl}
+use Rattle.turn_client_laws.proofs.Machine.{attributes_from, fault_of, seen_after, steps_until_payload}
 use Rattle.turn_client_laws.proofs.received.connections_are_bound.Goals as goal
 
 pub returns : goal.returns

@@ -1,5 +1,5 @@
-use Rattle.std.proofs.Common.{refl}
-use Rattle.turn_client_api.specs.Calls.{channel_numbers}
+use Rattle.turn_client_laws.proofs.Common.{refl}
+use Rattle.turn_client_laws.proofs.Machine.{channel_numbers}
 use Rattle.turn_client_laws.proofs.rows.channel_numbers_count_up.Goals as goal
 
 pub returns-clause-first : goal.returns-clause-first

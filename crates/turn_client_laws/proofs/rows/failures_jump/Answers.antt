@@ -1,4 +1,4 @@
-use Rattle.std.proofs.Common.{refl}
+use Rattle.turn_client_laws.proofs.Common.{refl}
 use Rattle.turn_client_laws.proofs.rows.failures_jump.Goals as goal
 
 pub returns-clause-events : goal.returns-clause-events

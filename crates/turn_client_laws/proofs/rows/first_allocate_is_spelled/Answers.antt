@@ -1,5 +1,5 @@
-use Rattle.std.proofs.Common.{refl}
-use Rattle.turn_stun.specs.Writer.{with_attribute}
+use Rattle.turn_client_laws.proofs.Common.{refl}
+use Rattle.turn_client_laws.proofs.Machine.{with_attribute}
 use Rattle.turn_client_laws.proofs.rows.first_allocate_is_spelled.Goals as goal
 
 pub returns : goal.returns

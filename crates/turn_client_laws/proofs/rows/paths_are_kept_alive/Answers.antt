@@ -1,6 +1,5 @@
-use Rattle.std.proofs.Common.{refl}
-use Rattle.turn_client_api.specs.Due.{refresh_time}
-use Rattle.turn_client_api.specs.Transmit.{is_refresh_due}
+use Rattle.turn_client_laws.proofs.Common.{refl}
+use Rattle.turn_client_laws.proofs.Machine.{refresh_time, is_refresh_due}
 use Rattle.turn_client_laws.proofs.rows.paths_are_kept_alive.Goals as goal
 
 pub returns : goal.returns

@@ -1,7 +1,6 @@
-use Rattle.std.proofs.Common.{ℕ, Bool, true, false, ◌≡◌, refl, arith}
+use Rattle.turn_client_laws.proofs.Common.{refl, arith}
+use Rattle.turn_client_laws.proofs.Machine.{refresh_time, is_refresh_due}
 use Rattle.std.proofs.lemmas.Bool.Decides.{nat_tests}
-use Rattle.turn_client_api.specs.Due.{refresh_time}
-use Rattle.turn_client_api.specs.Transmit.{is_refresh_due}
 use Rattle.turn_client_laws.proofs.rows.refreshes_are_ahead.Goals as goal
 
 pub returns-clause-default : goal.returns-clause-default

@@ -1,5 +1,5 @@
-use Rattle.std.proofs.Common.{refl}
-use Rattle.turn_agent.specs.Schedule.{schedule}
+use Rattle.turn_client_laws.proofs.Common.{refl}
+use Rattle.turn_client_laws.proofs.Machine.{schedule}
 use Rattle.turn_client_laws.specs.LawsRows.{polls_in_sequence}
 use Rattle.turn_client_laws.proofs.rows.silence_is_timed.Goals as goal
 

@@ -1,5 +1,5 @@
-use Rattle.std.proofs.Common.{refl}
-use Rattle.turn_client_api.specs.Due.{refresh_time}
+use Rattle.turn_client_laws.proofs.Common.{refl}
+use Rattle.turn_client_laws.proofs.Machine.{refresh_time}
 use Rattle.turn_client_laws.proofs.rows.wakeups_are_reported.Goals as goal
 
 pub returns : goal.returns

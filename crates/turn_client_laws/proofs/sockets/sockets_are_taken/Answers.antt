@@ -1,6 +1,5 @@
-use Rattle.std.proofs.Common.{refl}
-use Rattle.turn_agent.specs.Schedule.{schedule}
-use Rattle.turn_client_api.specs.Due.{refresh_time}
+use Rattle.turn_client_laws.proofs.Common.{refl}
+use Rattle.turn_client_laws.proofs.Machine.{schedule, refresh_time}
 use Rattle.turn_client_laws.proofs.sockets.sockets_are_taken.Goals as goal
 
 pub returns : goal.returns
