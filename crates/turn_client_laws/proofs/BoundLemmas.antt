@@ -1,9 +1,9 @@
 -- A connection is bound by a signed success on it.
-use Rattle.turn_client_laws.proofs.Common.{◌≡◌, ℕ, true, List, [], ◌∷◌, Some, refl, sym, subst, ap, inl, inr, find, list_any, SocketAddr, cases_Bool}
-use Rattle.turn_client_laws.proofs.Machine.{id_of, Success, same_address, State, Waiting, Stream, DataConnection, Purpose, ForBind, purposes_of, is_bind_of, is_message, same_address-true, Has}
-use Rattle.turn_client_laws.proofs.Machine.{has-found}
+use Rattle.turn_client_laws.proofs.Common.{◌≡◌, ℕ, true, List, [], ◌∷◌, Some, refl, sym, subst, ap, inl, inr, list_any, SocketAddr, cases_Bool}
+use Rattle.turn_client_laws.proofs.Machine.{id_of, Success, same_address, State, Waiting, Stream, Purpose, ForBind, purposes_of, is_bind_of, is_message, same_address-true, Has}
 use Rattle.turn_client_laws.specs.Handled.{Input}
 use Rattle.turn_client_laws.specs.LawsBound.{IsBindInput}
+use Rattle.turn_client_laws.proofs.CaseLemmas.{found-local}
 use Rattle.turn_client_laws.proofs.ChallengeJudgement.{AnswersBind, IsSignedReply, bind-says}
 use Rattle.turn_client_laws.proofs.StandLemmas.{has-contains}
 use Rattle.turn_client_laws.proofs.GrantOriginCallLemmas.{Binds}
@@ -24,9 +24,6 @@ for-bind local (ForBind other peer number ∷ purposes) e = elim (cases_Bool (sa
   | inr f ↦ asked-later local (ForBind other peer number) purposes (for-bind local purposes (rw f at e))
 ]
 for-bind local (x ∷ purposes) e = asked-later local x purposes (for-bind local purposes e)
-
-pub found-local : (local : SocketAddr) (c : DataConnection) (cs : List DataConnection) → find (λ (d : DataConnection). same_address d.local local) cs ≡ Some c → c.local ≡ local
-found-local local c cs e = same_address-true c.local local (has-found (λ (d : DataConnection). same_address d.local local) c cs e).1
 
 -- the input of a message that binds the connection
 pub binds-input : (one : Input) (stream : Stream) (t : State) → one.stream ≡ Some stream → stream.mode ≡ Waiting → is_message one.bytes ≡ true → (b : Binds stream.local one.bytes one.before t)

@@ -10,7 +10,8 @@ use Rattle.turn_client_laws.proofs.StandLemmas.{contains-has, has-contains}
 use Rattle.turn_client_laws.proofs.GrantOriginLemmas.{has-mapped}
 use Rattle.turn_client_laws.proofs.GrantOriginCallLemmas.{Binds, BindsOrLeaves, bind-leaves}
 use Rattle.turn_client_laws.proofs.GrantedLemmas.{leaves-grants}
-use Rattle.turn_client_laws.proofs.BoundLemmas.{binds-input, found-local}
+use Rattle.turn_client_laws.proofs.BoundLemmas.{binds-input}
+use Rattle.turn_client_laws.proofs.CaseLemmas.{found-local}
 use Rattle.turn_client_laws.proofs.StreamCallLemmas.{IsOpened, others-opened}
 use Rattle.turn_client_laws.proofs.StreamMessageLemmas.{message-same, same-cond}
 use Rattle.turn_client_laws.proofs.InputBringLemmas.{IsBrought, leaves-bring}

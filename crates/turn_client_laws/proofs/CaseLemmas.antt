@@ -5,7 +5,7 @@ use Rattle.turn_client_laws.proofs.Machine.{id_of, Tcp, Udp, AddressFamily, Stat
 use Rattle.turn_client_laws.proofs.Machine.{family_of, is_of, without_grants, as_connection, connection_bind_method, to_server, connection_id_in, method_in, peer_in, with_offer, accepts_attempt}
 use Rattle.turn_client_laws.proofs.Machine.{attempt_indicated, attempt_requested, bind_answered, bind_step, connection_at, is_connected, Outcome, Handled, Ignored, Source, active_channel}
 use Rattle.turn_client_laws.proofs.Machine.{as_indication, bound_to, can_send_to, on_channel, on_connection, send_over, send_to_step, channel_frame, TransportType, allocation_expires, answer_step}
-use Rattle.turn_client_laws.proofs.Machine.{answer_by, expired_allocation, expired_in, Relay, cases_Option}
+use Rattle.turn_client_laws.proofs.Machine.{answer_by, expired_allocation, expired_in, Relay, cases_Option, has-found, same_address, same_address-true}
 use Rattle.turn_client_api.specs.declared.error.SendError.TheVariants as Send
 
 -- ---- a test and a look-up
@@ -51,6 +51,9 @@ by_accepted P None s p q = q
 by_accepted P (Some t) s p q = p
 
 -- ---- a message of a connection
+
+pub found-local : (local : SocketAddr) (c : DataConnection) (cs : List DataConnection) → find (λ (d : DataConnection). same_address d.local local) cs ≡ Some c → c.local ≡ local
+found-local local c cs e = same_address-true c.local local (has-found (λ (d : DataConnection). same_address d.local local) c cs e).1
 
 bind_in_phase : (P : State → Type 0) (p : Phase) (local : SocketAddr) (message : List ℕ) (now : ℕ) (s : State) → P (record s { phase = p })
     → ((c : DataConnection) → p ≡ Allocated → connection_at local s ≡ Some c → method_in message ≡ connection_bind_method → P (bind_answered c message now (record s { phase = p })))

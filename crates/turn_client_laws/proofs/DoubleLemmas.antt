@@ -4,6 +4,7 @@ use Rattle.turn_client_laws.proofs.Common.{AllByRecursion, or_parts, cases_Bool,
 use Rattle.turn_client_laws.proofs.Machine.{same_address, Grant, Allocation, Permission, Channel, Connect, Offer, Connection, Progress, DataConnection, DataOffer, as_connection, is_channel_of}
 use Rattle.turn_client_laws.proofs.Machine.{is_connect_to, is_connection_from, is_permission_of, permission_progress, same_ip, without_first}
 use Rattle.turn_client_laws.specs.LawsDoubles.{is_double}
+use Rattle.turn_client_laws.proofs.NumberLemmas.{all-last}
 use Rattle.turn_client_laws.proofs.Edits.{outline}
 
 -- no two of them are for the same
@@ -79,10 +80,6 @@ single-unmap f alike (g ∷ gs) h = (single-unmapped f alike g gs h.0, single-un
 -- the last has no double before it
 abbrev pub IsNew : Grant → List Grant → Type 0
 IsNew g grants = AllByRecursion (λ x. is_double x g ≡ false) grants
-
-all-last : (P : Grant → Type 0) (g : Grant) (gs : List Grant) → P g → AllByRecursion P gs → AllByRecursion P (gs ++ g ∷ [])
-all-last P g [] last h = (last, tt)
-all-last P g (x ∷ gs) last h = (h.0, all-last P g gs last h.1)
 
 pub single-last : (g : Grant) (gs : List Grant) → IsNew g gs → AreSingle gs → AreSingle (gs ++ g ∷ [])
 unfolding IsDistinct

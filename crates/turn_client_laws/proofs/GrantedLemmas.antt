@@ -15,7 +15,8 @@ use Rattle.turn_client_laws.proofs.GrantOriginLemmas.{has-mapped}
 use Rattle.turn_client_laws.proofs.GrantOriginMessageLemmas.{message-brings}
 use Rattle.turn_client_laws.proofs.GrantOriginCallLemmas.{Binds, BindsOrLeaves, Leaves-KeepsEdits, bind-leaves, gone-leaves}
 use Rattle.turn_client_laws.proofs.EditsOfCalls.{quiet-walk, tcp_socket-walk}
-use Rattle.turn_client_laws.proofs.BoundLemmas.{binds-input, found-local}
+use Rattle.turn_client_laws.proofs.BoundLemmas.{binds-input}
+use Rattle.turn_client_laws.proofs.CaseLemmas.{found-local}
 use Rattle.turn_client_laws.proofs.InputBringLemmas.{IsBrought, leaves-bring}
 
 -- ---- all of them

@@ -28,8 +28,8 @@ pub use Rattle.turn_client_laws.proofs.AnyStreamsCalls.{send_to-alike, tcp_close
 pub use Rattle.turn_client_laws.proofs.AnyStreamsEffects.{bind-alike, opened_in, socket-alike}
 pub use Rattle.turn_client_laws.proofs.AnyStreamsLemmas.{both_with, message-alike, with_streams}
 pub use Rattle.turn_client_laws.proofs.AnyStreamsTime.{poll-alike, transmit-alike}
-pub use Rattle.turn_client_laws.proofs.BoundLemmas.{binds-input, found-local}
-pub use Rattle.turn_client_laws.proofs.CaseLemmas.{all-expire, answer-by, bind-by, by_accepted, by_found, by_test, indicated-by, requested-by, send_to-by}
+pub use Rattle.turn_client_laws.proofs.BoundLemmas.{binds-input}
+pub use Rattle.turn_client_laws.proofs.CaseLemmas.{all-expire, answer-by, bind-by, by_accepted, by_found, by_test, found-local, indicated-by, requested-by, send_to-by}
 pub use Rattle.turn_client_laws.proofs.ChallengeJudgement.{AnswersAllocate, Challenged-is, IsSignedReply, Says, bind-is, judgement-says}
 pub use Rattle.turn_client_laws.proofs.ConfiguredLemmas.{call-configured, leaves-configured, message-configured}
 pub use Rattle.turn_client_laws.proofs.DistinctGrants.{before-single, initial-single, leaves-single, ungranted-after}

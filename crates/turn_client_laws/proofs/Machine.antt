@@ -16,7 +16,8 @@ pub use Rattle.turn_stun.specs.declared.transport.TransportType.TheVariants.{Tcp
 pub use Rattle.turn_stun.proofs.FaultLemmas.{IsMessage-no_fault, attributes_of-is, fault_of-none, guard_none, no_fault-IsFaultless}
 pub use Rattle.turn_types.specs.Channel.{IsChannel, channel_data_at, channel_frame}
 unfoldable pub use Rattle.turn_types.specs.Channel.{channel_fault_of}
-pub use Rattle.turn_types.specs.Cuts.{Drained, behind, drained_at_most, fed}
+pub use Rattle.turn_types.specs.Cuts.{Drained, behind, fed}
+unfoldable pub use Rattle.turn_types.specs.Cuts.{drained_at_most}
 pub use Rattle.turn_types.specs.Frames.{IsFrame, begins_message, begins_no_frame, frame_len, frame_size}
 pub use Rattle.turn_types.specs.Send.{data_kind, peer_kind, send_indication}
 pub use Rattle.turn_types.specs.declared.family.AddressFamily.{AddressFamily}

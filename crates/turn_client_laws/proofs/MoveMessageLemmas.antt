@@ -17,7 +17,8 @@ use Rattle.turn_client_laws.proofs.EditsOfMessages.{found-has, retried-has}
 use Rattle.turn_client_laws.proofs.MoveLemmas.{Moves, Never, Settles, adds-filter, adds-more, adds-one, adds-same, loses-filter, loses-map, loses-more, loses-same, loses-wider, on_test, settles-moves}
 use Rattle.turn_client_laws.proofs.MoveLemmas.{settles-same, settles-wider}
 use Rattle.turn_client_laws.proofs.MoveReplyLemmas.{IsFor, response-fits}
-use Rattle.turn_client_laws.proofs.OneInputLemmas.{bind-by, input-by}
+use Rattle.turn_client_laws.proofs.OneInputLemmas.{input-by}
+use Rattle.turn_client_laws.proofs.CaseLemmas.{bind-by, found-local}
 use Rattle.turn_client_laws.proofs.GrantOriginLemmas.{has-mapped}
 use Rattle.turn_client_laws.proofs.StandLemmas.{has-contains}
 use Rattle.turn_client_laws.proofs.GrantOriginMessageLemmas.{for-allocation}
@@ -283,7 +284,7 @@ pub bind-moves : (local : SocketAddr) (message : List ℕ) (now : ℕ) (s : Stat
 bind-moves local message now s =
     let Taken = λ (a : SocketAddr) (g : Grant). is_connection_from a g ≡ true in
     bind-by (MovesByMessage (Taken local) message now s) local message now s (moves_by_message-same (Taken local) message now s)
-    (λ c e. subst (λ a. MovesByMessage (Taken a) message now s (bind_answered c message now s)) e (answered-moves c message now s))
+    (λ c allocated found method. subst (λ a. MovesByMessage (Taken a) message now s (bind_answered c message now s)) (found-local local c _ found) (answered-moves c message now s))
 
 -- ---- datagrams and frames
 

@@ -44,7 +44,7 @@ all-of P x [] all none = absurd none
 all-of P x (y ∷ xs) all (inl is) = rw is all.0
 all-of P x (y ∷ xs) all (inr there) = all-of P x xs all.1 there
 
-all-last : {A : Type 0} (P : A → Type 0) (x : A) (xs : List A) → P x → AllByRecursion P xs → AllByRecursion P (xs ++ x ∷ [])
+pub all-last : {A : Type 0} (P : A → Type 0) (x : A) (xs : List A) → P x → AllByRecursion P xs → AllByRecursion P (xs ++ x ∷ [])
 all-last P x [] last h = (last, tt)
 all-last P x (y ∷ xs) last h = (h.0, all-last P x xs last h.1)
 

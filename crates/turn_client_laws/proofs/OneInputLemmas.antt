@@ -1,11 +1,9 @@
 -- What one input leaves: the state as it was, or what its message leaves.
-use Rattle.turn_client_laws.proofs.Common.{◌≡◌, ℕ, eqb, Bool, true, false, not, cond, List, Option, Some, None, refl, filter_map, SocketAddr}
-use Rattle.turn_client_laws.proofs.Machine.{begins_message, same_address, State, Mode, Control, Waiting, Stream, Phase, Allocated, DataConnection, as_connection, connection_bind_method, method_in}
-use Rattle.turn_client_laws.proofs.Machine.{bind_answered, bind_step, connection_at, Outcome, Handled, Ignored, channel_sent, datagram_step, is_channel_frame, is_message, message_step, frame_step}
-use Rattle.turn_client_laws.proofs.Machine.{same_address-true, has-found}
+use Rattle.turn_client_laws.proofs.Common.{◌≡◌, ℕ, Bool, true, false, not, cond, List, Option, Some, None, refl}
+use Rattle.turn_client_laws.proofs.Machine.{begins_message, State, Mode, Control, Waiting, Stream, bind_step, Outcome, Handled, Ignored, channel_sent, datagram_step, is_channel_frame, is_message}
+use Rattle.turn_client_laws.proofs.Machine.{message_step, frame_step}
 use Rattle.turn_client_laws.specs.Handled.{Input, processed}
 use Rattle.turn_client_laws.specs.LawsHandled.{IsOverControl}
-use Rattle.turn_client_laws.proofs.MoveLemmas.{on_test}
 
 module _ (P : State → Type 0) (bytes : List ℕ) (now : ℕ) (s : State) (same : P s) where
   pub datagram-by : (is_message bytes ≡ true → P (message_step bytes now s).1) → P (datagram_step bytes now s).1
@@ -38,27 +36,6 @@ module _ (P : State → Type 0) (bytes : List ℕ) (now : ℕ) (s : State) (same
   pub frame-by : (stream : Stream) → (stream.mode ≡ Control → is_message bytes ≡ true → P (message_step bytes now s).1)
       → (stream.mode ≡ Waiting → is_message bytes ≡ true → P (bind_step stream.local bytes now s)) → P (frame_step stream bytes now s).1
   frame-by stream = frame_in_mode-by stream.mode stream
-
-bind_in_phase-by : (P : State → Type 0) (p : Phase) (local : SocketAddr) (bytes : List ℕ) (now : ℕ) (s : State) → P (record s { phase = p })
-    → ((c : DataConnection) → c.local ≡ local → P (bind_answered c bytes now (record s { phase = p }))) → P (bind_step local bytes now (record s { phase = p }))
-bind_in_phase-by P Allocated local bytes now s same answered = by (connection_at local s) refl
-  where
-    u : State
-    u = record s { phase = Allocated }
-
-    by : (o : Option DataConnection) → connection_at local s ≡ o → P (bind_step local bytes now u)
-    by None e = rw e same
-    by (Some c) e =
-        let found = has-found (λ (d : DataConnection). same_address d.local local) c (filter_map as_connection s.grants) e in
-        rw e
-        (on_test P (eqb (method_in bytes) connection_bind_method) (bind_answered c bytes now u) u (answered c (same_address-true c.local local found.1)) same)
-bind_in_phase-by P p local bytes now s same answered = same
-
--- a message of a connection that waits to be bound
-pub bind-by : (P : State → Type 0) (local : SocketAddr) (bytes : List ℕ) (now : ℕ) (s : State) → P s
-    → ((c : DataConnection) → c.local ≡ local → P (bind_answered c bytes now s))
-    → P (bind_step local bytes now s)
-bind-by P local bytes now s = bind_in_phase-by P s.phase local bytes now s
 
 pub input-by : (P : State → Type 0) (one : Input) → P one.before
     → (IsOverControl one → is_message one.bytes ≡ true → P (message_step one.bytes one.time one.before).1)

@@ -5,7 +5,8 @@ use Rattle.turn_client_laws.proofs.Machine.{bind_answered, with_mode, message_st
 use Rattle.turn_client_laws.proofs.Edits.{KeepsEdits}
 use Rattle.turn_client_laws.proofs.EditsOfMessages.{message-walk}
 use Rattle.turn_client_laws.proofs.FixedFields.{fixed-all-edits, fixed-edits}
-use Rattle.turn_client_laws.proofs.OneInputLemmas.{bind-by, frame-by}
+use Rattle.turn_client_laws.proofs.OneInputLemmas.{frame-by}
+use Rattle.turn_client_laws.proofs.CaseLemmas.{bind-by, found-local}
 
 -- the streams stay unchanged
 abbrev pub Same : State → State → Type 0
@@ -48,7 +49,7 @@ answered-rebound c message now s = by (bind_judgement s c.local message) refl
 pub frame-rebound-at : (stream : Stream) (frame : List ℕ) (now : ℕ) (s : State) → ReboundAt stream.local s (frame_step stream frame now s).1
 frame-rebound-at stream frame now s =
     frame-by Claim frame now s (inl refl) stream (λ mode whole. inl (message-same frame now s))
-    (λ mode whole. bind-by Claim stream.local frame now s (inl refl) (λ c e. rw (sym e) (answered-rebound c frame now s)))
+    (λ mode whole. bind-by Claim stream.local frame now s (inl refl) (λ c allocated found method. rw (sym (found-local stream.local c _ found)) (answered-rebound c frame now s)))
   where
     Claim : State → Type 0
     Claim t = ReboundAt stream.local s t
