@@ -1,21 +1,8 @@
 -- Once the server has allocated, no edit gives an allocation another relayed address, or adds one.
-use Rattle.std.proofs.Common.{◌≡◌, ◌⊎◌, ◌∙◌, Bool, true, not, List, [], ◌∷◌, ◌++◌, map, filter, refl, subst, sym, ap, inl, inr}
-use Rattle.std.proofs.lemmas.Bool.{cases_Bool}
-use Rattle.std.specs.declared.net.socket_addr.SocketAddr.{SocketAddr}
-use Rattle.turn_client_api.specs.State.{State}
-use Rattle.turn_client_api.specs.declared.grant.Grant.{Grant}
-use Rattle.turn_client_api.specs.declared.grant.Grant.TheVariants.{Allocation}
-use Rattle.turn_client_api.specs.declared.grant.Relay.{Relay}
-use Rattle.turn_client_api.specs.declared.state.Phase.{Phase}
-use Rattle.turn_client_api.specs.declared.state.Phase.TheVariants.{New, Requesting}
-use Rattle.turn_client_api.specs.Calls.{is_offer_of, offer_taken, without_first}
-use Rattle.turn_client_api.specs.declared.grant.Origin.TheVariants.{OwnConnect}
-use Rattle.turn_client_api.specs.Effect.{phase_with, with_offer}
-use Rattle.turn_client_api.specs.Grants.{is_channel_of, is_connect_to, is_of, is_permission_of, without_grants}
-use Rattle.turn_client_api.specs.Retry.{phase_after}
-use Rattle.turn_client_laws.specs.LawsOrder.{IsUngranted}
-use Rattle.turn_client_laws.proofs.Edits.{KeepsAllEdits, KeepsEdits, aged-outlines, outline}
-use Rattle.turn_client_api.proofs.HasLemmas.{Has, has-append, has-filter}
+use Rattle.turn_client_laws.proofs.Common.{◌≡◌, ◌⊎◌, ◌∙◌, Bool, true, not, List, [], ◌∷◌, ◌++◌, map, filter, refl, subst, sym, ap, inl, inr, SocketAddr}
+use Rattle.turn_client_laws.proofs.Machine.{State, Grant, Allocation, Relay, is_offer_of, offer_taken, without_first, OwnConnect, with_offer, is_channel_of, is_connect_to, is_of, is_permission_of}
+use Rattle.turn_client_laws.proofs.Machine.{without_grants, Has, has-append, has-filter}
+use Rattle.turn_client_laws.proofs.Laws.{IsUngranted, KeepsAllEdits, KeepsEdits, aged-outlines, outline, was-first, granted-with, ungranted-after}
 
 -- one of these allocations has this address
 abbrev pub HasAddress : SocketAddr → List Grant → Type 0
@@ -55,15 +42,8 @@ one-within grants later g other within relayed (a, there, e) = elim (has-append 
   | inr (inr absent) ↦ absurd absent
 ]
 
-first-has : (which : Grant → Bool) (g : Grant) (grants : List Grant) → Has g (without_first which grants) → Has g grants
-first-has which g [] there = there
-first-has which g (x ∷ grants) there = elim (cases_Bool (which x)) [
-  | inl e ↦ inr (rw e at there)
-  | inr e ↦ elim (rw e at there) [ inl is ↦ inl is | inr later ↦ inr (first-has which g grants later) ]
-]
-
 first-within : (which : Grant → Bool) (grants : List Grant) → AddressesWithin grants (without_first which grants)
-first-within which grants relayed (a, there, e) = (a, first-has which (Allocation a) grants there, e)
+first-within which grants relayed (a, there, e) = (a, was-first which (Allocation a) grants there, e)
 
 -- an outline keeps the address
 outline-address : (g : Grant) (a : Relay) → outline g ≡ outline (Allocation a) → (b : Relay) × (g ≡ Allocation b) × (b.relayed ≡ a.relayed)
@@ -89,29 +69,22 @@ outlines-within (g ∷ grants) (x ∷ later) e relayed (a, inr there, same) =
     (b, inr here, address)
 outlines-within grants later e relayed h = cc
 
-before : (p : Phase) → IsUngranted (phase_after p) → IsUngranted p
-before New h = h
-before Requesting h = tt
-before p h = h
-
-unallocated : (addresses : List SocketAddr) → IsUngranted (phase_with addresses) → ⊥
-unallocated [] h = h
-unallocated (a ∷ others) h = h
-
 edits : KeepsEdits KeepsAddresses
 edits = record {
-  same = λ s. none s s refl refl;
-  trans = keeps-trans;
-  aside = λ s t. none s (record s { ids = t.ids; events = t.events; closes = t.closes }) refl refl;
-  queues = λ queue s begun. none s (record s { queue = queue }) refl refl;
-  dequeues = λ queue s fewer. none s (record s { queue = queue }) refl refl;
-  families = λ families s may. none s (record s { families = families }) refl refl;
-  sends = λ now s waits. (λ h. h, inr (λ relayed h. h));
-  begins = λ now s new. (λ h. rw new tt, inr (λ relayed h. h));
-  ends = λ s unlisted. (λ h. absurd h, inr (λ relayed h. h));
+  rest = record {
+    same = λ s. none s s refl refl;
+    trans = keeps-trans;
+    aside = λ s t. none s (record s { ids = t.ids; events = t.events; closes = t.closes }) refl refl;
+    queues = λ queue s begun. none s (record s { queue = queue }) refl refl;
+    dequeues = λ queue s fewer. none s (record s { queue = queue }) refl refl;
+    families = λ families s may. none s (record s { families = families }) refl refl;
+    sends = λ now s waits. (λ h. h, inr (λ relayed h. h));
+    begins = λ now s new. (λ h. rw new tt, inr (λ relayed h. h));
+    ends = λ s unlisted. (λ h. absurd h, inr (λ relayed h. h));
+    finishes = λ id s. (λ h. h, inr (λ relayed h. h));
+    resends = λ id now s. (λ h. h, inr (λ relayed h. h));
+  };
   asks = λ id text purposes now s begun askable spelled. (λ h. h, inr (λ relayed h. h));
-  finishes = λ id s. (λ h. h, inr (λ relayed h. h));
-  resends = λ id now s. (λ h. h, inr (λ relayed h. h));
   unlists = λ which s. (λ h. h, inr (λ relayed h. h));
   removes = λ which s spares. (λ h. h, inr (filter-within (λ g. not (which g)) s.grants));
   removes_family = λ family s. (λ h. h, inr (filter-within (λ g. not (is_of family g)) s.grants));
@@ -131,10 +104,10 @@ KeepsAddresses-KeepsAllEdits = record {
   reshapes = λ grants s e. (λ h. h, inr (outlines-within s.grants grants e));
   rebinds = λ number peer was progress s there. (λ h. h, inr (one-within s.grants _ _ (λ a is. cc) (filter-within (λ g. not (is_channel_of number g)) s.grants)));
   holds = λ message d s e. (λ h. h, inr (λ relayed h. h));
-  counts = λ s held few. (before s.phase, inr (λ relayed h. h));
+  counts = λ s held few. (ungranted-after s.phase, inr (λ relayed h. h));
   resets = λ accepted s. (λ h. h, inr (λ relayed h. h));
   empties = λ s. (λ h. h, inr (filter-within (λ g. not true) s.grants));
-  allocates = λ message lifetime now s phase unlisted. (λ h. absurd (unallocated _ h), inl (rw phase tt));
+  allocates = λ message lifetime now s phase unlisted. (λ h. absurd (granted-with _ h), inl (rw phase tt));
   permits = λ ip is_kept expiry s is. (λ h. h, inr (one-within s.grants _ _ (λ a is. cc) (filter-within (λ g. not (is_permission_of ip g)) s.grants)));
   connects = λ id connection_id peer s t since stay granted listed.
       let end = with_offer connection_id peer OwnConnect (without_grants (is_connect_to peer) t) in

@@ -1,25 +1,7 @@
 -- Each relayed address is that of a success to an ALLOCATE.
-use Rattle.std.proofs.Common.{◌≡◌, ◌⊎◌, ◌∙◌, ℕ, true, List, refl, subst, sym, ap, inl, inr}
-use Rattle.std.specs.Prelude.{⊤, is_some}
-use Rattle.std.specs.declared.net.socket_addr.SocketAddr.{SocketAddr}
-use Rattle.turn_client_api.specs.State.{State}
-use Rattle.turn_client_api.specs.Steps.{state_after}
-use Rattle.turn_client_api.specs.declared.call.Call.{Call}
-use Rattle.turn_client_api.specs.declared.grant.Grant.{Grant}
-use Rattle.turn_client_api.specs.declared.grant.Grant.TheVariants.{Allocation}
-use Rattle.turn_client_api.specs.declared.grant.Relay.{Relay}
-use Rattle.turn_client_api.specs.declared.state.Phase.{Phase}
-use Rattle.turn_client_api.specs.declared.state.Phase.TheVariants.{Allocated}
-use Rattle.turn_client_api.specs.Connections.{bind_step, connection_at}
-use Rattle.turn_client_api.specs.Payloads.{is_message, message_step}
-use Rattle.turn_client_laws.specs.Handled.{Input}
-use Rattle.turn_client_laws.specs.LawsHandled.{IsDoneBy, IsOverControl, TakesInput}
-use Rattle.turn_client_laws.specs.LawsOrder.{IsUngranted}
-use Rattle.turn_client_laws.proofs.CaseLemmas.{by_test}
-use Rattle.turn_client_laws.proofs.EditsOfMessages.{bind-walk, message-walk}
-use Rattle.turn_client_api.proofs.HasLemmas.{Has}
-use Rattle.turn_client_laws.proofs.StandLemmas.{Covers, contains-has}
-use Rattle.turn_client_laws.proofs.InputBringLemmas.{IsBrought, leaves-bring}
+use Rattle.turn_client_laws.proofs.Common.{◌≡◌, ◌⊎◌, ◌∙◌, ℕ, true, List, refl, subst, sym, ap, inl, inr, ⊤, is_some, SocketAddr}
+use Rattle.turn_client_laws.proofs.Machine.{State, state_after, Call, Grant, Allocation, Relay, Phase, Allocated, bind_step, connection_at, is_message, message_step, Has}
+use Rattle.turn_client_laws.proofs.Laws.{Input, IsDoneBy, IsOverControl, TakesInput, IsUngranted, by_test, bind-walk, message-walk, Covers, contains-has, IsBrought, leaves-bring}
 use Rattle.turn_client_runs.proofs.AddressEdits.{AddressesWithin, HasAddress, KeepsAddresses, KeepsAddresses-KeepsAllEdits, filter-within}
 use Rattle.turn_client_runs.proofs.CallGrants.{quiet-grants, same-allocation}
 use Rattle.turn_client_runs.proofs.GrantInputs.{Granting, granting-brought, kept-alike}

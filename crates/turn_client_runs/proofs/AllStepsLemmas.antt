@@ -1,15 +1,9 @@
 -- All steps of the streams, with what each of them returns, and the polls that take them.
-use Rattle.std.proofs.Common.{◌≡◌, ℕ, zero, suc, ◌+◌, ◌<◌, ◌≤◌, List, [], ◌∷◌, ◌++◌, find, Option, Some, None, refl, ap, sym, ◌∙◌, arith}
-use Rattle.std.specs.Option.{option_map_or}
-use Rattle.turn_client_api.specs.State.{State}
-use Rattle.turn_client_api.specs.declared.state.Stream.{Stream}
-use Rattle.turn_client_api.specs.Payloads.{Payload, Outcome, Handled, Ignored, PeerData}
-use Rattle.turn_client_api.specs.Streams.{go_on, is_ready, max_steps, poll_recv_step, next_frame_step, first_ready_step, steps_until_payload}
-use Rattle.turn_client_api.specs.Receive.{then_all}
+use Rattle.turn_client_laws.proofs.Common.{◌≡◌, ℕ, zero, suc, ◌+◌, ◌<◌, ◌≤◌, List, [], ◌∷◌, ◌++◌, find, Option, Some, None, refl, ap, sym, ◌∙◌, arith, option_map_or}
+use Rattle.turn_client_laws.proofs.Machine.{State, Stream, Payload, Outcome, Handled, Ignored, PeerData, go_on, is_ready, max_steps, poll_recv_step, next_frame_step, first_ready_step}
+use Rattle.turn_client_laws.proofs.Machine.{steps_until_payload, then_all}
+use Rattle.turn_client_laws.proofs.Laws.{none-ready, IsDone, step-lighter, steps-done, steps-enough, walk-enough, IsLessThan, steps-less, weight, weight-le}
 use Rattle.turn_client_laws.proofs.RestingStreamLemmas.{steps-rest}
-use Rattle.turn_client_laws.proofs.StreamDrainLemmas.{none-ready, IsDone, step-lighter, steps-done, steps-enough}
-use Rattle.turn_client_laws.proofs.StreamFewerLemmas.{IsLessThan, steps-less}
-use Rattle.turn_client_laws.proofs.StreamWeightLemmas.{weight, weight-le}
 use Rattle.turn_client_runs.specs.Cut.{and_then, outcome_payloads, polled_until_none}
 
 -- what an outcome returns, and then the rest in the state after it
@@ -39,20 +33,9 @@ all-first n now s stream e = rw e refl
 -- more steps than the streams' weight give the same
 pub all-enough : (n m now : ℕ) (s : State) → weight s.streams ≤ n → weight s.streams ≤ m → all_steps n now s ≡ all_steps m now s
 unfolding all_steps
-all-enough zero zero now s hn hm = refl
-all-enough zero (suc m) now s hn hm = rw (none-ready now s hn _ refl) refl
-all-enough (suc n) zero now s hn hm = rw (none-ready now s hm _ refl) refl
-all-enough (suc n) (suc m) now s hn hm = by (find is_ready s.streams) refl (λ t p q. all-enough n m now t p q)
-  where
-    Later : Type 0
-    Later = (t : State) → weight t.streams ≤ n → weight t.streams ≤ m → all_steps n now t ≡ all_steps m now t
-
-    by : (o : Option Stream) → find is_ready s.streams ≡ o → Later → step_by_step (all_steps n now) now s o ≡ step_by_step (all_steps m now) now s o
-    by None e more = refl
-    by (Some stream) e more =
-        let less = step-lighter stream now s e in
-        let p = next_frame_step stream now s in
-        ap (λ (q : List Payload × State). (outcome_payloads p.0 ++ q.0, q.1)) (more p.1 (omega (arith, less, hn)) (omega (arith, less, hm)))
+all-enough n m now =
+    walk-enough (λ n. all_steps n now) (λ s. ([], s)) gives_then now (λ s. refl) (λ n s. all-rest (suc n) now s) (λ n s stream. all-first n now s stream)
+    (λ next other p. ap (λ (q : List Payload × State). (outcome_payloads p.0 ++ q.0, q.1))) n m
 
 -- after as many no stream is ready
 pub all-done : (n now : ℕ) (s : State) → weight s.streams ≤ n → find is_ready (all_steps n now s).1.streams ≡ None

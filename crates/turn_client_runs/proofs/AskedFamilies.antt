@@ -1,24 +1,8 @@
 -- An ALLOCATE whose success grants an allocation requests the families of which the client still requests
 -- an address, and is signed.
-use Rattle.std.proofs.Common.{◌≡◌, List, [], refl, subst, true}
-use Rattle.std.specs.List.{Contains}
-use Rattle.turn_stun.specs.Message.{id_of}
-use Rattle.turn_agent.specs.Agent.{is_outstanding}
-use Rattle.turn_agent.specs.declared.transaction.Transaction.{Transaction}
-use Rattle.turn_client_api.specs.State.{State}
-use Rattle.turn_client_api.specs.declared.call.Call.{Call}
-use Rattle.turn_client_api.specs.declared.grant.Purpose.{Purpose}
-use Rattle.turn_client_api.specs.declared.grant.Purpose.TheVariants.{ForAllocation}
-use Rattle.turn_client_api.specs.declared.state.Phase.{Phase}
-use Rattle.turn_client_api.specs.declared.state.Phase.TheVariants.{New, Requesting, Authenticating}
-use Rattle.turn_client_api.specs.Grants.{purposes_of}
-use Rattle.turn_client_laws.specs.Handled.{Input, handled}
-use Rattle.turn_client_laws.specs.LawsAllocates.{AllocatesInOrder, IsAllocate}
-use Rattle.turn_client_laws.specs.LawsReplies.{IsAwaited}
-use Rattle.turn_client_laws.proofs.Edits.{listing}
-use Rattle.turn_client_laws.proofs.StandLemmas.{contains-has, has-contains}
-use Rattle.turn_client_laws.proofs.InputKeepLemmas.{before-kept}
-use Rattle.turn_client_laws.proofs.TwoPurposes.{purpose-with}
+use Rattle.turn_client_laws.proofs.Common.{◌≡◌, List, [], refl, subst, true, Contains}
+use Rattle.turn_client_laws.proofs.Machine.{id_of, is_outstanding, Transaction, State, Call, Purpose, ForAllocation, Phase, New, Requesting, Authenticating, purposes_of}
+use Rattle.turn_client_laws.proofs.Laws.{Input, handled, AllocatesInOrder, IsAllocate, IsAwaited, listing, contains-has, has-contains, before-kept, purpose-with}
 use Rattle.turn_client_runs.specs.Granted.{AsksForItsFamily}
 use Rattle.turn_client_runs.proofs.SignedLemmas.{AreSigned, Signs, SignsIn, StaySigned, StaySigned-IsKept}
 

@@ -1,30 +1,9 @@
 -- What is listed after a run was listed at first, or its request was made in the run.
-use Rattle.std.proofs.Common.{◌≡◌, ◌⊎◌, ◌∙◌, ℕ, Bool, true, false, cond, List, [], ◌∷◌, ◌++◌, Option, Some, None, inl, inr, refl, sym, subst, ap}
-use Rattle.std.specs.Prelude.{find}
-use Rattle.std.specs.List.{Contains}
-use Rattle.std.specs.declared.net.ip_addr.IpAddr.{IpAddr}
-use Rattle.std.specs.declared.net.socket_addr.SocketAddr.{SocketAddr}
-use Rattle.turn_stun.specs.Message.{id_of}
-use Rattle.turn_client_api.specs.State.{State}
-use Rattle.turn_client_api.specs.declared.call.Call.{Call}
-use Rattle.turn_client_api.specs.declared.grant.Listing.{Listing}
-use Rattle.turn_client_api.specs.declared.grant.Purpose.{Purpose}
-use Rattle.turn_client_api.specs.declared.grant.Purpose.TheVariants.{ForPermission, ForChannel}
-use Rattle.turn_client_api.specs.Grants.{purposes_of}
-use Rattle.turn_client_laws.specs.Handled.{Input, handled, processed}
-use Rattle.turn_client_laws.specs.LawsGone.{GivesBack}
-use Rattle.turn_client_laws.specs.LawsHandled.{DiffersInStreams, ProcessesInputs, InputsLead}
-use Rattle.turn_client_laws.specs.LawsRequests.{IsListedFor}
-use Rattle.turn_client_api.specs.Retry.{first_or, is_allocate_or_connect, is_channel_bind, is_create_permission, is_refresh, retried}
-use Rattle.turn_client_api.specs.Steps.{state_after, state_after_all}
-use Rattle.turn_client_laws.proofs.Edits.{listing}
-use Rattle.turn_client_laws.proofs.EditsOfMessages.{retried-has}
-use Rattle.turn_client_api.proofs.HasLemmas.{Has, has-found}
-use Rattle.turn_client_laws.proofs.MoveSocketLemmas.{gone-settles}
-use Rattle.turn_client_laws.proofs.MoveInputLemmas.{listings-made}
-use Rattle.turn_client_laws.proofs.StandLemmas.{contains-has, has-contains}
-use Rattle.turn_client_laws.proofs.InputChainLemmas.{calls-do}
-use Rattle.turn_client_laws.proofs.TwoPurposes.{purpose-with}
+use Rattle.turn_client_laws.proofs.Common.{◌≡◌, ◌⊎◌, ◌∙◌, ℕ, Bool, true, false, cond, List, [], ◌∷◌, ◌++◌, Option, Some, None, inl, inr, refl, sym, subst, ap, find, Contains, IpAddr, SocketAddr}
+use Rattle.turn_client_laws.proofs.Machine.{id_of, State, Call, Listing, Purpose, ForPermission, ForChannel, purposes_of, first_or, is_allocate_or_connect, is_channel_bind, is_create_permission}
+use Rattle.turn_client_laws.proofs.Machine.{is_refresh, retried, state_after, state_after_all, Has, has-found}
+use Rattle.turn_client_laws.proofs.Laws.{Input, handled, processed, GivesBack, DiffersInStreams, ProcessesInputs, InputsLead, IsListedFor, listing, retried-has, gone-settles, listings-made}
+use Rattle.turn_client_laws.proofs.Laws.{contains-has, has-contains, calls-do, purpose-with}
 use Rattle.turn_client_runs.specs.Granted.{IsAskedInCall, IsRequestedByInput, WasAsked, WasAskedBefore}
 use Rattle.turn_client_runs.proofs.QuietLemmas.{calls-keep}
 use Rattle.turn_client_runs.proofs.RelistLemmas.{IsRetriedFor, input-relists}

@@ -1,31 +1,12 @@
 -- A request for a channel, and one that binds a data connection, are for the peer that it has.
-use Rattle.std.proofs.Common.{◌≡◌, ℕ}
-use Rattle.std.specs.List.{Contains}
-use Rattle.std.specs.declared.net.socket_addr.SocketAddr.{SocketAddr}
-use Rattle.turn_stun.specs.Message.{id_of}
-use Rattle.turn_client_api.specs.State.{State}
-use Rattle.turn_client_api.specs.declared.call.Call.{Call}
-use Rattle.turn_client_api.specs.declared.grant.Purpose.TheVariants.{ForBind, ForChannel}
-use Rattle.turn_client_api.specs.declared.grant.DataConnection.{DataConnection}
-use Rattle.turn_client_api.specs.declared.grant.Grant.TheVariants.{Connection}
-use Rattle.turn_client_api.specs.Grants.{purposes_of}
-use Rattle.turn_client_laws.specs.Handled.{Input, handled}
-use Rattle.turn_client_laws.specs.LawsGranted.{HasChannelTo}
-use Rattle.turn_client_laws.specs.LawsNumbers.{HasDistinctNumbers}
-use Rattle.turn_client_laws.specs.LawsStates.{HasGrantsAsked, HasItsGrant}
-use Rattle.turn_client_laws.specs.LawsDoubles.{HasNoDoubles}
-use Rattle.turn_client_laws.specs.LawsOrder.{FitsPhase}
+use Rattle.turn_client_laws.proofs.Common.{◌≡◌, ℕ, Contains, SocketAddr}
+use Rattle.turn_client_laws.proofs.Machine.{id_of, State, Call, ForBind, ForChannel, DataConnection, Connection, purposes_of, Has, has-all}
+use Rattle.turn_client_laws.proofs.Laws.{Input, handled, HasChannelTo, HasDistinctNumbers, HasGrantsAsked, HasItsGrant, HasNoDoubles, FitsPhase, before-single, AreApart-KeepsGrants, edits-IsKept}
+use Rattle.turn_client_laws.proofs.Laws.{purposes-listed, StayFounded, StayFounded-KeepsAllEdits, contains-has, before-kept}
 use Rattle.turn_client_laws.proofs.ConnectionPeers.{asked-connection}
-use Rattle.turn_client_laws.proofs.DistinctGrants.{before-single}
 use Rattle.turn_client_laws.proofs.ChannelPeers.{asked-peer}
-use Rattle.turn_client_laws.proofs.DistinctNumbers.{AreApart-KeepsGrants}
-use Rattle.turn_client_laws.proofs.EditsOfMessages.{edits-IsKept, purposes-listed}
 use Rattle.turn_client_laws.proofs.GrantEdits.{grants-KeepsAllEdits}
-use Rattle.turn_client_api.proofs.HasLemmas.{Has, has-all}
-use Rattle.turn_client_laws.proofs.ListedGrants.{StayFounded, StayFounded-KeepsAllEdits}
 use Rattle.turn_client_laws.proofs.NumberLemmas.{AreApart}
-use Rattle.turn_client_laws.proofs.StandLemmas.{contains-has}
-use Rattle.turn_client_laws.proofs.InputKeepLemmas.{before-kept}
 
 -- a channel has the peer with which it was requested
 abbrev pub HasAskedPeers : Input → Type 0

@@ -1,47 +1,16 @@
 -- What is bound after a run was bound by an input of it.
-use Rattle.std.proofs.Common.{◌≡◌, ◌⊎◌, ◌∙◌, ℕ, true, List, [], ◌∷◌, ◌++◌, Option, Some, None, inl, inr, refl, sym, subst, ap}
-use Rattle.std.specs.List.{Contains}
-use Rattle.std.specs.declared.net.socket_addr.SocketAddr.{SocketAddr}
-use Rattle.turn_stun.specs.declared.transport.TransportType.{TransportType}
-use Rattle.turn_stun.specs.declared.transport.TransportType.TheVariants.{Udp, Tcp}
-use Rattle.turn_client_api.specs.Config.{Config}
-use Rattle.turn_client_api.specs.State.{State, first_streams, initial}
-use Rattle.turn_client_api.specs.Judgement.{bind_judgement}
-use Rattle.turn_client_api.specs.Connections.{bind_answered, bind_step}
-use Rattle.turn_client_api.specs.Payloads.{is_message}
-use Rattle.turn_client_laws.specs.Handled.{Input, handled, processed}
-use Rattle.turn_client_laws.specs.LawsBound.{IsBindInput, IsBoundConnection, IsConnecting}
-use Rattle.turn_client_laws.specs.LawsGranted.{IsSameGrant}
-use Rattle.turn_client_laws.specs.LawsHandled.{IsBoundAt, IsDoneBy, IsOverControl, IsOverWaiting, TakesInput}
-use Rattle.turn_client_laws.specs.LawsReplies.{IsAccepted, IsNotAwaited}
-use Rattle.turn_client_api.specs.Steps.{state_after, state_after_all}
-use Rattle.turn_client_api.specs.declared.call.Call.{Call}
-use Rattle.turn_client_api.specs.declared.grant.DataConnection.{DataConnection}
-use Rattle.turn_client_api.specs.declared.grant.Grant.TheVariants.{Connection}
-use Rattle.turn_client_api.specs.declared.grant.Purpose.{Purpose}
-use Rattle.turn_client_api.specs.declared.grant.Purpose.TheVariants.{ForBind}
-use Rattle.turn_client_api.specs.declared.state.Mode.TheVariants.{Control, Waiting}
-use Rattle.turn_client_api.specs.declared.state.Phase.{Phase}
-use Rattle.turn_client_api.specs.declared.state.Phase.TheVariants.{Allocated}
-use Rattle.turn_client_api.specs.declared.state.Stream.{Stream}
-use Rattle.turn_client_laws.specs.LawsDoubles.{HasNoDoubles}
-use Rattle.turn_client_laws.specs.LawsOrder.{FitsPhase}
-use Rattle.turn_client_laws.specs.LawsStates.{HasGrantsAsked}
-use Rattle.turn_client_laws.proofs.BoundLemmas.{found-local}
-use Rattle.turn_client_laws.proofs.DistinctGrants.{initial-single, leaves-single}
-use Rattle.turn_client_laws.proofs.EditsOfMessages.{connection-there}
-use Rattle.turn_client_laws.proofs.ListedGrants.{initial-HasGrantsAsked, leaves-HasGrantsAsked}
-use Rattle.turn_client_laws.proofs.SendOrderLemmas.{initial-steady, leaves-steadies}
+use Rattle.turn_client_laws.proofs.Common.{◌≡◌, ◌⊎◌, ◌∙◌, ℕ, true, List, [], ◌∷◌, ◌++◌, Option, Some, None, inl, inr, refl, sym, subst, ap, Contains, SocketAddr, Contains-append_left}
+use Rattle.turn_client_laws.proofs.Machine.{TransportType, Udp, Tcp, Config, State, first_streams, initial, bind_judgement, bind_answered, bind_step, is_message, state_after, state_after_all, Call}
+use Rattle.turn_client_laws.proofs.Machine.{DataConnection, Connection, Purpose, ForBind, Control, Waiting, Phase, Allocated, Stream}
+use Rattle.turn_client_laws.proofs.Laws.{Input, handled, processed, IsBindInput, IsBoundConnection, IsConnecting, IsSameGrant, IsBoundAt, IsDoneBy, IsOverControl, IsOverWaiting, TakesInput}
+use Rattle.turn_client_laws.proofs.Laws.{IsAccepted, IsNotAwaited, HasNoDoubles, FitsPhase, HasGrantsAsked, found-local, initial-single, leaves-single, connection-there, initial-HasGrantsAsked}
+use Rattle.turn_client_laws.proofs.Laws.{leaves-HasGrantsAsked, initial-steady, leaves-steadies, bind-ended, Binds, bind-leaves, Covers, contains-has, covers-has, covers-left, covers-stood, IsBrought}
+use Rattle.turn_client_laws.proofs.Laws.{leaves-bring}
 use Rattle.turn_client_runs.proofs.AskedPeers.{inputs-ask-connections}
 use Rattle.turn_client_runs.proofs.QuietLemmas.{calls-keep}
-use Rattle.std.proofs.lemmas.List.Elements.{Contains-append_left}
-use Rattle.turn_client_laws.proofs.AcceptedReplyLemmas.{bind-ended}
 use Rattle.turn_client_laws.proofs.BoundStreamLemmas as Streams
-use Rattle.turn_client_laws.proofs.GrantOriginCallLemmas.{Binds, bind-leaves}
 use Rattle.turn_client_laws.proofs.GrantedLemmas as Grants
 use Rattle.turn_client_laws.proofs.StandLemmas as Stand
-use Rattle.turn_client_laws.proofs.StandLemmas.{Covers, contains-has, covers-has, covers-left, covers-stood}
-use Rattle.turn_client_laws.proofs.InputBringLemmas.{IsBrought, leaves-bring}
 use Rattle.turn_client_runs.specs.Bound.{BindsToPeer, BoundConnectionsHaveSuccess, BoundStreamsHaveSuccess, HasConnectionSuccess, HasSuccess, HasTransactionEnded, IsBoundSince, StreamsAreBoundBefore}
 use Rattle.turn_client_runs.specs.Inputs.{IsAmong, handled_in}
 use Rattle.turn_client_runs.proofs.CallGrants.{quiet}

@@ -1,14 +1,7 @@
 -- A client without waits is busy for ever.
-use Rattle.std.proofs.Common.{◌≡◌, ◌∙◌, ℕ, List, ap, refl}
-use Rattle.turn_agent.specs.TransactionIds.{behind_id}
-use Rattle.turn_client_api.specs.State.{State}
-use Rattle.turn_client_api.specs.Steps.{state_after}
-use Rattle.turn_client_api.specs.declared.call.Call.TheVariants.{Poll, PollTransmit}
-use Rattle.turn_client_api.specs.declared.grant.Purpose.TheVariants.{ForPermission}
-use Rattle.turn_client_api.specs.Due.{refresh_time}
-use Rattle.turn_client_api.specs.Requests.{fresh_id, request_for}
-use Rattle.turn_client_api.specs.Transmit.{is_refresh_due}
-use Rattle.turn_client_laws.specs.LawsRows.{ip_of_peer}
+use Rattle.turn_client_laws.proofs.Common.{◌≡◌, ◌∙◌, ℕ, List, ap, refl}
+use Rattle.turn_client_laws.proofs.Machine.{behind_id, State, state_after, Poll, PollTransmit, ForPermission, refresh_time, fresh_id, request_for, is_refresh_due}
+use Rattle.turn_client_laws.proofs.Laws.{ip_of_peer}
 use Rattle.turn_client_runs.specs.Busy.{IsBusyForEver, without_waits}
 use Rattle.turn_client_runs.proofs.LastingRowLemmas.{eqb-self, requesting}
 

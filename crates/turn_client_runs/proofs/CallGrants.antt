@@ -1,21 +1,9 @@
 -- What is active after a call was active before it, a `delete` ended it, or an input of the call granted
 -- it.
-use Rattle.std.proofs.Common.{◌≡◌, ◌⊎◌, ◌∙◌, ℕ, [], Ok, refl, subst, sym, ap, inl, inr}
-use Rattle.std.proofs.lemmas.Bool.{cases_Bool}
-use Rattle.turn_client_api.specs.State.{State}
-use Rattle.turn_client_api.specs.declared.call.Call.{Call}
-use Rattle.turn_client_api.specs.declared.call.Call.TheVariants.{Delete}
-use Rattle.turn_client_api.specs.declared.grant.Grant.{Grant}
-use Rattle.turn_client_api.specs.declared.grant.Grant.TheVariants.{Allocation}
-use Rattle.turn_client_api.specs.declared.grant.Relay.{Relay}
-use Rattle.turn_client_api.specs.Calls.{delete_step, is_allocated}
-use Rattle.turn_client_laws.specs.Handled.{handled}
-use Rattle.turn_client_laws.specs.LawsGranted.{IsEndedNow, IsGrantedIn, IsSameGrant, WasActive}
-use Rattle.turn_client_laws.specs.LawsHandled.{IsDoneBy, TakesInput}
-use Rattle.turn_client_api.specs.Steps.{state_after}
-use Rattle.turn_client_laws.proofs.GrantedLemmas.{leaves-grants}
-use Rattle.turn_client_laws.proofs.StandLemmas.{Covers, contains-has, covers-stood, has-contains, kept-stood, kept-trans}
-use Rattle.turn_client_laws.proofs.InputBringLemmas.{leaves-bring}
+use Rattle.turn_client_laws.proofs.Common.{◌≡◌, ◌⊎◌, ◌∙◌, ℕ, [], Ok, refl, subst, sym, ap, inl, inr, cases_Bool}
+use Rattle.turn_client_laws.proofs.Machine.{State, Call, Delete, Grant, Allocation, Relay, delete_step, is_allocated, state_after}
+use Rattle.turn_client_laws.proofs.Laws.{handled, IsEndedNow, IsGrantedIn, IsSameGrant, WasActive, IsDoneBy, TakesInput, leaves-grants, Covers, contains-has, covers-stood, has-contains, kept-stood}
+use Rattle.turn_client_laws.proofs.Laws.{kept-trans, leaves-bring}
 use Rattle.turn_client_runs.specs.Granted.{IsRelayed}
 use Rattle.turn_client_runs.specs.Inputs.{IsAmong}
 use Rattle.turn_client_runs.proofs.InputsOfRuns.{among-none, takes-or}

@@ -1,23 +1,10 @@
 -- Challenges in a run.
-use Rattle.std.proofs.Common.{◌≡◌, ◌⊎◌, ◌∙◌, ◌<◌, ◌≤◌, ◌+◌, Bool, true, false, List, [], ◌∷◌, ◌++◌, inl, inr, refl, sym, subst, ap, arith}
-use Rattle.std.proofs.lemmas.Bool.{cases_lt, ltb-true}
-use Rattle.std.proofs.lemmas.List.{length-append}
-use Rattle.std.proofs.lemmas.List.Elements.{filter-append}
-use Rattle.turn_client_api.specs.Config.{Config}
-use Rattle.turn_client_api.specs.State.{State}
-use Rattle.turn_client_api.specs.Payloads.{Outcome, is_message}
-use Rattle.turn_client_laws.specs.Handled.{Input, handled, processed}
-use Rattle.turn_client_laws.specs.LawsHandled.{InputsLead}
-use Rattle.turn_client_laws.specs.LawsReplies.{IsReplyAccepted}
-use Rattle.turn_client_laws.specs.LawsStates.{HoldsAtFirst, StaysInCalls}
-use Rattle.turn_client_laws.specs.LawsSteps.{IsChallengeCounted, KeepsRealm}
-use Rattle.turn_client_api.specs.Steps.{state_after, state_after_all}
-use Rattle.turn_client_api.specs.declared.call.Call.{Call}
-use Rattle.turn_client_laws.proofs.ConfiguredLemmas.{leaves-configured}
+use Rattle.turn_client_laws.proofs.Common.{◌≡◌, ◌⊎◌, ◌∙◌, ◌<◌, ◌≤◌, ◌+◌, Bool, true, false, List, [], ◌∷◌, ◌++◌, inl, inr, refl, sym, subst, ap, arith, cases_lt, ltb-true, length-append}
+use Rattle.turn_client_laws.proofs.Common.{filter-append}
+use Rattle.turn_client_laws.proofs.Machine.{Config, State, Outcome, is_message, state_after, state_after_all, Call}
+use Rattle.turn_client_laws.proofs.Laws.{Input, handled, processed, InputsLead, IsReplyAccepted, HoldsAtFirst, StaysInCalls, IsChallengeCounted, KeepsRealm, leaves-configured, challenge-IsCounted}
+use Rattle.turn_client_laws.proofs.Laws.{leaves-keeps, processed-brings, brought}
 use Rattle.turn_client_laws.proofs.CountLemmas.{bringing, leaves-accepted}
-use Rattle.turn_client_laws.proofs.PhasesGoOn.{challenge-IsCounted, leaves-keeps}
-use Rattle.turn_client_laws.proofs.InputBringLemmas.{processed-brings}
-use Rattle.turn_client_laws.proofs.InputLemmas.{brought}
 use Rattle.turn_client_runs.specs.Challenges.{CountsIt, FallsByReplies, IsChallengeInput, IsReplyAcceptedAmong, IsWithinChallengeLimit, answers_in, is_answer}
 use Rattle.turn_client_runs.specs.Holds.{Reaches}
 use Rattle.turn_client_runs.specs.Inputs.{IsAmong, handled_in}

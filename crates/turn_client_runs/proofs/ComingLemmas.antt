@@ -1,25 +1,10 @@
 -- Where the bytes of an input lie, when it is processed, and that its stream stands in the state.
-use Rattle.std.proofs.Common.{◌≡◌, ◌⊎◌, ◌++◌, ℕ, zero, suc, Bool, true, false, cond, map, List, [], ◌∷◌, Option, Some, None, refl, sym, subst, ◌∙◌, inl, inr}
-use Rattle.std.specs.Prelude.{find, take}
-use Rattle.std.specs.List.{Contains}
-use Rattle.std.specs.declared.net.socket_addr.SocketAddr.{SocketAddr}
-use Rattle.turn_stun.specs.declared.transport.Transmit.{Transmit}
-use Rattle.turn_types.specs.Frames.{begins_no_frame, frame_len}
-use Rattle.turn_agent.specs.Agent.{same_address}
-use Rattle.turn_client_api.specs.State.{State}
-use Rattle.turn_client_api.specs.declared.call.Call.{Call}
-use Rattle.turn_client_api.specs.declared.call.Call.TheVariants.{Recv, PollRecv}
-use Rattle.turn_client_api.specs.declared.state.Mode.{Mode}
-use Rattle.turn_client_api.specs.declared.state.Mode.TheVariants.{Control, Bound, Broken}
-use Rattle.turn_client_api.specs.declared.state.Stream.{Stream}
-use Rattle.turn_client_laws.specs.Handled.{Input, fed_taken, frame_taken, handled, is_front, piece_inputs, poll_recv_inputs, stream_inputs, stream_inputs_taken}
-use Rattle.turn_client_api.specs.Streams.{stream_with_piece, is_ready, max_steps, payload_in, next_frame_step, with_bytes}
-use Rattle.turn_client_laws.specs.Handled.{stream_input, taken_first, taken_in, taken_of_len, then_taken, inputs_taken, unless_given}
-use Rattle.turn_client_api.specs.Payloads.{Payload, Outcome, Handled, Ignored}
-use Rattle.turn_client_api.specs.Receive.{first_frame_step}
-use Rattle.turn_client_api.proofs.HasLemmas.{Has, has-append, has-found, map-has}
-use Rattle.turn_client_laws.proofs.PacketLemmas.{packet-by}
-use Rattle.turn_client_laws.proofs.StandLemmas.{contains-has, has-contains}
+use Rattle.turn_client_laws.proofs.Common.{◌≡◌, ◌⊎◌, ◌++◌, ℕ, zero, suc, Bool, true, false, cond, map, List, [], ◌∷◌, Option, Some, None, refl, sym, subst, ◌∙◌, inl, inr, find, take, Contains}
+use Rattle.turn_client_laws.proofs.Common.{SocketAddr}
+use Rattle.turn_client_laws.proofs.Machine.{Transmit, begins_no_frame, frame_len, same_address, State, Call, Recv, PollRecv, Mode, Control, Bound, Broken, Stream, stream_with_piece, is_ready}
+use Rattle.turn_client_laws.proofs.Machine.{max_steps, payload_in, next_frame_step, with_bytes, Payload, Outcome, Handled, Ignored, first_frame_step, Has, has-append, has-found, map-has}
+use Rattle.turn_client_laws.proofs.Laws.{Input, fed_taken, frame_taken, handled, is_front, piece_inputs, poll_recv_inputs, stream_inputs, stream_inputs_taken, stream_input, taken_first, taken_in}
+use Rattle.turn_client_laws.proofs.Laws.{taken_of_len, then_taken, inputs_taken, unless_given, packet-by, contains-has, has-contains}
 use Rattle.turn_client_runs.specs.Granted.{ComesIn, IsNextOf}
 
 -- ---- the stream is in the state, with its local address and its mode

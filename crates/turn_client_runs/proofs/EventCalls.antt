@@ -1,43 +1,16 @@
 -- Which events a call adds that processes no input.
-use Rattle.std.proofs.Common.{◌≡◌, ◌⊎◌, ℕ, Bool, true, false, not, ◌&&◌, ◌||◌, leb, List, [], ◌∷◌, map, drop, filter_map, flat_map, Option, Some, None, Result, refl, subst, inl, inr}
-use Rattle.std.specs.Prelude.{find, is_some, nat_le, slice_get}
-use Rattle.std.specs.List.{list_any}
-use Rattle.std.specs.Net.Socket.{socket_ip}
-use Rattle.std.specs.declared.net.ip_addr.IpAddr.{IpAddr}
-use Rattle.std.specs.declared.net.socket_addr.SocketAddr.{SocketAddr}
-use Rattle.turn_stun.specs.declared.transport.TransportType.{TransportType}
-use Rattle.turn_stun.specs.declared.transport.TransportType.TheVariants.{Udp, Tcp}
-use Rattle.turn_agent.specs.Agent.{due, same_address}
-use Rattle.turn_client_api.specs.State.{State, agent_of}
-use Rattle.turn_client_api.specs.declared.call.Call.{Call}
-use Rattle.turn_client_api.specs.declared.call.Call.TheVariants.{Delete, CreatePermission, BindChannel, TcpConnect, AllocatedTcpSocket, TcpClosed, SendTo, Recv, PollRecv, Poll, PollTransmit}
-use Rattle.turn_client_api.specs.declared.call.Call.TheVariants.{PollEvent, RelayedAddresses, Permissions, HavePermission, ProtocolError, SetPermissionKept, SetChannelKept}
-use Rattle.turn_client_api.specs.declared.event.TurnEvent.{TurnEvent}
-use Rattle.turn_client_api.specs.declared.event.TurnEvent.TheVariants.{AllocationCreateFailed}
-use Rattle.turn_client_api.specs.declared.grant.DataConnection.{DataConnection}
-use Rattle.turn_client_api.specs.declared.grant.Origin.{Origin}
-use Rattle.turn_client_api.specs.declared.grant.Origin.TheVariants.{ServerRequest}
-use Rattle.turn_client_api.specs.declared.grant.Relay.{Relay}
-use Rattle.turn_client_api.specs.declared.state.Phase.{Phase}
-use Rattle.turn_client_api.specs.declared.state.Phase.TheVariants.{New, Allocated, Closed}
-use Rattle.turn_client_api.specs.Calls.{active_channel, bound_by, bound_to, can_send_to, channel_step, channels_to, connect_step, is_open_to}
-use Rattle.turn_client_api.specs.Calls.{free_number, in_allocation, is_allocated, is_closed, is_control, is_in_progress, is_local_taken, offer_origin, on_channel, on_connection}
-use Rattle.turn_client_api.specs.Calls.{permission_step, reserved_from, send_over, socket_opened, socket_refused, socket_step}
-use Rattle.turn_client_api.specs.Connections.{connection_at, is_connected, is_connecting}
-use Rattle.turn_client_api.specs.Due.{is_paused, keepalive_times}
-use Rattle.turn_client_api.specs.Effect.{closed, fail_all}
-use Rattle.turn_client_api.specs.Grants.{allocations, as_connection, find_allocation_to, has_active_permission, is_past, permission_state, same_transport}
-use Rattle.turn_client_api.specs.Receive.{connection_gone}
-use Rattle.turn_client_api.specs.Steps.{state_after}
-use Rattle.turn_client_api.specs.Transmit.{idle_step, keepalive_step, queue_step, refreshes_in, reply_step, transmit_step}
-use Rattle.turn_client_laws.specs.LawsHandled.{TakesInput}
-use Rattle.turn_client_laws.proofs.CaseLemmas.{by_found, by_test}
-use Rattle.turn_client_laws.proofs.GrantOriginLemmas.{has-mapped}
-use Rattle.turn_client_api.proofs.HasLemmas.{Has, has-append}
-use Rattle.turn_client_laws.proofs.StandLemmas.{has-contains}
+use Rattle.turn_client_laws.proofs.Common.{◌≡◌, ◌⊎◌, ℕ, Bool, true, false, not, ◌&&◌, ◌||◌, List, [], ◌∷◌, map, drop, filter_map, flat_map, Option, Some, None, Result, refl, subst, inl, inr, is_some}
+use Rattle.turn_client_laws.proofs.Common.{nat_le, slice_get, list_any, socket_ip, IpAddr, SocketAddr}
+use Rattle.turn_client_laws.proofs.Machine.{Tcp, due, same_address, State, agent_of, Call, Delete, CreatePermission, BindChannel, TcpConnect, AllocatedTcpSocket, TcpClosed, SendTo, Recv, PollRecv}
+use Rattle.turn_client_laws.proofs.Machine.{Poll, PollTransmit, PollEvent, RelayedAddresses, Permissions, HavePermission, ProtocolError, SetPermissionKept, SetChannelKept, TurnEvent}
+use Rattle.turn_client_laws.proofs.Machine.{AllocationCreateFailed, Origin, ServerRequest, Relay, Phase, New, Allocated, Closed, bound_by, channel_step, channels_to, connect_step, is_open_to}
+use Rattle.turn_client_laws.proofs.Machine.{free_number, in_allocation, is_allocated, is_closed, is_control, is_in_progress, is_local_taken, offer_origin, permission_step, reserved_from}
+use Rattle.turn_client_laws.proofs.Machine.{socket_opened, socket_refused, socket_step, connection_at, is_connected, is_connecting, is_paused, keepalive_times, closed, fail_all, allocations}
+use Rattle.turn_client_laws.proofs.Machine.{find_allocation_to, has_active_permission, is_past, permission_state, same_transport, connection_gone, state_after, idle_step, keepalive_step, queue_step}
+use Rattle.turn_client_laws.proofs.Machine.{refreshes_in, reply_step, transmit_step, Has, has-append, is_permission_of}
+use Rattle.turn_client_laws.proofs.Laws.{TakesInput, by_found, by_test, send_to-by, has-mapped, has-contains}
 use Rattle.turn_client_runs.specs.Events.{FailsItself}
 use Rattle.turn_client_runs.proofs.EventTime.{poll-adds}
-use Rattle.turn_client_api.specs.Grants.{is_permission_of}
 
 module _ (s : State) where
   abbrev Same : State → Type 0
@@ -68,18 +41,6 @@ module _ (s : State) where
   socket-leaves : (id : ℕ) (peer : SocketAddr) (local : Option SocketAddr) (origin : Origin) (now : ℕ) → Leaves (socket_step id peer local origin now s)
   socket-leaves id peer None origin now = refused-leaves id peer origin
   socket-leaves id peer (Some local) origin now = by_test Leaves (is_local_taken local s) _ _ (λ e. refl) (λ e. opened-leaves id peer local origin now)
-
-  connection-leaves : (o : Option DataConnection) (bytes : List ℕ) → Leaves (on_connection o bytes s)
-  connection-leaves (Some c) bytes = refl
-  connection-leaves None bytes = refl
-
-  channel-leaves : (channels : List (ℕ × ℕ)) (peer : SocketAddr) (bytes : List ℕ) (now : ℕ) → Leaves (on_channel channels peer bytes now s)
-  channel-leaves [] peer bytes now = refl
-  channel-leaves ((number, expiry) ∷ others) peer bytes now = by_test Leaves (leb now expiry) _ _ (λ e. refl) (λ e. refl)
-
-  over-leaves : (transport : TransportType) (peer : SocketAddr) (bytes : List ℕ) (now : ℕ) → Leaves (send_over transport peer bytes now s)
-  over-leaves Tcp peer bytes now = connection-leaves (find (bound_to peer) (filter_map as_connection s.grants)) bytes
-  over-leaves Udp peer bytes now = channel-leaves (filter_map (active_channel peer) s.grants) peer bytes now
 
   idle-leaves : (p : Phase) (now : ℕ) → Leaves (idle_step p now s)
   idle-leaves New now = refl
@@ -145,7 +106,7 @@ module _ (s : State) where
     call-adds (TcpClosed local remote now) other =
         none (TcpClosed local remote now) (by_test Same (same_transport s.transport Tcp && same_address remote s.remote) _ _ (λ f. gone-events local) (λ f. refl))
     call-adds (SendTo transport peer bytes now) other =
-        none (SendTo transport peer bytes now) (by_test Leaves (can_send_to transport (socket_ip peer) s) _ _ (λ f. over-leaves transport peer bytes now) (λ f. refl))
+        none (SendTo transport peer bytes now) (send_to-by Same transport peer bytes now s (λ ids. refl))
     call-adds (Poll now) other = poll-adds now s e
     call-adds (PollTransmit now) other = none (PollTransmit now) (transmit-leaves now)
     call-adds PollEvent other = λ there. inl (fewer s.events there)

@@ -1,52 +1,15 @@
 -- Which events an input adds.
-use Rattle.std.proofs.Common.{◌≡◌, ◌⊎◌, ◌∙◌, ◌≤◌, ℕ, Bool, true, false, cond, eqb, ltb, List, [], ◌∷◌, ◌++◌, map, Some, None, refl, subst, sym, ap, inl, inr}
-use Rattle.std.specs.Prelude.{find, is_some}
-use Rattle.std.specs.List.{Contains, list_any}
-use Rattle.std.specs.Option.{option_map_or}
-use Rattle.std.proofs.lemmas.Bool.{and_parts, ltb-false}
-use Rattle.std.specs.declared.net.socket_addr.SocketAddr.{SocketAddr}
-use Rattle.turn_stun.specs.Message.{id_of}
-use Rattle.turn_stun.specs.declared.message.header.MessageClass.TheVariants.{Error, Success}
-use Rattle.turn_agent.specs.Agent.{is_response}
-use Rattle.turn_auth.specs.LongTerm.{Challenge}
-use Rattle.turn_auth.specs.Validation.{IsValidated, validation_of}
-use Rattle.turn_client_api.specs.State.{State, auth_of}
-use Rattle.turn_client_api.specs.declared.event.TurnEvent.{TurnEvent}
-use Rattle.turn_client_api.specs.declared.event.TurnEvent.TheVariants.{AllocationCreateFailed, PermissionCreateFailed, ChannelCreateFailed, TcpConnected, TcpConnectFailed}
-use Rattle.turn_client_api.specs.declared.grant.Grant.{Grant}
-use Rattle.turn_client_api.specs.declared.grant.Grant.TheVariants.{Connection}
-use Rattle.turn_client_api.specs.declared.grant.DataConnection.{DataConnection}
-use Rattle.turn_client_api.specs.declared.grant.Purpose.{Purpose}
-use Rattle.turn_client_api.specs.declared.grant.Purpose.TheVariants.{ForAllocation, ForPermission, ForChannel, ForConnect, ForBind}
-use Rattle.turn_client_api.specs.declared.state.Mode.TheVariants.{Waiting}
-use Rattle.turn_client_api.specs.declared.state.Phase.{Phase}
-use Rattle.turn_client_api.specs.declared.state.Phase.TheVariants.{New, Allocated}
-use Rattle.turn_client_api.specs.declared.state.Stream.{Stream}
-use Rattle.turn_client_api.specs.Connections.{attempt_indicated, attempt_requested, bind_again, bind_answered, bind_step, connection_at}
-use Rattle.turn_client_api.specs.Effect.{closed, fail_all}
-use Rattle.turn_client_api.specs.Grants.{is_for_allocation, purposes_of}
-use Rattle.turn_client_api.specs.Judgement.{Judgement, Challenged, Fatal, ConnectionAttempt, SignedRequest, SignedSuccess, SignedError, bind_judgement, class_in, is_bind_of, judgement_of, method_in}
-use Rattle.turn_client_api.specs.Payloads.{Outcome, Handled, Ignored, challenge_step, is_message, message_step, signed_step, wrong_step}
-use Rattle.turn_client_api.specs.Receive.{connection_gone}
-use Rattle.turn_client_api.specs.Requests.{connection_attempt_method, connection_bind_method}
-use Rattle.turn_client_api.specs.Retry.{retried, state_after_retry}
-use Rattle.turn_client_laws.specs.Handled.{Input, processed}
-use Rattle.turn_client_laws.specs.LawsBound.{IsBindInput}
-use Rattle.turn_client_laws.specs.LawsGranted.{HasChannelTo, IsGivenFor, IsGrantedBy}
-use Rattle.turn_client_laws.specs.LawsHandled.{IsOverControl}
-use Rattle.turn_client_laws.specs.LawsReplies.{IsAccepted, IsAwaited, IsNotAwaited}
-use Rattle.turn_client_laws.proofs.AcceptedReplyLemmas.{accepted-gone}
-use Rattle.turn_client_laws.proofs.BoundLemmas.{binds-input, found-local}
-use Rattle.turn_client_laws.proofs.CaseLemmas.{bind-by, by_found, by_accepted, by_test, indicated-by, requested-by}
-use Rattle.turn_client_laws.proofs.ChallengeJudgement.{AnswersAllocate, IsSignedReply, Says, judgement-says}
-use Rattle.turn_client_laws.proofs.EditsOfMessages.{connection-there}
-use Rattle.turn_client_laws.proofs.GrantOriginCallLemmas.{Binds}
-use Rattle.turn_client_laws.proofs.GrantOriginLemmas.{has-mapped}
-use Rattle.turn_client_laws.proofs.GrantOriginMessageLemmas.{SignedSuccess-is, asked_for}
-use Rattle.turn_client_api.proofs.HasLemmas.{Has, has-append}
-use Rattle.turn_client_laws.proofs.InAllocationLemmas.{any-has}
-use Rattle.turn_client_laws.proofs.StandLemmas.{has-contains}
-use Rattle.turn_client_laws.proofs.InputBringLemmas.{IsBrought}
+use Rattle.turn_client_laws.proofs.Common.{◌≡◌, ◌⊎◌, ◌∙◌, ◌≤◌, ℕ, Bool, true, false, cond, eqb, ltb, List, [], ◌∷◌, ◌++◌, map, Some, None, refl, subst, sym, ap, inl, inr, find, is_some, Contains}
+use Rattle.turn_client_laws.proofs.Common.{option_map_or, and_parts, ltb-false, SocketAddr}
+use Rattle.turn_client_laws.proofs.Machine.{id_of, Error, Success, is_response, Challenge, IsValidated, validation_of, State, auth_of, TurnEvent, AllocationCreateFailed, PermissionCreateFailed}
+use Rattle.turn_client_laws.proofs.Machine.{ChannelCreateFailed, TcpConnected, TcpConnectFailed, Grant, Connection, DataConnection, Purpose, ForAllocation, ForPermission, ForChannel, ForConnect}
+use Rattle.turn_client_laws.proofs.Machine.{ForBind, Waiting, Phase, New, Allocated, Stream, attempt_indicated, attempt_requested, bind_again, bind_answered, bind_step, connection_at, closed}
+use Rattle.turn_client_laws.proofs.Machine.{fail_all, purposes_of, Judgement, Challenged, Fatal, ConnectionAttempt, SignedRequest, SignedSuccess, SignedError, bind_judgement, class_in, is_bind_of}
+use Rattle.turn_client_laws.proofs.Machine.{judgement_of, method_in, Outcome, Handled, Ignored, challenge_step, is_message, message_step, signed_step, wrong_step, connection_gone}
+use Rattle.turn_client_laws.proofs.Machine.{connection_attempt_method, connection_bind_method, retried, state_after_retry, Has, has-append}
+use Rattle.turn_client_laws.proofs.Laws.{Input, processed, IsBindInput, HasChannelTo, IsGivenFor, IsGrantedBy, IsOverControl, IsAccepted, IsAwaited, IsNotAwaited, accepted-gone, binds-input}
+use Rattle.turn_client_laws.proofs.Laws.{found-local, bind-by, by_found, by_accepted, by_test, indicated-by, requested-by, AnswersAllocate, IsSignedReply, Says, judgement-says, connection-there}
+use Rattle.turn_client_laws.proofs.Laws.{Binds, has-mapped, SignedSuccess-is, asked_for, for-allocation, has-contains, IsBrought}
 use Rattle.turn_client_runs.specs.Events.{FailsIn, IsNoRefresh, IsRefusedIn, LacksFamily, IsStillAsked, Reports, relayed_over}
 use Rattle.turn_client_runs.specs.Granted.{IsOverIts}
 use Rattle.turn_client_runs.proofs.EventReplies.{Lacks, RefusesFor, Replied, StillAsks, signed-says}
@@ -84,13 +47,6 @@ abbrev pub Causing : TurnEvent → Input → Type 0
 Causing e one = Creating e one ⊎ Refusing e one ⊎ FailsIn e one
 
 -- ---- over the control connection
-
-has-allocation : (purposes : List Purpose) → list_any is_for_allocation purposes ≡ true → Has ForAllocation purposes
-has-allocation purposes e = let (p, there, is) = any-has is_for_allocation purposes e in subst (λ (q : Purpose). Has q purposes) (by p is) there
-  where
-    by : (p : Purpose) → is_for_allocation p ≡ true → p ≡ ForAllocation
-    by ForAllocation is = refl
-    by p is = cc
 
 -- a connection is not granted there
 no-connection : (p : Purpose) (message : List ℕ) (now : ℕ) (s : State) (c : DataConnection) → IsGivenFor p message now s (Connection c) → ⊥
@@ -188,7 +144,7 @@ module _ (one : Input) (over : IsOverControl one) (whole : is_message one.bytes 
       signed : (g : Bool) (j : Judgement) → judgement_of s message ≡ j → IsAccepted j → (g ≡ true → j ≡ SignedSuccess) → (g ≡ false → class_in message ≡ Error)
           → AnswersAllocate message s → IsValidated (validation_of (auth_of s) message) → IsAwaited message s → Adding (signed_step g message one.time s).1
       signed g j judged accepted success error answers valid outstanding e there =
-          elim (signed-says g message one.time s (λ allocates. has-allocation (asked_for message s) (and_parts (is_response (class_in message)) _ (answers allocates)).1) e there) [
+          elim (signed-says g message one.time s (λ allocates. for-allocation (asked_for message s) (and_parts (is_response (class_in message)) _ (answers allocates)).1) e there) [
             | inl old ↦ inl old
             | inr reported ↦ inr (replied g j judged accepted success error valid outstanding e reported)
           ]

@@ -1,8 +1,6 @@
 -- Which events a step adds to those that wait.
-use Rattle.std.proofs.Common.{◌≡◌, ◌⊎◌, List, [], ◌∷◌, ◌++◌, fold, reverse, refl, subst, sym, inl, inr}
-use Rattle.turn_client_api.specs.State.{State}
-use Rattle.turn_client_api.specs.declared.event.TurnEvent.{TurnEvent}
-use Rattle.turn_client_api.proofs.HasLemmas.{Has, has-append, has-unreversed}
+use Rattle.turn_client_laws.proofs.Common.{◌≡◌, ◌⊎◌, List, [], ◌∷◌, ◌++◌, fold, reverse, refl, subst, sym, inl, inr}
+use Rattle.turn_client_laws.proofs.Machine.{State, TurnEvent, Has, has-append, has-unreversed}
 
 -- If the invariant holds before the step it holds after it, and then each event that waits after it waited
 -- before it, or is reported by it.

@@ -1,71 +1,20 @@
 -- Which events a signed reply adds.
-use Rattle.std.proofs.Common.{◌≡◌, ◌⊎◌, ◌∙◌, ℕ, Bool, true, false, not, cond, ◌&&◌, ◌||◌, eqb, leb, List, [], ◌∷◌, ◌++◌, map, filter, fold, length, Option, Some, None, refl, subst, sym, ap, inl, inr}
-use Rattle.std.specs.List.{list_any}
-use Rattle.std.proofs.lemmas.Bool.{and_parts, not-true, cases_Bool}
-use Rattle.std.specs.declared.net.ip_addr.IpAddr.{IpAddr}
-use Rattle.std.specs.declared.net.socket_addr.SocketAddr.{SocketAddr}
-use Rattle.turn_stun.specs.Message.{id_of}
-use Rattle.turn_stun.specs.declared.transport.TransportType.{TransportType}
-use Rattle.turn_types.specs.declared.family.AddressFamily.{AddressFamily}
-use Rattle.turn_types.specs.declared.family.AddressFamily.TheVariants.{IPV4, IPV6}
-use Rattle.turn_client_api.specs.State.{State, later_by, seconds}
-use Rattle.turn_client_api.specs.declared.event.TurnEvent.{TurnEvent}
-use Rattle.turn_client_api.specs.declared.event.TurnEvent.TheVariants.{AllocationCreated, AllocationCreateFailed, PermissionCreated, PermissionCreateFailed, ChannelCreated, ChannelCreateFailed}
-use Rattle.turn_client_api.specs.declared.event.TurnEvent.TheVariants.{TcpConnectFailed}
-use Rattle.turn_client_api.specs.declared.grant.Grant.{Grant}
-use Rattle.turn_client_api.specs.declared.grant.Grant.TheVariants.{Permission, Channel}
-use Rattle.turn_client_api.specs.declared.grant.Progress.{Progress}
-use Rattle.turn_client_api.specs.declared.grant.Progress.TheVariants.{Pending, Active}
-use Rattle.turn_client_api.specs.declared.grant.Purpose.{Purpose}
-use Rattle.turn_client_api.specs.declared.grant.Purpose.TheVariants.{ForAllocation, ForRefresh, ForPermission, ForChannel, ForConnect}
-use Rattle.turn_client_api.specs.declared.state.Phase.{Phase}
-use Rattle.turn_client_api.specs.declared.state.Phase.TheVariants.{Authenticating}
-use Rattle.turn_client_api.specs.Grants.{channel_at, failure_of, failures_among, first_in, is_channel_of, is_for, is_for_any, is_of_family, permission_state}
-use Rattle.turn_client_api.specs.Grants.{as_allocation, is_of, purposes_of, same_ip, unlisted, wait, with_allocations, without_grants}
-use Rattle.std.specs.Prelude.{is_some}
-use Rattle.turn_client_api.specs.Judgement.{connection_id_in, lifetime_in, method_in}
-use Rattle.turn_client_api.specs.Requests.{fresh_id, requested}
-use Rattle.turn_client_api.specs.Effect.{active_channel_answered, active_permission_answered, in_phase, pending_permission_answered, granted_until}
-use Rattle.turn_client_api.specs.Effect.{allocate_denied, allocate_granted, allocated, all_gone, challenges_reset, channel_answered, channel_lifetime, closed, connect_answered, delete_answered}
-use Rattle.turn_client_api.specs.Effect.{effect, fail_all, family_not_supported, has_code, allocation_mismatch, is_asked_permission, listed_permissions_answered, min_lifetime, missing_families}
-use Rattle.turn_client_api.specs.Effect.{new_allocation, pending_channel_answered, permission_answered, permission_answered_for, permission_lifetime, permission_refused_too, prolonged, refreshed}
-use Rattle.turn_client_api.specs.Effect.{relayed_in, taken_addresses, transaction_ended}
-use Rattle.turn_client_api.specs.Payloads.{Outcome, Handled, answered_purposes, is_answered, response_step, signed_step}
-use Rattle.turn_client_laws.specs.LawsGranted.{HasChannelTo, IsGivenFor}
-use Rattle.turn_client_laws.proofs.CaseLemmas.{by_found, by_test}
-use Rattle.turn_client_laws.proofs.GrantOriginLemmas.{IsWithin, has-mapped, purposes-within}
-use Rattle.turn_client_laws.proofs.GrantOriginEffectLemmas.{effect-takes, same_ip-same}
-use Rattle.turn_client_laws.proofs.GrantOriginMessageLemmas.{asked_for}
-use Rattle.turn_client_laws.proofs.EditsOfReplies.{channel-there}
-use Rattle.turn_client_api.proofs.HasLemmas.{Has, has-filter, has-filter_map}
-use Rattle.turn_client_laws.proofs.InAllocationLemmas.{any-has, has-any}
-use Rattle.turn_client_laws.proofs.StandLemmas.{has-contains}
+use Rattle.turn_client_laws.proofs.Common.{◌≡◌, ◌⊎◌, ◌∙◌, ℕ, Bool, true, false, not, cond, ◌&&◌, ◌||◌, eqb, leb, List, [], ◌∷◌, ◌++◌, map, filter, fold, length, Option, Some, None, refl, subst, sym}
+use Rattle.turn_client_laws.proofs.Common.{ap, inl, inr, list_any, and_parts, not-true, IpAddr, SocketAddr, is_some}
+use Rattle.turn_client_laws.proofs.Machine.{id_of, TransportType, AddressFamily, IPV4, IPV6, State, later_by, seconds, TurnEvent, AllocationCreated, AllocationCreateFailed, PermissionCreated}
+use Rattle.turn_client_laws.proofs.Machine.{PermissionCreateFailed, ChannelCreated, ChannelCreateFailed, TcpConnectFailed, Grant, Permission, Channel, Progress, Pending, Active, Purpose}
+use Rattle.turn_client_laws.proofs.Machine.{ForAllocation, ForRefresh, ForPermission, ForChannel, ForConnect, Phase, Authenticating, channel_at, failure_of, failures_among, first_in, is_channel_of}
+use Rattle.turn_client_laws.proofs.Machine.{is_for, is_for_any, is_of_family, permission_state, as_allocation, is_of, purposes_of, same_ip, unlisted, wait, with_allocations, without_grants}
+use Rattle.turn_client_laws.proofs.Machine.{connection_id_in, lifetime_in, method_in, fresh_id, requested, active_channel_answered, active_permission_answered, in_phase, pending_permission_answered}
+use Rattle.turn_client_laws.proofs.Machine.{granted_until, allocate_denied, allocate_granted, allocated, all_gone, challenges_reset, channel_answered, channel_lifetime, closed, connect_answered}
+use Rattle.turn_client_laws.proofs.Machine.{delete_answered, effect, fail_all, family_not_supported, has_code, allocation_mismatch, is_asked_permission, listed_permissions_answered, min_lifetime}
+use Rattle.turn_client_laws.proofs.Machine.{missing_families, new_allocation, pending_channel_answered, permission_answered, permission_answered_for, permission_lifetime, permission_refused_too}
+use Rattle.turn_client_laws.proofs.Machine.{prolonged, refreshed, relayed_in, taken_addresses, transaction_ended, Outcome, Handled, answered_purposes, is_answered, response_step, signed_step, Has}
+use Rattle.turn_client_laws.proofs.Machine.{has-filter, has-filter_map}
+use Rattle.turn_client_laws.proofs.Laws.{HasChannelTo, IsGivenFor, by_found, by_test, IsWithin, has-mapped, purposes-within, effect-takes, same_ip-same, asked_for, taken-family, taken-relayed}
+use Rattle.turn_client_laws.proofs.Laws.{channel-there, any-has, has-contains}
 use Rattle.turn_client_runs.specs.Events.{IsNoRefresh, Reports}
 use Rattle.turn_client_runs.proofs.EventLemmas.{Adds, AddsReported, adds-after, adds-before, adds-none, adds-trans, reported-one, reports-fold, reports-same, reports-trans}
-
--- ---- the addresses that are taken
-
--- each is among those of the message
-taken-relayed : (families : List AddressFamily) (addresses : List SocketAddr) (a : SocketAddr) → Has a (taken_addresses families addresses) → Has a addresses
-taken-relayed families [] a there = absurd there
-taken-relayed families (b ∷ later) a there = elim (cases_Bool (list_any (λ family. is_of_family family b) families)) [
-  | inl e ↦ elim (rw e at there) [ inl is ↦ inl is | inr more ↦ inr (taken-relayed (filter (λ family. not (is_of_family family b)) families) later a more) ]
-  | inr e ↦ inr (taken-relayed families later a (rw e at there))
-]
-
--- and is of a requested family
-taken-family : (families : List AddressFamily) (addresses : List SocketAddr) (a : SocketAddr) → Has a (taken_addresses families addresses) → list_any (λ family. is_of_family family a) families ≡ true
-taken-family families [] a there = absurd there
-taken-family families (b ∷ later) a there = elim (cases_Bool (list_any (λ family. is_of_family family b) families)) [
-  | inl e ↦ elim (rw e at there) [
-    | inl is ↦ rw is e
-    | inr more ↦
-        let others = filter (λ family. not (is_of_family family b)) families in
-        let (family, left, is) = any-has (λ family. is_of_family family a) others (taken-family others later a more) in
-        has-any (λ family. is_of_family family a) family families (has-filter _ family families left).0 is
-  ]
-  | inr e ↦ taken-family families later a (rw e at there)
-]
 
 -- ---- what the reply reports
 

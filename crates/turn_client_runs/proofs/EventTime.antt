@@ -1,35 +1,14 @@
 -- Which events a `poll` adds.
-use Rattle.std.proofs.Common.{◌≡◌, ◌⊎◌, ◌∙◌, ◌≤◌, ℕ, Bool, true, false, not, ◌&&◌, ◌||◌, leb, List, [], ◌∷◌, map, filter, find, fold, reverse, Option, Some, None, refl, subst, sym, ap, inl, inr}
-use Rattle.std.specs.Prelude.{IsSome}
-use Rattle.std.specs.Option.{option_map_or}
-use Rattle.std.proofs.lemmas.Bool.{and_parts, leb-true, or_cases}
-use Rattle.turn_types.specs.declared.family.AddressFamily.{AddressFamily}
-use Rattle.turn_agent.specs.Agent.{timed_out_transaction}
-use Rattle.turn_agent.specs.declared.transaction.Transaction.{Transaction}
-use Rattle.turn_client_api.specs.State.{State, agent_of}
-use Rattle.turn_client_api.specs.declared.event.TurnEvent.{TurnEvent}
-use Rattle.turn_client_api.specs.declared.event.TurnEvent.TheVariants.{AllocationCreateFailed, ChannelCreateFailed}
-use Rattle.turn_client_api.specs.declared.grant.Grant.{Grant}
-use Rattle.turn_client_api.specs.declared.grant.Grant.TheVariants.{Permission, Channel, Connect, Offer, Connection}
-use Rattle.turn_client_api.specs.declared.grant.Progress.TheVariants.{Pending, Active, Reserved}
-use Rattle.turn_client_api.specs.declared.grant.Purpose.{Purpose}
-use Rattle.turn_client_api.specs.declared.grant.Relay.{Relay}
-use Rattle.turn_client_api.specs.declared.poll.TurnPollRet.{TurnPollRet}
-use Rattle.turn_client_api.specs.declared.state.Phase.{Phase}
-use Rattle.turn_client_api.specs.declared.state.Phase.TheVariants.{Requesting, Authenticating, Allocated}
-use Rattle.turn_client_api.specs.Due.{has_event, has_reply}
-use Rattle.turn_client_api.specs.Effect.{closed, reserved, transaction_ended}
-use Rattle.turn_client_api.specs.Grants.{allocations, failure_of, failures_among, family_of, is_channel_of, is_connect, is_for_any, is_of, is_of_request, is_pending_channel, is_pending_permission}
-use Rattle.turn_client_api.specs.Grants.{purposes_of, without_grants}
-use Rattle.turn_client_api.specs.Poll.{allocation_expires, answer_step, channel_expired, failed, is_expired_channel, is_expired_permission, is_listed_for_allocation}
-use Rattle.turn_client_api.specs.Poll.{is_timed_out_offer, is_unbound, expired_at, expired_allocation, expired_in, next_offer, offer_step, poll_step, silent_step}
-use Rattle.turn_client_api.specs.Poll.{timed_out_purposes, timed_out_step, timed_step}
-use Rattle.turn_client_laws.proofs.CaseLemmas.{answer-by, by_found, by_test}
-use Rattle.turn_client_laws.proofs.GrantOriginLemmas.{has-mapped}
-use Rattle.turn_client_api.proofs.HasLemmas.{Has, has-append, has-filter, has-filter_map, has-found, has-unreversed}
-use Rattle.turn_client_laws.proofs.AfterExpiryLemmas.{IsReserved}
-use Rattle.turn_client_api.proofs.ExpirySteps.{expired_in-does}
-use Rattle.turn_client_laws.proofs.StandLemmas.{has-contains}
+use Rattle.turn_client_laws.proofs.Common.{◌≡◌, ◌⊎◌, ◌∙◌, ◌≤◌, ℕ, Bool, true, false, not, ◌&&◌, ◌||◌, leb, List, [], ◌∷◌, map, filter, find, fold, reverse, Option, Some, None, refl, subst, sym, ap}
+use Rattle.turn_client_laws.proofs.Common.{inl, inr, IsSome, option_map_or, and_parts, leb-true, or_cases}
+use Rattle.turn_client_laws.proofs.Machine.{AddressFamily, timed_out_transaction, Transaction, State, agent_of, TurnEvent, AllocationCreateFailed, ChannelCreateFailed, Grant, Permission, Channel}
+use Rattle.turn_client_laws.proofs.Machine.{Connect, Offer, Connection, Pending, Active, Reserved, Purpose, Relay, TurnPollRet, Phase, Requesting, Authenticating, Allocated, has_event, has_reply}
+use Rattle.turn_client_laws.proofs.Machine.{closed, reserved, transaction_ended, allocations, failure_of, failures_among, family_of, is_channel_of, is_connect, is_for_any, is_of, is_of_request}
+use Rattle.turn_client_laws.proofs.Machine.{is_pending_channel, is_pending_permission, purposes_of, without_grants, allocation_expires, answer_step, channel_expired, failed, is_expired_channel}
+use Rattle.turn_client_laws.proofs.Machine.{is_expired_permission, is_listed_for_allocation, is_timed_out_offer, is_unbound, expired_at, expired_allocation, expired_in, next_offer, offer_step}
+use Rattle.turn_client_laws.proofs.Machine.{poll_step, silent_step, timed_out_purposes, timed_out_step, timed_step, Has, has-append, has-filter, has-filter_map, has-found, has-unreversed}
+use Rattle.turn_client_laws.proofs.Machine.{expired_in-does}
+use Rattle.turn_client_laws.proofs.Laws.{answer-by, by_found, by_test, has-mapped, IsReserved, has-contains}
 use Rattle.turn_client_runs.specs.Events.{FailsInTime, HasFailed}
 use Rattle.turn_client_runs.proofs.EventLemmas.{AddsReported, adds-before, adds-none, reported-one, reports-fold, reports-same, reports-trans}
 

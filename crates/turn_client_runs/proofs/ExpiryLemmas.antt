@@ -1,24 +1,10 @@
 -- `poll` waits for the expiry of each allocation.
-use Rattle.std.proofs.Common.{◌||◌, ℕ, ◌<◌, ◌≤◌, max, Bool, cond, List, [], ◌∷◌, ◌++◌, map, flat_map, Option, Some, None, arith, inl, inr, refl}
-use Rattle.std.specs.Prelude.{is_some}
-use Rattle.std.proofs.lemmas.Bool.{lt-ltb}
-use Rattle.std.specs.declared.net.socket_addr.SocketAddr.{SocketAddr}
-use Rattle.turn_agent.specs.Agent.{timed_out_transaction, transaction_timeout}
-use Rattle.turn_client_api.specs.State.{State, agent_of, max_time}
-use Rattle.turn_client_api.specs.declared.grant.Grant.{Grant}
-use Rattle.turn_client_api.specs.declared.grant.Grant.TheVariants.{Allocation}
-use Rattle.turn_client_api.specs.declared.grant.Relay.{Relay}
-use Rattle.turn_client_api.specs.declared.poll.TurnPollRet.{TurnPollRet}
-use Rattle.turn_client_api.specs.declared.state.Phase.{Phase}
-use Rattle.turn_client_api.specs.declared.state.Phase.TheVariants.{New, Requesting, Authenticating, Allocated, Closed}
-use Rattle.turn_client_api.specs.Calls.{is_allocated}
-use Rattle.turn_client_api.specs.Due.{due_times, end_of, has_event, has_queued_request, has_reply, is_new, keepalive_times, least_due, next_wakeup, pause_end, refresh_of}
-use Rattle.turn_client_api.specs.Effect.{closed, transaction_ended}
-use Rattle.turn_client_api.specs.Grants.{allocations}
-use Rattle.turn_client_api.specs.Poll.{answer_by, answer_step, is_listed_for_allocation, expired_at, next_offer, offer_step, poll_step, timed_out_step, timed_step}
-use Rattle.turn_client_laws.proofs.CaseLemmas.{by_found, by_test}
-use Rattle.turn_client_api.proofs.HasLemmas.{Has, flat_map-has, has-left, has-right, least-le}
-use Rattle.turn_client_laws.proofs.StandLemmas.{contains-has}
+use Rattle.turn_client_laws.proofs.Common.{◌||◌, ℕ, ◌<◌, ◌≤◌, max, Bool, cond, List, [], ◌∷◌, ◌++◌, map, flat_map, Option, Some, None, arith, inl, inr, refl, is_some, lt-ltb, SocketAddr}
+use Rattle.turn_client_laws.proofs.Machine.{timed_out_transaction, transaction_timeout, State, agent_of, max_time, Grant, Allocation, Relay, TurnPollRet, Phase, New, Requesting, Authenticating}
+use Rattle.turn_client_laws.proofs.Machine.{Allocated, Closed, is_allocated, due_times, end_of, has_event, has_queued_request, has_reply, is_new, keepalive_times, least_due, next_wakeup, pause_end}
+use Rattle.turn_client_laws.proofs.Machine.{refresh_of, closed, transaction_ended, allocations, answer_by, answer_step, is_listed_for_allocation, expired_at, next_offer, offer_step, poll_step}
+use Rattle.turn_client_laws.proofs.Machine.{timed_out_step, timed_step, Has, flat_map-has, has-left, has-right, least-le}
+use Rattle.turn_client_laws.proofs.Laws.{by_found, by_test, contains-has}
 use Rattle.turn_client_runs.specs.Sleeps.{WaitsForAllocations}
 
 -- an expiry that is to come is one of the times at which something is due

@@ -1,26 +1,14 @@
 -- All steps after a stream was fed return the whole of its bytes.
-use Rattle.std.proofs.Common.{◌≡◌, ℕ, zero, suc, ◌<◌, Bool, true, false, cond, List, [], ◌∷◌, ◌++◌, length, map, drop, take, flat_map, Option, Some, None, refl, ap, sym, subst, ◌∙◌, arith}
-use Rattle.std.proofs.lemmas.Grind.{flat_map-append}
-use Rattle.std.proofs.lemmas.List.{append-nil, length-drop}
-use Rattle.std.specs.Prelude.{is_some}
-use Rattle.std.specs.declared.net.socket_addr.SocketAddr.{SocketAddr}
-use Rattle.turn_types.specs.Cuts.{Drained, behind}
-use Rattle.turn_types.specs.Frames.{begins_no_frame, frame_len}
-use Rattle.turn_types.proofs.FrameLemmas.{frame_len-IsWhole}
-use Rattle.turn_client_api.specs.State.{State}
-use Rattle.turn_client_api.specs.declared.state.Mode.{Mode}
-use Rattle.turn_client_api.specs.declared.state.Mode.TheVariants.{Control, Waiting, Bound, Broken}
-use Rattle.turn_client_api.specs.declared.state.Stream.{Stream}
-use Rattle.turn_client_api.specs.Payloads.{Payload, Outcome, Handled}
-use Rattle.turn_client_api.specs.Streams.{broken_at, frame_step, is_ready, put_back, sent_by, stream_at, next_frame_step, detached_frame_step, with_bytes}
-use Rattle.turn_client_laws.specs.LawsBodies.{IsAsideFrom}
-use Rattle.turn_client_laws.proofs.FrameRestLemmas.{frame-bytes}
-use Rattle.turn_client_laws.proofs.OtherStreamLemmas.{frame-aside}
-use Rattle.turn_client_laws.proofs.StepFrameLemmas.{bytes-twice}
+use Rattle.turn_client_laws.proofs.Common.{◌≡◌, ℕ, zero, suc, ◌<◌, Bool, true, false, cond, List, [], ◌∷◌, ◌++◌, length, map, drop, take, flat_map, Option, Some, None, refl, ap, sym, subst, ◌∙◌}
+use Rattle.turn_client_laws.proofs.Common.{arith, flat_map-append, append-nil, is_some, SocketAddr}
+use Rattle.turn_client_laws.proofs.Machine.{Drained, behind, begins_no_frame, frame_len, frame_len-IsWhole, State, Mode, Control, Waiting, Bound, Broken, Stream, Payload, Outcome, Handled, broken_at}
+use Rattle.turn_client_laws.proofs.Machine.{frame_step, is_ready, put_back, sent_by, stream_at, next_frame_step, detached_frame_step, with_bytes}
+use Rattle.turn_client_laws.proofs.Laws.{IsAsideFrom, frame-bytes, frame-aside, broken-aside, bytes-twice}
+use Rattle.std.proofs.lemmas.List.{length-drop}
 use Rattle.turn_client_runs.specs.Cut.{bytes_at, outcome_payloads, left, one_by_one, whole}
 use Rattle.turn_client_runs.proofs.AllStepsLemmas.{all-first, all-rest, all_steps, gives_then}
 use Rattle.turn_client_runs.proofs.FollowLemmas.{IsFramed, IsThere, Suits, SuitsMode, control-framed, waiting-framed}
-use Rattle.turn_client_runs.proofs.StreamAtLemmas.{IsAlone, aside-alone, broken-aside, broken-empty, broken-found, bytes-found, fed-found, found-local}
+use Rattle.turn_client_runs.proofs.StreamAtLemmas.{IsAlone, aside-alone, broken-empty, broken-found, bytes-found, fed-found, found-local}
 use Rattle.turn_client_runs.proofs.WholeLemmas.{bound-whole, unless, whole-breaks, whole-frame, whole-partial}
 
 -- In the first state the stream at this local address holds this rest, and in the second nothing: they

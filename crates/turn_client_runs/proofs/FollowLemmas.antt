@@ -1,22 +1,14 @@
 -- What a frame leaves of its own stream, and what of its payload counts.
-use Rattle.std.proofs.Common.{◌≡◌, ℕ, Bool, true, false, not, cond, List, length, find, flat_map, Option, Some, None, refl, ap, sym, subst, ◌∙◌, inl, inr}
-use Rattle.std.proofs.lemmas.Bool.{cases_Bool}
-use Rattle.std.specs.Option.{option_map}
-use Rattle.std.specs.declared.net.socket_addr.SocketAddr.{SocketAddr}
-use Rattle.turn_types.specs.Frames.{begins_message, begins_no_frame, frame_len}
+use Rattle.turn_client_laws.proofs.Common.{◌≡◌, ℕ, Bool, true, false, not, cond, List, length, find, flat_map, Option, Some, None, refl, ap, sym, subst, ◌∙◌, inl, inr, cases_Bool, option_map}
+use Rattle.turn_client_laws.proofs.Common.{SocketAddr}
+use Rattle.turn_client_laws.proofs.Machine.{begins_message, begins_no_frame, frame_len, same_address, State, Mode, Control, Waiting, Bound, Broken, Stream, bind_step, Outcome, Handled, Ignored}
+use Rattle.turn_client_laws.proofs.Machine.{PeerData, channel_sent, is_message, message_step, control_frame_step, frame_step, framed_stream_step, ready_len, stream_at, detached_frame_step}
+use Rattle.turn_client_laws.proofs.Laws.{Rebound, Same, frame-rebound, message-same}
 use Rattle.turn_types.specs.Streams as T
-use Rattle.turn_agent.specs.Agent.{same_address}
-use Rattle.turn_client_api.specs.State.{State}
-use Rattle.turn_client_api.specs.declared.state.Mode.{Mode}
-use Rattle.turn_client_api.specs.declared.state.Mode.TheVariants.{Control, Waiting, Bound, Broken}
-use Rattle.turn_client_api.specs.declared.state.Stream.{Stream}
-use Rattle.turn_client_api.specs.Connections.{bind_step}
-use Rattle.turn_client_api.specs.Payloads.{Outcome, Handled, Ignored, PeerData, channel_sent, is_message, message_step}
-use Rattle.turn_client_api.specs.Streams.{control_frame_step, frame_step, framed_stream_step, ready_len, stream_at, detached_frame_step}
 use Rattle.turn_client_laws.proofs.MoveLemmas.{by_test}
-use Rattle.turn_client_laws.proofs.StreamMessageLemmas.{Rebound, Same, frame-rebound, message-same}
 use Rattle.turn_client_runs.specs.Cut.{framed_step, outcome_payloads, meant, one_by_one, part_step}
 use Rattle.turn_client_runs.proofs.StreamAtLemmas.{find-mapped}
+use Rattle.turn_client_laws.proofs.FrameRestLemmas.{mode_by}
 
 -- payloads of a stream in this mode count one by one, or byte by byte
 abbrev pub SuitsMode : Bool → Mode → Type 0
@@ -92,9 +84,6 @@ waiting-counts stream frame now t = by (not (begins_message frame)) (is_message 
     by true d = refl
     by false true = refl
     by false false = refl
-
-abbrev mode_by : SocketAddr → Mode → Stream → Stream
-mode_by local mode x = cond (same_address x.local local) (record x { mode = mode }) x
 
 mode-local : (local : SocketAddr) (mode : Mode) (x : Stream) → (mode_by local mode x).local ≡ x.local
 mode-local local mode x = elim (same_address x.local local) as (λ b. (cond b (record x { mode = mode }) x).local ≡ x.local) [

@@ -1,50 +1,14 @@
 -- What is active after an input was active before it, or the input granted it and ended the request that it
 -- answers.
-use Rattle.std.proofs.Common.{◌≡◌, ◌⊎◌, ◌∙◌, ℕ, Bool, true, cond, List, Option, Some, None, refl, subst, sym, ap, inl, inr}
-use Rattle.std.specs.List.{Contains}
-use Rattle.turn_stun.specs.Message.{id_of}
-use Rattle.turn_stun.specs.declared.message.header.MessageClass.TheVariants.{Success}
-use Rattle.turn_auth.specs.LongTerm.{Challenge}
-use Rattle.turn_auth.specs.Validation.{IsValidated, validation_of}
-use Rattle.turn_client_api.specs.State.{State, auth_of}
-use Rattle.turn_client_api.specs.declared.grant.Grant.{Grant}
-use Rattle.turn_client_api.specs.declared.grant.Grant.TheVariants.{Allocation, Permission, Channel, Connection}
-use Rattle.turn_client_api.specs.declared.grant.Relay.{Relay}
-use Rattle.turn_client_api.specs.declared.grant.DataConnection.{DataConnection}
-use Rattle.turn_client_api.specs.declared.grant.Progress.TheVariants.{Active}
-use Rattle.turn_client_api.specs.declared.grant.Purpose.{Purpose}
-use Rattle.turn_client_api.specs.declared.grant.Purpose.TheVariants.{ForAllocation, ForRefresh, ForBind, ForPermission, ForChannel}
-use Rattle.turn_client_api.specs.declared.state.Phase.{Phase}
-use Rattle.turn_client_api.specs.declared.state.Phase.TheVariants.{Requesting, Allocated}
-use Rattle.turn_client_api.specs.declared.state.Mode.TheVariants.{Waiting}
-use Rattle.turn_client_api.specs.declared.state.Stream.{Stream}
-use Rattle.turn_client_api.specs.Grants.{purposes_of, same_ip}
-use Rattle.std.proofs.lemmas.Bool.{cases_Bool}
-use Rattle.std.specs.declared.net.socket_addr.SocketAddr.{SocketAddr}
-use Rattle.turn_agent.specs.Agent.{same_address}
-use Rattle.turn_client_api.specs.Connections.{bind_answered, bind_step, deadline_set}
-use Rattle.turn_client_laws.specs.Handled.{Input, processed}
-use Rattle.turn_client_api.specs.Judgement.{Fatal, SignedSuccess, Unrelated, answers_one, bind_judgement, challenge_in, challenged_or, class_in, judgement_of, requesting_judgement}
-use Rattle.turn_client_laws.specs.LawsBound.{IsBindInput}
-use Rattle.turn_client_laws.specs.LawsGranted.{IsGivenFor, IsGrant, IsGrantedBy, IsSameGrant}
-use Rattle.turn_client_laws.specs.LawsHandled.{IsOverControl}
-use Rattle.turn_client_laws.specs.LawsReplies.{IsAccepted, IsAwaited, IsNotAwaited}
-use Rattle.turn_client_api.specs.Payloads.{is_message, message_step}
-use Rattle.turn_client_api.specs.Receive.{connection_gone}
-use Rattle.turn_client_laws.proofs.AcceptedReplyLemmas.{bind-ended}
-use Rattle.turn_client_laws.proofs.BoundLemmas.{binds-input, found-local}
-use Rattle.turn_client_laws.proofs.GrantOriginCallLemmas.{Binds, BindsOrLeaves, bind-leaves, gone-leaves}
-use Rattle.turn_client_laws.proofs.GrantOriginLemmas.{has-mapped}
-use Rattle.turn_client_laws.proofs.GrantOriginMessageLemmas.{message-grants}
-use Rattle.turn_client_api.proofs.AddressLemmas.{same_address-true}
-use Rattle.turn_client_api.proofs.HasLemmas.{Has}
-use Rattle.turn_client_laws.proofs.StandLemmas.{Covers, covers-left}
-use Rattle.turn_client_laws.proofs.InputBringLemmas.{IsBrought}
+use Rattle.turn_client_laws.proofs.Common.{◌≡◌, ◌⊎◌, ◌∙◌, ℕ, Bool, true, cond, List, Option, Some, None, refl, subst, sym, ap, inl, inr, Contains, cases_Bool, SocketAddr, ⊤, IpAddr}
+use Rattle.turn_client_laws.proofs.Machine.{id_of, Success, Challenge, IsValidated, validation_of, State, auth_of, Grant, Allocation, Permission, Channel, Connection, Relay, DataConnection, Active}
+use Rattle.turn_client_laws.proofs.Machine.{Purpose, ForAllocation, ForRefresh, ForBind, ForPermission, ForChannel, Phase, Requesting, Allocated, Waiting, Stream, purposes_of, same_ip, same_address}
+use Rattle.turn_client_laws.proofs.Machine.{bind_answered, bind_step, deadline_set, Fatal, SignedSuccess, Unrelated, answers_one, bind_judgement, challenge_in, challenged_or, class_in, judgement_of}
+use Rattle.turn_client_laws.proofs.Machine.{requesting_judgement, is_message, message_step, connection_gone, same_address-true, Has, Lease}
+use Rattle.turn_client_laws.proofs.Laws.{Input, processed, IsBindInput, IsGivenFor, IsGrant, IsGrantedBy, IsSameGrant, IsOverControl, IsAccepted, IsAwaited, IsNotAwaited, bind-ended, binds-input}
+use Rattle.turn_client_laws.proofs.Laws.{found-local, Binds, BindsOrLeaves, bind-leaves, gone-leaves, has-mapped, message-grants, Covers, covers-left, IsBrought}
 use Rattle.turn_client_runs.specs.Granted.{IsOverIts}
 use Rattle.turn_client_runs.proofs.MadeLemmas.{control-made, success-ends, waiting-made}
-use Rattle.std.specs.Prelude.{⊤}
-use Rattle.std.specs.declared.net.ip_addr.IpAddr.{IpAddr}
-use Rattle.turn_client_api.specs.declared.grant.Lease.{Lease}
 
 -- ---- what is kept is the same, except that an allocation keeps only its address and its expiry
 

@@ -1,71 +1,29 @@
 -- A client whose server answers its first requests.
-use Rattle.std.proofs.Common.{◌≡◌, ◌≢◌, ◌⊎◌, ℕ, ◌+◌, ◌^◌, ◌<◌, ◌≤◌, min, Bool, true, false, cond, not, ◌||◌, ltb, eqb, List, [], ◌∷◌, ◌++◌, map, drop, Option, Some, None, refl, inl, inr, ap, sym}
-use Rattle.std.proofs.Common.{subst, ◌∙◌, arith}
-use Rattle.std.specs.Prelude.{IfSome, IsSome, filter, if◌then◌else◌, nat_le, slice_get}
-use Rattle.std.specs.List.{list_any}
-use Rattle.std.specs.Option.{option_map_or}
-use Rattle.std.proofs.lemmas.Bool.{and_parts, eq-eqb, eqb-true, lt-ltb}
-use Rattle.std.specs.declared.net.socket_addr.SocketAddr.{SocketAddr}
-use Rattle.turn_stun.specs.Message.{id_of}
-use Rattle.turn_stun.specs.declared.message.header.MessageClass.TheVariants.{Success}
-use Rattle.turn_stun.specs.declared.transport.TransportType.TheVariants.{Udp}
-use Rattle.turn_stun.specs.declared.transport.Transmit.{Transmit}
-use Rattle.turn_auth.specs.LongTerm.{Challenge}
-use Rattle.turn_auth.specs.Validation.{IsValidated, validation_of}
-use Rattle.turn_auth.specs.declared.validation.Validation.{Validation}
-use Rattle.turn_auth.specs.declared.validation.Validation.TheVariants.{Validated, ResendRequest, Refused}
-use Rattle.turn_auth.proofs.ChallengeLemmas.{challenge_of-sound}
-use Rattle.turn_agent.specs.Agent.{due, first_sent, is_outstanding, is_response, timed_out_transaction, without_transaction}
-use Rattle.turn_agent.specs.Schedule.{wait_at}
-use Rattle.turn_agent.specs.declared.transaction.Transaction.{Transaction}
-use Rattle.turn_client_api.specs.Config.{timers_of}
-use Rattle.turn_client_api.specs.State.{State, agent_of, auth_of, initial}
-use Rattle.turn_client_api.specs.declared.state.Phase.{Phase}
-use Rattle.turn_client_api.specs.declared.state.Phase.TheVariants.{New, Requesting, Authenticating, Allocated}
-use Rattle.turn_client_api.specs.declared.state.Queued.{Queued}
-use Rattle.turn_client_api.specs.declared.grant.Listing.{Listing}
-use Rattle.turn_client_api.specs.declared.grant.Purpose.{Purpose}
-use Rattle.turn_client_api.specs.declared.grant.Purpose.TheVariants.{ForAllocation}
-use Rattle.turn_client_api.specs.declared.grant.DataOffer.{DataOffer}
-use Rattle.turn_client_api.specs.declared.grant.Relay.{Relay}
-use Rattle.turn_client_api.specs.Grants.{allocations, is_for_allocation, purposes_of}
-use Rattle.turn_client_api.specs.Requests.{binding_indication, first_allocate, fresh_id, id_used, listings, request_for}
-use Rattle.turn_client_api.specs.Judgement.{Challenged, SignedSuccess, answers_one, answers_allocate, challenge_in, class_in, judgement_of, lifetime_in}
-use Rattle.turn_client_api.specs.Effect.{allocate_granted, allocated, phase_with, relayed_in, taken_addresses, transaction_ended}
-use Rattle.turn_client_api.specs.Retry.{state_after_retry}
-use Rattle.turn_client_api.specs.Due.{has_event, has_reply, is_paused, keepalive_times}
-use Rattle.turn_client_api.specs.Payloads.{Outcome, Handled, message_step, signed_step}
-use Rattle.turn_client_api.specs.Transmit.{idle_step, keepalive_step, queue_step, reply_step, sent_at_once, transmit_step, without_first_reply}
-use Rattle.turn_client_api.specs.Poll.{answer_by, answer_step, expired_at, next_offer, offer_step, poll_step, timed_out_step, timed_step}
-use Rattle.turn_client_api.specs.Steps.{packet_step, state_after, state_after_all}
-use Rattle.turn_client_api.specs.declared.call.Call.{Call}
-use Rattle.turn_client_api.specs.declared.call.Call.TheVariants.{Poll, PollTransmit, PollEvent, Recv}
-use Rattle.turn_client_laws.proofs.CaseLemmas.{answer-by}
-use Rattle.turn_client_api.proofs.HasLemmas.{Has, all-has, cases_Option, filter-none, has-all, has-append}
-use Rattle.turn_client_laws.proofs.GrantOriginLemmas.{has-mapped}
-use Rattle.turn_client_laws.proofs.AfterExpiryLemmas.{expired_at-shrinks}
+use Rattle.turn_client_laws.proofs.Common.{◌≡◌, ◌≢◌, ◌⊎◌, ℕ, ◌+◌, ◌^◌, ◌<◌, ◌≤◌, min, Bool, true, false, cond, ◌||◌, ltb, eqb, List, [], ◌∷◌, ◌++◌, map, drop, Option, Some, None, refl, inl, inr, ap}
+use Rattle.turn_client_laws.proofs.Common.{sym, subst, ◌∙◌, arith, IfSome, IsSome, filter, if◌then◌else◌, nat_le, slice_get, list_any, option_map_or, and_parts, eq-eqb, eqb-true, lt-ltb, SocketAddr}
+use Rattle.turn_client_laws.proofs.Machine.{id_of, Success, Udp, Transmit, Challenge, IsValidated, validation_of, Validation, Validated, ResendRequest, Refused, challenge_of-sound, due, first_sent}
+use Rattle.turn_client_laws.proofs.Machine.{is_outstanding, is_response, timed_out_transaction, without_transaction, wait_at, Transaction, timers_of, State, agent_of, auth_of, initial, Phase, New}
+use Rattle.turn_client_laws.proofs.Machine.{Requesting, Authenticating, Allocated, Queued, Listing, Purpose, ForAllocation, DataOffer, Relay, allocations, is_for_allocation, purposes_of}
+use Rattle.turn_client_laws.proofs.Machine.{binding_indication, first_allocate, fresh_id, id_used, listings, request_for, Challenged, SignedSuccess, answers_one, answers_allocate, challenge_in}
+use Rattle.turn_client_laws.proofs.Machine.{class_in, judgement_of, lifetime_in, allocate_granted, allocated, phase_with, relayed_in, taken_addresses, transaction_ended, state_after_retry, has_event}
+use Rattle.turn_client_laws.proofs.Machine.{has_reply, is_paused, keepalive_times, Outcome, Handled, message_step, signed_step, idle_step, keepalive_step, queue_step, reply_step, sent_at_once}
+use Rattle.turn_client_laws.proofs.Machine.{transmit_step, answer_by, answer_step, expired_at, next_offer, offer_step, poll_step, timed_out_step, timed_step, packet_step, state_after, state_after_all}
+use Rattle.turn_client_laws.proofs.Machine.{Call, Poll, PollTransmit, PollEvent, Recv, Has, all-has, cases_Option, filter-none, has-all, has-append, Config, later_by, seconds, Grant, Allocation}
+use Rattle.turn_client_laws.proofs.Machine.{min_lifetime, new_allocation, Leaves}
+use Rattle.turn_client_laws.proofs.Laws.{answer-by, has-mapped, expired_at-shrinks, HasNoDoubles, FitsPhase, IsUngranted, GrantsHaveAllocations, initial-steady, leaves-steadies}
+use Rattle.turn_client_laws.proofs.Laws.{GrantsHaveAllocations-AllHaveAllocation, initial-GrantsHaveAllocations, leaves-GrantsHaveAllocations, initial-single, leaves-single, no_reply-kept}
+use Rattle.turn_client_laws.proofs.Laws.{not_due-transmit, no_reply-left}
 use Rattle.std.specs.declared.net.socket_addr.SocketAddr.TheVariants.{V4}
-use Rattle.turn_client_api.specs.Config.{Config}
 use Rattle.turn_client_runs.proofs.ChallengeLemmas.{run-configured}
-use Rattle.turn_client_api.specs.State.{later_by, seconds}
-use Rattle.turn_client_api.specs.declared.grant.Grant.{Grant}
-use Rattle.turn_client_api.specs.declared.grant.Grant.TheVariants.{Allocation}
-use Rattle.turn_client_api.specs.Effect.{min_lifetime, new_allocation}
-use Rattle.turn_client_api.specs.Steps.{Leaves}
-use Rattle.turn_client_laws.specs.LawsDoubles.{HasNoDoubles}
-use Rattle.turn_client_laws.specs.LawsOrder.{FitsPhase, IsUngranted}
-use Rattle.turn_client_laws.specs.LawsGrantAllocations.{GrantsHaveAllocations}
-use Rattle.turn_client_laws.proofs.SendOrderLemmas.{initial-steady, leaves-steadies}
-use Rattle.turn_client_laws.proofs.InAllocation.{GrantsHaveAllocations-AllHaveAllocation, initial-GrantsHaveAllocations, leaves-GrantsHaveAllocations}
-use Rattle.turn_client_laws.proofs.DistinctGrants.{initial-single, leaves-single}
 use Rattle.turn_client_runs.proofs.HoldLemmas.{kept-behind}
 use Rattle.turn_client_runs.specs.Lasting.{HasRoom, IsInForce, IsSteady, HoldsAtMost, ahead_of, expiry_of}
 use Rattle.turn_client_runs.specs.OnTime.{IsInTime, time_of, time_of_all}
 use Rattle.turn_client_runs.specs.Handshake.{HandshakeEndsSteadily, HandshakeSucceeds, IsAllocating, IsFirstChallenge, IsStep, RunsHandshake}
-use Rattle.turn_client_runs.proofs.LastingSends.{none-due, none-over, transmits}
+use Rattle.turn_client_runs.proofs.LastingSends.{none-due, none-over}
 use Rattle.turn_client_runs.proofs.LastingHistory.{first-wait}
 use Rattle.turn_client_runs.proofs.LastingRuns.{arrives}
 use Rattle.turn_client_runs.proofs.SilenceLemmas.{IsUnsent, no-event, unsent-transmits, unsent-waits}
+use Rattle.turn_client_runs.proofs.SignedLemmas.{some-held}
 
 -- the allocation that a grant is
 abbrev allocation_at : Grant → Relay
@@ -148,21 +106,13 @@ poll-same delay now until s x p a range phase =
 
 -- ---- what is sent
 
-no-reply_kept : (qs : List Queued) → list_any (λ q. not q.is_request) qs ≡ false → without_first_reply qs ≡ qs
-no-reply_kept [] none = refl
-no-reply_kept (q ∷ qs) none = grind (arith, no-reply_kept qs)
-
-no-reply_left : (qs : List Queued) → list_any (λ q. not q.is_request) qs ≡ false → list_any (λ q. not q.is_request) (drop 1 qs) ≡ false
-no-reply_left [] none = none
-no-reply_left (q ∷ qs) none = (Rattle.std.proofs.lemmas.Bool.or_parts (not q.is_request) (list_any (λ q. not q.is_request) qs) none).1
-
 reply-same : (s : State) → has_reply s ≡ false → (reply_step s).1 ≡ s
-reply-same s none = ap (λ (q : List Queued). record s { queue = q }) (no-reply_kept s.queue none)
+reply-same s none = ap (λ (q : List Queued). record s { queue = q }) (no_reply-kept s.queue none)
 
 -- while the first request awaits its reply, nothing more is sent
 first-transmit : (delay now until : ℕ) (s : State) (x : Transaction) → IsPlain delay now s → IsAsked delay now until s x → now ≤ 2 ^ 62 → s.phase ≡ Requesting → s.queue ≡ []
     → (transmit_step now s).1 ≡ s
-first-transmit delay now until s x p a range e q = rw (transmits now s (no-due delay now until s x p a range)) (by (is_paused now s))
+first-transmit delay now until s x p a range e q = rw (not_due-transmit now s (no-due delay now until s x p a range)) (by (is_paused now s))
   where
     idle : (f : Phase) (qs : List Queued) → f ≡ Requesting → qs ≡ []
         → (option_map_or (λ q. (Some q.packet, Rattle.turn_client_api.specs.Transmit.sent now (record s { queue = drop 1 s.queue }))) (slice_get qs 0) (idle_step f now s)).1 ≡ s
@@ -175,7 +125,7 @@ first-transmit delay now until s x p a range e q = rw (transmits now s (no-due d
 -- the second request is sent, and nothing more
 second-transmit : (delay start now : ℕ) (s : State) (x : Transaction) → IsPlain delay now s → IsAsked delay now (start + delay) s x → now ≤ 2 ^ 62 → s.phase ≡ Authenticating
     → IsStage delay start now (transmit_step now s).1
-second-transmit delay start now s x p a range e = rw (transmits now s (no-due delay now (start + delay) s x p a range)) (by (is_paused now s))
+second-transmit delay start now s x p a range e = rw (not_due-transmit now s (no-due delay now (start + delay) s x p a range)) (by (is_paused now s))
   where
     Next : State → Type 0
     Next t = IsStage delay start now t
@@ -191,7 +141,7 @@ second-transmit delay start now s x p a range e = rw (transmits now s (no-due de
           answers = p.answers;
           closes = p.closes;
           events = p.events;
-          no_reply = no-reply_left s.queue p.no_reply;
+          no_reply = no_reply-left s.queue p.no_reply;
           sent_before = omega arith;
           allocates = p.allocates;
         })
@@ -235,10 +185,6 @@ new-transmit delay start now s p u none zero = rw (unsent-transmits start now no
 
 -- ---- what comes in
 
-challenge-some : (o : Option Challenge) → IsSome o → (c : Challenge) × (o ≡ Some c)
-challenge-some None h = cc
-challenge-some (Some c) h = (c, refl)
-
 first-judged : (message : List ℕ) (s : State) (c : Challenge) → s.phase ≡ Requesting → answers_one s message ≡ true → challenge_in s message ≡ Some c → judgement_of s message ≡ Challenged c
 first-judged message s c e a f = rw (e, a, f) refl
 
@@ -274,7 +220,7 @@ first-answered : (delay start now : ℕ) (packet : Transmit (List ℕ)) (s : Sta
     → purposes_of x.id s ≡ ForAllocation ∷ []
     → s.challenges ≡ 0 → IsFirstChallenge packet s → IsStage delay start now (packet_step packet now s).1
 first-answered delay start now packet s x p a q purposes zero is =
-    let (c, e) = challenge-some (challenge_in s packet.payload) is.challenge in
+    let (c, e) = some-held (challenge_in s packet.payload) is.challenge in
     let same = answers-it packet.payload s x a.only is.answers in
     let judged = first-judged packet.payload s c is.phase is.answers e in
     let arrived : (packet_step packet now s).1 ≡ (message_step packet.payload now s).1 = ap (λ (z : Outcome × State). z.1) (arrives packet now s p.over_udp is.arrives) in

@@ -1,44 +1,20 @@
 -- A handshake that meets all premises.
-use Rattle.std.proofs.Common.{◌≡◌, ◌∙◌, ℕ, ◌+◌, ◌%◌, ◌^◌, ◌<◌, ◌≤◌, Bool, true, false, List, [], ◌∷◌, ◌++◌, length, Some, ap, arith, eqb, inl, inr, refl, subst, sym}
-use Rattle.std.specs.Prelude.{find, not, unwrap_or}
-use Rattle.std.proofs.lemmas.Bool.{cases_Bool, eqb-true}
-use Rattle.std.specs.declared.net.socket_addr.SocketAddr.{SocketAddr}
-use Rattle.turn_stun.specs.Attributes.{seen_after}
-use Rattle.turn_stun.specs.Message.{attributes_of, id_of, type_of}
+use Rattle.turn_client_laws.proofs.Common.{◌≡◌, ◌∙◌, ℕ, ◌+◌, ◌%◌, ◌^◌, ◌<◌, ◌≤◌, Bool, true, false, List, [], ◌∷◌, ◌++◌, length, Some, ap, arith, eqb, inl, inr, refl, subst, sym, find, not}
+use Rattle.turn_client_laws.proofs.Common.{cases_Bool, eqb-true, SocketAddr}
+use Rattle.turn_client_laws.proofs.Machine.{seen_after, attributes_of, id_of, type_of, AddsAttribute, IsWritten, header_of, with_attribute, Error, Transmit, IsMessage-no_fault, attributes_of-is}
+use Rattle.turn_client_laws.proofs.Machine.{Challenge, is_unsigned, with_integrity, IsValidated, held_key, validation_of, first_sent, behind_id, next_id, Transaction, Config, State, auth_of, Udp}
+use Rattle.turn_client_laws.proofs.Machine.{AllocationCreated, Requesting, Authenticating, Allocated, PollTransmit, Recv, ForAllocation, FitsPhaseForPoll, HasAllocation, refresh_time, same_transport}
+use Rattle.turn_client_laws.proofs.Machine.{allocate_granted, new_allocation, relayed_in, transaction_ended, Challenged, answers_allocate, answers_one, challenge_in, class_in, judgement_of}
+use Rattle.turn_client_laws.proofs.Machine.{lifetime_in, Outcome, is_message, message_step, signed_step, poll_step, first_allocate, fresh_id, is_taken, listings, request_for, to_server, state_after}
+use Rattle.turn_client_laws.proofs.Machine.{state_after_all, same_address-self}
+use Rattle.turn_client_laws.proofs.Laws.{relayed_v4}
+use Rattle.std.specs.Prelude.{unwrap_or}
 use Rattle.turn_stun.specs.MessageType.{class_of}
-use Rattle.turn_stun.specs.Writer.{AddsAttribute, IsWritten, header_of, with_attribute}
 use Rattle.turn_stun.specs.XorAddress.{xor_value}
-use Rattle.turn_stun.specs.declared.message.header.MessageClass.TheVariants.{Error}
-use Rattle.turn_stun.specs.declared.transport.Transmit.{Transmit}
-use Rattle.turn_stun.proofs.FaultLemmas.{IsMessage-no_fault, attributes_of-is}
 use Rattle.turn_stun.proofs.WriteLemmas.{IsWritten-IsMessage, header_of-IsMessage, header_of-IsWritten, with_attribute-AddsAttribute, with_attribute-IsWritten}
 use Rattle.turn_types.specs.Values.{number_value}
-use Rattle.turn_auth.specs.LongTerm.{Challenge}
-use Rattle.turn_auth.specs.Signature.{is_unsigned, with_integrity}
-use Rattle.turn_auth.specs.Validation.{IsValidated, held_key, validation_of}
 use Rattle.turn_auth.specs.declared.integrity.IntegrityAlgorithm.TheVariants.{Sha1}
-use Rattle.turn_agent.specs.Agent.{first_sent}
-use Rattle.turn_agent.specs.TransactionIds.{behind_id, next_id}
-use Rattle.turn_agent.specs.declared.transaction.Transaction.{Transaction}
-use Rattle.turn_client_api.specs.Config.{Config}
-use Rattle.turn_client_api.specs.State.{State, auth_of}
-use Rattle.turn_stun.specs.declared.transport.TransportType.TheVariants.{Udp}
-use Rattle.turn_client_api.specs.declared.event.TurnEvent.TheVariants.{AllocationCreated}
-use Rattle.turn_client_api.specs.declared.state.Phase.TheVariants.{Requesting, Authenticating, Allocated}
-use Rattle.turn_client_api.specs.declared.call.Call.TheVariants.{PollTransmit, Recv}
-use Rattle.turn_client_api.specs.declared.grant.Purpose.TheVariants.{ForAllocation}
 use Rattle.turn_client_api.specs.declared.poll.TurnPollRet.TheVariants.{WaitUntil}
-use Rattle.turn_client_api.specs.Alarm.{FitsPhaseForPoll, HasAllocation}
-use Rattle.turn_client_api.specs.Due.{refresh_time}
-use Rattle.turn_client_api.specs.Grants.{same_transport}
-use Rattle.turn_client_api.specs.Effect.{allocate_granted, new_allocation, relayed_in, transaction_ended}
-use Rattle.turn_client_api.specs.Judgement.{Challenged, answers_allocate, answers_one, challenge_in, class_in, judgement_of, lifetime_in}
-use Rattle.turn_client_api.specs.Payloads.{Outcome, is_message, message_step, signed_step}
-use Rattle.turn_client_api.specs.Poll.{poll_step}
-use Rattle.turn_client_api.specs.Requests.{first_allocate, fresh_id, is_taken, listings, request_for, to_server}
-use Rattle.turn_client_api.specs.Steps.{state_after, state_after_all}
-use Rattle.turn_client_laws.specs.LawsRows.{relayed_v4}
-use Rattle.turn_client_api.proofs.AddressLemmas.{same_address-self}
 use Rattle.turn_client_runs.specs.Handshake.{IsAllocating, IsFirstChallenge, RunsHandshake}
 use Rattle.turn_client_runs.specs.HandshakeRows.{HandshakeIsWorked, allocated_text, allocation_packet, challenge_text, handshake_calls, new_client}
 use Rattle.turn_client_runs.specs.Lasting.{HoldsAtMost}
@@ -295,9 +271,6 @@ module _ (local remote : SocketAddr) (config : Config) (seed : List ℕ) where
 
   sends : state_after (PollTransmit 0) h0 ≡ h1
   sends = refl
-
-  sends-again : state_after (PollTransmit 100_000_000) h2 ≡ h3
-  sends-again = refl
 
   first-small : id1 < 2 ^ 96
   first-small = omega arith

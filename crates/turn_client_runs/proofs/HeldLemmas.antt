@@ -1,35 +1,10 @@
 -- What is held after a run was set by the first challenge that was answered.
-use Rattle.std.proofs.Common.{◌≡◌, ◌⊎◌, ◌∙◌, ltb, ℕ, Bool, true, false, cond, List, Option, Some, None, refl, sym, subst, ap, inl, inr}
-use Rattle.std.specs.Prelude.{IsSome, is_some, ⊤}
-use Rattle.std.specs.declared.net.socket_addr.SocketAddr.{SocketAddr}
-use Rattle.std.proofs.lemmas.Option.{same_Some}
-use Rattle.turn_stun.specs.Message.{id_of}
-use Rattle.turn_stun.specs.declared.transport.TransportType.{TransportType}
-use Rattle.turn_auth.specs.LongTerm.{Challenge}
-use Rattle.turn_client_api.specs.Config.{Config}
-use Rattle.turn_client_api.specs.State.{State, initial}
-use Rattle.turn_client_api.specs.Grants.{purposes_of}
-use Rattle.turn_client_api.specs.Judgement.{Judgement, Unrelated, Challenged, Fatal, answers_one}
-use Rattle.turn_client_api.specs.Judgement.{challenge_in, challenged_or, judgement_of}
-use Rattle.turn_client_api.specs.Effect.{closed, transaction_ended, fail_all}
-use Rattle.turn_client_api.specs.Retry.{retried, state_after_retry}
-use Rattle.turn_client_api.specs.Connections.{bind_step, connection_at}
-use Rattle.turn_client_api.specs.Payloads.{Outcome, Handled, Ignored, is_message, message_step}
-use Rattle.turn_client_api.specs.Receive.{connection_gone}
-use Rattle.turn_client_laws.specs.Handled.{Input}
-use Rattle.turn_client_api.specs.Steps.{state_after}
-use Rattle.turn_client_api.specs.Transmit.{sent}
-use Rattle.turn_client_laws.specs.LawsHandled.{IsDoneBy, IsOverControl, TakesInput}
-use Rattle.turn_client_api.specs.declared.call.Call.{Call}
-use Rattle.turn_client_api.specs.declared.call.Call.TheVariants.{Delete, AllocatedTcpSocket, Recv, PollRecv}
-use Rattle.turn_client_api.specs.declared.grant.Purpose.{Purpose}
-use Rattle.turn_client_api.specs.declared.state.Phase.{Phase}
-use Rattle.turn_client_api.specs.declared.state.Phase.TheVariants.{Requesting, Authenticating, Allocated, Closed}
-use Rattle.turn_client_laws.proofs.Edits.{KeepsEdits}
-use Rattle.turn_client_laws.proofs.MoveLemmas.{on_test}
-use Rattle.turn_client_laws.proofs.PhaseEdits.{phase-edits}
-use Rattle.turn_client_laws.proofs.EditsOfCalls.{delete-walk, quiet-walk, tcp_socket-walk}
-use Rattle.turn_client_laws.proofs.InputBringLemmas.{IsBrought, leaves-bring}
+use Rattle.turn_client_laws.proofs.Common.{◌≡◌, ◌⊎◌, ◌∙◌, ltb, ℕ, Bool, true, false, cond, List, Option, Some, None, refl, sym, subst, ap, inl, inr, IsSome, is_some, ⊤, SocketAddr, same_Some}
+use Rattle.turn_client_laws.proofs.Machine.{id_of, TransportType, Challenge, Config, State, initial, purposes_of, Judgement, Unrelated, Challenged, Fatal, answers_one, challenge_in, challenged_or}
+use Rattle.turn_client_laws.proofs.Machine.{judgement_of, closed, transaction_ended, fail_all, retried, state_after_retry, bind_step, connection_at, Outcome, Handled, Ignored, is_message}
+use Rattle.turn_client_laws.proofs.Machine.{message_step, connection_gone, state_after, sent, Call, Delete, AllocatedTcpSocket, Recv, PollRecv, Purpose, Phase, Requesting, Authenticating, Allocated}
+use Rattle.turn_client_laws.proofs.Machine.{Closed}
+use Rattle.turn_client_laws.proofs.Laws.{Input, IsDoneBy, IsOverControl, TakesInput, KeepsEdits, on_test, phase-edits, delete-walk, quiet-walk, tcp_socket-walk, IsBrought, leaves-bring}
 use Rattle.turn_client_runs.specs.Held.{HeldFromChallenge, IsFirstAnswer}
 use Rattle.turn_client_runs.proofs.MadeLemmas.{control-made}
 use Rattle.turn_client_runs.proofs.RealmLemmas.{inputs-after}

@@ -1,9 +1,7 @@
 -- What each call keeps, whole runs keep.
-use Rattle.std.proofs.Common.{List, [], ◌∷◌, inl, refl}
-use Rattle.turn_client_api.specs.State.{State, initial}
-use Rattle.turn_client_api.specs.Steps.{state_after, state_after_all}
-use Rattle.turn_client_api.specs.declared.call.Call.{Call}
-use Rattle.turn_client_laws.specs.LawsStates.{HoldsAtFirst, StaysInCalls}
+use Rattle.turn_client_laws.proofs.Common.{List, [], ◌∷◌, inl, refl}
+use Rattle.turn_client_laws.proofs.Machine.{State, initial, state_after, state_after_all, Call}
+use Rattle.turn_client_laws.proofs.Laws.{HoldsAtFirst, StaysInCalls}
 use Rattle.turn_client_runs.specs.Holds.{HoldsInAnyRun, HoldsInRuns, Reaches}
 
 -- calls without an allocation failure lead to the state after them

@@ -1,43 +1,13 @@
 -- In a run the inputs out of a stream take all that arrives for it, in order.
-use Rattle.std.proofs.Common.{◌≡◌, ◌⊎◌, ◌∙◌, ◌++◌, ◌&&◌, ℕ, Bool, true, false, cond, List, [], ◌∷◌, Option, Some, None, Result, refl, sym, subst, ap, inl, inr, append_assoc}
-use Rattle.std.specs.Prelude.{◌≢◌, find, is_some}
-use Rattle.std.specs.Option.{option_map_or}
-use Rattle.std.specs.List.{IsDistinct}
-use Rattle.std.proofs.lemmas.Bool.{cases_Bool}
-use Rattle.std.proofs.lemmas.List.{append-nil}
-use Rattle.std.specs.declared.net.socket_addr.SocketAddr.{SocketAddr}
-use Rattle.turn_stun.specs.declared.transport.TransportType.{TransportType}
-use Rattle.turn_stun.specs.declared.transport.TransportType.TheVariants.{Udp, Tcp}
-use Rattle.turn_stun.specs.declared.transport.Transmit.{Transmit}
-use Rattle.turn_agent.specs.Agent.{same_address}
-use Rattle.turn_client_api.specs.Config.{Config}
-use Rattle.turn_client_api.specs.State.{State, initial}
-use Rattle.turn_client_api.specs.declared.call.Call.{Call}
-use Rattle.turn_client_api.specs.declared.call.Call.TheVariants.{AllocatedTcpSocket, Delete, PollRecv, Recv}
-use Rattle.turn_client_api.specs.declared.error.TcpAllocateError.{TcpAllocateError}
-use Rattle.turn_client_api.specs.declared.grant.Origin.{Origin}
-use Rattle.turn_client_api.specs.declared.grant.Origin.TheVariants.{ServerRequest}
-use Rattle.turn_client_api.specs.declared.poll.Socket5Tuple.{Socket5Tuple}
-use Rattle.turn_client_api.specs.declared.state.Mode.{Mode}
-use Rattle.turn_client_api.specs.declared.state.Mode.TheVariants.{Control, Waiting, Bound, Broken}
-use Rattle.turn_client_api.specs.declared.state.Stream.{Stream}
-use Rattle.turn_client_api.specs.Calls.{allocated_tcp_socket_step, is_allocated, is_control, is_local_taken, offer_origin, socket_opened, socket_refused, socket_step, with_stream}
-use Rattle.turn_client_api.specs.Connections.{connection_at}
-use Rattle.turn_client_api.specs.Grants.{same_transport}
-use Rattle.turn_client_api.specs.Payloads.{Handled, Ignored, Outcome, channel_sent, datagram_step, is_channel_frame, is_message, message_step}
-use Rattle.turn_client_api.specs.Receive.{connection_gone, first_frame_step, is_from_server, piece_step, recv_step, stream_step, then_all}
-use Rattle.turn_client_api.specs.Steps.{state_after, state_after_all}
-use Rattle.turn_client_api.specs.Streams.{stream_at, without_stream}
-use Rattle.turn_client_laws.specs.Handled.{Input, datagram_input, fed_taken, handled, piece_inputs, poll_recv_inputs, recv_inputs, stream_inputs}
-use Rattle.turn_client_laws.specs.LawsStreams.{AreApart}
-use Rattle.turn_client_api.proofs.AddressLemmas.{same_address-self, same_address-true}
-use Rattle.turn_client_laws.proofs.CaseLemmas.{by_found, by_test}
-use Rattle.turn_client_laws.proofs.EditsOfCalls.{delete-walk, quiet-walk}
-use Rattle.turn_client_api.proofs.HasLemmas.{Has, has-append, has-found, map-has}
-use Rattle.turn_client_laws.proofs.NumberLemmas.{all-of}
-use Rattle.turn_client_api.proofs.StreamEnds.{ends}
-use Rattle.turn_client_laws.proofs.StreamCallLemmas.{call-apart, initial-apart}
-use Rattle.turn_client_laws.proofs.StreamMessageLemmas.{Same, Same-KeepsEdits, message-same}
+use Rattle.turn_client_laws.proofs.Common.{◌≡◌, ◌⊎◌, ◌∙◌, ◌++◌, ◌&&◌, ℕ, Bool, true, false, cond, List, [], ◌∷◌, Option, Some, None, Result, refl, sym, subst, ap, inl, inr, append_assoc, ◌≢◌, find}
+use Rattle.turn_client_laws.proofs.Common.{is_some, option_map_or, IsDistinct, cases_Bool, append-nil, SocketAddr}
+use Rattle.turn_client_laws.proofs.Machine.{TransportType, Udp, Tcp, Transmit, same_address, Config, State, initial, Call, AllocatedTcpSocket, Delete, PollRecv, Recv, TcpAllocateError, Origin}
+use Rattle.turn_client_laws.proofs.Machine.{ServerRequest, Socket5Tuple, Mode, Control, Waiting, Bound, Broken, Stream, allocated_tcp_socket_step, is_allocated, is_control, is_local_taken}
+use Rattle.turn_client_laws.proofs.Machine.{offer_origin, socket_opened, socket_refused, socket_step, with_stream, connection_at, same_transport, Handled, Ignored, Outcome, channel_sent}
+use Rattle.turn_client_laws.proofs.Machine.{datagram_step, is_channel_frame, is_message, message_step, connection_gone, first_frame_step, is_from_server, piece_step, recv_step, stream_step, then_all}
+use Rattle.turn_client_laws.proofs.Machine.{state_after, state_after_all, stream_at, without_stream, same_address-self, same_address-true, Has, has-append, has-found, map-has, ends}
+use Rattle.turn_client_laws.proofs.Laws.{Input, datagram_input, fed_taken, handled, piece_inputs, poll_recv_inputs, recv_inputs, stream_inputs, AreApart, by_found, by_test, delete-walk, quiet-walk}
+use Rattle.turn_client_laws.proofs.Laws.{all-of, call-apart, initial-apart, Same, Same-KeepsEdits, message-same}
 use Rattle.turn_client_runs.specs.InOrder.{InputsFollow, Opens, OpensNone, bytes_out_of, held_at}
 use Rattle.turn_client_runs.specs.Inputs.{handled_in}
 use Rattle.turn_client_runs.specs.Received.{piece_in_call, pieces_for, unless_broken}

@@ -1,27 +1,11 @@
 -- A step of a stream takes what comes next of it, and no other stream loses anything.
-use Rattle.std.proofs.Common.{◌≡◌, ◌∙◌, ◌++◌, ℕ, zero, suc, Bool, true, false, cond, List, [], ◌∷◌, drop, filter, map, take, Option, Some, None, refl, sym, subst, ap, inl, inr, append_assoc}
-use Rattle.std.specs.Prelude.{◌≢◌, find}
-use Rattle.std.proofs.lemmas.Bool.{cases_Bool}
-use Rattle.std.proofs.lemmas.List.{append-nil, take-append-drop}
-use Rattle.std.specs.declared.net.socket_addr.SocketAddr.{SocketAddr}
-use Rattle.turn_types.specs.Frames.{begins_no_frame, frame_len}
-use Rattle.turn_agent.specs.Agent.{same_address}
-use Rattle.turn_client_api.specs.State.{State}
-use Rattle.turn_client_api.specs.declared.state.Mode.{Mode}
-use Rattle.turn_client_api.specs.declared.state.Mode.TheVariants.{Bound, Broken}
-use Rattle.turn_client_api.specs.declared.state.Stream.{Stream}
-use Rattle.turn_client_api.specs.Payloads.{Handled, Ignored, Outcome, Payload, PeerData}
-use Rattle.turn_client_api.specs.Receive.{first_frame_step, then_all}
-use Rattle.turn_client_api.specs.Streams.{broken_at, detached_frame_step, first_ready_step, frame_step, framed_by, go_on, is_ready, max_steps}
-use Rattle.turn_client_api.specs.Streams.{next_frame_step, payload_in, poll_recv_step, steps_until_payload, with_bytes, stream_with_piece}
-use Rattle.turn_client_laws.specs.Handled.{Input, fed_taken, inputs_taken, is_front, poll_recv_inputs}
-use Rattle.turn_client_laws.specs.Handled.{stream_inputs_taken, taken_first, taken_in, taken_of_len, then_taken}
-use Rattle.turn_client_laws.specs.Handled.{unless_given}
-use Rattle.turn_client_api.proofs.AddressLemmas.{same_address-self, same_address-true, differ-sym}
-use Rattle.turn_client_laws.proofs.GrantOriginLemmas.{has-mapped}
-use Rattle.turn_client_api.proofs.HasLemmas.{Has, has-filter, has-found}
-use Rattle.turn_client_laws.proofs.OtherStreamLemmas.{step-aside}
-use Rattle.turn_client_laws.proofs.StreamDrainLemmas.{broken_by, bytes_by}
+use Rattle.turn_client_laws.proofs.Common.{◌≡◌, ◌∙◌, ◌++◌, ℕ, zero, suc, Bool, true, false, cond, List, [], ◌∷◌, drop, filter, map, take, Option, Some, None, refl, sym, subst, ap, inl, inr}
+use Rattle.turn_client_laws.proofs.Common.{append_assoc, ◌≢◌, find, cases_Bool, append-nil, take-append-drop, SocketAddr}
+use Rattle.turn_client_laws.proofs.Machine.{begins_no_frame, frame_len, same_address, State, Mode, Bound, Broken, Stream, Handled, Ignored, Outcome, Payload, PeerData, first_frame_step, then_all}
+use Rattle.turn_client_laws.proofs.Machine.{broken_at, detached_frame_step, first_ready_step, frame_step, framed_by, go_on, is_ready, max_steps, next_frame_step, payload_in, poll_recv_step}
+use Rattle.turn_client_laws.proofs.Machine.{steps_until_payload, with_bytes, stream_with_piece, same_address-self, same_address-true, differ-sym, Has, has-filter, has-found}
+use Rattle.turn_client_laws.proofs.Laws.{Input, fed_taken, inputs_taken, is_front, poll_recv_inputs, stream_inputs_taken, taken_first, taken_in, taken_of_len, then_taken, unless_given, has-mapped}
+use Rattle.turn_client_laws.proofs.Laws.{step-aside, broken_by, bytes_by}
 use Rattle.turn_client_runs.specs.InOrder.{bytes_out_of, is_out_of}
 
 -- the bytes of some inputs, and then those of others

@@ -1,16 +1,7 @@
 -- What the inputs of a run cause.
-use Rattle.std.proofs.Common.{◌≡◌, ◌⊎◌, List, [], ◌∷◌, ◌++◌, inl, inr, refl, sym, subst, ◌∙◌}
-use Rattle.std.proofs.lemmas.List.Elements.{Contains-append_left, Contains-append_right}
-use Rattle.turn_client_api.specs.State.{State}
-use Rattle.turn_client_laws.specs.Handled.{Input, handled, processed}
-use Rattle.turn_client_laws.specs.LawsHandled.{IsDoneBy, TakesInput, InputsLead}
-use Rattle.turn_client_api.specs.Steps.{state_after, state_after_all}
-use Rattle.turn_client_api.specs.declared.call.Call.{Call}
-use Rattle.turn_client_api.specs.declared.call.Call.TheVariants.{Recv, PollRecv}
-use Rattle.turn_client_api.proofs.HasLemmas.{Has}
-use Rattle.turn_client_laws.proofs.StandLemmas.{contains-has, has-contains}
-use Rattle.turn_client_laws.proofs.InputBringLemmas.{IsBrought, lead-brings}
-use Rattle.turn_client_laws.proofs.InputChainLemmas.{calls-do}
+use Rattle.turn_client_laws.proofs.Common.{◌≡◌, ◌⊎◌, List, [], ◌∷◌, ◌++◌, inl, inr, refl, sym, subst, ◌∙◌, Contains-append_left, Contains-append_right}
+use Rattle.turn_client_laws.proofs.Machine.{State, state_after, state_after_all, Call, Recv, PollRecv, Has}
+use Rattle.turn_client_laws.proofs.Laws.{Input, handled, processed, IsDoneBy, TakesInput, InputsLead, contains-has, has-contains, IsBrought, lead-brings, calls-do}
 use Rattle.turn_client_runs.specs.Inputs.{IsAmong, handled_in}
 
 -- ---- one of some inputs did it

@@ -1,39 +1,17 @@
 -- A request is retransmitted, or made again after a challenge, while no grant is lost.
-use Rattle.std.proofs.Common.{◌≡◌, ◌⊎◌, ℕ, ◌+◌, ◌-◌, ◌*◌, ◌^◌, ◌<◌, ◌≤◌, min, Bool, true, false, cond, not, ◌||◌, eqb, List, [], ◌∷◌, length, map, Some, refl, inl, inr, ap}
-use Rattle.std.proofs.Common.{sym, subst, ◌∙◌, arith}
-use Rattle.std.specs.Prelude.{filter}
-use Rattle.std.specs.List.{list_any}
-use Rattle.std.proofs.lemmas.Bool.{and_parts, cases_Bool, cases_lt, eq-eqb, eqb-true, leb-true, not_from_false, or_left}
-use Rattle.std.proofs.lemmas.List.{length-append}
-use Rattle.std.proofs.lemmas.List.Folds.{list_any-append}
-use Rattle.turn_agent.specs.Agent.{due, first_sent, is_due, resent, sent_again, without_transaction}
-use Rattle.turn_agent.specs.Schedule.{Timers, wait_at}
-use Rattle.turn_agent.specs.declared.transaction.Transaction.{Transaction}
-use Rattle.turn_auth.specs.LongTerm.{Challenge}
-use Rattle.turn_client_api.specs.Config.{timers_of}
-use Rattle.turn_client_api.specs.Due.{pause_end}
-use Rattle.turn_client_api.specs.Grants.{has_request, is_for, purposes_of}
-use Rattle.turn_client_api.specs.Requests.{fresh_id, listings, request_for, to_server}
-use Rattle.turn_client_api.specs.Retry.{phase_after, state_after_retry, with_held}
-use Rattle.turn_client_api.specs.Effect.{transaction_ended}
-use Rattle.turn_client_api.specs.State.{State, agent_of}
-use Rattle.turn_client_api.specs.declared.state.Phase.{Phase}
-use Rattle.turn_client_api.specs.declared.state.Phase.TheVariants.{Allocated}
-use Rattle.turn_client_api.specs.declared.state.Queued.{Queued}
-use Rattle.turn_client_api.specs.declared.grant.Grant.{Grant}
-use Rattle.turn_client_api.specs.declared.grant.Listing.{Listing}
-use Rattle.turn_client_api.specs.declared.grant.Purpose.{Purpose}
-use Rattle.turn_client_laws.proofs.GrantOriginLemmas.{has-mapped}
-use Rattle.turn_client_api.proofs.HasLemmas.{Has, filter-has, has-append, has-filter, has-found, has-left, has-right, map-has}
-use Rattle.turn_client_laws.proofs.InAllocationLemmas.{any-has, has-any}
-use Rattle.turn_client_laws.proofs.TwoPurposes.{purpose-with}
+use Rattle.turn_client_laws.proofs.Common.{◌≡◌, ◌⊎◌, ℕ, ◌+◌, ◌-◌, ◌*◌, ◌^◌, ◌<◌, ◌≤◌, min, Bool, true, false, cond, not, ◌||◌, eqb, List, [], ◌∷◌, length, map, Some, refl, inl, inr, ap, sym, subst}
+use Rattle.turn_client_laws.proofs.Common.{◌∙◌, arith, filter, list_any, and_parts, cases_Bool, cases_lt, eq-eqb, eqb-true, leb-true, not_from_false, or_left, length-append, list_any-append}
+use Rattle.turn_client_laws.proofs.Machine.{due, first_sent, is_due, resent, sent_again, without_transaction, Timers, wait_at, Transaction, Challenge, timers_of, pause_end, has_request, is_for}
+use Rattle.turn_client_laws.proofs.Machine.{purposes_of, fresh_id, listings, request_for, to_server, phase_after, state_after_retry, with_held, transaction_ended, State, agent_of, Phase, Allocated}
+use Rattle.turn_client_laws.proofs.Machine.{Queued, Grant, Listing, Purpose, Has, filter-has, has-append, has-filter, has-found, has-left, has-right, map-has}
+use Rattle.turn_client_laws.proofs.Laws.{has-mapped, any-has, has-any, purpose-with}
 use Rattle.turn_client_runs.specs.History.{History, IsSeldom, extra_since, waited}
 use Rattle.turn_client_runs.specs.Lasting.{expiry_of}
 use Rattle.turn_client_runs.proofs.LastingCounts.{passes-all}
 use Rattle.turn_client_runs.proofs.LastingHistory.{GoesOn, known-later, lone-more, waited-next}
 use Rattle.turn_client_runs.proofs.LastingListings.{requests-more}
-use Rattle.turn_client_runs.proofs.LastingStands.{Goes, IsAsked, IsAwaited, IsIdle, IsKept, IsPending, IsRequest, Stands, due_of, early-paced, extra-paced, listed_as}
-use Rattle.turn_client_runs.proofs.LastingStands.{asked-before, is_served, is_waiting, served, more-paced, pause-le, used}
+use Rattle.turn_client_runs.proofs.LastingStands.{Goes, IsAsked, IsAwaited, IsIdle, IsKept, IsRequest, IsRequested, Stands, due_of, early-paced, extra-paced, listed_as, asked-before, is_served}
+use Rattle.turn_client_runs.proofs.LastingStands.{is_waiting, served, more-paced, pause-le, used}
 
 -- one packet more is extra
 abbrev pub IsOneMore : ℕ → History → History → Type 0
@@ -118,30 +96,22 @@ module _ (count slots extras delay now : ℕ) (past later : History) (s : State)
             omega (arith, whole)
       ]
 
-  pending-again : (until : ℕ) (g : Grant) → IsPending until past s.transactions s.listed g → IsPending until later t.transactions t.listed g
-  pending-again until g p = record {
+  requested-again : (when : ℕ → Type 0) (g : Grant) → IsRequested when past s.transactions s.listed g → IsRequested when later t.transactions t.listed g
+  requested-again when g p = record {
     transaction = again p.transaction;
     there = map-has again p.transaction s.transactions p.there;
     listing = p.listing;
     within = p.within;
     for = p.for;
     same = same-id p.transaction ∙ p.same;
-    sent = let e = on.same p.transaction p.there in let sent = p.sent in rw (same-id p.transaction) (omega (arith, e, sent));
+    made = rw (same-id p.transaction, on.same p.transaction p.there) p.made;
   }
 
   stands-again : (g : Grant) → Stands count slots extras delay now past s.transactions s g → Stands count slots extras delay now later t.transactions t g
   stands-again g was = record { granted = was.granted; room = was.room; long = was.long; either = by was.either }
     where
       by : IsAwaited delay past s.transactions s.listed g ⊎ IsIdle slots now past s g → IsAwaited delay later t.transactions t.listed g ⊎ IsIdle slots now later t g
-      by (inl a) = inl (record {
-        transaction = again a.transaction;
-        there = map-has again a.transaction s.transactions a.there;
-        listing = a.listing;
-        within = a.within;
-        for = a.for;
-        same = same-id a.transaction ∙ a.same;
-        in_time = let e = on.same a.transaction a.there in let early = a.in_time in rw (same-id a.transaction) (omega (arith, e, early));
-      })
+      by (inl a) = inl (requested-again (λ made. made + delay < expiry_of g) g a)
       by (inr idle) = inr (idle-again g idle)
 
   came : (y : Transaction) → Has y t.transactions → (z : Transaction) × Has z s.transactions × (y ≡ again z)
@@ -183,7 +153,7 @@ module _ (count slots extras delay now : ℕ) (past later : History) (s : State)
     in_allocations = k.in_allocations;
     known = λ g there. let (waits, due) = k.known g there in (λ w. known-later past later on.let_go g (waits w), due);
     each = λ g there. elim (k.each g there) [
-      | inl (waits, pending) ↦ inl (waits, pending-again now g pending)
+      | inl (waits, pending) ↦ inl (waits, requested-again (λ made. made ≤ now) g pending)
       | inr (inl stands) ↦ inr (inl (stands-again g stands))
       | inr (inr (freed, kind)) ↦ inr (inr (on.let_go g freed, kind))
     ];
@@ -193,7 +163,7 @@ module _ (count slots extras delay now : ℕ) (past later : History) (s : State)
   goes-again = record {
     let_go = on.let_go;
     remain = λ g there granted none. (g, there, refl, granted);
-    follow = λ until g there waits pending none. inl (there, pending-again until g pending);
+    follow = λ until g there waits pending none. inl (there, requested-again (λ made. made ≤ until) g pending);
   }
 
 -- ---- a challenge is answered
@@ -245,13 +215,10 @@ module _ (count slots extras delay now : ℕ) (past later : History) (s : State)
   new-there = has-right new left (new ∷ []) (inl refl)
 
   -- it is made again, or awaits its reply still
-  pending-retried : (until : ℕ) (g : Grant) → IsPending until past s.transactions s.listed g → IsPending until later after.transactions after.listed g
-  pending-retried until g p = by (eqb p.transaction.id id) refl
+  requested-retried : (when : ℕ → Type 0) (g : Grant) → IsRequested when past s.transactions s.listed g → IsRequested when later after.transactions after.listed g
+  requested-retried when g p = by (eqb p.transaction.id id) refl
     where
-      sent : past.made p.transaction.id ≤ until
-      sent = p.sent
-
-      by : (b : Bool) → eqb p.transaction.id id ≡ b → IsPending until later after.transactions after.listed g
+      by : (b : Bool) → eqb p.transaction.id id ≡ b → IsRequested when later after.transactions after.listed g
       by false e = record {
         transaction = p.transaction;
         there = stays p.transaction p.there e;
@@ -259,7 +226,7 @@ module _ (count slots extras delay now : ℕ) (past later : History) (s : State)
         within = has-left p.listing s.listed copies p.within;
         for = p.for;
         same = p.same;
-        sent = let same = on.same p.transaction p.there in omega (arith, same, sent);
+        made = subst when (sym (on.same p.transaction p.there)) p.made;
       }
       by true e =
           let is : p.transaction.id ≡ id = eqb-true p.transaction.id id e in record {
@@ -269,34 +236,7 @@ module _ (count slots extras delay now : ℕ) (past later : History) (s : State)
             within = copy-of p.listing p.within (sym p.same ∙ is);
             for = p.for;
             same = refl;
-            sent = let same = as_old p.transaction p.there is in omega (arith, same, sent);
-          }
-
-  awaited-retried : (g : Grant) → IsAwaited delay past s.transactions s.listed g → IsAwaited delay later after.transactions after.listed g
-  awaited-retried g a = by (eqb a.transaction.id id) refl
-    where
-      early : past.made a.transaction.id + delay < expiry_of g
-      early = a.in_time
-
-      by : (b : Bool) → eqb a.transaction.id id ≡ b → IsAwaited delay later after.transactions after.listed g
-      by false e = record {
-        transaction = a.transaction;
-        there = stays a.transaction a.there e;
-        listing = a.listing;
-        within = has-left a.listing s.listed copies a.within;
-        for = a.for;
-        same = a.same;
-        in_time = let same = on.same a.transaction a.there in omega (arith, same, early);
-      }
-      by true e =
-          let is : a.transaction.id ≡ id = eqb-true a.transaction.id id e in record {
-            transaction = new;
-            there = new-there;
-            listing = record { id = fresh_id s; purpose = a.listing.purpose };
-            within = copy-of a.listing a.within (sym a.same ∙ is);
-            for = a.for;
-            same = refl;
-            in_time = let same = as_old a.transaction a.there is in omega (arith, same, early);
+            made = subst when (sym (as_old p.transaction p.there is)) p.made;
           }
 
   -- what is not requested is not requested by this
@@ -359,7 +299,7 @@ module _ (count slots extras delay now : ℕ) (past later : History) (s : State)
     granted = was.granted;
     room = was.room;
     long = was.long;
-    either = elim was.either [ inl a ↦ inl (awaited-retried g a) | inr idle ↦ inr (idle-retried g idle) ];
+    either = elim was.either [ inl a ↦ inl (requested-retried (λ made. made + delay < expiry_of g) g a) | inr idle ↦ inr (idle-retried g idle) ];
   }
 
   -- the copies are listed as the others were
@@ -419,7 +359,7 @@ module _ (count slots extras delay now : ℕ) (past later : History) (s : State)
         let (waits, due) = k.known g there in
         (λ w. known-later past later on.let_go g (waits w), λ leased asked. due leased (asked-before (has_request g s) (has_request g after) (not-asked g) asked));
     each = λ g there. elim (k.each g there) [
-      | inl (waits, pending) ↦ inl (waits, pending-retried now g pending)
+      | inl (waits, pending) ↦ inl (waits, requested-retried (λ made. made ≤ now) g pending)
       | inr (inl stands) ↦ inr (inl (stands-retried g stands))
       | inr (inr (freed, inl leased)) ↦ inr (inr (on.let_go g freed, inl leased))
       | inr (inr (freed, inr (is, none))) ↦ inr (inr (on.let_go g freed, inr (is, not-asked g none)))
@@ -430,5 +370,5 @@ module _ (count slots extras delay now : ℕ) (past later : History) (s : State)
   goes-retried = record {
     let_go = on.let_go;
     remain = λ g there granted none. (g, there, refl, granted);
-    follow = λ until g there waits pending none. inl (there, pending-retried until g pending);
+    follow = λ until g there waits pending none. inl (there, requested-retried (λ made. made ≤ until) g pending);
   }

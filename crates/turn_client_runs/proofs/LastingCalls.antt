@@ -1,55 +1,24 @@
 -- A permission is requested while no grant is lost.
-use Rattle.std.proofs.Common.{◌≡◌, ◌⊎◌, ℕ, ◌+◌, ◌≤◌, Bool, true, false, cond, not, List, [], ◌∷◌, length, Option, Some, None, refl, inl, inr, ap, sym, ◌∙◌, arith}
-use Rattle.std.specs.Prelude.{Result, Ok, Err, filter_map, is_some}
-use Rattle.std.specs.Net.Socket.{socket_ip}
-use Rattle.std.specs.declared.net.socket_addr.SocketAddr.{SocketAddr}
-use Rattle.turn_client_api.specs.declared.error.BindChannelError.{BindChannelError}
+use Rattle.turn_client_laws.proofs.Common.{◌<◌, ◌≡◌, ◌⊎◌, ℕ, ◌+◌, ◌≤◌, Bool, true, false, cond, not, List, [], ◌∷◌, length, Option, Some, None, refl, inl, inr, ap, sym, ◌∙◌, arith, Result, Ok, Err}
+use Rattle.turn_client_laws.proofs.Common.{filter_map, is_some, socket_ip, SocketAddr, list_any, cases_Bool, eq-eqb, lt-leb, not-true, or_left, or_right, length-append, list_any-append, none-some}
+use Rattle.turn_client_laws.proofs.Common.{IpAddr, is_none, append_assoc, subst, ◌++◌}
+use Rattle.turn_client_laws.proofs.Machine.{BindChannelError, TransportType, AddressFamily, first_sent, Transaction, same_family, State, Phase, Allocated, Queued, CreatePermissionError, Grant}
+use Rattle.turn_client_laws.proofs.Machine.{Allocation, Channel, Permission, Listing, Relay, Progress, Pending, Purpose, ForChannel, ForPermission, allocations, family_of, family_of_grant}
+use Rattle.turn_client_laws.proofs.Machine.{family_of_ip, find_allocation, find_allocation_to, has_request, is_channel_of, is_for, is_past, is_permission_of, permission_progress, permission_state}
+use Rattle.turn_client_laws.proofs.Machine.{same_transport, with_grant, fresh_id, listings, queued, request_for, request_started, requested, to_server, bind_channel, bind_channel_step, bound_by}
+use Rattle.turn_client_laws.proofs.Machine.{channel_numbers, channel_step, channels_to, create_permission_step, free_number, in_allocation, is_allocated, is_in_progress, is_number_taken}
+use Rattle.turn_client_laws.proofs.Machine.{missing_permission, permission_step, reserved_from, is_kept, pause_end, map-has, Has, filter_map-has, has-append, has-found, has-left, has-right}
+use Rattle.turn_client_laws.proofs.Machine.{allocation-there, with_more_grants}
+use Rattle.turn_client_laws.proofs.Laws.{any-has, Room, has-any, allocation-room, room-more, has-mapped}
 use Rattle.turn_client_api.specs.declared.error.BindChannelError.TheVariants as Bind
-use Rattle.std.specs.List.{list_any}
-use Rattle.std.proofs.lemmas.Bool.{cases_Bool, eq-eqb, lt-leb, not-true, or_left, or_right}
-use Rattle.std.proofs.lemmas.List.{length-append}
-use Rattle.std.proofs.lemmas.List.Folds.{list_any-append}
-use Rattle.std.proofs.lemmas.Option.{none-some}
-use Rattle.std.specs.declared.net.ip_addr.IpAddr.{IpAddr}
-use Rattle.turn_stun.specs.declared.transport.TransportType.{TransportType}
-use Rattle.turn_types.specs.declared.family.AddressFamily.{AddressFamily}
-use Rattle.turn_agent.specs.Agent.{first_sent}
-use Rattle.turn_agent.specs.declared.transaction.Transaction.{Transaction}
-use Rattle.turn_client_api.specs.Config.{same_family}
-use Rattle.turn_client_api.specs.State.{State}
-use Rattle.turn_client_api.specs.declared.state.Phase.{Phase}
-use Rattle.turn_client_api.specs.declared.state.Phase.TheVariants.{Allocated}
-use Rattle.turn_client_api.specs.declared.state.Queued.{Queued}
-use Rattle.turn_client_api.specs.declared.error.CreatePermissionError.{CreatePermissionError}
 use Rattle.turn_client_api.specs.declared.error.CreatePermissionError.TheVariants as Create
-use Rattle.turn_client_api.specs.declared.grant.Grant.{Grant}
-use Rattle.turn_client_api.specs.declared.grant.Grant.TheVariants.{Allocation, Channel, Permission}
-use Rattle.turn_client_api.specs.declared.grant.Listing.{Listing}
-use Rattle.turn_client_api.specs.declared.grant.Relay.{Relay}
-use Rattle.turn_client_api.specs.declared.grant.Progress.{Progress}
-use Rattle.turn_client_api.specs.declared.grant.Progress.TheVariants.{Pending}
-use Rattle.turn_client_api.specs.declared.grant.Purpose.{Purpose}
-use Rattle.turn_client_api.specs.declared.grant.Purpose.TheVariants.{ForChannel, ForPermission}
-use Rattle.turn_client_api.specs.Grants.{allocations, family_of, family_of_grant, family_of_ip, find_allocation, find_allocation_to, has_request, is_channel_of, is_for, is_past, is_permission_of}
-use Rattle.turn_client_api.specs.Grants.{permission_progress, permission_state, same_transport}
-use Rattle.turn_client_api.specs.Grants.{with_grant}
-use Rattle.turn_client_api.specs.Requests.{fresh_id, listings, queued, request_for, request_started, requested, to_server}
-use Rattle.turn_client_api.specs.Calls.{bind_channel, bind_channel_step, bound_by, channel_numbers, channel_step, channels_to, create_permission_step, free_number, in_allocation, is_allocated}
-use Rattle.turn_client_api.specs.Calls.{is_in_progress, is_number_taken, missing_permission, permission_step, reserved_from}
-use Rattle.turn_client_api.specs.Due.{is_kept, pause_end}
-use Rattle.turn_client_api.proofs.HasLemmas.{map-has, Has, filter_map-has, has-append, has-found, has-left, has-right}
-use Rattle.turn_client_laws.proofs.InAllocationLemmas.{any-has, Room, has-any, allocation-room, room-more}
-use Rattle.turn_client_api.proofs.AllocationLemmas.{allocation-there}
 use Rattle.turn_client_runs.specs.History.{History}
+use Rattle.turn_client_runs.specs.Lasting.{expiry_of}
 use Rattle.turn_client_runs.proofs.LastingHistory.{lone-more}
 use Rattle.turn_client_runs.proofs.LastingCounts.{passes, passes-all, passes-append, passes-none}
-use Rattle.turn_client_runs.proofs.LastingStands.{Goes, IsPending, pending-more, AreSingle, IsAsked, IsRequest, IsAwaited, IsIdle, IsKept, IsUnique, Stands, allocation-stands, due_of, more-paced}
-use Rattle.turn_client_runs.proofs.LastingStands.{asked-before, leased-active, IsLoose, is_served, is_waiting, not-waiting, served, stands-early, unique-refreshing}
+use Rattle.turn_client_runs.proofs.LastingStands.{Goes, IsPending, IsRequested, requested-more, AreSingle, IsAsked, IsRequest, IsAwaited, IsIdle, IsKept, IsUnique, Stands, allocation-stands, due_of}
+use Rattle.turn_client_runs.proofs.LastingStands.{more-paced, asked-before, leased-active, IsLoose, is_served, is_waiting, not-waiting, served, stands-early, unique-refreshing}
 use Rattle.turn_client_runs.proofs.LastingTransmits.{same_ip-self}
-use Rattle.turn_client_api.specs.Grants.{with_more_grants}
-use Rattle.turn_client_laws.proofs.GrantOriginLemmas.{has-mapped}
-use Rattle.std.specs.Prelude.{is_none}
-use Rattle.std.proofs.Common.{append_assoc, subst, ◌++◌}
 use Rattle.turn_client_runs.proofs.LastingListings.{requests-more}
 use Rattle.turn_client_runs.proofs.LastingEffects.{permission-there, some-first}
 use Rattle.turn_client_runs.proofs.LastingReplies.{for-joins}
@@ -129,19 +98,14 @@ module _ (count slots extras delay now : ℕ) (past : History) (s : State) (k : 
   one-more : length t.queue ≡ length s.queue + 1
   one-more = length-append s.queue (packet ∷ [])
 
+  requested-old : (when : ℕ → Type 0) (g : Grant) → IsRequested when past s.transactions s.listed g → IsRequested when past t.transactions t.listed g
+  requested-old when g = requested-more when past past s.transactions t.transactions s.listed t.listed g (λ x h. refl) (λ x h. has-left x s.transactions _ h) (λ l h for. has-left l s.listed _ h)
+
   stands-asked : (g : Grant) → Has g s.grants → Stands count slots extras delay now past s.transactions s g → Stands count slots extras delay now past t.transactions t g
   stands-asked g there was = record { granted = was.granted; room = was.room; long = was.long; either = by was.either }
     where
       by : IsAwaited delay past s.transactions s.listed g ⊎ IsIdle slots now past s g → IsAwaited delay past t.transactions t.listed g ⊎ IsIdle slots now past t g
-      by (inl a) = inl (record {
-        transaction = a.transaction;
-        there = has-left a.transaction s.transactions (sent ∷ []) a.there;
-        listing = a.listing;
-        within = has-left a.listing s.listed (listings id ps) a.within;
-        for = a.for;
-        same = a.same;
-        in_time = a.in_time;
-      })
+      by (inl a) = inl (requested-old (λ made. made + delay < expiry_of g) g a)
       by (inr idle) =
           let more = serves-more (due_of s g) in
           let soon = idle.soon in
@@ -171,7 +135,7 @@ module _ (count slots extras delay now : ℕ) (past : History) (s : State) (k : 
         within = has-right (record { id = id; purpose = p }) s.listed (listings id ps) (map-has (λ (p : Purpose). record { id = id; purpose = p }) p ps among);
         for = for;
         same = refl;
-        sent = omega (arith, fresh);
+        made = omega (arith, fresh);
       }
 
   pub asked-kept : length t.grants ≤ count → length t.queue ≤ slots → IsKept count slots extras delay now past t.transactions t
@@ -226,11 +190,7 @@ module _ (count slots extras delay now : ℕ) (past : History) (s : State) (k : 
     ];
     each = λ g h. elim (has-append g s.grants news h) [
       | inl old ↦ elim (k.each g old) [
-        | inl (waits, pending) ↦ inl (
-          waits,
-          pending-more now past s.transactions t.transactions s.listed t.listed g (λ x h. has-left x s.transactions _ h)
-              (λ l h for. has-left l s.listed _ h) pending,
-        )
+        | inl (waits, pending) ↦ inl (waits, requested-old (λ made. made ≤ now) g pending)
         | inr (inl stands) ↦ inr (inl (stands-asked g old stands))
         | inr (inr loose) ↦ inr (inr (loose-asked g old loose))
       ]
@@ -242,10 +202,7 @@ module _ (count slots extras delay now : ℕ) (past : History) (s : State) (k : 
   asked-goes = record {
     let_go = λ g e. e;
     remain = λ g there granted none. (g, has-left g s.grants news there, refl, granted);
-    follow = λ until g there waits pending none. inl (
-      has-left g s.grants news there,
-      pending-more until past s.transactions t.transactions s.listed t.listed g (λ x h. has-left x s.transactions _ h) (λ l h for. has-left l s.listed _ h) pending,
-    );
+    follow = λ until g there waits pending none. inl (has-left g s.grants news there, requested-old (λ made. made ≤ until) g pending);
   }
 
 -- one grant more of a kind that did not exist

@@ -1,7 +1,6 @@
 -- How many elements pass a test.
-use Rattle.std.proofs.Common.{◌≡◌, ℕ, ◌+◌, ◌≤◌, Bool, true, false, cond, not, ◌&&◌, ◌||◌, List, [], ◌∷◌, ◌++◌, length, map, filter, inl, inr, refl, sym, arith, ◌∙◌}
-use Rattle.std.proofs.lemmas.Bool.{cases_Bool}
-use Rattle.turn_client_api.proofs.HasLemmas.{Has}
+use Rattle.turn_client_laws.proofs.Common.{◌≡◌, ℕ, ◌+◌, ◌≤◌, Bool, true, false, cond, not, ◌&&◌, ◌||◌, List, [], ◌∷◌, ◌++◌, length, map, filter, inl, inr, refl, sym, arith, ◌∙◌, cases_Bool}
+use Rattle.turn_client_laws.proofs.Machine.{Has}
 
 -- so many pass
 abbrev pub passes : {X : Type 0} → (X → Bool) → List X → ℕ
@@ -12,7 +11,7 @@ one-less : (b : Bool) → cond b 1 0 ≤ 1
 one-less true = omega arith
 one-less false = omega arith
 
-one-more : (b c : Bool) → (b ≡ true → c ≡ true) → cond b 1 0 ≤ cond c 1 0
+pub one-more : (b c : Bool) → (b ≡ true → c ≡ true) → cond b 1 0 ≤ cond c 1 0
 one-more true c h = rw (h refl) (omega arith)
 one-more false true h = omega arith
 one-more false false h = omega arith

@@ -1,39 +1,18 @@
 -- What a success changes for one purpose of its request, while no grant is lost.
-use Rattle.std.proofs.Common.{◌≡◌, ◌⊎◌, ℕ, ◌+◌, ◌^◌, ◌≤◌, min, Bool, true, false, cond, not, ◌&&◌, eqb, List, [], ◌∷◌, ◌++◌, map, Option, Some, None, refl, inl, inr, ap, sym, subst, ◌∙◌, arith}
-use Rattle.std.specs.Prelude.{IsSomeAnd, filter, filter_map, slice_get}
-use Rattle.std.specs.List.{list_any}
-use Rattle.std.specs.Option.{option_map_or}
-use Rattle.std.proofs.lemmas.Bool.{eq-eqb, le-leb, eqb-true, false_from_ne_true}
-use Rattle.std.proofs.lemmas.Option.{none-some, same_Some}
-use Rattle.std.specs.declared.net.ip_addr.IpAddr.{IpAddr}
-use Rattle.std.specs.declared.net.socket_addr.SocketAddr.{SocketAddr}
-use Rattle.turn_types.specs.declared.family.AddressFamily.{AddressFamily}
-use Rattle.turn_client_api.specs.State.{State, later_by, seconds}
-use Rattle.turn_client_api.specs.declared.event.TurnEvent.{TurnEvent}
-use Rattle.turn_client_api.specs.declared.grant.Grant.{Grant}
-use Rattle.turn_client_api.specs.declared.grant.Grant.TheVariants.{Allocation, Permission, Channel}
-use Rattle.turn_client_api.specs.declared.grant.Progress.{Progress}
-use Rattle.turn_client_api.specs.declared.grant.Progress.TheVariants.{Active, Pending, Reserved}
-use Rattle.turn_client_api.specs.declared.grant.Listing.{Listing}
-use Rattle.turn_client_api.specs.declared.grant.Purpose.{Purpose}
-use Rattle.turn_client_api.specs.declared.grant.Purpose.TheVariants.{ForRefresh, ForPermission, ForChannel}
-use Rattle.turn_client_api.specs.Grants.{as_allocation, channel_at, changed_allocation, family_of_grant, first_in, is_channel_of, is_for, is_of, is_of_family, is_permission_of}
-use Rattle.turn_client_api.specs.Grants.{permission_progress, permission_state, purposes_of, same_ip}
-use Rattle.turn_client_api.specs.Judgement.{lifetime_in}
-use Rattle.turn_client_api.specs.Effect.{channel_answered, channel_lifetime, effect, lasting_if, min_lifetime, permission_answered, permission_lifetime, prolonged, refreshed}
-use Rattle.turn_client_api.proofs.HasLemmas.{Has, filter-has, filter_map-has, first-has, has-filter_map, has-left, map-has}
+use Rattle.turn_client_laws.proofs.Common.{◌≡◌, ◌⊎◌, ℕ, ◌+◌, ◌^◌, ◌≤◌, min, Bool, true, false, cond, not, ◌&&◌, eqb, List, [], ◌∷◌, ◌++◌, map, Option, Some, None, refl, inl, inr, ap, sym, subst, ◌∙◌}
+use Rattle.turn_client_laws.proofs.Common.{arith, IsSomeAnd, filter, filter_map, slice_get, list_any, option_map_or, eq-eqb, le-leb, eqb-true, false_from_ne_true, none-some, same_Some, IpAddr}
+use Rattle.turn_client_laws.proofs.Common.{SocketAddr}
+use Rattle.turn_client_laws.proofs.Machine.{AddressFamily, State, later_by, seconds, TurnEvent, Grant, Allocation, Permission, Channel, Progress, Active, Pending, Reserved, Listing, Purpose}
+use Rattle.turn_client_laws.proofs.Machine.{ForRefresh, ForPermission, ForChannel, as_allocation, channel_at, changed_allocation, family_of_grant, first_in, is_channel_of, is_for, is_of, is_of_family}
+use Rattle.turn_client_laws.proofs.Machine.{is_permission_of, permission_progress, permission_state, purposes_of, same_ip, lifetime_in, channel_answered, channel_lifetime, effect, lasting_if}
+use Rattle.turn_client_laws.proofs.Machine.{min_lifetime, permission_answered, permission_lifetime, prolonged, refreshed, Has, filter-has, filter_map-has, first-has, has-filter_map, has-left, map-has}
+use Rattle.turn_client_laws.proofs.Machine.{is_kept, has_request, same_ip-true, Lease, granted_until}
+use Rattle.turn_client_laws.proofs.Laws.{IsReserved, has-any, purpose-with}
 use Rattle.turn_client_runs.proofs.LastingCounts.{passes, passes-two}
 use Rattle.turn_client_runs.specs.Lasting.{as_granted, Grants, ahead_of, expiry_of, with_expiry}
-use Rattle.turn_client_runs.proofs.LastingStands.{IsActive, IsLeased, IsRefreshing, IsUnique, is_waiting}
+use Rattle.turn_client_runs.proofs.LastingStands.{IsActive, IsRefreshing, IsUnique, is_waiting}
 use Rattle.turn_client_runs.proofs.LastingTransmits.{same_ip-self}
-use Rattle.turn_client_laws.proofs.AfterExpiryLemmas.{IsReserved}
-use Rattle.turn_client_laws.proofs.InAllocationLemmas.{has-any}
-use Rattle.turn_client_laws.proofs.TwoPurposes.{purpose-with}
-use Rattle.turn_client_api.specs.Due.{is_kept}
-use Rattle.turn_client_api.specs.Grants.{has_request}
-use Rattle.turn_client_api.proofs.AddressLemmas.{same_ip-true}
-use Rattle.turn_client_api.specs.declared.grant.Lease.{Lease}
-use Rattle.turn_client_api.specs.Effect.{granted_until}
+use Rattle.turn_client_runs.proofs.GrantInputs.{IsLeased}
 
 -- what the request is for lasts until then
 abbrev pub renews : Purpose → ℕ → Grant → Grant
@@ -106,7 +85,7 @@ map-same : {X Y : Type 0} (f g : X → Y) (xs : List X) → ((x : X) → f x ≡
 map-same f g [] same = refl
 map-same f g (x ∷ xs) same = rw (same x, map-same f g xs same) refl
 
-filter-same : {X : Type 0} (p q : X → Bool) (xs : List X) → ((x : X) → p x ≡ q x) → filter p xs ≡ filter q xs
+pub filter-same : {X : Type 0} (p q : X → Bool) (xs : List X) → ((x : X) → p x ≡ q x) → filter p xs ≡ filter q xs
 filter-same p q [] same = refl
 filter-same p q (x ∷ xs) same = rw (same x, filter-same p q xs same) refl
 

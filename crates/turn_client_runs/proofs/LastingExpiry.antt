@@ -1,28 +1,15 @@
 -- No grant is lost when others expire that were let go.
-use Rattle.std.proofs.Common.{◌≡◌, ◌⊎◌, ℕ, ◌+◌, ◌<◌, ◌≤◌, true, false, List, refl, inl, inr, sym, subst, ◌∙◌, arith}
-use Rattle.std.specs.Prelude.{nat_le}
-use Rattle.std.specs.declared.net.socket_addr.SocketAddr.{SocketAddr}
-use Rattle.std.proofs.lemmas.Bool.{cases_lt, lt-leb}
-use Rattle.turn_client_api.specs.Due.{pause_end}
-use Rattle.turn_client_api.specs.Grants.{family_of_grant, has_request}
-use Rattle.turn_client_api.specs.State.{State}
-use Rattle.turn_client_api.specs.declared.event.TurnEvent.{TurnEvent}
-use Rattle.turn_client_api.specs.declared.grant.Grant.{Grant}
-use Rattle.turn_client_api.specs.declared.grant.Grant.TheVariants.{Allocation, Channel, Permission}
-use Rattle.turn_client_api.specs.declared.grant.Listing.{Listing}
-use Rattle.turn_client_api.specs.declared.grant.Progress.TheVariants.{Active, Pending, Reserved}
-use Rattle.turn_client_api.specs.declared.grant.Relay.{Relay}
-use Rattle.turn_client_api.proofs.HasLemmas.{Has}
-use Rattle.turn_client_laws.proofs.InAllocationLemmas.{Room, room-more}
-use Rattle.turn_client_laws.proofs.AfterExpiryLemmas.{IsReserved}
+use Rattle.turn_client_laws.proofs.Common.{◌≡◌, ◌⊎◌, ℕ, ◌+◌, ◌<◌, ◌≤◌, true, false, List, refl, inl, inr, sym, subst, ◌∙◌, arith, nat_le, SocketAddr, cases_lt, lt-leb}
+use Rattle.turn_client_laws.proofs.Machine.{pause_end, family_of_grant, has_request, State, TurnEvent, Grant, Allocation, Channel, Permission, Listing, Active, Pending, Reserved, Relay, Has}
+use Rattle.turn_client_laws.proofs.Laws.{Room, room-more, IsReserved}
 use Rattle.turn_client_runs.specs.History.{History, IsSeldom, extra_since, was_let_go}
 use Rattle.turn_client_runs.specs.Lasting.{expiry_of}
 use Rattle.turn_client_runs.proofs.LastingCounts.{passes}
-use Rattle.turn_client_runs.proofs.LastingHistory.{GoesOn, known-later, pending-later_on}
+use Rattle.turn_client_runs.proofs.LastingHistory.{GoesOn, known-later}
 use Rattle.turn_client_runs.proofs.LastingLeft.{IsGone, IsTidy, ExpiresInto, asked_in, is_lost, unasked-less}
-use Rattle.turn_client_runs.proofs.LastingStands.{Follows, Goes, IsAwaited, IsGranted, IsIdle, IsKept, IsKnown, IsLeased, IsPending, IsWell, Remains, Stands, asked-before}
-use Rattle.turn_client_runs.proofs.LastingStands.{bound-le, due_of, early-paced, is_waiting, pause-le, pending-more, stands-early, still-paced}
-use Rattle.turn_client_runs.proofs.LastingStands.{used}
+use Rattle.turn_client_runs.proofs.LastingStands.{Follows, Goes, IsAwaited, IsGranted, IsIdle, IsKept, IsKnown, IsPending, IsRequested, IsWell, Remains, Stands, asked-before, bound-le, due_of}
+use Rattle.turn_client_runs.proofs.LastingStands.{early-paced, is_waiting, kept-changed, pause-le, requested-more, stands-early, still-paced, used}
+use Rattle.turn_client_runs.proofs.GrantInputs.{IsLeased}
 
 -- what waits is not gone
 waits-stays : (now : ℕ) (g : Grant) → is_waiting g ≡ true → IsGone now g → ⊥
@@ -76,10 +63,9 @@ module _ (count slots extras delay now : ℕ) (past later : History) (s : State)
   allocation-stays : (a : Relay) → Has (Allocation a) s.grants → Has (Allocation a) grants
   allocation-stays a there = expires_into.stays (Allocation a) there (λ none. none)
 
-  pending-stays : (until : ℕ) (g : Grant) → Has g s.grants → (IsGone now g → ⊥) → IsPending until past s.transactions s.listed g → IsPending until later s.transactions listed g
-  pending-stays until g there not pending =
-      let on_time = pending-later_on count slots extras delay now past later s.transactions s on.same on.more until g pending in
-      pending-more until later s.transactions s.transactions s.listed listed g (λ x h. h) (λ l h for. expires_into.remains l h g there for not) on_time
+  requested-stays : (when : ℕ → Type 0) (g : Grant) → Has g s.grants → (IsGone now g → ⊥) → IsRequested when past s.transactions s.listed g → IsRequested when later s.transactions listed g
+  requested-stays when g there not =
+      requested-more when past later s.transactions s.transactions s.listed listed g on.same (λ x h. h) (λ l h for. expires_into.remains l h g there for not)
 
   -- as many were served, or are extra
   still-used : (since : ℕ) → since ≤ now → now < since + 150_000_000_000 → used past s since ≤ used later t since
@@ -92,15 +78,7 @@ module _ (count slots extras delay now : ℕ) (past later : History) (s : State)
   stands-left g there was = record { granted = was.granted; room = was.room; long = was.long; either = by was.either }
     where
       by : IsAwaited delay past s.transactions s.listed g ⊎ IsIdle slots now past s g → IsAwaited delay later s.transactions listed g ⊎ IsIdle slots now later t g
-      by (inl a) = inl (record {
-        transaction = a.transaction;
-        there = a.there;
-        listing = a.listing;
-        within = expires_into.remains a.listing a.within g there a.for (stands-stays g there was);
-        for = a.for;
-        same = a.same;
-        in_time = let e = on.same a.transaction a.there in let early = a.in_time in omega (arith, e, early);
-      })
+      by (inl a) = inl (requested-stays (λ made. made + delay < expiry_of g) g there (stands-stays g there was) a)
       by (inr idle) = elim (cases_lt (due_of s g) now) [
         | inl late ↦
             let few = bound-le count slots extras delay now past s.transactions s g k there was.granted idle in
@@ -124,7 +102,7 @@ module _ (count slots extras delay now : ℕ) (past later : History) (s : State)
 
   well-old : (g : Grant) → Has g s.grants → IsWell count slots extras delay now later s.transactions t g
   well-old g there = elim (k.each g there) [
-    | inl (waits, pending) ↦ inl (waits, pending-stays now g there (waits-stays now g waits) pending)
+    | inl (waits, pending) ↦ inl (waits, requested-stays (λ made. made ≤ now) g there (waits-stays now g waits) pending)
     | inr (inl stands) ↦ inr (inl (stands-left g there stands))
     | inr (inr (freed, inl leased)) ↦ inr (inr (on.let_go g freed, inl leased))
     | inr (inr (freed, inr (is, none))) ↦ inr (inr (on.let_go g freed, inr (is, unasked-less s.listed listed expires_into.listed g none)))
@@ -147,31 +125,19 @@ module _ (count slots extras delay now : ℕ) (past later : History) (s : State)
   ]
 
   pub kept-left : IsKept count slots extras delay now later s.transactions (record s { grants = grants; listed = listed; events = events; closes = closes })
-  kept-left = record {
-    phase = k.phase;
-    requests = k.requests;
-    few = k.few;
-    prompt = k.prompt;
-    pace = k.pace;
-    sent = k.sent;
-    aged = λ x h. let e = on.same x h in let old = k.aged x h in omega (arith, e, old);
-    lone = k.lone;
-    begun = λ x h. let e = on.same x h in let b = k.begun x h in omega (arith, e, b);
-    heard = λ x h. let e = on.same x h in let late = k.heard x h in omega (arith, e, late);
-    seldom = seldom;
+  kept-left = kept-changed count slots extras delay now past later s.transactions s.transactions s on.same seldom k grants listed events s.challenges s.ids closes (record {
     row = row;
     asked = λ l h. let (refreshes, (g, there, for)) = k.asked l (expires_into.listed l h) in (refreshes, (g, expires_into.held l h g there for, for));
     size = let a = k.size in let b = expires_into.size in omega (arith, a, b);
     single = tidy.single;
     linked = tidy.linked;
-    in_range = k.in_range;
     in_allocations = λ g h. elim (expires_into.came g h) [
       | inl old ↦ room (family_of_grant g) (k.in_allocations g old)
       | inr takes ↦ subst (Room grants) (sym takes.family) (room (family_of_grant takes.was) (k.in_allocations takes.was takes.there))
     ];
     known = known-left;
     each = well-left;
-  }
+  })
     where
       room : (family : _) → Room s.grants family → Room grants family
       room = room-more s.grants grants allocation-stays
@@ -186,4 +152,4 @@ module _ (count slots extras delay now : ℕ) (past later : History) (s : State)
           not gone = let no : false ≡ true = sym none ∙ on.let_go g (gone-let_go g there gone) in cc
 
       follows : (until : ℕ) (g : Grant) → Has g s.grants → is_waiting g ≡ true → IsPending until past s.transactions s.listed g → was_let_go later g ≡ false → Follows until later s.transactions g t
-      follows until g there waits pending none = inl (expires_into.stays g there (waits-stays now g waits), pending-stays until g there (waits-stays now g waits) pending)
+      follows until g there waits pending none = inl (expires_into.stays g there (waits-stays now g waits), requested-stays (λ made. made ≤ until) g there (waits-stays now g waits) pending)

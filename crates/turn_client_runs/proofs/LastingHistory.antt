@@ -1,47 +1,20 @@
 -- What came before in a run, while no grant is lost.
-use Rattle.std.proofs.Common.{◌≡◌, ℕ, zero, suc, ◌+◌, ◌-◌, ◌^◌, ◌<◌, ◌≤◌, min, Bool, true, false, cond, not, ◌&&◌}
-use Rattle.std.proofs.Common.{◌||◌, leb, eqb, List, [], ◌∷◌, ◌++◌, length, None, refl, inl, inr, ap, sym, subst, ◌∙◌, arith}
-use Rattle.std.specs.Prelude.{filter, map, nat_le}
-use Rattle.std.specs.List.{list_any}
-use Rattle.std.proofs.lemmas.Bool.{and_parts, and_right, cases_Bool, cases_lt, eq-eqb, eqb-true, le-leb, leb-true, lt-leb, not-true, or_cases, or_left, or_parts, or_right}
-use Rattle.std.proofs.lemmas.List.{length-append}
-use Rattle.std.proofs.lemmas.List.Elements.{filter-append}
-use Rattle.turn_stun.specs.declared.transport.TransportType.{TransportType}
-use Rattle.turn_stun.specs.Message.{id_of}
-use Rattle.turn_agent.specs.Agent.{is_outstanding, timed_out_transaction, transaction_timeout}
-use Rattle.turn_agent.specs.Schedule.{Timers, resends_of, wait_at}
-use Rattle.turn_agent.specs.declared.transaction.Transaction.{Transaction}
-use Rattle.turn_client_api.specs.Config.{timers_of}
-use Rattle.turn_client_api.specs.Requests.{fresh_id}
-use Rattle.turn_client_api.specs.State.{State, agent_of}
-use Rattle.turn_client_api.specs.Steps.{state_after}
-use Rattle.turn_client_api.specs.declared.call.Call.{Call}
-use Rattle.turn_client_api.specs.declared.call.Call.TheVariants.{Recv}
-use Rattle.turn_client_api.specs.Due.{is_kept}
-use Rattle.turn_client_api.specs.declared.grant.Grant.{Grant}
-use Rattle.turn_client_api.specs.declared.grant.Listing.{Listing}
-use Rattle.turn_client_api.specs.declared.grant.Grant.TheVariants.{Permission, Channel}
-use Rattle.turn_client_api.proofs.HasLemmas.{Has, find-none, has-append}
-use Rattle.turn_client_laws.proofs.InAllocationLemmas.{has-any}
-use Rattle.turn_client_laws.proofs.NewIdLemmas.{fresh-free}
+use Rattle.turn_client_laws.proofs.Common.{◌≡◌, ℕ, zero, suc, ◌+◌, ◌-◌, ◌^◌, ◌<◌, ◌≤◌, min, Bool, true, false, cond, not, ◌&&◌, ◌||◌, leb, eqb, List, [], ◌∷◌, ◌++◌, length, None, refl, inl, inr, ap}
+use Rattle.turn_client_laws.proofs.Common.{sym, subst, ◌∙◌, arith, filter, map, nat_le, list_any, and_parts, and_right, eq-eqb, le-leb, leb-true, lt-leb, not-true, or_cases, or_left, or_parts}
+use Rattle.turn_client_laws.proofs.Common.{or_right, length-append, filter-append}
+use Rattle.turn_client_laws.proofs.Machine.{TransportType, id_of, is_outstanding, timed_out_transaction, transaction_timeout, Timers, resends_of, wait_at, Transaction, timers_of, fresh_id, State}
+use Rattle.turn_client_laws.proofs.Machine.{agent_of, state_after, Call, Recv, is_kept, Grant, Listing, Permission, Channel, Has, find-none, has-append}
+use Rattle.turn_client_laws.proofs.Laws.{has-any, fresh-free}
 use Rattle.turn_client_runs.specs.History.{History, is_replied, IsSeldom, all_waits, extra_since, first_made, is_extra, lets_channel_go, lets_permission_go, lost, waited, was_let_go, with_call}
-use Rattle.turn_client_runs.proofs.LastingStands.{AreLetGo, Goes, IsKept, IsKnown, IsPending, IsWell, Stands, due_of, still-paced}
+use Rattle.turn_client_runs.specs.Lasting.{expiry_of}
+use Rattle.turn_client_runs.proofs.LastingStands.{AreLetGo, Goes, IsKept, IsKnown, IsPending, IsRequested, IsWell, Stands, due_of, kept-changed, requested-more, still-paced}
+use Rattle.turn_client_runs.proofs.SilenceLemmas.{waited-mono}
 
 -- ---- waits
 
-waited-up : (timers : Timers) (transport : TransportType) (n r : ℕ) → n ≤ r → waited timers transport n ≤ waited timers transport r
-waited-up timers transport n zero less = let none : n ≡ zero = omega (arith, less) in rw none (omega arith)
-waited-up timers transport n (suc r) less = elim (cases_lt n (suc r)) [
-  | inl before ↦
-      let rest = waited-up timers transport n r (omega (arith, before)) in
-      let whole : waited timers transport (suc r) ≡ waited timers transport r + wait_at timers transport r = refl in
-      omega (arith, rest, whole)
-  | inr after ↦ let same : n ≡ suc r = omega (arith, less, after) in rw same (omega arith)
-]
-
 -- once the last wait is over, all are
 all-waited : (timers : Timers) (transport : TransportType) (r : ℕ) → resends_of timers transport ≤ r → all_waits timers transport ≤ waited timers transport r + wait_at timers transport r
-all-waited timers transport r last = waited-up timers transport (suc (resends_of timers transport)) (suc r) (omega (arith, last))
+all-waited timers transport r last = waited-mono timers transport (suc (resends_of timers transport)) (suc r) (omega (arith, last))
 
 pub waited-next : (timers : Timers) (transport : TransportType) (r : ℕ) → waited timers transport (r + 1) ≡ waited timers transport r + wait_at timers transport r
 waited-next timers transport r =
@@ -175,16 +148,8 @@ call-made call now past s = rw (eq-eqb (fresh_id s) (fresh_id s) refl) refl
 
 module _ (count slots extras delay now : ℕ) (past later : History) (transactions : List Transaction) (s : State) (same : (x : Transaction) → Has x transactions → later.made x.id ≡ past.made x.id)
     (more : (since : ℕ) → extra_since since past ≤ extra_since since later) where
-  pub pending-later_on : (until : ℕ) (g : Grant) → IsPending until past transactions s.listed g → IsPending until later transactions s.listed g
-  pending-later_on until g p = record {
-    transaction = p.transaction;
-    there = p.there;
-    listing = p.listing;
-    within = p.within;
-    for = p.for;
-    same = p.same;
-    sent = let e = same p.transaction p.there in let sent = p.sent in omega (arith, e, sent);
-  }
+  pub requested-later : (when : ℕ → Type 0) (g : Grant) → IsRequested when past transactions s.listed g → IsRequested when later transactions s.listed g
+  requested-later when g = requested-more when past later transactions transactions s.listed s.listed g same (λ x h. h) (λ l h for. h)
 
   pub stands-later : (g : Grant) → Stands count slots extras delay now past transactions s g → Stands count slots extras delay now later transactions s g
   stands-later g was = record {
@@ -192,15 +157,7 @@ module _ (count slots extras delay now : ℕ) (past later : History) (transactio
     room = was.room;
     long = was.long;
     either = elim was.either [
-      | inl a ↦ inl (record {
-        transaction = a.transaction;
-        there = a.there;
-        listing = a.listing;
-        within = a.within;
-        for = a.for;
-        same = a.same;
-        in_time = let e = same a.transaction a.there in let t = a.in_time in omega (arith, e, t);
-      })
+      | inl a ↦ inl (requested-later (λ made. made + delay < expiry_of g) g a)
       | inr idle ↦
           let used_more = more (due_of s g) in
           let soon = idle.soon in
@@ -215,7 +172,7 @@ module _ (count slots extras delay now : ℕ) (past later : History) (transactio
   }
 
   well-later : AreLetGo past later → (g : Grant) → IsWell count slots extras delay now past transactions s g → IsWell count slots extras delay now later transactions s g
-  well-later let_go g (inl (waits, pending)) = inl (waits, pending-later_on now g pending)
+  well-later let_go g (inl (waits, pending)) = inl (waits, requested-later (λ made. made ≤ now) g pending)
   well-later let_go g (inr (inl stands)) = inr (inl (stands-later g stands))
   well-later let_go g (inr (inr (freed, kind))) = inr (inr (let_go g freed, kind))
 
@@ -228,28 +185,17 @@ pub kept-with : (count slots extras delay now : ℕ) (past later : History) (s :
     → IsSeldom extras s.config.refresh_ahead now later → s.challenges ≤ later.challenged → ((g : Grant) → Has g s.grants → IsKnown now later s g)
     → ((g : Grant) → Has g s.grants → IsWell count slots extras delay now later s.transactions s g) → IsKept count slots extras delay now past s.transactions s
     → IsKept count slots extras delay now later s.transactions s
-kept-with count slots extras delay now past later s same seldom row known each k = record {
-  phase = k.phase;
-  requests = k.requests;
-  few = k.few;
-  prompt = k.prompt;
-  pace = k.pace;
-  sent = k.sent;
-  aged = λ x h. let e = same x h in let old = k.aged x h in omega (arith, e, old);
-  lone = k.lone;
-  begun = λ x h. let e = same x h in let b = k.begun x h in omega (arith, e, b);
-  heard = λ x h. let e = same x h in let late = k.heard x h in omega (arith, e, late);
-  seldom = seldom;
-  row = row;
-  asked = k.asked;
-  size = k.size;
-  single = k.single;
-  linked = k.linked;
-  in_range = k.in_range;
-  in_allocations = k.in_allocations;
-  known = known;
-  each = each;
-}
+kept-with count slots extras delay now past later s same seldom row known each k =
+    kept-changed count slots extras delay now past later s.transactions s.transactions s same seldom k s.grants s.listed s.events s.challenges s.ids s.closes (record {
+      row = row;
+      asked = k.asked;
+      size = k.size;
+      single = k.single;
+      linked = k.linked;
+      in_allocations = k.in_allocations;
+      known = known;
+      each = each;
+    })
 
 pub kept-later : (count slots extras delay now : ℕ) (past later : History) (s : State) → GoesOn s.transactions past later → IsSeldom extras s.config.refresh_ahead now later
     → s.challenges ≤ later.challenged → IsKept count slots extras delay now past s.transactions s → IsKept count slots extras delay now later s.transactions s
@@ -262,7 +208,7 @@ pub goes-later : (past later : History) (ys : List Transaction) (s t : State) �
 goes-later past later ys s t on goes = record {
   let_go = on.let_go;
   remain = goes.remain;
-  follow = λ until g there waits pending none. goes.follow until g there waits (pending-later_on 0 0 0 0 0 past later s.transactions s on.same on.more until g pending) none;
+  follow = λ until g there waits pending none. goes.follow until g there waits (requested-later 0 0 0 0 0 past later s.transactions s on.same on.more (λ made. made ≤ until) g pending) none;
 }
 
 -- how many challenges came is nothing to the grants
@@ -274,11 +220,11 @@ goes-row past later row xs ys s t goes = record {
 }
   where
     as-later : (until : ℕ) (g : Grant) → IsPending until (record later { challenged = row }) ys t.listed g → IsPending until later ys t.listed g
-    as-later until g p = record { transaction = p.transaction; there = p.there; listing = p.listing; within = p.within; for = p.for; same = p.same; sent = p.sent }
+    as-later until g p = requested-more (λ made. made ≤ until) (record later { challenged = row }) later ys ys t.listed t.listed g (λ x h. refl) (λ x h. h) (λ l h for. h) p
 
 -- the first wait is one of all
 pub first-wait : (timers : Timers) (transport : TransportType) → wait_at timers transport 0 ≤ all_waits timers transport
 first-wait timers transport =
-    let more = waited-up timers transport (suc zero) (suc (resends_of timers transport)) (omega arith) in
+    let more = waited-mono timers transport (suc zero) (suc (resends_of timers transport)) (omega arith) in
     let one : waited timers transport (suc zero) ≡ 0 + wait_at timers transport 0 = refl in
     omega (arith, more, one)

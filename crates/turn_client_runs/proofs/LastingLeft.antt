@@ -1,29 +1,11 @@
 -- What expires while no grant is lost: permissions and channels that were let go.
-use Rattle.std.proofs.Common.{◌≡◌, ◌⊎◌, ℕ, ◌+◌, ◌<◌, ◌≤◌, Bool, true, false, not, ◌&&◌, ◌||◌, List, [], ◌∷◌, ◌++◌}
-use Rattle.std.proofs.Common.{length, filter, find, fold, reverse, Option, Some, None, refl, inl, inr, ap, sym, subst, ◌∙◌, arith}
-use Rattle.std.specs.List.{list_any}
-use Rattle.std.specs.declared.net.socket_addr.SocketAddr.{SocketAddr}
-use Rattle.std.proofs.lemmas.Bool.{and_from, and_parts, eq-eqb, leb-true, ltb-true, not_from_false, not-true}
-use Rattle.std.proofs.lemmas.List.{length-append}
-use Rattle.turn_types.specs.declared.family.AddressFamily.{AddressFamily}
-use Rattle.turn_client_api.specs.State.{State}
-use Rattle.turn_client_api.specs.declared.grant.Grant.{Grant}
-use Rattle.turn_client_api.specs.declared.grant.Grant.TheVariants.{Allocation, Permission, Channel, Connection}
-use Rattle.turn_client_api.specs.declared.grant.Lease.{Lease}
-use Rattle.turn_client_api.specs.declared.grant.Listing.{Listing}
-use Rattle.turn_client_api.specs.declared.grant.Progress.TheVariants.{Active, Reserved}
-use Rattle.turn_client_api.specs.declared.grant.Purpose.{Purpose}
-use Rattle.turn_client_api.specs.declared.grant.Purpose.TheVariants.{ForRefresh, ForPermission, ForChannel}
-use Rattle.turn_client_api.specs.declared.grant.Relay.{Relay}
-use Rattle.turn_client_api.specs.Effect.{reserved}
-use Rattle.turn_client_api.specs.Grants.{allocations, family_of, family_of_grant, is_channel_of, is_connect, is_for, is_of, is_past, is_pending_channel, is_pending_permission}
-use Rattle.turn_client_api.specs.Grants.{unlisted, without_grants}
-use Rattle.turn_client_api.specs.Poll.{channel_expired, failed, is_expired_channel, is_expired_permission, is_over, is_timed_out_offer, is_unbound, expired_at, expired_allocation}
-use Rattle.turn_client_api.specs.Poll.{expired_in, unbound}
-use Rattle.turn_client_api.proofs.HasLemmas.{Has, filter-has, has-append, has-filter, has-found, has-left, has-unreversed}
-use Rattle.turn_client_laws.proofs.InAllocationLemmas.{any-has, has-any}
-use Rattle.turn_client_api.proofs.ExpirySteps.{expired_in-does}
-use Rattle.turn_client_laws.proofs.AfterExpiryLemmas.{IsReserved}
+use Rattle.turn_client_laws.proofs.Common.{◌≡◌, ◌⊎◌, ℕ, ◌+◌, ◌<◌, ◌≤◌, Bool, true, false, not, ◌&&◌, ◌||◌, List, [], ◌∷◌, ◌++◌, length, filter, find, fold, reverse, Option, Some, None, refl, inl, inr}
+use Rattle.turn_client_laws.proofs.Common.{ap, sym, subst, ◌∙◌, arith, list_any, SocketAddr, and_from, and_parts, eq-eqb, leb-true, ltb-true, not_from_false, not-true, length-append}
+use Rattle.turn_client_laws.proofs.Machine.{AddressFamily, State, Grant, Allocation, Permission, Channel, Connection, Lease, Listing, Active, Reserved, Purpose, ForRefresh, ForPermission, ForChannel}
+use Rattle.turn_client_laws.proofs.Machine.{Relay, reserved, allocations, family_of, family_of_grant, is_channel_of, is_connect, is_for, is_of, is_past, is_pending_channel, is_pending_permission}
+use Rattle.turn_client_laws.proofs.Machine.{unlisted, without_grants, channel_expired, failed, is_expired_channel, is_expired_permission, is_over, is_timed_out_offer, is_unbound, expired_at}
+use Rattle.turn_client_laws.proofs.Machine.{expired_allocation, expired_in, unbound, Has, filter-has, has-append, has-filter, has-found, has-left, has-unreversed, expired_in-does}
+use Rattle.turn_client_laws.proofs.Laws.{any-has, has-any, IsReserved}
 use Rattle.turn_client_runs.specs.History.{History, was_let_go}
 use Rattle.turn_client_runs.proofs.LastingCounts.{length-filtered, length-without, passes, passes-all, passes-append, passes-both, passes-cut, passes-filter, passes-none, passes-same}
 use Rattle.turn_client_runs.proofs.LastingListings.{filter-all, requests-left}

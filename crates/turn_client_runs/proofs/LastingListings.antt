@@ -1,17 +1,7 @@
 -- What is listed under one ID while no grant is lost.
-use Rattle.std.proofs.Common.{◌≡◌, Bool, true, false, cond, not, eqb, List, [], ◌∷◌, ◌++◌, filter, refl, inl, inr, ap, sym, ◌∙◌, append-nil}
-use Rattle.std.specs.List.{list_any}
-use Rattle.std.proofs.lemmas.Bool.{cases_Bool, eq-eqb, eqb-true, or_parts}
-use Rattle.std.proofs.lemmas.List.Elements.{filter-append}
-use Rattle.turn_agent.specs.Agent.{is_outstanding}
-use Rattle.turn_client_api.specs.State.{State}
-use Rattle.turn_client_api.specs.declared.grant.Grant.{Grant}
-use Rattle.turn_client_api.specs.declared.grant.Listing.{Listing}
-use Rattle.turn_client_api.specs.Grants.{is_for, is_of_request}
-use Rattle.turn_client_api.specs.Requests.{fresh_id}
-use Rattle.turn_client_api.proofs.HasLemmas.{Has, filter-none, has-filter}
-use Rattle.turn_client_laws.proofs.InAllocationLemmas.{has-any}
-use Rattle.turn_client_laws.proofs.NewIdLemmas.{fresh-free}
+use Rattle.turn_client_laws.proofs.Common.{◌≡◌, Bool, true, false, cond, not, eqb, List, [], ◌∷◌, ◌++◌, filter, refl, inl, inr, ap, sym, ◌∙◌, append-nil, cases_Bool, eq-eqb, eqb-true, filter-append}
+use Rattle.turn_client_laws.proofs.Machine.{State, Grant, Listing, is_for, fresh_id, Has, filter-none, has-filter}
+use Rattle.turn_client_laws.proofs.Laws.{fresh-other}
 use Rattle.turn_client_runs.proofs.LastingStands.{AreRequests, IsRequest, brings-more, listed_as, request-more}
 
 pub filter-all : {X : Type 0} (p : X → Bool) (xs : List X) → ((x : X) → Has x xs → p x ≡ true) → filter p xs ≡ xs
@@ -25,18 +15,6 @@ filter-swap p q (x ∷ xs) = elim (cases_Bool (p x)) [
   | inr e ↦ elim (cases_Bool (q x)) [ inl f ↦ rw (f, e) (filter-swap p q xs) | inr f ↦ rw (f, e) (filter-swap p q xs) ]
 ]
 
--- the next ID is listed for nothing
-fresh-apart : (s : State) (l : Listing) → Has l s.listed → eqb l.id (fresh_id s) ≡ false
-fresh-apart s l there = by (eqb l.id (fresh_id s)) refl
-  where
-    by : (b : Bool) → eqb l.id (fresh_id s) ≡ b → eqb l.id (fresh_id s) ≡ false
-    by false e = e
-    by true e =
-        let free = or_parts (is_outstanding (fresh_id s) s.transactions) _ (fresh-free s) in
-        let none = (or_parts (list_any (λ (l : Listing). eqb l.id (fresh_id s)) s.listed) (list_any (is_of_request (fresh_id s)) s.grants) free.1).0 in
-        let no : false ≡ true = sym none ∙ has-any (λ (l : Listing). eqb l.id (fresh_id s)) l s.listed there e in
-        cc
-
 -- a request more, under the next ID
 pub requests-more : (s : State) (gs : List Grant) (new : List Listing) → ((g : Grant) → Has g s.grants → Has g gs) → ((l : Listing) → Has l new → l.id ≡ fresh_id s) → IsRequest gs new
     → AreRequests s.grants s.listed → AreRequests gs (s.listed ++ new)
@@ -45,7 +23,7 @@ requests-more s gs new more ids is h id = rw (filter-append (λ (l : Listing). e
     by : (b : Bool) → eqb id (fresh_id s) ≡ b → IsRequest gs (listed_as id s.listed ++ listed_as id new)
     by true e =
         let same : id ≡ fresh_id s = eqb-true id (fresh_id s) e in
-        let old = filter-none (λ (l : Listing). eqb l.id id) s.listed (λ l there. rw same (fresh-apart s l there)) in
+        let old = filter-none (λ (l : Listing). eqb l.id id) s.listed (λ l there. rw same (fresh-other s l there)) in
         let all = filter-all (λ (l : Listing). eqb l.id id) new (λ l there. eq-eqb l.id id (ids l there ∙ sym same)) in
         rw (old, all) is
     by false e =

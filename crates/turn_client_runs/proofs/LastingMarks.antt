@@ -1,28 +1,14 @@
 -- A grant is let go, or kept again, while no other one is lost.
-use Rattle.std.proofs.Common.{◌≡◌, ◌⊎◌, ℕ, ◌≤◌, Bool, true, false, cond, ◌||◌, List, [], ◌∷◌, refl, inl, inr, ap, sym, subst, ◌∙◌, arith}
-use Rattle.std.specs.List.{list_any}
-use Rattle.std.proofs.lemmas.Bool.{or_left, or_right}
-use Rattle.std.proofs.lemmas.List.{length-map}
-use Rattle.turn_types.specs.declared.family.AddressFamily.{AddressFamily}
-use Rattle.turn_client_api.specs.Calls.{marked, marked_if, with_marks}
-use Rattle.turn_client_api.specs.Due.{is_kept, pause_end}
-use Rattle.turn_client_api.specs.Grants.{family_of_grant, has_request, is_for}
-use Rattle.turn_client_api.specs.State.{State}
-use Rattle.turn_client_api.specs.declared.grant.Grant.{Grant}
-use Rattle.turn_client_api.specs.declared.grant.Grant.TheVariants.{Allocation, Channel, Permission}
-use Rattle.turn_client_api.specs.declared.grant.Listing.{Listing}
-use Rattle.turn_client_api.specs.declared.grant.Progress.TheVariants.{Active, Pending}
-use Rattle.turn_client_api.specs.declared.grant.Purpose.{Purpose}
-use Rattle.turn_client_api.specs.declared.grant.Purpose.TheVariants.{ForChannel, ForPermission}
-use Rattle.turn_client_api.proofs.HasLemmas.{Has, map-has}
-use Rattle.turn_client_laws.proofs.GrantOriginLemmas.{has-mapped}
-use Rattle.turn_client_laws.proofs.InAllocationLemmas.{Room, room-more}
-use Rattle.turn_client_laws.proofs.AfterExpiryLemmas.{IsReserved}
+use Rattle.turn_client_laws.proofs.Common.{◌≡◌, ◌⊎◌, ℕ, ◌≤◌, Bool, true, false, cond, ◌||◌, List, [], ◌∷◌, refl, inl, inr, ap, sym, subst, ◌∙◌, arith, list_any, or_left, or_right, length-map}
+use Rattle.turn_client_laws.proofs.Machine.{AddressFamily, marked, marked_if, with_marks, is_kept, pause_end, family_of_grant, has_request, is_for, State, Grant, Allocation, Channel, Permission}
+use Rattle.turn_client_laws.proofs.Machine.{Listing, Active, Pending, Purpose, ForChannel, ForPermission, Has, map-has}
+use Rattle.turn_client_laws.proofs.Laws.{has-mapped, Room, room-more, IsReserved}
 use Rattle.turn_client_runs.specs.History.{History, was_let_go}
 use Rattle.turn_client_runs.specs.Lasting.{ahead_of, expiry_of}
 use Rattle.turn_client_runs.proofs.LastingCounts.{or_first, passes-map, passes-mapped}
-use Rattle.turn_client_runs.proofs.LastingStands.{kept-changed, Brings, Goes, IsAwaited, IsGranted, IsIdle, IsKept, IsKnown, IsLeased, IsLoose, IsPending, IsRequest, IsWell}
-use Rattle.turn_client_runs.proofs.LastingStands.{Stands, due_of, is_served, is_waiting, listed_as, served, still-paced, used}
+use Rattle.turn_client_runs.proofs.LastingStands.{kept-changed, Brings, Goes, IsAwaited, IsGranted, IsIdle, IsKept, IsKnown, IsLoose, IsPending, IsRequest, IsWell, Stands, due_of, is_served}
+use Rattle.turn_client_runs.proofs.LastingStands.{is_waiting, listed_as, served, still-paced, used}
+use Rattle.turn_client_runs.proofs.GrantInputs.{IsLeased}
 
 -- ---- what a mark does not change
 
@@ -158,7 +144,7 @@ module _ (count slots extras delay now : ℕ) (past : History) (s : State) (k : 
     within = p.within;
     for = mark-for p.listing.purpose g ∙ p.for;
     same = p.same;
-    sent = p.sent;
+    made = p.made;
   }
 
   loose-marked : (g : Grant) → IsLoose past s g → IsLoose past t (mark g)
@@ -211,7 +197,7 @@ module _ (count slots extras delay now : ℕ) (past : History) (s : State) (k : 
       by waits false f e = or_right (is_kept (marked false g)) _ (marked-let_go past false g ∙ let_go g e f)
 
   pub kept-marked : IsKept count slots extras delay now past s.transactions (with_marks which kept s)
-  kept-marked = kept-changed count slots extras delay now past s.transactions s k t.grants s.listed s.events s.challenges s.ids s.closes (record {
+  kept-marked = kept-changed count slots extras delay now past past s.transactions s.transactions s (λ x h. refl) k.seldom k t.grants s.listed s.events s.challenges s.ids s.closes (record {
     row = k.row;
     asked = λ l h. let (refreshes, (g, there, for)) = k.asked l h in (refreshes, (mark g, mark-there g there, mark-for l.purpose g ∙ for));
     size = let same = length-map s.grants mark in let size = k.size in omega (arith, same, size);

@@ -1,40 +1,21 @@
 -- No grant is lost in a part of a run.
-use Rattle.std.proofs.Common.{◌≡◌, ◌⊎◌, ℕ, ◌+◌, ◌<◌, ◌≤◌, min, Bool, true, false, ◌||◌, eqb, List, [], ◌∷◌, ◌++◌, length, refl, inl, inr, ap, sym, subst, ◌∙◌, arith}
-use Rattle.std.specs.Prelude.{is_some}
-use Rattle.turn_client_api.specs.Grants.{as_connection}
-use Rattle.std.specs.List.{Contains, list_any}
-use Rattle.std.proofs.lemmas.Bool.{cases_Bool, eqb-true}
-use Rattle.turn_agent.specs.declared.transaction.Transaction.{Transaction}
-use Rattle.turn_client_api.specs.State.{State}
-use Rattle.turn_client_api.specs.Due.{is_kept, pause_end}
-use Rattle.turn_client_api.specs.declared.grant.Grant.{Grant}
-use Rattle.turn_client_api.specs.declared.grant.Grant.TheVariants.{Allocation, Permission, Channel}
-use Rattle.turn_client_api.specs.declared.grant.Progress.TheVariants.{Active, Pending}
-use Rattle.turn_client_api.specs.declared.grant.Listing.{Listing}
-use Rattle.turn_client_api.specs.declared.grant.Purpose.{Purpose}
-use Rattle.turn_client_api.specs.declared.grant.Purpose.TheVariants.{ForPermission, ForChannel}
-use Rattle.turn_client_api.specs.Grants.{allocations, has_request, is_past, is_permission_of, same_transport, family_of_grant, is_for, purposes_of, same_ip}
-use Rattle.turn_client_api.specs.Steps.{state_after_all}
-use Rattle.turn_client_api.specs.declared.call.Call.{Call}
-use Rattle.turn_client_api.proofs.HasLemmas.{Has, has-all}
-use Rattle.turn_client_laws.proofs.InAllocationLemmas.{room-of}
+use Rattle.turn_client_laws.proofs.Common.{◌≡◌, ◌⊎◌, ℕ, ◌+◌, ◌<◌, ◌≤◌, min, Bool, true, false, ◌||◌, eqb, List, [], ◌∷◌, ◌++◌, length, refl, inl, inr, ap, sym, subst, ◌∙◌, arith, is_some, Contains}
+use Rattle.turn_client_laws.proofs.Common.{list_any, cases_Bool, eqb-true, AllByRecursion, IsDistinct}
+use Rattle.turn_client_laws.proofs.Machine.{Transaction, State, is_kept, pause_end, Grant, Allocation, Permission, Channel, Active, Pending, Listing, Purpose, ForPermission, ForChannel, has_request}
+use Rattle.turn_client_laws.proofs.Machine.{family_of_grant, is_for, same_ip, state_after_all, Call, Has, has-all, same_ip-true}
+use Rattle.turn_client_laws.proofs.Laws.{room-of, is_double, contains-has, has-contains}
 use Rattle.turn_client_runs.specs.LastingRuns.{LastsThrough}
-use Rattle.turn_client_runs.specs.Lasting.{with_expiry, IsRequested, RequestsSucceed, as_granted, GrantsLast, HasRoom, HasStill, IsInForce, IsSteady}
-use Rattle.turn_client_runs.specs.Lasting.{IsFresh, RunsSteadily, ahead_of, expiry_of}
+use Rattle.turn_client_runs.specs.Lasting.{with_expiry, IsRequested, RequestsSucceed, as_granted, GrantsLast, HasRoom, HasStill, IsInForce, IsSteady, IsFresh, RunsSteadily, ahead_of, expiry_of}
 use Rattle.turn_client_runs.specs.OnTime.{time_of_all}
 use Rattle.turn_client_runs.specs.History.{History, IsKeptBy, no_history, was_let_go, with_calls}
-use Rattle.turn_client_runs.proofs.LastingStands.{due_of, early-paced, granted-active, leased-active, let_go-became, IsActive, IsLeased, Follows}
-use Rattle.turn_client_runs.proofs.LastingStands.{IsWell, is_waiting, AreSingle, IsGranted, IsKept, IsUnique, Stands, not-waiting}
-use Rattle.turn_client_runs.proofs.LastingStands.{pause-le, stands-early}
+use Rattle.turn_client_runs.proofs.LastingStands.{due_of, early-paced, granted-active, leased-active, let_go-became, IsActive, Follows, IsWell, is_waiting, AreSingle, IsGranted, IsKept, IsUnique}
+use Rattle.turn_client_runs.proofs.LastingStands.{Stands, not-waiting, pause-le, stands-early}
 use Rattle.turn_client_runs.proofs.LastingCounts.{passes}
-use Rattle.turn_client_laws.specs.LawsDoubles.{is_double}
-use Rattle.turn_client_api.proofs.AddressLemmas.{same_ip-true}
-use Rattle.turn_client_laws.proofs.StandLemmas.{contains-has, has-contains}
-use Rattle.std.specs.List.{AllByRecursion, IsDistinct}
 use Rattle.turn_client_runs.proofs.LastingTransmits.{reserved-inactive}
 use Rattle.turn_client_runs.proofs.LastingExpiry.{reserved-waits}
 use Rattle.turn_client_runs.proofs.LastingSpared.{kept-spared, none-by, pending-spared, runs-alike, spared-none, sparing}
 use Rattle.turn_client_runs.proofs.LastingRuns.{KeepsAll, all-kept, first-part, joined, last-part}
+use Rattle.turn_client_runs.proofs.GrantInputs.{IsLeased}
 
 -- ---- the first state
 
@@ -264,7 +245,7 @@ module _ (count slots extras delay now : ℕ) (s : State) (earlier later : List 
       waits = requested-waits g requested
 
       follows : Follows between end_past end.transactions g end → HasStill g last (state_after_all s (earlier ++ later))
-      follows (inl (remains, p)) = let heard = (kept-end (inr waits)).0.heard p.transaction p.there in let sent = p.sent in absurd (omega (arith, heard, sent, late))
+      follows (inl (remains, p)) = let heard = (kept-end (inr waits)).0.heard p.transaction p.there in let made = p.made in absurd (omega (arith, heard, made, late))
       follows (inr (h, at_end, same, granted)) = has-still (inr waits) h at_end same granted
 
       active : IsActive g → HasStill g last (state_after_all s (earlier ++ later))

@@ -1,21 +1,9 @@
 -- A client with 4,096 peers, each with a channel and a permission, begins as no grant is lost.
-use Rattle.std.proofs.Common.{◌≡◌, ℕ, ◌+◌, ◌<◌, ◌≤◌, true, false, List, [], ◌∷◌, arith, inl, inr, length, refl, subst, sym, ◌⊎◌}
-use Rattle.std.specs.Prelude.{All}
-use Rattle.std.specs.List.{AllByRecursion, IsDistinct}
-use Rattle.std.specs.Net.Socket.{socket_ip}
-use Rattle.std.specs.declared.net.socket_addr.SocketAddr.{SocketAddr}
-use Rattle.std.proofs.lemmas.Bool.{ne_eqb}
-use Rattle.turn_types.specs.declared.family.AddressFamily.TheVariants.{IPV4}
-use Rattle.turn_client_api.specs.Alarm.{HasAllocation}
-use Rattle.turn_client_api.specs.Effect.{granted_until, new_allocation}
-use Rattle.turn_client_api.specs.Grants.{family_of, same_ip}
-use Rattle.turn_client_api.specs.State.{State, seconds}
-use Rattle.turn_client_api.specs.declared.grant.Grant.{Grant}
-use Rattle.turn_client_api.specs.declared.grant.Grant.TheVariants.{Allocation, Channel, Connect, Connection, Offer, Permission}
-use Rattle.turn_client_laws.specs.LawsDoubles.{is_double}
-use Rattle.turn_client_laws.specs.LawsRows.{relayed_v4}
-use Rattle.turn_client_api.proofs.HasLemmas.{Has, all-has, has-all}
-use Rattle.turn_client_laws.proofs.StandLemmas.{contains-has}
+use Rattle.turn_client_laws.proofs.Common.{◌≡◌, ℕ, ◌+◌, ◌<◌, ◌≤◌, true, false, List, [], ◌∷◌, arith, inl, inr, length, refl, subst, sym, ◌⊎◌, All, AllByRecursion, IsDistinct, socket_ip, SocketAddr}
+use Rattle.turn_client_laws.proofs.Common.{ne_eqb}
+use Rattle.turn_client_laws.proofs.Machine.{IPV4, HasAllocation, granted_until, new_allocation, family_of, same_ip, State, seconds, Grant, Allocation, Channel, Connect, Connection, Offer, Permission}
+use Rattle.turn_client_laws.proofs.Machine.{Has, all-has, has-all}
+use Rattle.turn_client_laws.proofs.Laws.{is_double, relayed_v4, contains-has}
 use Rattle.turn_client_runs.specs.History.{no_history, was_let_go}
 use Rattle.turn_client_runs.specs.Lasting.{HasRoom, IsInForce, IsSteady, ahead_of, expiry_of}
 use Rattle.turn_client_runs.specs.LastingPeers.{HasRoomAt5Ms, HaveOwnIps, PeersLast, grants_for, with_peers}

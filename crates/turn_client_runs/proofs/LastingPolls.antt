@@ -1,27 +1,12 @@
 -- What `poll` changes while no grant is lost.
-use Rattle.std.proofs.Common.{◌≡◌, ℕ, Bool, true, false, ◌||◌, List, [], ◌∷◌, Option, None, refl, inl, inr}
-use Rattle.std.specs.Prelude.{filter_map}
-use Rattle.std.specs.Option.{option_map_or}
-use Rattle.std.specs.declared.net.socket_addr.SocketAddr.{SocketAddr}
-use Rattle.turn_types.specs.declared.family.AddressFamily.{AddressFamily}
-use Rattle.turn_agent.specs.Agent.{timed_out_transaction}
-use Rattle.turn_agent.specs.TransactionIds.{Source}
-use Rattle.turn_agent.specs.declared.transaction.Transaction.{Transaction}
-use Rattle.turn_client_api.specs.State.{State, agent_of}
-use Rattle.turn_client_api.specs.declared.state.Phase.{Phase}
-use Rattle.turn_client_api.specs.declared.state.Phase.TheVariants.{Allocated}
-use Rattle.turn_client_api.specs.declared.event.TurnEvent.{TurnEvent}
-use Rattle.turn_client_api.specs.declared.grant.Grant.{Grant}
-use Rattle.turn_client_api.specs.declared.grant.Grant.TheVariants.{Allocation, Permission, Channel}
-use Rattle.turn_client_api.specs.declared.grant.Relay.{Relay}
-use Rattle.turn_client_api.specs.Grants.{allocations, family_of}
-use Rattle.turn_client_api.specs.Due.{has_event, has_reply}
-use Rattle.turn_client_api.specs.Poll.{answer_step, first_unreported, expired_at, next_offer, offer_step, poll_step, timed_out_step, timed_step, unreported_in}
-use Rattle.turn_client_laws.proofs.CaseLemmas.{answer-by}
-use Rattle.turn_client_api.proofs.HasLemmas.{Has}
+use Rattle.turn_client_laws.proofs.Common.{◌≡◌, ℕ, Bool, true, false, ◌||◌, List, [], ◌∷◌, Option, None, refl, inl, inr, filter_map, option_map_or, SocketAddr}
+use Rattle.turn_client_laws.proofs.Machine.{AddressFamily, timed_out_transaction, Source, Transaction, State, agent_of, Phase, Allocated, TurnEvent, Grant, Allocation, Permission, Channel, Relay}
+use Rattle.turn_client_laws.proofs.Machine.{allocations, family_of, has_event, has_reply, answer_step, first_unreported, expired_at, next_offer, offer_step, poll_step, timed_out_step, timed_step}
+use Rattle.turn_client_laws.proofs.Machine.{unreported_in, Has}
+use Rattle.turn_client_laws.proofs.Laws.{answer-by}
 use Rattle.turn_client_runs.specs.History.{History}
 use Rattle.turn_client_runs.proofs.LastingLeft.{IsPlain}
-use Rattle.turn_client_runs.proofs.LastingStands.{kept-changed, IsKept, Stands}
+use Rattle.turn_client_runs.proofs.LastingStands.{IsKept, kept-rest, stands-aside}
 
 -- ---- no data connections
 
@@ -71,24 +56,13 @@ polls P now s p all none same each = by (has_event s || has_reply s) refl
 
 -- ---- what is reported does not count
 
-module _ (count slots extras delay now : ℕ) (past : History) (transactions : List Transaction) (s : State) (ids : Source) (events : List TurnEvent) (closes : List SocketAddr) where
-  stands-aside : (g : Grant) → Stands count slots extras delay now past transactions s g
-      → Stands count slots extras delay now past transactions (record s { ids = ids; events = events; closes = closes }) g
-  stands-aside g was = record {
-    granted = was.granted;
-    room = was.room;
-    long = was.long;
-    either = elim was.either [ inl awaited ↦ inl awaited | inr idle ↦ inr (record { unasked = idle.unasked; near = idle.near; soon = idle.soon; paused = idle.paused }) ];
-  }
-
-  pub kept-aside : IsKept count slots extras delay now past transactions s → IsKept count slots extras delay now past transactions (record s { ids = ids; events = events; closes = closes })
-  kept-aside k = kept-changed count slots extras delay now past transactions s k s.grants s.listed events s.challenges ids closes (record {
-    row = k.row;
-    asked = k.asked;
-    size = k.size;
-    single = k.single;
-    linked = k.linked;
-    in_allocations = k.in_allocations;
-    known = k.known;
-    each = λ g there. elim (k.each g there) [ inl waits ↦ inl waits | inr (inl stands) ↦ inr (inl (stands-aside g stands)) | inr (inr loose) ↦ inr (inr loose) ];
-  })
+pub kept-aside : (count slots extras delay now : ℕ) (past : History) (transactions : List Transaction) (s : State) (ids : Source) (events : List TurnEvent) (closes : List SocketAddr)
+    → IsKept count slots extras delay now past transactions s → IsKept count slots extras delay now past transactions (record s { ids = ids; events = events; closes = closes })
+kept-aside count slots extras delay now past transactions s ids events closes k =
+    kept-rest count slots extras delay now past transactions s k s.queue s.last_send s.transactions events ids closes (record {
+      requests = k.requests;
+      few = k.few;
+      sent = k.sent;
+      awaited = λ x h. h;
+      stands = λ g there. stands-aside count slots extras delay now past transactions s.transactions s ids events closes g;
+    })

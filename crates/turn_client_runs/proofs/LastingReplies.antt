@@ -1,43 +1,22 @@
 -- What a success changes while no grant is lost.
-use Rattle.std.proofs.Common.{◌≡◌, ◌⊎◌, ℕ, ◌+◌, ◌*◌, ◌<◌, ◌≤◌, Bool, true, false, cond, not, ◌&&◌, ◌||◌, List, [], ◌∷◌, length, map, fold, refl, inl, inr, ap, sym, subst, ◌∙◌, arith}
-use Rattle.std.specs.Prelude.{filter}
-use Rattle.std.proofs.lemmas.List.{length-append, length-map}
-use Rattle.std.specs.List.{list_any}
-use Rattle.std.proofs.lemmas.Bool.{and_from, and_parts, cases_Bool, cases_lt, eqb-true, le-leb, not-true, not_from_false, or_left, or_right}
-use Rattle.turn_types.specs.declared.family.AddressFamily.{AddressFamily}
-use Rattle.turn_agent.specs.declared.transaction.Transaction.{Transaction}
-use Rattle.turn_client_api.specs.Config.{Config}
-use Rattle.turn_client_api.specs.State.{State}
-use Rattle.turn_client_api.specs.declared.grant.Grant.{Grant}
-use Rattle.turn_client_api.specs.declared.grant.Grant.TheVariants.{Allocation, Permission, Channel}
-use Rattle.turn_client_api.specs.declared.grant.Progress.TheVariants.{Active, Pending}
-use Rattle.turn_client_api.specs.declared.grant.Listing.{Listing}
-use Rattle.turn_client_api.specs.declared.grant.Purpose.{Purpose}
-use Rattle.turn_client_api.specs.declared.grant.Purpose.TheVariants.{ForRefresh, ForPermission, ForChannel}
-use Rattle.turn_client_api.specs.Grants.{family_of, family_of_grant, has_request, is_for, purposes_of}
-use Rattle.turn_client_laws.proofs.AfterExpiryLemmas.{IsReserved}
-use Rattle.turn_client_api.specs.Due.{is_kept, pause_end}
-use Rattle.turn_client_api.specs.declared.state.Queued.{Queued}
-use Rattle.turn_client_api.specs.Effect.{effect}
-use Rattle.turn_client_api.proofs.AddressLemmas.{same_ip-true}
-use Rattle.turn_client_laws.proofs.GrantOriginLemmas.{has-mapped}
-use Rattle.turn_client_api.proofs.HasLemmas.{Has, filter-has, has-append, has-filter, has-left, has-right, map-has}
-use Rattle.turn_client_laws.proofs.InAllocationLemmas.{Room, any-has, has-any, room-more, same_family-true}
+use Rattle.turn_client_laws.proofs.Common.{◌≡◌, ◌⊎◌, ℕ, ◌+◌, ◌*◌, ◌<◌, ◌≤◌, Bool, true, false, cond, not, ◌&&◌, ◌||◌, List, [], ◌∷◌, length, map, fold, refl, inl, inr, ap, sym, subst, ◌∙◌, arith}
+use Rattle.turn_client_laws.proofs.Common.{filter, length-append, length-map, list_any, and_from, and_parts, cases_Bool, cases_lt, eqb-true, le-leb, not-true, not_from_false, or_left, or_right}
+use Rattle.turn_client_laws.proofs.Common.{eq-eqb}
+use Rattle.turn_client_laws.proofs.Machine.{AddressFamily, Transaction, Config, State, Grant, Allocation, Permission, Channel, Active, Pending, Listing, Purpose, ForRefresh, ForPermission, ForChannel}
+use Rattle.turn_client_laws.proofs.Machine.{family_of, family_of_grant, has_request, is_for, purposes_of, is_kept, pause_end, Queued, effect, same_ip-true, Has, filter-has, has-append, has-filter}
+use Rattle.turn_client_laws.proofs.Machine.{has-left, has-right, map-has, channel_bind_method, method_for, method_in, is_answered}
+use Rattle.turn_client_laws.proofs.Laws.{IsReserved, has-mapped, Room, any-has, has-any, room-more, same_family-true}
 use Rattle.turn_client_runs.specs.History.{History, was_let_go}
 use Rattle.turn_client_runs.specs.Lasting.{as_granted, Answers, Grants, ahead_of, expiry_of, with_expiry}
-use Rattle.turn_client_runs.proofs.LastingCounts.{or_else, or_first, length-without, passes, passes-all, passes-append}
-use Rattle.turn_client_runs.proofs.LastingCounts.{passes-filter, passes-map, passes-mapped, passes-none, passes-split, passes-same, passes-two}
-use Rattle.turn_client_runs.proofs.LastingStands.{AllRemain, Follows, Goes, IsPending, goes-more, goes-trans, pending-more, AreRequests, Brings, IsRequest, listed_as, IsAsked, IsAwaited}
-use Rattle.turn_client_runs.proofs.LastingStands.{asked-before, kept-changed, granted-active, kept-granted, leased-active, let_go-became, let_go-with, reserved-unserved, IsActive}
-use Rattle.turn_client_runs.proofs.LastingStands.{IsKnown, IsLeased, IsLoose, IsGranted, IsIdle, IsKept, IsRefreshing, Stands, due_of}
-use Rattle.turn_client_runs.proofs.LastingStands.{early-paced, still-paced, is_served, not-waiting, pause-le, IsUnique, IsWell, is_waiting}
-use Rattle.turn_client_runs.proofs.LastingStands.{served, used, unique-refreshing, unique-spares}
-use Rattle.turn_client_api.specs.Requests.{channel_bind_method, method_for}
-use Rattle.turn_client_api.specs.Judgement.{method_in}
-use Rattle.turn_client_api.specs.Payloads.{is_answered}
-use Rattle.std.proofs.lemmas.Bool.{eq-eqb}
+use Rattle.turn_client_runs.proofs.LastingCounts.{or_else, or_first, length-without, passes, passes-all, passes-append, passes-filter, passes-map, passes-mapped, passes-none, passes-split}
+use Rattle.turn_client_runs.proofs.LastingCounts.{passes-same, passes-two}
+use Rattle.turn_client_runs.proofs.LastingStands.{AllRemain, Follows, Goes, IsPending, goes-more, goes-trans, requested-more, IsRequested, AreRequests, Brings, IsRequest, listed_as, IsAsked}
+use Rattle.turn_client_runs.proofs.LastingStands.{IsAwaited, asked-before, kept-changed, granted-active, kept-granted, leased-active, let_go-became, let_go-with, reserved-unserved, IsActive, IsKnown}
+use Rattle.turn_client_runs.proofs.LastingStands.{IsLoose, IsGranted, IsIdle, IsKept, IsRefreshing, Stands, due_of, early-paced, still-paced, is_served, not-waiting, pause-le, IsUnique, IsWell}
+use Rattle.turn_client_runs.proofs.LastingStands.{is_waiting, served, used, unique-refreshing, unique-spares}
 use Rattle.turn_client_runs.proofs.LastingListings.{requests-left}
 use Rattle.turn_client_runs.proofs.LastingEffects.{effect-resets, IsForGranted, IsOfKind, Does, granted_for, IsGrantedAnew, effect-brings, effect-does, granted_by, is_shared, renewed_by, renews}
+use Rattle.turn_client_runs.proofs.GrantInputs.{IsLeased}
 
 -- ---- two requests for one grant are for the same grants
 
@@ -97,9 +76,6 @@ with-twice : (later expiry : ℕ) (g : Grant) → with_expiry later (with_expiry
 with-twice later expiry (Allocation a) = refl
 with-twice later expiry g = grind arith
 
-with-active : (expiry : ℕ) (g : Grant) → IsActive g → IsActive (with_expiry expiry g)
-with-active expiry g h = grind arith
-
 with-leased : (expiry : ℕ) (g : Grant) → IsLeased g → IsLeased (with_expiry expiry g)
 with-leased expiry g h = grind arith
 
@@ -111,9 +87,6 @@ with-waits expiry g = grind arith
 
 with-kept : (expiry : ℕ) (g : Grant) → is_kept (with_expiry expiry g) ≡ is_kept g
 with-kept expiry g = grind arith
-
-without-leased : (expiry : ℕ) (g : Grant) → IsLeased (with_expiry expiry g) → IsLeased g
-without-leased expiry g h = grind arith
 
 with-waiting : (expiry : ℕ) (g : Grant) → is_waiting g ≡ true → with_expiry expiry g ≡ g
 with-waiting expiry (Permission ip (Pending is_kept)) h = refl
@@ -197,8 +170,8 @@ module _ (count slots extras delay now : ℕ) (past : History) (transactions : L
       (others-asked l (filter-has (λ (l : Listing). not (is_shared p u.grants l)) l u.listed there (not_from_false (is_shared p u.grants l) e)) g here for)) k.linked
 
   -- a request for what is not answered awaits its reply still
-  pending-other : (until : ℕ) (g : Grant) → is_for p g ≡ false → IsPending until past transactions u.listed g → IsPending until past transactions (left p u) g
-  pending-other until g other = pending-more until past transactions transactions u.listed (left p u) g (λ x h. h) (λ l h for. stays l g h for other)
+  requested-other : (when : ℕ → Type 0) (g : Grant) → is_for p g ≡ false → IsRequested when past transactions u.listed g → IsRequested when past transactions (left p u) g
+  requested-other when g other = requested-more when past past transactions transactions u.listed (left p u) g (λ x h. refl) (λ x h. h) (λ l h for. stays l g h for other)
 
   pauses-same : (t : State) → t.config ≡ u.config → t.last_send ≡ u.last_send → pause_end t ≡ pause_end u
   pauses-same t same sends = rw (same, sends) refl
@@ -224,15 +197,7 @@ module _ (count slots extras delay now : ℕ) (past : History) (transactions : L
       asks = ap (λ (ls : List Listing). list_any (λ (l : Listing). is_for l.purpose g) ls) ls
 
       by : IsAwaited delay past transactions u.listed g ⊎ IsIdle slots now past u g → IsAwaited delay past transactions t.listed g ⊎ IsIdle slots now past t g
-      by (inl a) = inl (record {
-        transaction = a.transaction;
-        there = a.there;
-        listing = a.listing;
-        within = rw ls (stays a.listing g a.within a.for other);
-        for = a.for;
-        same = a.same;
-        in_time = a.in_time;
-      })
+      by (inl a) = inl (rw ls (requested-other (λ made. made + delay < expiry_of g) g other a))
       by (inr idle) = elim (cases_lt (due_of u g) now) [
         | inl late ↦
             let fewest : used past u (due_of u g) ≤ used past t (due_of u g) = let h = serves (due_of u g) (omega (arith, late)) in omega (arith, h) in
@@ -389,12 +354,12 @@ module _ (count slots extras delay now : ℕ) (past : History) (transactions : L
           let a = with-ahead u.config.refresh_ahead expiry g in
           inr (inl (stands-new count slots extras delay now past transactions u k p refreshing t refl refl refl (with_expiry expiry g) (with-granted expiry g was.granted)
           (omega (arith, a, was.room)) (expires-late g (granted-active g was.granted) e) (unasked-renewed g there e)))
-      by false e (inl (waits, pending)) = inl (waits, pending-other count slots extras delay now past transactions u k p refreshing now g e pending)
+      by false e (inl (waits, pending)) = inl (waits, requested-other count slots extras delay now past transactions u k p refreshing (λ made. made ≤ now) g e pending)
       by false e (inr (inl was)) = inr (inl (stands-other count slots extras delay now past transactions u k p refreshing t refl refl refl refl serves g e was))
       by false e (inr (inr loose)) = inr (inr (loose-other count slots extras delay now past transactions u k p refreshing t refl g loose))
 
   pub renewed-kept : IsKept count slots extras delay now past transactions t
-  renewed-kept = kept-changed count slots extras delay now past transactions u k t.grants t.listed u.events challenges u.ids u.closes (record {
+  renewed-kept = kept-changed count slots extras delay now past past transactions transactions u (λ x h. refl) k.seldom k t.grants t.listed u.events challenges u.ids u.closes (record {
     row = let row = k.row in omega (arith, row, fewer);
     asked = λ l h. asked l (k.asked l (kept-listing count slots extras delay now past transactions u k p refreshing l h).0);
     size = let same = length-map u.grants (renews p expiry) in let size = k.size in omega (arith, same, size);
@@ -435,7 +400,7 @@ module _ (count slots extras delay now : ℕ) (past : History) (transactions : L
       by until g there waits pending true e = absurd (unanswered g there waits e)
       by until g there waits pending false e = inl (
         subst (λ (h : Grant). Has h t.grants) (rw e refl) (map-has (renews p expiry) g u.grants there),
-        pending-other count slots extras delay now past transactions u k p refreshing until g e pending,
+        requested-other count slots extras delay now past transactions u k p refreshing (λ made. made ≤ until) g e pending,
       )
 
 -- ---- what waited
@@ -494,7 +459,7 @@ module _ (count slots extras delay now : ℕ) (past : History) (transactions : L
   well-anew : (g : Grant) → Has g after.grants → IsWell count slots extras delay now past transactions after g
   well-anew g h = elim (which g h) [
     | inl (there, other) ↦ elim (k.each g there) [
-      | inl (waits, pending) ↦ inl (waits, pending-other count slots extras delay now past transactions u k p refreshing now g other pending)
+      | inl (waits, pending) ↦ inl (waits, requested-other count slots extras delay now past transactions u k p refreshing (λ made. made ≤ now) g other pending)
       | inr (inl was) ↦ inr (inl (stands-other count slots extras delay now past transactions u k p refreshing after refl refl refl refl serves-anew g other was))
       | inr (inr loose) ↦ inr (inr (loose-other count slots extras delay now past transactions u k p refreshing after refl g loose))
     ]
@@ -545,7 +510,7 @@ module _ (count slots extras delay now : ℕ) (past : History) (transactions : L
   room-anew = room-more u.grants after.grants (λ a there. stays-there (Allocation a) there (unique-spares p anew.unique a))
 
   pub anew-kept : IsKept count slots extras delay now past transactions after
-  anew-kept = kept-changed count slots extras delay now past transactions u k after.grants after.listed anew.events anew.challenges u.ids u.closes (record {
+  anew-kept = kept-changed count slots extras delay now past past transactions transactions u (λ x h. refl) k.seldom k after.grants after.listed anew.events anew.challenges u.ids u.closes (record {
     row = let row = k.row in let fewer = anew.fewer in omega (arith, row, fewer);
     asked = λ l h.
         let (was, unshared) = kept-listing count slots extras delay now past transactions u k p refreshing l h in
@@ -591,7 +556,7 @@ module _ (count slots extras delay now : ℕ) (past : History) (transactions : L
           let is : anew.waits ≡ g = passes-same (is_for p) anew.waits g u.grants (k.single p anew.unique) anew.there there anew.same e in
           let kept = or_first (is_kept g) (was_let_go past g) none ((k.known g there).0 waits) in
           inr (new, new-there, anew.becomes ∙ ap as_granted is, kept-granted new anew.leased (anew.marks ∙ (ap is_kept is ∙ kept)))
-      by until g there waits pending none false e = inl (stays-there g there e, pending-other count slots extras delay now past transactions u k p refreshing until g e pending)
+      by until g there waits pending none false e = inl (stays-there g there e, requested-other count slots extras delay now past transactions u k p refreshing (λ made. made ≤ until) g e pending)
 
 -- ---- all purposes of a request
 

@@ -1,39 +1,13 @@
 -- A run that meets all premises, and in which each grant is refreshed.
-use Rattle.std.proofs.Common.{◌≡◌, ◌∙◌, ℕ, ◌+◌, ◌^◌, ◌<◌, ◌≤◌, Bool, true, false, cond, List, [], ◌∷◌, None, Some, ap, arith, eqb, inl, inr, refl, subst, sym}
-use Rattle.std.specs.Prelude.{All, IsSome, Option, nat_lt}
-use Rattle.std.specs.List.{IsDistinct}
-use Rattle.std.proofs.lemmas.Bool.{eq-eqb, le-ltb}
-use Rattle.turn_stun.specs.declared.transport.TransportType.TheVariants.{Udp}
-use Rattle.turn_stun.specs.declared.transport.Transmit.{Transmit}
-use Rattle.turn_types.specs.declared.family.AddressFamily.TheVariants.{IPV4}
-use Rattle.turn_agent.specs.TransactionIds.{Source, behind_id}
-use Rattle.turn_agent.specs.Agent.{due, first_sent}
-use Rattle.turn_agent.specs.declared.transaction.Transaction.{Transaction}
-use Rattle.turn_client_api.specs.State.{State, agent_of, seconds}
-use Rattle.turn_client_api.specs.declared.state.Phase.TheVariants.{New, Allocated}
-use Rattle.turn_client_api.specs.declared.call.Call.{Call}
-use Rattle.turn_client_api.specs.declared.call.Call.TheVariants.{BindChannel, Recv, Poll, PollTransmit, PollEvent}
-use Rattle.turn_client_api.specs.declared.grant.Grant.{Grant}
-use Rattle.turn_client_api.specs.declared.grant.Grant.TheVariants.{Allocation, Channel, Permission}
-use Rattle.turn_client_api.specs.declared.grant.Progress.TheVariants.{Pending}
-use Rattle.turn_client_api.specs.declared.event.TurnEvent.TheVariants.{ChannelCreated, PermissionCreated}
-use Rattle.turn_client_api.specs.declared.grant.Purpose.{Purpose}
-use Rattle.turn_client_api.specs.declared.grant.Purpose.TheVariants.{ForRefresh, ForPermission, ForChannel}
-use Rattle.turn_client_api.specs.declared.poll.TurnPollRet.{TurnPollRet}
+use Rattle.turn_client_laws.proofs.Common.{◌≡◌, ◌∙◌, ℕ, ◌+◌, ◌^◌, ◌<◌, ◌≤◌, Bool, true, false, cond, List, [], ◌∷◌, None, Some, ap, arith, eqb, inl, inr, refl, subst, sym, All, IsSome, Option, nat_lt}
+use Rattle.turn_client_laws.proofs.Common.{IsDistinct, eq-eqb, le-ltb}
+use Rattle.turn_client_laws.proofs.Machine.{Udp, Transmit, IPV4, Source, behind_id, due, first_sent, Transaction, State, agent_of, seconds, New, Allocated, Call, BindChannel, Recv, Poll, PollTransmit}
+use Rattle.turn_client_laws.proofs.Machine.{PollEvent, Grant, Allocation, Channel, Permission, Pending, ChannelCreated, PermissionCreated, Purpose, ForRefresh, ForPermission, ForChannel, TurnPollRet}
+use Rattle.turn_client_laws.proofs.Machine.{AllHaveAllocation, FitsPhaseForPoll, HasAllocation, IsBeforeGrants, IsIdleUntil, IsTimely, refresh_time, channel_numbers, granted_until, new_allocation}
+use Rattle.turn_client_laws.proofs.Machine.{purposes_of, response_step, poll_step, asked_lifetime, fresh_id, listings, request_for, to_server, state_after, state_after_all, is_refresh_due, Has}
+use Rattle.turn_client_laws.proofs.Machine.{all-has, has-all}
+use Rattle.turn_client_laws.proofs.Laws.{granted_at, ip_of_peer, peer, relayed_v4, poll-timely}
 use Rattle.turn_client_api.specs.declared.poll.TurnPollRet.TheVariants.{WaitUntil}
-use Rattle.turn_client_api.specs.Alarm.{AllHaveAllocation, FitsPhaseForPoll, HasAllocation, IsBeforeGrants, IsIdleUntil, IsTimely}
-use Rattle.turn_client_api.specs.Due.{refresh_time}
-use Rattle.turn_client_api.specs.Calls.{channel_numbers}
-use Rattle.turn_client_api.specs.Effect.{granted_until, new_allocation}
-use Rattle.turn_client_api.specs.Grants.{purposes_of}
-use Rattle.turn_client_api.specs.Payloads.{response_step}
-use Rattle.turn_client_api.specs.Poll.{poll_step}
-use Rattle.turn_client_api.specs.Requests.{asked_lifetime, fresh_id, listings, request_for, to_server}
-use Rattle.turn_client_api.specs.Steps.{state_after, state_after_all}
-use Rattle.turn_client_api.specs.Transmit.{is_refresh_due}
-use Rattle.turn_client_laws.specs.LawsRows.{granted_at, ip_of_peer, peer, relayed_v4}
-use Rattle.turn_client_api.proofs.HasLemmas.{Has, all-has, has-all}
-use Rattle.turn_client_laws.proofs.TimelyLemmas.{poll-timely}
 use Rattle.turn_client_runs.specs.Lasting.{HasRoom, IsInForce, IsSteady, IsSuccess, HoldsAtMost, RunsSteadily, ahead_of, expiry_of}
 use Rattle.turn_client_runs.specs.LastingRows.{RelayStaysUp, with_allocation, calls_of_700_s, granted_call, refreshed_grants, served}
 use Rattle.turn_client_runs.specs.History.{History, IsSeldom, is_extra, lost, no_history, with_call}
@@ -348,26 +322,6 @@ module _ (s : State) (some : IsSome s.held) where
   abbrev pub s5 : State
   s5 = with_three 541_100_000_000 1_140_300_000_000 781_300_000_000 1_141_200_000_000 (behind_id (behind_id (behind_id (behind_id ids1)))) s
 
-  reported-1 : poll_step 1_100_000_000 s1 ≡ (WaitUntil 241_100_000_000, s1)
-  unfolding refresh_time
-  reported-1 = refl
-
-  reported-2 : poll_step 241_200_000_000 s2 ≡ (WaitUntil 481_200_000_000, s2)
-  unfolding refresh_time
-  reported-2 = refl
-
-  reported-3 : poll_step 481_300_000_000 s3 ≡ (WaitUntil 540_200_000_000, s3)
-  unfolding refresh_time
-  reported-3 = refl
-
-  reported-4 : poll_step 540_300_000_000 s4 ≡ (WaitUntil 541_100_000_000, s4)
-  unfolding refresh_time
-  reported-4 = refl
-
-  reported-5 : poll_step 541_200_000_000 s5 ≡ (WaitUntil 721_300_000_000, s5)
-  unfolding refresh_time
-  reported-5 = refl
-
   reported-6 : poll_step 700_000_000_000 s5 ≡ (WaitUntil 721_300_000_000, s5)
   unfolding refresh_time
   reported-6 = refl
@@ -464,24 +418,29 @@ module _ (s : State) (some : IsSome s.held) where
   -- ---- the refreshes
 
   punctual-2 : IsOnTime 1_100_000_000 241_100_000_000 s1
+  unfolding refresh_time
   punctual-2 = three-on-time 1_100_000_000 241_100_000_000 241_100_000_000 1_000_000_000 600_200_000_000 301_100_000_000 601_100_000_000
-      ids1 s reported-1 (omega arith) (omega arith) (omega arith) (omega arith)
+      ids1 s refl (omega arith) (omega arith) (omega arith) (omega arith)
 
   punctual-3 : IsOnTime 241_200_000_000 481_200_000_000 s2
+  unfolding refresh_time
   punctual-3 = three-on-time 241_200_000_000 481_200_000_000 481_200_000_000 241_100_000_000 600_200_000_000 541_200_000_000 601_100_000_000
-      (behind_id ids1) s reported-2 (omega arith) (omega arith) (omega arith) (omega arith)
+      (behind_id ids1) s refl (omega arith) (omega arith) (omega arith) (omega arith)
 
   punctual-4 : IsOnTime 481_300_000_000 540_200_000_000 s3
+  unfolding refresh_time
   punctual-4 = three-on-time 481_300_000_000 540_200_000_000 540_200_000_000 481_200_000_000 600_200_000_000 781_300_000_000 601_100_000_000
-      (behind_id (behind_id ids1)) s reported-3 (omega arith) (omega arith) (omega arith) (omega arith)
+      (behind_id (behind_id ids1)) s refl (omega arith) (omega arith) (omega arith) (omega arith)
 
   punctual-5 : IsOnTime 540_300_000_000 541_100_000_000 s4
+  unfolding refresh_time
   punctual-5 = three-on-time 540_300_000_000 541_100_000_000 541_100_000_000 540_200_000_000 1_140_300_000_000 781_300_000_000 601_100_000_000
-      (behind_id (behind_id (behind_id ids1))) s reported-4 (omega arith) (omega arith) (omega arith) (omega arith)
+      (behind_id (behind_id (behind_id ids1))) s refl (omega arith) (omega arith) (omega arith) (omega arith)
 
   punctual-6 : IsOnTime 541_200_000_000 700_000_000_000 s5
+  unfolding refresh_time
   punctual-6 = three-on-time 541_200_000_000 721_300_000_000 700_000_000_000 541_100_000_000 1_140_300_000_000 781_300_000_000 1_141_200_000_000
-      (behind_id (behind_id (behind_id (behind_id ids1)))) s reported-5 (omega arith) (omega arith) (omega arith) (omega arith)
+      (behind_id (behind_id (behind_id (behind_id ids1)))) s refl (omega arith) (omega arith) (omega arith) (omega arith)
 
   abbrev pub asked-2 : State
   asked-2 = requesting 241_100_000_000 (fresh_id s1) (ForPermission ip_of_peer) (request_for s1 (ForPermission ip_of_peer) (fresh_id s1)) s1
@@ -495,65 +454,27 @@ module _ (s : State) (some : IsSome s.held) where
   abbrev pub asked-5 : State
   asked-5 = requesting 541_100_000_000 (fresh_id s4) (ForChannel 0x4000 peer) (request_for s4 (ForChannel 0x4000 peer) (fresh_id s4)) s4
 
-  sent-2 : state_after (PollTransmit 241_100_000_000) s1 ≡ asked-2
-  unfolding refresh_time is_refresh_due
-  sent-2 = refl
-
-  sent-3 : state_after (PollTransmit 481_200_000_000) s2 ≡ asked-3
-  unfolding refresh_time is_refresh_due
-  sent-3 = refl
-
-  sent-4 : state_after (PollTransmit 540_200_000_000) s3 ≡ asked-4
-  unfolding refresh_time is_refresh_due
-  sent-4 = refl
-
-  sent-5 : state_after (PollTransmit 541_100_000_000) s4 ≡ asked-5
-  unfolding refresh_time is_refresh_due
-  sent-5 = refl
-
-  waits-2 : poll_step 241_100_000_000 asked-2 ≡ (WaitUntil 241_600_000_000, asked-2)
-  unfolding refresh_time
-  waits-2 = refl
-
-  waits-3 : poll_step 481_200_000_000 asked-3 ≡ (WaitUntil 481_700_000_000, asked-3)
-  unfolding refresh_time
-  waits-3 = refl
-
-  waits-4 : poll_step 540_200_000_000 asked-4 ≡ (WaitUntil 540_700_000_000, asked-4)
-  unfolding refresh_time
-  waits-4 = refl
-
-  waits-5 : poll_step 541_100_000_000 asked-5 ≡ (WaitUntil 541_600_000_000, asked-5)
-  unfolding refresh_time
-  waits-5 = refl
-
-  pub replied-2 : (message : List ℕ) → IsReplyFor (ForPermission ip_of_peer) (fresh_id s1) message → (response_step true message 241_200_000_000 asked-2).1 ≡ s2
-  replied-2 message is = rw (is.named, is.of_method, eqb-self (fresh_id s1)) refl
-
-  pub replied-3 : (message : List ℕ) → IsReplyFor (ForPermission ip_of_peer) (fresh_id s2) message → (response_step true message 481_300_000_000 asked-3).1 ≡ s3
-  replied-3 message is = rw (is.named, is.of_method, eqb-self (fresh_id s2)) refl
-
-  pub replied-4 : (message : List ℕ) → IsReplyFor (ForRefresh IPV4 asked_lifetime) (fresh_id s3) message → (response_step true message 540_300_000_000 asked-4).1 ≡ s4
-  replied-4 message is = rw (is.named, is.of_method, eqb-self (fresh_id s3), is.lasts) refl
-
-  pub replied-5 : (message : List ℕ) → IsReplyFor (ForChannel 0x4000 peer) (fresh_id s4) message → (response_step true message 541_200_000_000 asked-5).1 ≡ s5
-  replied-5 message is = rw (is.named, is.of_method, eqb-self (fresh_id s4)) refl
-
   pub round-2 : IsRound 1_100_000_000 241_100_000_000 (fresh_id s1) (ForPermission ip_of_peer) [] (request_for s1 (ForPermission ip_of_peer) (fresh_id s1)) s1 asked-2 s2 s2
+  unfolding refresh_time is_refresh_due
   round-2 = refreshed 1_100_000_000 241_100_000_000 241_600_000_000 600_200_000_000 301_100_000_000 601_100_000_000 600_200_000_000 541_200_000_000 601_100_000_000 ids1
-      (ForPermission ip_of_peer) s some 1_000_000_000 punctual-2 sent-2 waits-2 (omega arith) (omega arith) replied-2
+      (ForPermission ip_of_peer) s some 1_000_000_000 punctual-2 refl refl (omega arith) (omega arith) (λ message is. rw (is.named, is.of_method, eqb-self (fresh_id s1)) refl)
 
   pub round-3 : IsRound 241_200_000_000 481_200_000_000 (fresh_id s2) (ForPermission ip_of_peer) [] (request_for s2 (ForPermission ip_of_peer) (fresh_id s2)) s2 asked-3 s3 s3
+  unfolding refresh_time is_refresh_due
   round-3 = refreshed 241_200_000_000 481_200_000_000 481_700_000_000 600_200_000_000 541_200_000_000 601_100_000_000 600_200_000_000 781_300_000_000 601_100_000_000
-      (behind_id ids1) (ForPermission ip_of_peer) s some 241_100_000_000 punctual-3 sent-3 waits-3 (omega arith) (omega arith) replied-3
+      (behind_id ids1) (ForPermission ip_of_peer) s some 241_100_000_000 punctual-3 refl refl (omega arith) (omega arith) (λ message is. rw (is.named, is.of_method, eqb-self (fresh_id s2)) refl)
 
   pub round-4 : IsRound 481_300_000_000 540_200_000_000 (fresh_id s3) (ForRefresh IPV4 asked_lifetime) [] (request_for s3 (ForRefresh IPV4 asked_lifetime) (fresh_id s3)) s3 asked-4 s4 s4
+  unfolding refresh_time is_refresh_due
   round-4 = refreshed 481_300_000_000 540_200_000_000 540_700_000_000 600_200_000_000 781_300_000_000 601_100_000_000 1_140_300_000_000 781_300_000_000 601_100_000_000
-      (behind_id (behind_id ids1)) (ForRefresh IPV4 asked_lifetime) s some 481_200_000_000 punctual-4 sent-4 waits-4 (omega arith) (omega arith) replied-4
+      (behind_id (behind_id ids1)) (ForRefresh IPV4 asked_lifetime) s some 481_200_000_000 punctual-4 refl refl (omega arith) (omega arith)
+      (λ message is. rw (is.named, is.of_method, eqb-self (fresh_id s3), is.lasts) refl)
 
   pub round-5 : IsRound 540_300_000_000 541_100_000_000 (fresh_id s4) (ForChannel 0x4000 peer) [] (request_for s4 (ForChannel 0x4000 peer) (fresh_id s4)) s4 asked-5 s5 s5
+  unfolding refresh_time is_refresh_due
   round-5 = refreshed 540_300_000_000 541_100_000_000 541_600_000_000 1_140_300_000_000 781_300_000_000 601_100_000_000 1_140_300_000_000 781_300_000_000 1_141_200_000_000
-      (behind_id (behind_id (behind_id ids1))) (ForChannel 0x4000 peer) s some 540_200_000_000 punctual-5 sent-5 waits-5 (omega arith) (omega arith) replied-5
+      (behind_id (behind_id (behind_id ids1))) (ForChannel 0x4000 peer) s some 540_200_000_000 punctual-5 refl refl (omega arith) (omega arith)
+      (λ message is. rw (is.named, is.of_method, eqb-self (fresh_id s4)) refl)
 
   -- ---- all of the run
 

@@ -1,65 +1,21 @@
 -- No grant is lost by a call.
-use Rattle.std.proofs.Common.{◌≡◌, ◌⊎◌, ℕ, ◌+◌, ◌<◌, ◌≤◌, Bool, true, false, cond, not, ◌&&◌, leb, eqb, List}
-use Rattle.std.proofs.Common.{[], ◌∷◌, ◌++◌, length, drop, Option, Some, None, refl, inl, inr, ap, sym, subst, ◌∙◌, arith}
-use Rattle.std.specs.Prelude.{filter, filter_map, find, is_some, IsSome, nat_lt, Result, Ok, Err}
-use Rattle.std.specs.Net.Socket.{socket_ip}
-use Rattle.turn_stun.specs.declared.transport.TransportType.{TransportType}
-use Rattle.turn_stun.specs.declared.transport.TransportType.TheVariants.{Tcp}
-use Rattle.turn_agent.specs.TransactionIds.{Source}
-use Rattle.turn_client_api.specs.declared.grant.DataConnection.{DataConnection}
-use Rattle.turn_client_api.specs.declared.error.SendError.TheVariants.{NoPermission}
-use Rattle.turn_client_api.specs.Grants.{as_connection}
-use Rattle.turn_client_api.specs.Requests.{to_server}
-use Rattle.turn_types.specs.Channel.{channel_frame}
-use Rattle.turn_client_api.specs.Calls.{channel_kept_step, is_in_progress, is_open_to, keep_step, permission_kept_step, with_marks, active_channel}
-use Rattle.turn_client_api.specs.Calls.{as_indication, bound_to, can_send_to, on_channel, on_connection, send_over, send_to_step}
-use Rattle.std.specs.List.{list_any}
-use Rattle.std.proofs.lemmas.Bool.{and_parts, eqb-true, eq-eqb, lt-leb, lt-ltb, or_right}
-use Rattle.std.specs.Option.{option_map_or}
-use Rattle.std.specs.declared.net.socket_addr.SocketAddr.{SocketAddr}
-use Rattle.turn_stun.specs.Message.{id_of}
-use Rattle.turn_stun.specs.declared.message.header.MessageClass.TheVariants.{Error, Success}
-use Rattle.turn_stun.specs.declared.transport.TransportType.TheVariants.{Udp}
-use Rattle.turn_stun.specs.declared.transport.Transmit.{Transmit}
-use Rattle.turn_auth.specs.Validation.{IsValidated, validation_of}
-use Rattle.turn_auth.specs.declared.validation.Validation.{Validation}
-use Rattle.turn_auth.specs.declared.validation.Validation.TheVariants.{Validated, ResendRequest, Refused}
-use Rattle.turn_agent.specs.Agent.{due, is_outstanding, resent}
-use Rattle.turn_agent.specs.declared.transaction.Transaction.{Transaction}
-use Rattle.turn_client_api.specs.State.{State, agent_of, auth_of}
-use Rattle.turn_client_api.specs.declared.state.Phase.TheVariants.{Allocated}
+use Rattle.turn_client_laws.proofs.Common.{◌≡◌, ℕ, ◌+◌, ◌<◌, ◌≤◌, Bool, true, false, cond, not, ◌&&◌, eqb, List, [], ◌∷◌, ◌++◌, length, drop, Option, Some, None, refl, inl, inr, ap, sym, subst, ◌∙◌}
+use Rattle.turn_client_laws.proofs.Common.{arith, filter, is_some, IsSome, nat_lt, Result, Ok, Err, list_any, and_parts, eqb-true, eq-eqb, lt-leb, lt-ltb, or_right, option_map_or, SocketAddr, IpAddr}
+use Rattle.turn_client_laws.proofs.Machine.{TransportType, channel_kept_step, is_in_progress, is_open_to, keep_step, permission_kept_step, with_marks, send_to_step, id_of, Error, Success, Udp}
+use Rattle.turn_client_laws.proofs.Machine.{Transmit, IsValidated, validation_of, Validation, Validated, ResendRequest, Refused, due, is_outstanding, resent, Transaction, State, agent_of, auth_of}
+use Rattle.turn_client_laws.proofs.Machine.{Allocated, Relay, Grant, Allocation, Permission, Channel, Listing, Purpose, allocations, is_past, is_permission_of, same_transport, purposes_of, Challenged}
+use Rattle.turn_client_laws.proofs.Machine.{SignedSuccess, challenge_in, class_in, judgement_of, retried, state_after_retry, Challenge, transaction_ended, Handled, Ignored, Outcome, challenge_step}
+use Rattle.turn_client_laws.proofs.Machine.{datagram_step, message_step, response_step, signed_step, bind_channel_step, create_permission_step, expired_at, poll_step, transmit_step, fresh_id}
+use Rattle.turn_client_laws.proofs.Machine.{packet_step, state_after, state_after_all, Call, BindChannel, CreatePermission, Recv, Poll, PollTransmit, PollEvent, SendTo, SetChannelKept}
+use Rattle.turn_client_laws.proofs.Machine.{SetPermissionKept, allocation-there, Has, filter-has, has-filter, map-has}
+use Rattle.turn_client_laws.proofs.Laws.{any-has, has-any, purpose-with, send_to-by}
 use Rattle.turn_client_api.specs.declared.error.KeepError.{KeepError}
 use Rattle.turn_client_api.specs.declared.error.KeepError.TheVariants.{NotGranted}
-use Rattle.turn_client_api.specs.declared.grant.Relay.{Relay}
-use Rattle.std.specs.declared.net.ip_addr.IpAddr.{IpAddr}
-use Rattle.turn_client_api.specs.declared.grant.Grant.{Grant}
-use Rattle.turn_client_api.specs.declared.grant.Grant.TheVariants.{Allocation, Permission, Channel}
-use Rattle.turn_client_api.specs.declared.grant.Listing.{Listing}
-use Rattle.turn_client_api.specs.declared.grant.Purpose.{Purpose}
-use Rattle.turn_client_api.specs.Grants.{allocations, is_past, is_permission_of, same_transport, purposes_of}
-use Rattle.turn_client_api.specs.Judgement.{Challenged, SignedSuccess, challenge_in, class_in, judgement_of}
-use Rattle.turn_client_api.specs.Retry.{retried, state_after_retry}
-use Rattle.turn_auth.specs.LongTerm.{Challenge}
-use Rattle.turn_client_api.specs.Effect.{transaction_ended}
-use Rattle.turn_client_api.specs.Payloads.{Handled, Ignored, Outcome, challenge_step, datagram_step, message_step, response_step, signed_step}
-use Rattle.turn_client_api.specs.Calls.{bind_channel_step, create_permission_step}
-use Rattle.turn_client_api.specs.Poll.{expired_at, poll_step}
-use Rattle.turn_client_api.specs.Transmit.{transmit_step}
-use Rattle.turn_client_api.specs.Requests.{fresh_id}
-use Rattle.turn_client_api.specs.Steps.{packet_step, state_after, state_after_all}
-use Rattle.turn_client_api.specs.declared.call.Call.{Call}
-use Rattle.turn_client_api.specs.declared.call.Call.TheVariants.{BindChannel, CreatePermission, Recv, Poll, PollTransmit, PollEvent, SendTo, SetChannelKept, SetPermissionKept}
-use Rattle.turn_client_api.proofs.AllocationLemmas.{allocation-there}
-use Rattle.turn_client_api.proofs.HasLemmas.{Has, filter-has, has-filter, map-has}
-use Rattle.turn_client_laws.proofs.InAllocationLemmas.{any-has, has-any}
-use Rattle.turn_client_laws.proofs.TwoPurposes.{purpose-with}
-use Rattle.turn_client_runs.specs.Lasting.{AreInTime, IsAnsweredChallenge, Answers, DatagramsAreMessages, IsQuiet, IsSuccess}
-use Rattle.turn_client_runs.specs.Lasting.{HoldsAtMost, RunsSteadily, SuccessesEndRequests}
+use Rattle.turn_client_runs.specs.Lasting.{AreInTime, IsAnsweredChallenge, Answers, DatagramsAreMessages, IsQuiet, IsSuccess, expiry_of, HoldsAtMost, RunsSteadily, SuccessesEndRequests}
 use Rattle.turn_client_runs.proofs.MadeLemmas.{success-ends}
 use Rattle.turn_client_runs.specs.OnTime.{IsFromServer, time_of, time_of_all}
 use Rattle.turn_client_runs.specs.History.{History, is_replied, IsSeldom, extra_since, is_extra, lost, was_let_go, with_call, with_calls}
-use Rattle.turn_client_runs.proofs.LastingStands.{allocation-stands, Goes, IsPending, goes-more, goes-trans, IsAwaited, IsIdle, IsKept, Stands}
-use Rattle.turn_client_runs.proofs.LastingStands.{stands-early}
+use Rattle.turn_client_runs.proofs.LastingStands.{allocation-stands, kept-changed, kept-rest, stands-aside, Goes, IsRequested, goes-more, goes-trans, IsKept, Stands, stands-early}
 use Rattle.turn_client_runs.proofs.LastingCounts.{passes, passes-length}
 use Rattle.turn_client_runs.proofs.LastingCalls.{Asks, asked-goes, asked-kept, binds, creates}
 use Rattle.turn_client_runs.proofs.LastingAgain.{IsOneMore, goes-again, goes-retried, kept-again, kept-retried, retried-queue}
@@ -129,40 +85,17 @@ module _ (count slots extras delay now : ℕ) (past : History) (s : State) (k : 
   abbrev t : State
   t = (response_step true message now s).1
 
-  stands-ended : (g : Grant) → Stands count slots extras delay now past s.transactions s g → Stands count slots extras delay now past s.transactions (transaction_ended (id_of message) s) g
-  stands-ended g was = record {
-    granted = was.granted;
-    room = was.room;
-    long = was.long;
-    either = elim was.either [ inl a ↦ inl a | inr idle ↦ inr (record { unasked = idle.unasked; near = idle.near; soon = idle.soon; paused = idle.paused }) ];
-  }
-
   still : (x : Transaction) → Has x ended.transactions → Has x s.transactions
   still x h = (has-filter (λ (x : Transaction). not (eqb x.id id)) x s.transactions h).0
 
   kept-ended : IsKept count slots extras delay now past s.transactions ended
-  kept-ended = record {
-    phase = k.phase;
+  kept-ended = kept-rest count slots extras delay now past s.transactions s k s.queue s.last_send ended.transactions s.events s.ids s.closes (record {
     requests = k.requests;
     few = k.few;
-    prompt = k.prompt;
-    pace = k.pace;
     sent = k.sent;
-    aged = λ x h. k.aged x (still x h);
-    lone = λ x y hx hy e. k.lone x y (still x hx) (still y hy) e;
-    begun = λ x h. k.begun x (still x h);
-    heard = λ x h. k.heard x (still x h);
-    seldom = k.seldom;
-    row = k.row;
-    asked = k.asked;
-    size = k.size;
-    single = k.single;
-    linked = k.linked;
-    in_range = k.in_range;
-    in_allocations = k.in_allocations;
-    known = k.known;
-    each = λ g there. elim (k.each g there) [ inl waits ↦ inl waits | inr (inl stands) ↦ inr (inl (stands-ended g stands)) | inr (inr loose) ↦ inr (inr loose) ];
-  }
+    awaited = still;
+    stands = λ g there. stands-aside count slots extras delay now past s.transactions ended.transactions s s.ids s.events s.closes g;
+  })
 
   purpose-listed : (l : Listing) → Has l s.listed → l.id ≡ id → Has l.purpose (purposes_of id s)
   purpose-listed l there e = map-has (λ (l : Listing). l.purpose) l (filter (λ (l : Listing). eqb l.id id) s.listed) (filter-has (λ (l : Listing). eqb l.id id) l s.listed there (eq-eqb l.id id e))
@@ -192,31 +125,24 @@ module _ (count slots extras delay now : ℕ) (past : History) (s : State) (k : 
       by false e = rw e refl
       by true e = absurd (other (eqb-true x.id id e))
 
-  stands-answered : (g : Grant) → Stands count slots extras delay now past s.transactions t g → Stands count slots extras delay now past t.transactions t g
-  stands-answered g was = record { granted = was.granted; room = was.room; long = was.long; either = by was.either }
-    where
-      by : IsAwaited delay past s.transactions t.listed g ⊎ IsIdle slots now past t g → IsAwaited delay past t.transactions t.listed g ⊎ IsIdle slots now past t g
-      by (inl a) = inl (record {
-        transaction = a.transaction;
-        there = remains a.transaction a.there (λ e. unlisted a.listing a.within (sym a.same ∙ e));
-        listing = a.listing;
-        within = a.within;
-        for = a.for;
-        same = a.same;
-        in_time = a.in_time;
-      })
-      by (inr idle) = inr idle
-
   -- what awaits another reply awaits it still
-  pending-answered : (until : ℕ) (g : Grant) → IsPending until past s.transactions t.listed g → IsPending until past t.transactions t.listed g
-  pending-answered until g a = record {
+  requested-answered : (when : ℕ → Type 0) (g : Grant) → IsRequested when past s.transactions t.listed g → IsRequested when past t.transactions t.listed g
+  requested-answered when g a = record {
     transaction = a.transaction;
     there = remains a.transaction a.there (λ e. unlisted a.listing a.within (sym a.same ∙ e));
     listing = a.listing;
     within = a.within;
     for = a.for;
     same = a.same;
-    sent = a.sent;
+    made = a.made;
+  }
+
+  stands-answered : (g : Grant) → Stands count slots extras delay now past s.transactions t g → Stands count slots extras delay now past t.transactions t g
+  stands-answered g was = record {
+    granted = was.granted;
+    room = was.room;
+    long = was.long;
+    either = elim was.either [ inl a ↦ inl (requested-answered (λ made. made + delay < expiry_of g) g a) | inr idle ↦ inr idle ];
   }
 
   goes-answered : Goes past past s.transactions t.transactions s t
@@ -224,65 +150,31 @@ module _ (count slots extras delay now : ℕ) (past : History) (s : State) (k : 
     let_go = done.goes.let_go;
     remain = done.goes.remain;
     follow = λ until g there waits pending none. elim (done.goes.follow until g there waits pending none) [
-      | inl (here, still) ↦ inl (here, pending-answered until g still)
+      | inl (here, still) ↦ inl (here, requested-answered (λ made. made ≤ until) g still)
       | inr is ↦ inr is
     ];
   }
 
   pub kept-answered : KeepsAll count slots extras delay now past past s t
   kept-answered = (
-    record {
-      phase = done.kept.phase;
-      requests = done.kept.requests;
-      few = done.kept.few;
-      prompt = done.kept.prompt;
-      pace = done.kept.pace;
-      sent = done.kept.sent;
-      aged = done.kept.aged;
-      lone = done.kept.lone;
-      begun = done.kept.begun;
-      heard = done.kept.heard;
-      seldom = done.kept.seldom;
+    kept-changed count slots extras delay now past past s.transactions t.transactions t (λ x h. refl) done.kept.seldom done.kept t.grants t.listed t.events t.challenges t.ids t.closes (record {
       row = done.kept.row;
       asked = done.kept.asked;
       size = done.kept.size;
       single = done.kept.single;
       linked = done.kept.linked;
-      in_range = done.kept.in_range;
       in_allocations = done.kept.in_allocations;
       known = done.kept.known;
       each = λ g there. elim (done.kept.each g there) [
-        | inl (waits, pending) ↦ inl (waits, pending-answered now g pending)
+        | inl (waits, pending) ↦ inl (waits, requested-answered (λ made. made ≤ now) g pending)
         | inr (inl stands) ↦ inr (inl (stands-answered g stands))
         | inr (inr loose) ↦ inr (inr loose)
       ];
-    },
+    }),
     goes-answered,
   )
 
 -- ---- each call
-
--- data for a peer uses an ID at most
-sends : (P : State → Type 0) (transport : TransportType) (peer : SocketAddr) (bytes : List ℕ) (now : ℕ) (s : State) → ((ids : Source) → P (record s { ids = ids }))
-    → P (send_to_step transport peer bytes now s).1
-sends P transport peer bytes now s each = by (can_send_to transport (socket_ip peer) s) transport
-  where
-    channel : (xs : List (ℕ × ℕ)) → P (on_channel xs peer bytes now s).1
-    channel [] = each _
-    channel ((number, expiry) ∷ xs) = for (leb now expiry)
-      where
-        for : (b : Bool) → P (cond b (Ok (to_server s s.local (channel_frame number bytes)), s) (as_indication peer bytes s)).1
-        for true = each s.ids
-        for false = each _
-
-    connection : (o : Option DataConnection) → P (on_connection o bytes s).1
-    connection None = each s.ids
-    connection (Some c) = each s.ids
-
-    by : (b : Bool) (t : TransportType) → P (cond b (send_over t peer bytes now s) (Err NoPermission, s)).1
-    by false t = each s.ids
-    by true Udp = channel (filter_map (active_channel peer) s.grants)
-    by true Tcp = connection (find (bound_to peer) (filter_map as_connection s.grants))
 
 -- no grant and no request changes
 goes-same : (past : History) (s t : State) → t.grants ≡ s.grants → t.transactions ≡ s.transactions → t.listed ≡ s.listed → Goes past past s.transactions t.transactions s t
@@ -571,7 +463,7 @@ module _ (count slots extras delay before : ℕ) (past : History) (s : State) wh
     goes-same (onward PollEvent) s (record s { events = drop 1 s.events }) refl refl refl,
   ))
   call-by (SendTo transport peer bytes now) k seldom quiet within = calm (SendTo transport peer bytes now) (send_to_step transport peer bytes now s).1 k seldom k.row (λ k.
-      sends (Keeps now (onward (SendTo transport peer bytes now)) (onward (SendTo transport peer bytes now))) transport peer bytes now s
+      send_to-by (Keeps now (onward (SendTo transport peer bytes now)) (onward (SendTo transport peer bytes now))) transport peer bytes now s
       (λ ids. (
         kept-aside count slots extras delay now (onward (SendTo transport peer bytes now)) s.transactions s ids s.events s.closes k,
         goes-same (onward (SendTo transport peer bytes now)) s (record s { ids = ids }) refl refl refl,

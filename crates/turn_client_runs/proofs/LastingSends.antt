@@ -1,30 +1,11 @@
 -- What a client sends while no grant is lost.
-use Rattle.std.proofs.Common.{◌≡◌, ℕ, ◌+◌, ◌-◌, ◌^◌, ◌<◌, ◌≤◌, min, true, false, not, leb, List, [], ◌∷◌, Option, Some, None, refl, inl, inr, ◌∙◌, arith}
-use Rattle.std.specs.Prelude.{IsSome, is_some, filter, flat_map, if◌then◌else◌}
-use Rattle.std.specs.Option.{option_map_or}
-use Rattle.std.proofs.lemmas.Bool.{and_right, le-leb, lt-ltb, lt-leb, le-ltb}
-use Rattle.turn_types.specs.declared.family.AddressFamily.{AddressFamily}
-use Rattle.turn_agent.specs.Agent.{due, timed_out_transaction, transaction_timeout}
-use Rattle.turn_agent.specs.Schedule.{Timers, wait_at}
-use Rattle.turn_agent.specs.declared.transaction.Transaction.{Transaction}
-use Rattle.turn_stun.specs.declared.transport.TransportType.{TransportType}
-use Rattle.turn_client_api.specs.Config.{same_family, timers_of}
-use Rattle.turn_client_api.specs.State.{State, agent_of}
-use Rattle.turn_client_api.specs.declared.state.Phase.TheVariants.{Allocated}
-use Rattle.turn_client_api.specs.declared.grant.Grant.{Grant}
-use Rattle.turn_client_api.specs.declared.grant.Grant.TheVariants.{Allocation, Permission, Channel}
-use Rattle.turn_client_api.specs.declared.grant.Relay.{Relay}
-use Rattle.turn_client_api.specs.declared.grant.Progress.TheVariants.{Active}
-use Rattle.turn_client_api.specs.declared.grant.Purpose.{Purpose}
-use Rattle.turn_client_api.specs.declared.grant.Purpose.TheVariants.{ForRefresh, ForPermission, ForChannel}
-use Rattle.turn_client_api.specs.Grants.{allocations, family_of, family_of_grant, find_allocation, has_request, is_of}
-use Rattle.turn_client_api.specs.Requests.{asked_lifetime, fresh_id, request_for}
-use Rattle.turn_client_api.specs.Due.{is_paused, is_refreshable, pause_end, refresh_time}
-use Rattle.turn_client_api.specs.Transmit.{is_due_in, is_ranked, is_refresh_due, keepalive_step, next_refresh, queue_step, refresh_purpose, refresh_step, refreshes_in, refreshes_of_rank, reply_step}
-use Rattle.turn_client_api.specs.Transmit.{sent_at_once, transmit_step}
-use Rattle.turn_client_api.proofs.HasLemmas.{Has, filter-has, filter_map-has, find-none, flat_map-has, has-found}
-use Rattle.turn_client_laws.proofs.InAllocationLemmas.{Room, of-room}
-use Rattle.turn_client_api.proofs.AllocationLemmas.{allocation-there}
+use Rattle.turn_client_laws.proofs.Common.{◌≡◌, ℕ, ◌+◌, ◌-◌, ◌^◌, ◌<◌, ◌≤◌, min, true, false, not, leb, [], Option, Some, None, refl, inl, inr, ◌∙◌, arith, IsSome, is_some, option_map_or, and_right}
+use Rattle.turn_client_laws.proofs.Common.{le-leb, lt-ltb, lt-leb, le-ltb}
+use Rattle.turn_client_laws.proofs.Machine.{AddressFamily, due, timed_out_transaction, transaction_timeout, Timers, wait_at, Transaction, TransportType, same_family, timers_of, State, agent_of}
+use Rattle.turn_client_laws.proofs.Machine.{Allocated, Grant, Allocation, Permission, Channel, Relay, Active, ForRefresh, ForPermission, ForChannel, allocations, family_of, family_of_grant}
+use Rattle.turn_client_laws.proofs.Machine.{find_allocation, has_request, is_of, asked_lifetime, is_paused, is_refreshable, pause_end, refresh_time, is_refresh_due, next_refresh, queue_step}
+use Rattle.turn_client_laws.proofs.Machine.{refresh_step, transmit_step, Has, find-none, has-found, allocation-there}
+use Rattle.turn_client_laws.proofs.Laws.{Room, of-room, not_due-transmit, refreshed-once}
 use Rattle.turn_client_runs.specs.Lasting.{expiry_of}
 use Rattle.turn_client_runs.proofs.LastingStands.{IsActive, IsGranted, due_of, kind-due}
 
@@ -50,39 +31,13 @@ module _ (delay time : ℕ) (s : State) (prompt : delay < wait_at (timers_of s.c
 
 -- ---- refreshes
 
-pub transmits : (time : ℕ) (s : State) → due (agent_of s) time ≡ None → transmit_step time s ≡ (if is_paused time s then reply_step s else queue_step time s)
-transmits time s none = rw (none, transmit_step) refl
-
 pub queue-idle : (time : ℕ) (s : State) → s.queue ≡ [] → s.phase ≡ Allocated → queue_step time s ≡ refresh_step time s
 queue-idle time s e p = rw (e, queue_step, p) refl
 
 pub transmit-refreshes : (time : ℕ) (s : State) → s.phase ≡ Allocated → s.queue ≡ [] → due (agent_of s) time ≡ None → pause_end s ≤ time → transmit_step time s ≡ refresh_step time s
 transmit-refreshes time s p e none over =
     let idle : is_paused time s ≡ false = le-ltb time (pause_end s) over in
-    transmits time s none ∙ rw idle (queue-idle time s e p)
-
-refresh-sends : (time : ℕ) (s : State) (ps : List Purpose) → flat_map (refreshes_in time s) (allocations s) ≡ ps → (p : Purpose) → Has p ps → IsSome (next_refresh time s)
-refresh-sends time s [] e p h = absurd h
-refresh-sends time s (q ∷ qs) e p h = rw e refl
-
--- a grant whose time has come is refreshed, or another one before it
-refreshed-once : (time : ℕ) (s : State) (g : Grant) (a : Relay) (rank : ℕ) (p : Purpose) → Has g s.grants → Has a (allocations s) → time ≤ a.expiry → is_of (family_of a.relayed) g ≡ true
-    → Has rank (0 ∷ 1 ∷ 2 ∷ []) → is_ranked rank g ≡ true → is_refresh_due time s g ≡ true → refresh_purpose time g ≡ Some p → IsSome (next_refresh time s)
-refreshed-once time s g a rank p h inside goes_on here ranked is due gives =
-    let test = is_due_in rank (family_of a.relayed) time s in
-    let of_rank = refreshes_of_rank time s (family_of a.relayed) in
-    let passes : is_due_in rank (family_of a.relayed) time s g ≡ true = rw (is, here, due) refl in
-    let in_rank : Has p (of_rank rank) = filter_map-has (refresh_purpose time) g p (filter test s.grants) (filter-has test g s.grants h passes) gives in
-    let in_allocation : Has p (refreshes_in time s a) = rw (le-leb time a.expiry goes_on) (flat_map-has of_rank rank p (0 ∷ 1 ∷ 2 ∷ []) ranked in_rank) in
-    refresh-sends time s _ refl p (flat_map-has (refreshes_in time s) a p (allocations s) inside in_allocation)
-
--- with something to refresh, a packet is sent
-pub next-sends : (time : ℕ) (s : State) → IsSome (next_refresh time s) → IsSome (refresh_step time s).0
-next-sends time s some = by (next_refresh time s) some
-  where
-    by : (o : Option Purpose) → IsSome o → IsSome (option_map_or (λ purpose. sent_at_once (request_for s purpose (fresh_id s)) purpose time s) o (keepalive_step time s)).0
-    by None some = absurd (let no : false ≡ true = some in cc)
-    by (Some p) some = refl
+    not_due-transmit time s none ∙ rw idle (queue-idle time s e p)
 
 -- ---- a refresh is due
 

@@ -1,28 +1,15 @@
 -- A part of a run counts for a grant as if it had not been let go before.
-use Rattle.std.proofs.Common.{◌≡◌, ◌⊎◌, ℕ, ◌+◌, ◌<◌, ◌≤◌, Bool, true, false, not, ◌&&◌, List, [], ◌∷◌, length, refl, inl, inr, ap, sym, subst, ◌∙◌, arith}
-use Rattle.std.specs.Prelude.{filter, nat_le}
-use Rattle.std.proofs.lemmas.Bool.{eq-eqb, or_cases, or_left, or_right}
-use Rattle.turn_stun.specs.Message.{id_of}
-use Rattle.turn_agent.specs.declared.transaction.Transaction.{Transaction}
-use Rattle.turn_client_api.specs.Due.{is_kept}
-use Rattle.turn_client_api.specs.Grants.{is_channel_of, is_for, is_permission_of}
-use Rattle.turn_client_api.specs.State.{State}
-use Rattle.turn_client_api.specs.Steps.{state_after}
-use Rattle.turn_client_api.specs.declared.call.Call.{Call}
-use Rattle.turn_client_api.specs.declared.call.Call.TheVariants.{Recv}
-use Rattle.turn_client_api.specs.declared.grant.Grant.{Grant}
-use Rattle.turn_client_api.specs.declared.grant.Grant.TheVariants.{Channel, Permission}
-use Rattle.turn_client_api.specs.declared.grant.Listing.{Listing}
-use Rattle.turn_client_api.specs.declared.grant.Purpose.{Purpose}
-use Rattle.turn_client_api.specs.declared.grant.Purpose.TheVariants.{ForChannel, ForPermission}
-use Rattle.turn_client_api.proofs.HasLemmas.{Has, all-has, has-all}
+use Rattle.turn_client_laws.proofs.Common.{◌≡◌, ◌⊎◌, ℕ, ◌+◌, ◌<◌, ◌≤◌, Bool, true, false, not, ◌&&◌, List, [], ◌∷◌, length, refl, inl, inr, ap, sym, subst, ◌∙◌, arith, filter, nat_le, eq-eqb}
+use Rattle.turn_client_laws.proofs.Common.{or_cases, or_left, or_right}
+use Rattle.turn_client_laws.proofs.Machine.{id_of, Transaction, is_kept, is_channel_of, is_for, is_permission_of, State, state_after, Call, Recv, Grant, Channel, Permission, Listing, Purpose}
+use Rattle.turn_client_laws.proofs.Machine.{ForChannel, ForPermission, Has, all-has, has-all}
 use Rattle.turn_client_runs.specs.History.{History, challenged_by, first_made, no_history, was_let_go, with_call, with_calls}
 use Rattle.turn_client_runs.specs.Lasting.{IsQuiet, RunsSteadily}
 use Rattle.turn_client_runs.specs.OnTime.{time_of}
 use Rattle.turn_client_runs.proofs.LastingCounts.{passes-same}
 use Rattle.turn_client_runs.proofs.LastingExpiry.{reserved-waits}
 use Rattle.turn_client_runs.proofs.LastingHistory.{kept-with, stands-later}
-use Rattle.turn_client_runs.proofs.LastingStands.{IsUnique, granted-active, leased-active, not-waiting, IsKept, IsKnown, IsPending, IsWell, Stands, is_waiting}
+use Rattle.turn_client_runs.proofs.LastingStands.{IsUnique, granted-active, leased-active, not-waiting, IsKept, IsKnown, IsPending, requested-more, IsWell, Stands, is_waiting}
 use Rattle.turn_client_runs.proofs.LastingTransmits.{same_ip-self}
 
 -- the grant was not let go before
@@ -46,7 +33,7 @@ abbrev IsUniqueFor : Purpose → Grant → Grant → Type 0
 IsUniqueFor p h g = IsUnique p × (is_for p h ≡ true) × (is_for p g ≡ true)
 
 pub pending-spared : (until : ℕ) (past : History) (xs : List Transaction) (ls : List Listing) (g h : Grant) → IsPending until past xs ls h → IsPending until (sparing g past) xs ls h
-pending-spared until past xs ls g h p = record { transaction = p.transaction; there = p.there; listing = p.listing; within = p.within; for = p.for; same = p.same; sent = p.sent }
+pending-spared until past xs ls g h = requested-more (λ made. made ≤ until) past (sparing g past) xs xs ls ls h (λ x there. refl) (λ x there. there) (λ l there for. there)
 
 -- what was let go is so still, or it is this one
 module _ (g : Grant) (past : History) where

@@ -1,31 +1,14 @@
 -- How a client stands while no grant is lost: each grant is refreshed in time, or its refresh is on its way.
-use Rattle.std.proofs.Common.{◌≡◌, ◌⊎◌, ℕ, ◌+◌, ◌-◌, ◌*◌, ◌^◌, ◌<◌, ◌≤◌, min, Bool, true, false, ◌||◌, leb, eqb, List, [], ◌∷◌, length, filter, Option, Some, None, refl, ap, sym, subst, ◌∙◌, inl}
-use Rattle.std.proofs.Common.{inr, arith}
-use Rattle.std.specs.Prelude.{IfSome, ⊤, nat_le}
-use Rattle.std.proofs.lemmas.Bool.{lt-leb}
+use Rattle.turn_client_laws.proofs.Common.{◌≡◌, ◌⊎◌, ℕ, ◌+◌, ◌-◌, ◌*◌, ◌^◌, ◌<◌, ◌≤◌, min, Bool, true, false, ◌||◌, leb, eqb, List, [], ◌∷◌, length, filter, Option, Some, None, refl, ap, sym, subst}
+use Rattle.turn_client_laws.proofs.Common.{◌∙◌, inl, inr, arith, IfSome, ⊤, nat_le, lt-leb, SocketAddr}
+use Rattle.turn_client_laws.proofs.Machine.{Source, Transaction, timers_of, State, later_by, Allocated, Queued, TurnEvent, Grant, Allocation, Permission, Channel, Active, Pending, Reserved, Purpose}
+use Rattle.turn_client_laws.proofs.Machine.{ForRefresh, ForPermission, ForChannel, Listing, family_of_grant, has_request, is_for, Relay, has_reply, is_kept, pause_end, refresh_time_by_kind, Has}
+use Rattle.turn_client_laws.proofs.Laws.{Room, IsReserved}
 use Rattle.std.proofs.lemmas.Nat.{mul-le}
-use Rattle.std.specs.declared.net.socket_addr.SocketAddr.{SocketAddr}
-use Rattle.turn_agent.specs.TransactionIds.{Source}
-use Rattle.turn_agent.specs.declared.transaction.Transaction.{Transaction}
-use Rattle.turn_client_api.specs.Config.{timers_of}
-use Rattle.turn_client_api.specs.State.{State, later_by}
-use Rattle.turn_client_api.specs.declared.state.Phase.TheVariants.{Allocated}
-use Rattle.turn_client_api.specs.declared.event.TurnEvent.{TurnEvent}
-use Rattle.turn_client_api.specs.declared.grant.Grant.{Grant}
-use Rattle.turn_client_api.specs.declared.grant.Grant.TheVariants.{Allocation, Permission, Channel}
-use Rattle.turn_client_api.specs.declared.grant.Progress.TheVariants.{Active, Pending, Reserved}
-use Rattle.turn_client_api.specs.declared.grant.Purpose.{Purpose}
-use Rattle.turn_client_api.specs.declared.grant.Purpose.TheVariants.{ForRefresh, ForPermission, ForChannel}
-use Rattle.turn_client_api.specs.declared.grant.Listing.{Listing}
-use Rattle.turn_client_api.specs.Grants.{family_of_grant, has_request, is_for}
-use Rattle.turn_client_api.specs.declared.grant.Relay.{Relay}
-use Rattle.turn_client_api.specs.Due.{has_reply, is_kept, pause_end, refresh_time_by_kind}
-use Rattle.turn_client_api.proofs.HasLemmas.{Has}
-use Rattle.turn_client_laws.proofs.InAllocationLemmas.{Room}
-use Rattle.turn_client_laws.proofs.AfterExpiryLemmas.{IsReserved}
 use Rattle.turn_client_runs.specs.History.{History, IsSeldom, all_waits, extra_since, waited, was_let_go}
 use Rattle.turn_client_runs.specs.Lasting.{as_granted, with_expiry, ahead_of, expiry_of}
 use Rattle.turn_client_runs.proofs.LastingCounts.{passes, passes-less}
+use Rattle.turn_client_runs.proofs.GrantInputs.{IsLeased}
 
 -- the server granted it, whenever it expires, and whether it is kept or not
 abbrev pub IsActive : Grant → Type 0
@@ -33,12 +16,6 @@ IsActive (Allocation a) = a.is_expired ≡ false
 IsActive (Permission ip (Active lease)) = ⊤
 IsActive (Channel number peer (Active lease)) = ⊤
 IsActive _ = ⊥
-
--- a permission or a channel that the server granted
-abbrev pub IsLeased : Grant → Type 0
-IsLeased (Permission ip (Active lease)) = ⊤
-IsLeased (Channel number peer (Active lease)) = ⊤
-IsLeased _ = ⊥
 
 -- the server granted it, and it is kept
 abbrev pub IsGranted : Grant → Type 0
@@ -72,15 +49,23 @@ used past s since = extra_since since past + served s since
 abbrev pub bound : ℕ → History → State → Grant → ℕ
 bound slots past s g = due_of s g + s.config.request_cadence * (1 + slots + used past s (due_of s g))
 
--- a request for it awaits its reply, which will come before the grant expires
-pub record IsAwaited (delay : ℕ) (past : History) (transactions : List Transaction) (listed : List Listing) (g : Grant) : Type 0 where
+-- a request for it awaits its reply, and was made at such a time
+pub record IsRequested (when : ℕ → Type 0) (past : History) (transactions : List Transaction) (listed : List Listing) (g : Grant) : Type 0 where
   pub transaction : Transaction
   pub there : Has transaction transactions
   pub listing : Listing
   pub within : Has listing listed
   pub for : is_for listing.purpose g ≡ true
   pub same : transaction.id ≡ listing.id
-  pub in_time : past.made transaction.id + delay < expiry_of g
+  pub made : when (past.made transaction.id)
+
+-- the reply will come before the grant expires
+abbrev pub IsAwaited : ℕ → History → List Transaction → List Listing → Grant → Type 0
+IsAwaited delay past transactions listed g = IsRequested (λ made. made + delay < expiry_of g) past transactions listed g
+
+-- it was made by then
+abbrev pub IsPending : ℕ → History → List Transaction → List Listing → Grant → Type 0
+IsPending until past transactions listed g = IsRequested (λ made. made ≤ until) past transactions listed g
 
 -- it is not too late to request it, once all that is queued was sent
 pub record IsIdle (slots now : ℕ) (past : History) (s : State) (g : Grant) : Type 0 where
@@ -95,16 +80,6 @@ pub record Stands (count slots extras delay now : ℕ) (past : History) (transac
   pub long : ahead_of s.config.refresh_ahead g ≤ expiry_of g
   pub either : IsAwaited delay past transactions s.listed g ⊎ IsIdle slots now past s g
 
--- its request awaits its reply, and was made by then
-pub record IsPending (until : ℕ) (past : History) (transactions : List Transaction) (listed : List Listing) (g : Grant) : Type 0 where
-  pub transaction : Transaction
-  pub there : Has transaction transactions
-  pub listing : Listing
-  pub within : Has listing listed
-  pub for : is_for listing.purpose g ≡ true
-  pub same : transaction.id ≡ listing.id
-  pub sent : past.made transaction.id ≤ until
-
 pub pending-later : (first until : ℕ) (past : History) (xs : List Transaction) (ls : List Listing) (g : Grant) → first ≤ until → IsPending first past xs ls g → IsPending until past xs ls g
 pending-later first until past xs ls g later p = record {
   transaction = p.transaction;
@@ -113,20 +88,21 @@ pending-later first until past xs ls g later p = record {
   within = p.within;
   for = p.for;
   same = p.same;
-  sent = let sent = p.sent in omega (arith, sent, later);
+  made = let made = p.made in omega (arith, made, later);
 }
 
-pub pending-more : (until : ℕ) (past : History) (xs ys : List Transaction) (ls ms : List Listing) (g : Grant) → ((x : Transaction) → Has x xs → Has x ys)
-    → ((l : Listing) → Has l ls → is_for l.purpose g ≡ true → Has l ms)
-    → IsPending until past xs ls g → IsPending until past ys ms g
-pending-more until past xs ys ls ms g transactions listed p = record {
+-- it is so still where the same requests were made when they were, and more are listed
+pub requested-more : (when : ℕ → Type 0) (past later : History) (xs ys : List Transaction) (ls ms : List Listing) (g : Grant) → ((x : Transaction) → Has x xs → later.made x.id ≡ past.made x.id)
+    → ((x : Transaction) → Has x xs → Has x ys) → ((l : Listing) → Has l ls → is_for l.purpose g ≡ true → Has l ms)
+    → IsRequested when past xs ls g → IsRequested when later ys ms g
+requested-more when past later xs ys ls ms g same transactions listed p = record {
   transaction = p.transaction;
   there = transactions p.transaction p.there;
   listing = p.listing;
   within = listed p.listing p.within p.for;
   for = p.for;
   same = p.same;
-  sent = p.sent;
+  made = subst when (sym (same p.transaction p.there)) p.made;
 }
 
 -- ---- what is granted stays, and what is requested is granted
@@ -198,7 +174,7 @@ goes-more past xs ys u t e transactions listed = record {
   remain = λ g there granted none. (g, subst (λ (gs : List Grant). Has g gs) (sym e) there, refl, granted);
   follow = λ until g there waits pending none. inl (
     subst (λ (gs : List Grant). Has g gs) (sym e) there,
-    pending-more until past xs ys u.listed t.listed g transactions (λ l h for. listed l h) pending,
+    requested-more (λ made. made ≤ until) past past xs ys u.listed t.listed g (λ x h. refl) transactions (λ l h for. listed l h) pending,
   );
 }
 
@@ -299,24 +275,25 @@ pub record AreKept (count slots extras delay now : ℕ) (past : History) (transa
   pub known : (g : Grant) → Has g s.grants → IsKnown now past s g
   pub each : (g : Grant) → Has g s.grants → IsWell count slots extras delay now past transactions s g
 
--- with other ones the rest stays as it is
-pub kept-changed : (count slots extras delay now : ℕ) (past : History) (transactions : List Transaction) (s : State)
-    → IsKept count slots extras delay now past transactions s → (grants : List Grant) (listed : List Listing)
+-- With other ones the rest stays as it is, if the same requests were made when they were.
+pub kept-changed : (count slots extras delay now : ℕ) (past later : History) (xs ys : List Transaction) (s : State)
+    → ((x : Transaction) → Has x s.transactions → later.made x.id ≡ past.made x.id) → IsSeldom extras s.config.refresh_ahead now later
+    → IsKept count slots extras delay now past xs s → (grants : List Grant) (listed : List Listing)
     (events : List TurnEvent) (challenges : ℕ) (ids : Source) (closes : List SocketAddr)
     → let t = record s { grants = grants; listed = listed; events = events; challenges = challenges; ids = ids; closes = closes } in
-    AreKept count slots extras delay now past transactions t → IsKept count slots extras delay now past transactions t
-kept-changed count slots extras delay now past transactions s k grants listed events challenges ids closes are = record {
+    AreKept count slots extras delay now later ys t → IsKept count slots extras delay now later ys t
+kept-changed count slots extras delay now past later xs ys s same seldom k grants listed events challenges ids closes are = record {
   phase = k.phase;
   requests = k.requests;
   few = k.few;
   prompt = k.prompt;
   pace = k.pace;
   sent = k.sent;
-  aged = k.aged;
+  aged = λ x h. let e = same x h in let old = k.aged x h in omega (arith, e, old);
   lone = k.lone;
-  begun = k.begun;
-  heard = k.heard;
-  seldom = k.seldom;
+  begun = λ x h. let e = same x h in let b = k.begun x h in omega (arith, e, b);
+  heard = λ x h. let e = same x h in let late = k.heard x h in omega (arith, e, late);
+  seldom = seldom;
   row = are.row;
   asked = are.asked;
   size = are.size;
@@ -326,6 +303,54 @@ kept-changed count slots extras delay now past transactions s k grants listed ev
   in_allocations = are.in_allocations;
   known = are.known;
   each = are.each;
+}
+
+-- packets may have left the queue, and transactions may have ended
+pub record IsLeft (count slots extras delay now : ℕ) (past : History) (transactions : List Transaction) (s t : State) : Type 0 where
+  pub requests : has_reply t ≡ false
+  pub few : length t.queue ≤ slots
+  pub sent : IfSome t.last_send (λ time. time ≤ now)
+  pub awaited : (x : Transaction) → Has x t.transactions → Has x s.transactions
+  pub stands : (g : Grant) → Has g s.grants → Stands count slots extras delay now past transactions s g → Stands count slots extras delay now past transactions t g
+
+-- then the rest is kept, since grants and listings stay
+pub kept-rest : (count slots extras delay now : ℕ) (past : History) (transactions : List Transaction) (s : State)
+    → IsKept count slots extras delay now past transactions s → (queue : List Queued) (last_send : Option ℕ) (awaited : List Transaction)
+    (events : List TurnEvent) (ids : Source) (closes : List SocketAddr)
+    → let t = record s { queue = queue; last_send = last_send; transactions = awaited; events = events; ids = ids; closes = closes } in
+    IsLeft count slots extras delay now past transactions s t → IsKept count slots extras delay now past transactions t
+kept-rest count slots extras delay now past transactions s k queue last_send awaited events ids closes left = record {
+  phase = k.phase;
+  requests = left.requests;
+  few = left.few;
+  prompt = k.prompt;
+  pace = k.pace;
+  sent = left.sent;
+  aged = λ x h. k.aged x (left.awaited x h);
+  lone = λ x y hx hy e. k.lone x y (left.awaited x hx) (left.awaited y hy) e;
+  begun = λ x h. k.begun x (left.awaited x h);
+  heard = λ x h. k.heard x (left.awaited x h);
+  seldom = k.seldom;
+  row = k.row;
+  asked = k.asked;
+  size = k.size;
+  single = k.single;
+  linked = k.linked;
+  in_range = k.in_range;
+  in_allocations = k.in_allocations;
+  known = k.known;
+  each = λ g there. elim (k.each g there) [ inl waits ↦ inl waits | inr (inl stands) ↦ inr (inl (left.stands g there stands)) | inr (inr loose) ↦ inr (inr loose) ];
+}
+
+-- neither what is reported counts, nor the transactions that have not ended
+pub stands-aside : (count slots extras delay now : ℕ) (past : History) (transactions awaited : List Transaction) (s : State)
+    (ids : Source) (events : List TurnEvent) (closes : List SocketAddr) (g : Grant) → Stands count slots extras delay now past transactions s g
+    → Stands count slots extras delay now past transactions (record s { transactions = awaited; ids = ids; events = events; closes = closes }) g
+stands-aside count slots extras delay now past transactions awaited s ids events closes g was = record {
+  granted = was.granted;
+  room = was.room;
+  long = was.long;
+  either = elim was.either [ inl a ↦ inl a | inr idle ↦ inr (record { unasked = idle.unasked; near = idle.near; soon = idle.soon; paused = idle.paused }) ];
 }
 
 -- ---- numbers
@@ -423,7 +448,7 @@ pub stands-early : (count slots extras delay now : ℕ) (past : History) (s : St
     → (g : Grant) → Has g s.grants → Stands count slots extras delay now past s.transactions s g
     → now < expiry_of g
 stands-early count slots extras delay now past s k g there stands = elim stands.either [
-  | inl a ↦ let late = k.heard a.transaction a.there in let t = a.in_time in omega (arith, late, t)
+  | inl a ↦ let late = k.heard a.transaction a.there in let t = a.made in omega (arith, late, t)
   | inr idle ↦ omega (arith, idle.soon, bound-le count slots extras delay now past s.transactions s g k there stands.granted idle, stands.room, stands.long)
 ]
 

@@ -1,27 +1,13 @@
 -- Time passes while no grant is lost.
-use Rattle.std.proofs.Common.{◌≡◌, ℕ, ◌+◌, ◌*◌, ◌<◌, ◌≤◌, max, true, false, List, [], ◌∷◌, length, Option, Some, None, refl, inl, inr, sym, ◌∙◌, arith}
-use Rattle.std.specs.Prelude.{IfSome, IsSome}
-use Rattle.std.proofs.Math.Nat.{max-le}
-use Rattle.std.proofs.lemmas.Bool.{cases_lt}
-use Rattle.turn_agent.specs.Agent.{due}
-use Rattle.turn_agent.specs.declared.transaction.Transaction.{Transaction}
-use Rattle.turn_client_api.specs.State.{State, agent_of}
-use Rattle.turn_client_api.specs.declared.grant.Grant.{Grant}
-use Rattle.turn_client_api.specs.declared.grant.Grant.TheVariants.{Allocation, Channel, Permission}
-use Rattle.turn_client_api.specs.declared.grant.Relay.{Relay}
-use Rattle.turn_client_api.specs.Grants.{allocations, as_allocation, family_of, family_of_grant, is_of}
-use Rattle.turn_client_api.specs.Due.{is_paused, pause_end}
-use Rattle.turn_client_api.specs.Requests.{to_server}
-use Rattle.turn_client_api.specs.declared.state.Queued.{Queued}
-use Rattle.std.proofs.lemmas.Option.{none-some}
-use Rattle.std.proofs.lemmas.Bool.{le-ltb}
-use Rattle.turn_client_api.specs.Transmit.{next_refresh, next_transmit, queue_step, refresh_step, transmit_step}
-use Rattle.turn_client_api.proofs.HasLemmas.{Has, filter_map-has, has-all}
-use Rattle.turn_client_laws.proofs.InAllocationLemmas.{same_family-self}
+use Rattle.turn_client_laws.proofs.Common.{◌≡◌, ℕ, ◌+◌, ◌*◌, ◌<◌, ◌≤◌, max, true, false, List, [], ◌∷◌, length, Option, Some, None, refl, inl, inr, sym, ◌∙◌, arith, IfSome, IsSome, max-le, cases_lt}
+use Rattle.turn_client_laws.proofs.Common.{none-some, le-ltb}
+use Rattle.turn_client_laws.proofs.Machine.{due, Transaction, State, agent_of, Grant, Allocation, Channel, Permission, Relay, allocations, as_allocation, family_of, family_of_grant, is_of, is_paused}
+use Rattle.turn_client_laws.proofs.Machine.{pause_end, to_server, Queued, next_refresh, next_transmit, queue_step, refresh_step, transmit_step, Has, filter_map-has, has-all}
+use Rattle.turn_client_laws.proofs.Laws.{same_family-self, not_due-transmit, next-sends}
 use Rattle.turn_client_runs.specs.Lasting.{AreInTime, ahead_of, expiry_of}
 use Rattle.turn_client_runs.specs.History.{History}
 use Rattle.turn_client_runs.proofs.LastingStands.{granted-active, pending-later, IsIdle, IsKept, Stands, allocation-stands, bound, bound-le, due_of}
-use Rattle.turn_client_runs.proofs.LastingSends.{due-sends, is-due, may-refresh, next-sends, transmit-refreshes, transmits}
+use Rattle.turn_client_runs.proofs.LastingSends.{due-sends, is-due, may-refresh, transmit-refreshes}
 
 -- what is refreshed by then is refreshed in time
 pub bound-early : (count slots extras delay now : ℕ) (past : History) (transactions : List Transaction) (s : State) (g : Grant)
@@ -68,7 +54,7 @@ module _ (count slots extras delay before now : ℕ) (past : History) (s : State
     | inl early ↦
         let time = max before (pause_end s) in
         let idle : is_paused time s ≡ false = le-ltb time (pause_end s) (omega arith) in
-        let is : transmit_step time s ≡ queue_step time s = transmits time s (none-was_due time (omega arith) early) ∙ rw idle refl in
+        let is : transmit_step time s ≡ queue_step time s = not_due-transmit time s (none-was_due time (omega arith) early) ∙ rw idle refl in
         let some : next_transmit time s ≡ Some q.packet = rw (is, next_transmit) (queue-sends time s q qs e) in
         let none : next_transmit time s ≡ None = in_time.on_time.punctual time (omega arith) early in
         absurd (none-some q.packet (sym none ∙ some))
@@ -113,7 +99,7 @@ module _ (count slots extras delay before now : ℕ) (past : History) (s : State
       → (IsIdle slots before past s g → now + s.config.request_cadence * length s.queue ≤ bound slots past s g)
       → now < expiry_of g
   early-by g there stands idles = elim stands.either [
-    | inl awaited ↦ let late = all-answered awaited.transaction awaited.there in let t = awaited.in_time in omega (arith, late, t)
+    | inl awaited ↦ let late = all-answered awaited.transaction awaited.there in let t = awaited.made in omega (arith, late, t)
     | inr idle ↦ omega (arith, idles idle, bound-early count slots extras delay before past s.transactions s g k there stands idle)
   ]
 

@@ -1,44 +1,28 @@
 -- What `poll_transmit` changes while no grant is lost.
-use Rattle.std.proofs.Common.{◌≡◌, ◌⊎◌, ℕ, ◌+◌, ◌*◌, ◌<◌, ◌≤◌, Bool, true, false, cond, not, ◌&&◌, ◌||◌, leb, List, [], ◌∷◌, length, drop, Option, Some, None, refl, inl, inr, ap, sym, subst, ◌∙◌}
-use Rattle.std.proofs.Common.{arith}
-use Rattle.std.specs.Prelude.{filter, flat_map, slice_get, nat_le, option_and_then, if◌then◌else◌}
-use Rattle.std.specs.List.{list_any}
-use Rattle.std.specs.Option.{option_map_or}
-use Rattle.std.proofs.lemmas.Bool.{and_parts, cases_Bool, cases_lt, eq-eqb, leb-true, lt-leb, or_cases, or_left, or_parts, or_right}
-use Rattle.std.proofs.lemmas.List.Folds.{list_any-append}
-use Rattle.std.proofs.lemmas.Option.{none-some, same_Some}
+use Rattle.turn_client_laws.proofs.Common.{◌≡◌, ◌⊎◌, ℕ, ◌+◌, ◌*◌, ◌<◌, ◌≤◌, Bool, true, false, cond, not, ◌&&◌, ◌||◌, leb, List, [], ◌∷◌, length, drop, Option, Some, None, refl, inl, inr, ap, sym}
+use Rattle.turn_client_laws.proofs.Common.{subst, ◌∙◌, arith, filter, flat_map, slice_get, nat_le, if◌then◌else◌, list_any, option_map_or, and_parts, cases_Bool, cases_lt, eq-eqb, leb-true, lt-leb}
+use Rattle.turn_client_laws.proofs.Common.{or_cases, or_left, or_right, list_any-append, none-some, same_Some, IpAddr}
+use Rattle.turn_client_laws.proofs.Machine.{Transmit, due, first_sent, State, agent_of, Queued, Grant, Allocation, Permission, Channel, Relay, Active, Pending, Reserved, Listing, Purpose, ForRefresh}
+use Rattle.turn_client_laws.proofs.Machine.{ForPermission, ForChannel, allocations, as_allocation, family_of, family_of_grant, has_request, is_for, same_ip, asked_lifetime, binding_indication}
+use Rattle.turn_client_laws.proofs.Machine.{fresh_id, id_used, request_for, to_server, has_reply, is_paused, is_refreshable, keepalive_times, refresh_time, is_due_in, is_refresh_due, keepalive_step}
+use Rattle.turn_client_laws.proofs.Machine.{next_refresh, queue_step, refresh_purpose, refreshes_in, refreshes_of_rank, reply_step, sent_at_once, transmit_step, without_first_reply, Has}
+use Rattle.turn_client_laws.proofs.Machine.{filter_map-has, first-has, has-append, has-filter, has-filter_map, has-flat_map, has-left, has-right}
+use Rattle.turn_client_laws.proofs.Laws.{same_family-self, IsReserved, no_reply-kept, not_due-transmit, no_reply-left}
+use Rattle.std.specs.Prelude.{option_and_then}
 use Rattle.std.proofs.lemmas.Slice.Eq.{bytes_eq-Decides}
 use Rattle.std.specs.Net.Addr.{ipv4_octets, ipv6_segments}
-use Rattle.std.specs.declared.net.ip_addr.IpAddr.{IpAddr}
 use Rattle.std.specs.declared.net.ip_addr.IpAddr.TheVariants.{V4, V6}
-use Rattle.turn_stun.specs.declared.transport.Transmit.{Transmit}
-use Rattle.turn_agent.specs.Agent.{due, first_sent}
-use Rattle.turn_client_api.specs.State.{State, agent_of}
-use Rattle.turn_client_api.specs.declared.state.Queued.{Queued}
-use Rattle.turn_client_api.specs.declared.grant.Grant.{Grant}
-use Rattle.turn_client_api.specs.declared.grant.Grant.TheVariants.{Allocation, Permission, Channel}
-use Rattle.turn_client_api.specs.declared.grant.Relay.{Relay}
-use Rattle.turn_client_api.specs.declared.grant.Progress.TheVariants.{Active, Pending, Reserved}
-use Rattle.turn_client_api.specs.declared.grant.Listing.{Listing}
-use Rattle.turn_client_api.specs.declared.grant.Purpose.{Purpose}
-use Rattle.turn_client_api.specs.declared.grant.Purpose.TheVariants.{ForRefresh, ForPermission, ForChannel}
-use Rattle.turn_client_api.specs.Grants.{allocations, as_allocation, family_of, family_of_grant, has_request, is_for, same_ip}
-use Rattle.turn_client_api.specs.Requests.{asked_lifetime, binding_indication, fresh_id, id_used, request_for, to_server}
-use Rattle.turn_client_api.specs.Due.{has_reply, is_paused, is_refreshable, keepalive_times, refresh_time}
-use Rattle.turn_client_api.specs.Transmit.{is_due_in, is_refresh_due, keepalive_step, next_refresh, queue_step, refresh_purpose, refreshes_in, refreshes_of_rank, reply_step}
-use Rattle.turn_client_api.specs.Transmit.{sent_at_once, transmit_step, without_first_reply}
-use Rattle.turn_client_api.proofs.HasLemmas.{Has, filter_map-has, first-has, has-append, has-filter, has-filter_map, has-flat_map, has-left, has-right}
-use Rattle.turn_client_laws.proofs.InAllocationLemmas.{same_family-self}
-use Rattle.turn_client_laws.proofs.AfterExpiryLemmas.{IsReserved}
 use Rattle.turn_client_runs.specs.History.{History}
+use Rattle.turn_client_runs.specs.Lasting.{expiry_of}
 use Rattle.turn_client_runs.proofs.LastingCounts.{passes, passes-more, passes-same}
 use Rattle.turn_client_runs.proofs.LastingHistory.{lone-more}
-use Rattle.turn_client_runs.proofs.LastingStands.{Goes, goes-more, granted-active, leased-active, pending-more, IsActive, IsAwaited, IsIdle, IsLeased}
-use Rattle.turn_client_runs.proofs.LastingStands.{IsLoose, IsUnique, IsKept, IsRefreshing, Stands, allocation-stands, stands-early, bound, bound-le, due_of}
-use Rattle.turn_client_runs.proofs.LastingStands.{left-paced, one-paced, is_served, is_waiting, kind-due, not-waiting, served, used}
-use Rattle.turn_client_runs.proofs.LastingSends.{due-sends, is-due, may-refresh, queue-idle, transmits}
+use Rattle.turn_client_runs.proofs.LastingStands.{Goes, goes-more, granted-active, leased-active, kept-rest, requested-more, IsActive, IsAwaited, IsIdle, IsRequested, IsLoose, IsUnique, IsKept}
+use Rattle.turn_client_runs.proofs.LastingStands.{IsRefreshing, Stands, allocation-stands, stands-early, bound, bound-le, due_of, left-paced, one-paced, is_served, is_waiting, kind-due, not-waiting}
+use Rattle.turn_client_runs.proofs.LastingStands.{served, used}
+use Rattle.turn_client_runs.proofs.LastingSends.{due-sends, is-due, may-refresh, queue-idle}
 use Rattle.turn_client_runs.proofs.LastingListings.{requests-more}
 use Rattle.turn_client_runs.proofs.LastingTime.{bound-early}
+use Rattle.turn_client_runs.proofs.GrantInputs.{IsLeased}
 
 -- ---- what is refreshed next
 
@@ -192,19 +176,14 @@ module _ (count slots extras delay now : ℕ) (past : History) (s : State) (k : 
     | inr early ↦ omega (arith, early)
   ]
 
+  requested-old : (when : ℕ → Type 0) (g : Grant) → IsRequested when past s.transactions s.listed g → IsRequested when past t.transactions t.listed g
+  requested-old when g = requested-more when past past s.transactions t.transactions s.listed t.listed g (λ x h. refl) (λ x h. has-left x s.transactions _ h) (λ l h for. has-left l s.listed _ h)
+
   stands-sent : (g : Grant) → Has g s.grants → Stands count slots extras delay now past s.transactions s g → Stands count slots extras delay now past t.transactions t g
   stands-sent g there was = record { granted = was.granted; room = was.room; long = was.long; either = by was.either }
     where
       by : IsAwaited delay past s.transactions s.listed g ⊎ IsIdle slots now past s g → IsAwaited delay past t.transactions t.listed g ⊎ IsIdle slots now past t g
-      by (inl a) = inl (record {
-        transaction = a.transaction;
-        there = has-left a.transaction s.transactions (first_sent id s.remote now text ∷ []) a.there;
-        listing = a.listing;
-        within = has-left a.listing s.listed (listing ∷ []) a.within;
-        for = a.for;
-        same = a.same;
-        in_time = a.in_time;
-      })
+      by (inl a) = inl (requested-old (λ made. made + delay < expiry_of g) g a)
       by (inr idle) = elim (cases_Bool (is_for p g)) [
         | inl for ↦ inl (record {
           transaction = first_sent id s.remote now text;
@@ -213,7 +192,7 @@ module _ (count slots extras delay now : ℕ) (past : History) (s : State) (k : 
           within = has-right listing s.listed (listing ∷ []) (inl refl);
           for = for;
           same = refl;
-          in_time = omega (arith, fresh, idle.soon, bound-early count slots extras delay now past s.transactions s g k there was idle);
+          made = omega (arith, fresh, idle.soon, bound-early count slots extras delay now past s.transactions s g k there was idle);
         })
         | inr other ↦
             let more = later g there was idle in
@@ -282,11 +261,7 @@ module _ (count slots extras delay now : ℕ) (past : History) (s : State) (k : 
     in_allocations = k.in_allocations;
     known = λ g there. ((k.known g there).0, due-asked g there);
     each = λ g there. elim (k.each g there) [
-      | inl (waits, p) ↦ inl (
-        waits,
-        pending-more now past s.transactions t.transactions s.listed t.listed g (λ x h. has-left x s.transactions _ h)
-            (λ l h for. has-left l s.listed _ h) p,
-      )
+      | inl (waits, p) ↦ inl (waits, requested-old (λ made. made ≤ now) g p)
       | inr (inl stands) ↦ inr (inl (stands-sent g there stands))
       | inr (inr loose) ↦ inr (inr (loose-sent g there loose))
     ];
@@ -296,14 +271,6 @@ module _ (count slots extras delay now : ℕ) (past : History) (s : State) (k : 
   goes-sent = goes-more past s.transactions t.transactions s t refl (λ x h. has-left x s.transactions _ h) (λ l h. has-left l s.listed _ h)
 
 -- ---- what is queued
-
-no-reply_kept : (qs : List Queued) → list_any (λ q. not q.is_request) qs ≡ false → without_first_reply qs ≡ qs
-no-reply_kept [] none = refl
-no-reply_kept (q ∷ qs) none = grind (arith, no-reply_kept qs)
-
-no-reply_left : (qs : List Queued) → list_any (λ q. not q.is_request) qs ≡ false → list_any (λ q. not q.is_request) (drop 1 qs) ≡ false
-no-reply_left [] none = none
-no-reply_left (q ∷ qs) none = (or_parts (not q.is_request) (list_any (λ q. not q.is_request) qs) none).1
 
 module _ (count slots extras delay now : ℕ) (past : History) (s : State)
     (k : IsKept count slots extras delay now past s.transactions s) (q : Queued) (qs : List Queued) (front : s.queue ≡ q ∷ qs) where
@@ -328,28 +295,13 @@ module _ (count slots extras delay now : ℕ) (past : History) (s : State)
   }
 
   pub kept-queued : IsKept count slots extras delay now past s.transactions (record s { queue = drop 1 s.queue; last_send = Some now })
-  kept-queued = record {
-    phase = k.phase;
-    requests = no-reply_left s.queue k.requests;
+  kept-queued = kept-rest count slots extras delay now past s.transactions s k (drop 1 s.queue) (Some now) s.transactions s.events s.ids s.closes (record {
+    requests = no_reply-left s.queue k.requests;
     few = let few = k.few in omega (arith, few, one-left);
-    prompt = k.prompt;
-    pace = k.pace;
     sent = omega arith;
-    aged = k.aged;
-    lone = k.lone;
-    begun = k.begun;
-    heard = k.heard;
-    seldom = k.seldom;
-    row = k.row;
-    asked = k.asked;
-    size = k.size;
-    single = k.single;
-    linked = k.linked;
-    in_range = k.in_range;
-    in_allocations = k.in_allocations;
-    known = k.known;
-    each = λ g there. elim (k.each g there) [ inl waits ↦ inl waits | inr (inl stands) ↦ inr (inl (stands-queued g stands)) | inr (inr loose) ↦ inr (inr loose) ];
-  }
+    awaited = λ x h. h;
+    stands = λ g there. stands-queued g;
+  })
 
 -- ---- the path is kept alive
 
@@ -389,28 +341,13 @@ module _ (count slots extras delay now : ℕ) (past : History) (s : State)
   }
 
   pub kept-alive : IsKept count slots extras delay now past s.transactions (record s { ids = (id_used s).ids; last_send = Some now })
-  kept-alive = record {
-    phase = k.phase;
+  kept-alive = kept-rest count slots extras delay now past s.transactions s k s.queue (Some now) s.transactions s.events (id_used s).ids s.closes (record {
     requests = k.requests;
     few = k.few;
-    prompt = k.prompt;
-    pace = k.pace;
     sent = omega arith;
-    aged = k.aged;
-    lone = k.lone;
-    begun = k.begun;
-    heard = k.heard;
-    seldom = k.seldom;
-    row = k.row;
-    asked = k.asked;
-    size = k.size;
-    single = k.single;
-    linked = k.linked;
-    in_range = k.in_range;
-    in_allocations = k.in_allocations;
-    known = k.known;
-    each = λ g there. elim (k.each g there) [ inl waits ↦ inl waits | inr (inl stands) ↦ inr (inl (stands-alive g there stands)) | inr (inr loose) ↦ inr (inr loose) ];
-  }
+    awaited = λ x h. h;
+    stands = stands-alive;
+  })
 
 -- ---- poll_transmit
 
@@ -419,7 +356,7 @@ abbrev pub KeepsOn : ℕ → ℕ → ℕ → ℕ → ℕ → History → State �
 KeepsOn count slots extras delay now past s t = IsKept count slots extras delay now past t.transactions t × Goes past past s.transactions t.transactions s t
 
 empty-kept : (s : State) → has_reply s ≡ false → record s { queue = without_first_reply s.queue } ≡ s
-empty-kept s none = ap (λ (q : List Queued). record s { queue = q }) (no-reply_kept s.queue none)
+empty-kept s none = ap (λ (q : List Queued). record s { queue = q }) (no_reply-kept s.queue none)
 
 -- what is due is granted, and not waiting
 due-granted : (now : ℕ) (s : State) (g : Grant) → is_waiting g ≡ true → is_refresh_due now s g ≡ true → ⊥
@@ -435,7 +372,7 @@ due-unreserved now s g is e = absurd is
 
 pub transmit-kept : (count slots extras delay now : ℕ) (past : History) (s : State) → IsKept count slots extras delay now past s.transactions s → past.made (fresh_id s) ≡ now
     → due (agent_of s) now ≡ None → KeepsOn count slots extras delay now past s (transmit_step now s).1
-transmit-kept count slots extras delay now past s k fresh none = rw (transmits now s none) (by (is_paused now s))
+transmit-kept count slots extras delay now past s k fresh none = rw (not_due-transmit now s none) (by (is_paused now s))
   where
     Keeps : State → Type 0
     Keeps t = KeepsOn count slots extras delay now past s t

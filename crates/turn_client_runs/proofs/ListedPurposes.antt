@@ -1,45 +1,13 @@
 -- A CONNECT, and a request that binds a data connection, were asked for by a call of the caller that was accepted.
-use Rattle.std.proofs.Common.{◌≡◌, ◌⊎◌, ◌∙◌, ℕ, not, leb, ltb, ◌&&◌, ◌||◌, List, [], ◌∷◌, Option, Some, None, Result, Ok, Err, refl, subst, sym, ap, inl, inr}
-use Rattle.std.specs.Prelude.{⊤, slice_get, flat_map}
-use Rattle.std.specs.List.{Contains}
-use Rattle.std.specs.Net.Socket.{socket_ip}
-use Rattle.std.specs.Option.{option_map_or}
-use Rattle.std.specs.declared.net.socket_addr.SocketAddr.{SocketAddr}
-use Rattle.std.proofs.lemmas.Bool.{cases_Bool}
-use Rattle.std.proofs.lemmas.Option.{none-some, same_Some}
-use Rattle.turn_stun.specs.Message.{id_of}
-use Rattle.turn_stun.specs.declared.transport.TransportType.TheVariants.{Tcp}
-use Rattle.turn_client_api.specs.State.{State}
-use Rattle.turn_client_api.specs.declared.call.Call.{Call}
-use Rattle.turn_client_api.specs.declared.call.Call.TheVariants.{Delete, CreatePermission, BindChannel, TcpConnect, AllocatedTcpSocket, PollTransmit}
-use Rattle.turn_client_api.specs.declared.error.TcpAllocateError.{TcpAllocateError}
+use Rattle.turn_client_laws.proofs.Common.{◌≡◌, ◌⊎◌, ◌∙◌, ℕ, not, leb, ltb, ◌&&◌, ◌||◌, List, [], ◌∷◌, Option, Some, None, Result, Ok, Err, refl, subst, sym, ap, inl, inr, ⊤, slice_get, flat_map}
+use Rattle.turn_client_laws.proofs.Common.{Contains, socket_ip, option_map_or, SocketAddr, cases_Bool, none-some, same_Some}
+use Rattle.turn_client_laws.proofs.Machine.{id_of, Tcp, State, Call, Delete, CreatePermission, BindChannel, TcpConnect, AllocatedTcpSocket, PollTransmit, TcpAllocateError, TcpConnectError, Grant}
+use Rattle.turn_client_laws.proofs.Machine.{Allocation, Permission, Channel, Origin, Active, Purpose, ForPermission, ForChannel, ForConnect, ForBind, Relay, Socket5Tuple, allocated_tcp_socket_step}
+use Rattle.turn_client_laws.proofs.Machine.{connect_step, is_allocated, is_control, is_local_taken, offer_origin, socket_opened, socket_step, tcp_connect_step, is_connected, is_connecting}
+use Rattle.turn_client_laws.proofs.Machine.{allocations, find_allocation_to, has_active_permission, is_past, purposes_of, same_transport, state_after, refresh_purpose, refreshes_in, Has}
+use Rattle.turn_client_laws.proofs.Laws.{Input, handled, processed, DiffersInStreams, InputsLead, ProcessesInputs, AsksFor, IsListedFor, by_found, by_test, listing, input-moves, gone-settles}
+use Rattle.turn_client_laws.proofs.Laws.{listings-made, contains-has, has-contains, calls-do, purpose-with}
 use Rattle.turn_client_api.specs.declared.error.TcpAllocateError.TheVariants as Socket
-use Rattle.turn_client_api.specs.declared.error.TcpConnectError.{TcpConnectError}
-use Rattle.turn_client_api.specs.declared.grant.Grant.{Grant}
-use Rattle.turn_client_api.specs.declared.grant.Grant.TheVariants.{Allocation, Permission, Channel}
-use Rattle.turn_client_api.specs.declared.grant.Origin.{Origin}
-use Rattle.turn_client_api.specs.declared.grant.Progress.TheVariants.{Active}
-use Rattle.turn_client_api.specs.declared.grant.Purpose.{Purpose}
-use Rattle.turn_client_api.specs.declared.grant.Purpose.TheVariants.{ForPermission, ForChannel, ForConnect, ForBind}
-use Rattle.turn_client_api.specs.declared.grant.Relay.{Relay}
-use Rattle.turn_client_api.specs.declared.poll.Socket5Tuple.{Socket5Tuple}
-use Rattle.turn_client_api.specs.Calls.{allocated_tcp_socket_step, connect_step, is_allocated, is_control, is_local_taken, offer_origin, socket_opened, socket_step, tcp_connect_step}
-use Rattle.turn_client_api.specs.Connections.{is_connected, is_connecting}
-use Rattle.turn_client_api.specs.Grants.{allocations, find_allocation_to, has_active_permission, is_past, purposes_of, same_transport}
-use Rattle.turn_client_api.specs.Steps.{state_after}
-use Rattle.turn_client_api.specs.Transmit.{refresh_purpose, refreshes_in}
-use Rattle.turn_client_laws.specs.Handled.{Input, handled, processed}
-use Rattle.turn_client_laws.specs.LawsHandled.{DiffersInStreams, InputsLead, ProcessesInputs}
-use Rattle.turn_client_laws.specs.LawsRequests.{AsksFor, IsListedFor}
-use Rattle.turn_client_laws.proofs.CaseLemmas.{by_found, by_test}
-use Rattle.turn_client_laws.proofs.Edits.{listing}
-use Rattle.turn_client_api.proofs.HasLemmas.{Has}
-use Rattle.turn_client_laws.proofs.MoveMessageLemmas.{input-moves}
-use Rattle.turn_client_laws.proofs.MoveSocketLemmas.{gone-settles}
-use Rattle.turn_client_laws.proofs.MoveInputLemmas.{listings-made}
-use Rattle.turn_client_laws.proofs.StandLemmas.{contains-has, has-contains}
-use Rattle.turn_client_laws.proofs.InputChainLemmas.{calls-do}
-use Rattle.turn_client_laws.proofs.TwoPurposes.{purpose-with}
 use Rattle.turn_client_runs.proofs.LastingTransmits.{next-of}
 use Rattle.turn_client_runs.proofs.TogetherLemmas.{listing-here}
 use Rattle.turn_client_runs.proofs.InputsOfRuns.{leads-or}

@@ -1,49 +1,16 @@
 -- Calls list a CONNECT alone under its ID.
-use Rattle.std.proofs.Common.{◌≡◌, ℕ, Bool, true, false, not, ◌&&◌, ◌||◌, leb, List, [], ◌∷◌, map, filter_map, find, flat_map, reverse, Option, Some, None, Result, inl, inr}
-use Rattle.std.specs.Prelude.{is_some, slice_get}
-use Rattle.std.specs.List.{Contains, list_any}
-use Rattle.std.specs.Net.Socket.{socket_ip}
-use Rattle.std.specs.declared.net.ip_addr.IpAddr.{IpAddr}
-use Rattle.std.specs.declared.net.socket_addr.SocketAddr.{SocketAddr}
-use Rattle.turn_stun.specs.declared.transport.TransportType.{TransportType}
-use Rattle.turn_stun.specs.declared.transport.TransportType.TheVariants.{Udp, Tcp}
-use Rattle.turn_types.specs.declared.family.AddressFamily.{AddressFamily}
-use Rattle.turn_agent.specs.Agent.{due, same_address, timed_out_transaction}
-use Rattle.turn_client_api.specs.State.{State, agent_of}
-use Rattle.turn_client_api.specs.declared.call.Call.{Call}
-use Rattle.turn_client_api.specs.declared.call.Call.TheVariants.{AllocatedTcpSocket, BindChannel, CreatePermission, Delete, Poll, PollRecv, PollTransmit, ProtocolError, Recv, SendTo, SetChannelKept}
-use Rattle.turn_client_api.specs.declared.call.Call.TheVariants.{SetPermissionKept, TcpClosed, TcpConnect}
-use Rattle.turn_client_api.specs.declared.grant.DataConnection.{DataConnection}
-use Rattle.turn_client_api.specs.declared.grant.Grant.{Grant}
-use Rattle.turn_client_api.specs.declared.grant.Grant.TheVariants.{Channel}
-use Rattle.turn_client_api.specs.declared.grant.Origin.{Origin}
-use Rattle.turn_client_api.specs.declared.grant.Origin.TheVariants.{ServerRequest}
-use Rattle.turn_client_api.specs.declared.grant.Progress.TheVariants.{Active}
-use Rattle.turn_client_api.specs.declared.grant.Purpose.{Purpose}
-use Rattle.turn_client_api.specs.declared.grant.Purpose.TheVariants.{ForChannel, ForConnect, ForPermission, ForRefresh}
-use Rattle.turn_client_api.specs.declared.grant.Relay.{Relay}
-use Rattle.turn_client_api.specs.declared.poll.TurnPollRet.{TurnPollRet}
-use Rattle.turn_client_api.specs.declared.state.Phase.{Phase}
-use Rattle.turn_client_api.specs.declared.state.Phase.TheVariants.{Allocated, Authenticating, New, Requesting}
-use Rattle.turn_client_api.specs.Calls.{active_channel, bound_by, bound_to, can_send_to, channel_step, channels_to, connect_step, free_number, in_allocation, is_allocated, is_closed}
-use Rattle.turn_client_api.specs.Calls.{is_control, is_in_progress, is_local_taken, is_open_to, missing_permission, offer_origin, on_channel, on_connection, permission_step, reserved_from}
-use Rattle.turn_client_api.specs.Calls.{send_over, socket_opened, socket_refused, socket_step}
-use Rattle.turn_client_api.specs.Connections.{is_connected, is_connecting}
-use Rattle.turn_client_api.specs.Due.{has_event, has_reply, is_paused, keepalive_times}
-use Rattle.turn_client_api.specs.Effect.{closed, transaction_ended}
-use Rattle.turn_client_api.specs.Grants.{allocations, as_connection, family_of, find_allocation_to, has_active_permission, is_of, is_past, is_permission_of, permission_state, same_transport}
-use Rattle.turn_client_api.specs.Poll.{allocation_expires, answer_step, channel_expired, is_expired_channel, is_listed_for_allocation}
-use Rattle.turn_client_api.specs.Poll.{expired_at, expired_allocation, expired_in, next_offer, poll_step}
-use Rattle.turn_client_api.specs.Poll.{timed_out_purposes, timed_out_step, timed_step}
-use Rattle.turn_client_api.specs.Steps.{state_after}
-use Rattle.turn_client_api.specs.Transmit.{idle_step, keepalive_step, queue_step, refreshes_in, reply_step, transmit_step}
-use Rattle.turn_client_laws.specs.Handled.{Input, handled}
-use Rattle.turn_client_laws.proofs.CaseLemmas.{answer-by, by_found, by_test}
-use Rattle.turn_client_laws.proofs.GrantOriginLemmas.{has-mapped}
-use Rattle.turn_client_api.proofs.HasLemmas.{Has}
-use Rattle.turn_client_api.proofs.ExpirySteps.{expired_in-does}
-use Rattle.turn_client_laws.proofs.RunKeepLemmas.{poll_recv-kept, recv-kept}
-use Rattle.turn_client_laws.proofs.InputKeepLemmas.{before-kept}
+use Rattle.turn_client_laws.proofs.Common.{◌≡◌, ℕ, Bool, true, false, not, ◌&&◌, ◌||◌, leb, List, [], ◌∷◌, map, filter_map, find, flat_map, reverse, Option, Some, None, Result, inl, inr, is_some}
+use Rattle.turn_client_laws.proofs.Common.{slice_get, Contains, list_any, socket_ip, IpAddr, SocketAddr}
+use Rattle.turn_client_laws.proofs.Machine.{Tcp, AddressFamily, due, same_address, timed_out_transaction, State, agent_of, Call, AllocatedTcpSocket, BindChannel, CreatePermission, Delete, Poll}
+use Rattle.turn_client_laws.proofs.Machine.{PollRecv, PollTransmit, ProtocolError, Recv, SendTo, SetChannelKept, SetPermissionKept, TcpClosed, TcpConnect, Grant, Channel, Origin, ServerRequest}
+use Rattle.turn_client_laws.proofs.Machine.{Active, Purpose, ForChannel, ForConnect, ForPermission, ForRefresh, Relay, TurnPollRet, Phase, Allocated, Authenticating, New, Requesting, bound_by}
+use Rattle.turn_client_laws.proofs.Machine.{channel_step, channels_to, connect_step, free_number, in_allocation, is_allocated, is_closed, is_control, is_in_progress, is_local_taken, is_open_to}
+use Rattle.turn_client_laws.proofs.Machine.{missing_permission, offer_origin, permission_step, reserved_from, socket_opened, socket_refused, socket_step, is_connected, is_connecting, has_event}
+use Rattle.turn_client_laws.proofs.Machine.{has_reply, is_paused, keepalive_times, closed, transaction_ended, allocations, family_of, find_allocation_to, has_active_permission, is_of, is_past}
+use Rattle.turn_client_laws.proofs.Machine.{is_permission_of, permission_state, same_transport, allocation_expires, answer_step, channel_expired, is_expired_channel, is_listed_for_allocation}
+use Rattle.turn_client_laws.proofs.Machine.{expired_at, expired_allocation, expired_in, next_offer, poll_step, timed_out_purposes, timed_out_step, timed_step, state_after, idle_step, keepalive_step}
+use Rattle.turn_client_laws.proofs.Machine.{queue_step, refreshes_in, reply_step, transmit_step, Has, expired_in-does}
+use Rattle.turn_client_laws.proofs.Laws.{Input, handled, answer-by, by_found, by_test, send_to-by, has-mapped, poll_recv-kept, recv-kept, before-kept}
 use Rattle.turn_client_runs.proofs.LoneConnects.{HasLoneConnects, KeepsLone, KeepsLone-IsKept, asks-filtered, asks-lone, asks-one, fold-lone, gone-lone, lone-filter}
 
 module _ (s : State) where
@@ -101,20 +68,6 @@ module _ (s : State) where
   socket-lone : (id : ℕ) (peer : SocketAddr) (local : Option SocketAddr) (origin : Origin) (now : ℕ) → Leaves (socket_step id peer local origin now s)
   socket-lone id peer None origin now = refused-lone id peer origin
   socket-lone id peer (Some local) origin now = by_test Leaves (is_local_taken local s) _ _ (λ f. same) (λ f. opened-lone id peer local origin now)
-
-  -- ---- data for a peer
-
-  over-lone : (transport : TransportType) (peer : SocketAddr) (bytes : List ℕ) (now : ℕ) → Leaves (send_over transport peer bytes now s)
-  over-lone Tcp peer bytes now = by (find (bound_to peer) (filter_map as_connection s.grants))
-    where
-      by : (o : Option DataConnection) → Leaves (on_connection o bytes s)
-      by (Some c) = same
-      by None = same
-  over-lone Udp peer bytes now = by (filter_map (active_channel peer) s.grants)
-    where
-      by : (channels : List (ℕ × ℕ)) → Leaves (on_channel channels peer bytes now s)
-      by [] = same
-      by ((number, expiry) ∷ others) = by_test Leaves (leb now expiry) _ _ (λ f. same) (λ f. same)
 
   -- ---- packets
 
@@ -192,7 +145,7 @@ call-lone (AllocatedTcpSocket id tuple peer local now) s =
     by_test (Leaves s) (same_transport s.config.allocation_transport Tcp && is_control tuple s && is_allocated s.phase) _ _
     (λ f. by_found (Leaves s) _ (offer_origin id peer s) _ (λ origin g. socket-lone s id peer local origin now) (same s)) (λ f. same s)
 call-lone (TcpClosed local remote now) s = by_test (KeepsLone s) (same_transport s.transport Tcp && same_address remote s.remote) _ s (λ f. gone-lone local s) (λ f. same s)
-call-lone (SendTo transport peer bytes now) s = by_test (Leaves s) (can_send_to transport (socket_ip peer) s) _ _ (λ f. over-lone s transport peer bytes now) (λ f. same s)
+call-lone (SendTo transport peer bytes now) s = send_to-by (KeepsLone s) transport peer bytes now s (λ ids. same s)
 call-lone (Poll now) s = poll-lone now s
 call-lone (PollTransmit now) s = transmit-lone s now
 call-lone ProtocolError s = by_test (KeepsLone s) (is_closed s.phase) s _ (λ f. same s) (λ f. lone-filter _ s.listed)

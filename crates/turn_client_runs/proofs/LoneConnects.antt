@@ -1,40 +1,15 @@
 -- A CONNECT is listed alone under its ID: once, and for nothing else.
-use Rattle.std.proofs.Common.{◌≡◌, ◌∙◌, ℕ, Bool, true, false, eqb, leb, ltb, ◌&&◌, ◌||◌, List, [], ◌∷◌, ◌++◌, map, filter, fold, find, length, Option, Some, None, append-nil}
-use Rattle.std.proofs.Common.{refl, sym, subst, ap, inl, inr}
-use Rattle.std.specs.Prelude.{is_some}
-use Rattle.std.proofs.lemmas.Bool.{eq-eqb, eqb-true, false_from_ne_true}
-use Rattle.std.proofs.lemmas.List.Elements.{filter-append}
-use Rattle.std.specs.declared.net.ip_addr.IpAddr.{IpAddr}
-use Rattle.std.specs.declared.net.socket_addr.SocketAddr.{SocketAddr}
-use Rattle.turn_stun.specs.Message.{id_of}
-use Rattle.turn_types.specs.declared.family.AddressFamily.{AddressFamily}
-use Rattle.turn_auth.specs.LongTerm.{Challenge}
-use Rattle.turn_client_api.specs.State.{State}
-use Rattle.turn_client_api.specs.declared.grant.DataConnection.{DataConnection}
-use Rattle.turn_client_api.specs.declared.grant.Listing.{Listing}
-use Rattle.turn_client_api.specs.declared.grant.Progress.{Progress}
-use Rattle.turn_client_api.specs.declared.grant.Progress.TheVariants.{Pending, Active}
-use Rattle.turn_client_api.specs.declared.grant.Purpose.{Purpose}
-use Rattle.turn_client_api.specs.declared.grant.Purpose.TheVariants.{ForRefresh, ForPermission, ForChannel, ForConnect}
-use Rattle.turn_client_api.specs.declared.state.Phase.{Phase}
-use Rattle.turn_client_api.specs.declared.state.Phase.TheVariants.{New, Authenticating}
-use Rattle.turn_client_api.specs.Connections.{attempt_indicated, bind_answered, bind_step, connection_at}
-use Rattle.turn_client_api.specs.Effect.{allocate_denied, allocate_granted, allocation_mismatch, channel_answered, connect_answered, effect, family_not_supported, has_code, min_lifetime}
-use Rattle.turn_client_api.specs.Effect.{listed_permissions_answered, permission_answered, permission_answered_for, prolonged, refreshed, transaction_ended}
-use Rattle.turn_client_api.specs.Grants.{channel_at, first_in, permission_state, purposes_of}
-use Rattle.turn_client_api.specs.Judgement.{Judgement, Challenged, ConnectionAttempt, Fatal, SignedError, SignedRequest, SignedSuccess, bind_judgement, is_bind_of, judgement_of, lifetime_in}
-use Rattle.turn_client_api.specs.Judgement.{method_in}
-use Rattle.turn_client_api.specs.Payloads.{Outcome, answered_purposes, challenge_step, message_step, response_step, signed_step, wrong_step}
-use Rattle.turn_client_api.specs.Receive.{connection_gone}
-use Rattle.turn_client_api.specs.Requests.{connection_attempt_method, fresh_id, listings}
-use Rattle.turn_client_api.specs.Retry.{retried, state_after_retry}
-use Rattle.turn_client_laws.proofs.CaseLemmas.{bind-by, by_found, by_accepted, by_test, indicated-by, requested-by}
-use Rattle.turn_client_laws.proofs.Edits.{listing}
-use Rattle.turn_client_laws.proofs.GrantOriginLemmas.{has-mapped}
-use Rattle.turn_client_api.proofs.HasLemmas.{Has, filter-none, has-append, has-filter, map-has}
-use Rattle.turn_client_laws.proofs.RunKeepLemmas.{IsKept}
-use Rattle.turn_client_laws.proofs.TwoPurposes.{purpose-with}
-use Rattle.turn_client_runs.proofs.LastingListings.{filter-swap}
+use Rattle.turn_client_laws.proofs.Common.{◌≡◌, ◌∙◌, ℕ, Bool, true, false, eqb, leb, ltb, ◌&&◌, ◌||◌, List, [], ◌∷◌, ◌++◌, map, filter, fold, find, length, Option, Some, None, append-nil, refl, sym}
+use Rattle.turn_client_laws.proofs.Common.{subst, ap, inl, inr, is_some, eq-eqb, eqb-true, false_from_ne_true, filter-append, IpAddr, SocketAddr}
+use Rattle.turn_client_laws.proofs.Machine.{id_of, AddressFamily, Challenge, State, DataConnection, Listing, Progress, Pending, Active, Purpose, ForRefresh, ForPermission, ForChannel, ForConnect}
+use Rattle.turn_client_laws.proofs.Machine.{Phase, New, Authenticating, attempt_indicated, bind_answered, bind_step, connection_at, allocate_denied, allocate_granted, allocation_mismatch}
+use Rattle.turn_client_laws.proofs.Machine.{channel_answered, connect_answered, effect, family_not_supported, has_code, min_lifetime, listed_permissions_answered, permission_answered}
+use Rattle.turn_client_laws.proofs.Machine.{permission_answered_for, prolonged, refreshed, transaction_ended, channel_at, first_in, permission_state, purposes_of, Judgement, Challenged}
+use Rattle.turn_client_laws.proofs.Machine.{ConnectionAttempt, Fatal, SignedError, SignedRequest, SignedSuccess, bind_judgement, is_bind_of, judgement_of, lifetime_in, method_in, Outcome}
+use Rattle.turn_client_laws.proofs.Machine.{answered_purposes, challenge_step, message_step, response_step, signed_step, wrong_step, connection_gone, connection_attempt_method, fresh_id, listings}
+use Rattle.turn_client_laws.proofs.Machine.{retried, state_after_retry, Has, filter-none, has-append, has-filter, map-has}
+use Rattle.turn_client_laws.proofs.Laws.{bind-by, by_found, by_accepted, by_test, indicated-by, requested-by, listing, has-mapped, IsKept, purpose-with}
+use Rattle.turn_client_runs.proofs.LastingListings.{filter-swap, filter-all}
 use Rattle.turn_client_runs.proofs.TogetherLemmas.{fresh-unlisted}
 
 -- ---- lists of requests
@@ -49,10 +24,6 @@ purposes_at id ls = map (λ (l : Listing). l.purpose) (listed_at id ls)
 -- each CONNECT has its ID for itself
 abbrev pub AreLone : List Listing → Type 0
 AreLone ls = (id : ℕ) (peer : SocketAddr) → Has (listing id (ForConnect peer)) ls → purposes_at id ls ≡ ForConnect peer ∷ []
-
-filter-all : {X : Type 0} (p : X → Bool) (xs : List X) → ((x : X) → Has x xs → p x ≡ true) → filter p xs ≡ xs
-filter-all p [] each = refl
-filter-all p (x ∷ xs) each = rw (each x (inl refl)) (ap (λ ys. x ∷ ys) (filter-all p xs (λ y h. each y (inr h))))
 
 same-listing : (l : Listing) (id : ℕ) (p : Purpose) → l.id ≡ id → l.purpose ≡ p → l ≡ listing id p
 same-listing l id p e f = rw (sym e, sym f) refl

@@ -1,25 +1,9 @@
 -- The effect of an input that is a whole message, and that an accepted success ends its request.
-use Rattle.std.proofs.Common.{◌≡◌, ℕ, true, false, List, Option, Some, None, refl}
-use Rattle.std.specs.Prelude.{is_none}
-use Rattle.std.proofs.lemmas.Bool.{lt-ltb}
-use Rattle.std.specs.declared.net.socket_addr.SocketAddr.{SocketAddr}
-use Rattle.turn_stun.specs.Message.{fault_of, id_of, type_of}
-use Rattle.turn_stun.proofs.FaultLemmas.{no_fault-IsFaultless}
-use Rattle.turn_types.specs.Frames.{begins_message}
-use Rattle.turn_client_api.specs.Connections.{bind_step}
-use Rattle.turn_client_api.specs.Payloads.{is_message, message_step, signed_step}
-use Rattle.turn_client_api.specs.Effect.{transaction_ended}
-use Rattle.turn_client_api.specs.Judgement.{SignedSuccess, judgement_of}
-use Rattle.turn_client_api.specs.State.{State}
-use Rattle.turn_client_api.specs.declared.state.Phase.{Phase}
-use Rattle.turn_client_api.specs.declared.state.Phase.TheVariants.{Authenticating}
-use Rattle.turn_agent.specs.Agent.{is_outstanding}
-use Rattle.turn_agent.proofs.TransactionLemmas.{is_outstanding-without}
+use Rattle.turn_client_laws.proofs.Common.{◌≡◌, ℕ, true, false, List, Option, Some, None, refl, is_none, lt-ltb, SocketAddr}
+use Rattle.turn_client_laws.proofs.Machine.{fault_of, id_of, type_of, no_fault-IsFaultless, begins_message, bind_step, is_message, message_step, signed_step, transaction_ended, SignedSuccess}
+use Rattle.turn_client_laws.proofs.Machine.{judgement_of, State, Phase, Authenticating, is_outstanding, is_outstanding-without, Control, Waiting, Stream}
+use Rattle.turn_client_laws.proofs.Laws.{Input, processed, IsOverControl, IsOverWaiting}
 use Rattle.turn_client_laws.proofs.NewIdMessageLemmas.{AsksNothing, granted-asks, reply-asks}
-use Rattle.turn_client_laws.specs.Handled.{Input, processed}
-use Rattle.turn_client_laws.specs.LawsHandled.{IsOverControl, IsOverWaiting}
-use Rattle.turn_client_api.specs.declared.state.Mode.TheVariants.{Control, Waiting}
-use Rattle.turn_client_api.specs.declared.state.Stream.{Stream}
 
 -- an accepted success ends its request, whatever it grants
 signed-ends : (p : Phase) (message : List ℕ) (now : ℕ) (s : State) → AsksNothing (transaction_ended (id_of message) s) (signed_step true message now (record s { phase = p })).1

@@ -1,35 +1,10 @@
 -- Calls that process no input make no offer, and one that opens a connection takes the first one of its kind.
-use Rattle.std.proofs.Common.{◌≡◌, ◌∙◌, ℕ, Bool, true, false, not, cond, eqb, List, [], ◌∷◌, ◌++◌, map, filter, Some, refl, subst, sym, ap, inl, inr}
-use Rattle.std.specs.Prelude.{filter_map, is_some, slice_get}
-use Rattle.std.specs.Option.{option_map}
-use Rattle.std.specs.declared.net.socket_addr.SocketAddr.{SocketAddr}
-use Rattle.std.proofs.lemmas.Bool.{and_parts, eq-eqb, eqb-true}
-use Rattle.turn_client_api.proofs.AddressLemmas.{same_address-self, same_address-true}
-use Rattle.std.proofs.lemmas.Option.{none-some, same_Some}
-use Rattle.turn_agent.specs.Agent.{same_address}
-use Rattle.turn_client_api.specs.State.{State, later_by}
-use Rattle.turn_client_api.specs.declared.call.Call.{Call}
-use Rattle.turn_client_api.specs.declared.call.Call.TheVariants.{Delete, AllocatedTcpSocket, Recv, PollRecv}
-use Rattle.turn_client_api.specs.declared.grant.DataOffer.{DataOffer}
-use Rattle.turn_client_api.specs.declared.grant.Grant.{Grant}
-use Rattle.turn_client_api.specs.declared.grant.Grant.TheVariants.{Offer, Connection}
-use Rattle.turn_client_api.specs.declared.grant.Origin.{Origin}
-use Rattle.turn_client_api.specs.declared.grant.Origin.TheVariants.{ServerRequest}
-use Rattle.turn_client_api.specs.declared.grant.Relay.{Relay}
-use Rattle.turn_client_api.specs.Calls.{all_expired, is_offer_of, offer_origin, offer_taken, socket_opened, without_first}
-use Rattle.turn_client_api.specs.Connections.{connection_at}
-use Rattle.turn_client_api.specs.Grants.{as_offer, changed_allocation, is_channel_of, is_of}
-use Rattle.turn_client_api.specs.Receive.{connection_gone}
-use Rattle.turn_client_api.specs.Retry.{bind_time}
-use Rattle.turn_client_api.specs.Steps.{state_after}
-use Rattle.turn_client_laws.specs.LawsHandled.{TakesInput}
-use Rattle.turn_client_laws.proofs.CaseLemmas.{by_test}
-use Rattle.turn_client_laws.proofs.Edits.{KeepsEdits, aged}
-use Rattle.turn_client_laws.proofs.EditsOfCalls.{delete-walk, quiet-walk, tcp_socket-walk}
-use Rattle.turn_client_laws.proofs.GrantOriginLemmas.{has-mapped}
-use Rattle.turn_client_api.proofs.HasLemmas.{Has, has-append, has-filter}
-use Rattle.turn_client_laws.proofs.StandLemmas.{contains-has}
-use Rattle.turn_client_laws.proofs.TakenOfferLemmas.{was-first}
+use Rattle.turn_client_laws.proofs.Common.{◌≡◌, ◌∙◌, ℕ, Bool, true, false, not, cond, eqb, List, [], ◌∷◌, ◌++◌, map, filter, Some, refl, subst, sym, ap, inl, inr, filter_map, is_some, slice_get}
+use Rattle.turn_client_laws.proofs.Common.{option_map, SocketAddr, and_parts, eq-eqb, eqb-true, none-some, same_Some}
+use Rattle.turn_client_laws.proofs.Machine.{same_address-self, same_address-true, same_address, State, later_by, Call, Delete, AllocatedTcpSocket, Recv, PollRecv, DataOffer, Grant, Offer, Connection}
+use Rattle.turn_client_laws.proofs.Machine.{Origin, ServerRequest, Relay, all_expired, is_offer_of, offer_origin, offer_taken, socket_opened, without_first, connection_at, as_offer}
+use Rattle.turn_client_laws.proofs.Machine.{changed_allocation, is_channel_of, is_of, connection_gone, bind_time, state_after, Has, has-append, has-filter}
+use Rattle.turn_client_laws.proofs.Laws.{TakesInput, by_test, KeepsEdits, aged, rest-ignored, delete-walk, quiet-walk, tcp_socket-walk, has-mapped, contains-has, was-first}
 use Rattle.turn_client_runs.specs.Offers.{TakesOffer, offer_to}
 use Rattle.turn_client_runs.proofs.OfferMessages.{allocation-alike}
 
@@ -77,18 +52,8 @@ module _ (id : ℕ) (peer : SocketAddr) (origin : Origin) where
 
   edits : KeepsEdits Within
   edits = record {
-    same = λ s h. h;
-    trans = λ s t u first second h. first (second h);
-    aside = λ s t h. h;
-    queues = λ queue s begun h. h;
-    dequeues = λ queue s fewer h. h;
-    families = λ families s may h. h;
-    sends = λ now s waits h. h;
-    begins = λ now s new h. h;
-    ends = λ s unlisted h. h;
+    rest = rest-ignored Within (λ s t h. h) (λ s t u first second h. first (second h));
     asks = λ request text purposes now s begun askable spelled h. h;
-    finishes = λ request s h. h;
-    resends = λ request now s h. h;
     unlists = λ which s h. h;
     removes = λ which s spares. within-filter (λ g. not (which g)) s.grants;
     removes_family = λ family s. within-filter (λ g. not (is_of family g)) s.grants;

@@ -1,52 +1,19 @@
 -- Which offers a message makes.
-use Rattle.std.proofs.Common.{◌≡◌, ◌⊎◌, ℕ, Bool, true, false, not, cond, eqb, leb, ◌&&◌, ◌||◌, List, [], ◌∷◌, ◌++◌, map, filter, fold, length, Option, Some, None, refl, subst, sym, inl, inr}
-use Rattle.std.specs.Prelude.{⊤, find, is_some}
-use Rattle.std.specs.Option.{option_map_or}
-use Rattle.std.specs.Net.Socket.{socket_ip}
-use Rattle.std.specs.declared.net.ip_addr.IpAddr.{IpAddr}
-use Rattle.std.specs.declared.net.socket_addr.SocketAddr.{SocketAddr}
-use Rattle.std.proofs.lemmas.Bool.{cases_Bool, eqb-true}
-use Rattle.turn_stun.specs.Message.{id_of}
-use Rattle.turn_stun.specs.declared.transport.TransportType.TheVariants.{Tcp}
-use Rattle.turn_stun.specs.declared.message.header.MessageClass.{MessageClass}
-use Rattle.turn_stun.specs.declared.message.header.MessageClass.TheVariants.{Request, Indication, Success, Error}
-use Rattle.turn_types.specs.declared.family.AddressFamily.{AddressFamily}
-use Rattle.turn_auth.specs.LongTerm.{Challenge}
-use Rattle.turn_auth.specs.Validation.{IsValidated, validation_of}
-use Rattle.turn_auth.specs.declared.validation.Validation.{Validation}
-use Rattle.turn_auth.specs.declared.validation.Validation.TheVariants.{Validated, ResendRequest, Refused}
-use Rattle.turn_agent.specs.Agent.{is_outstanding, is_response, same_address}
-use Rattle.turn_client_api.specs.State.{State, auth_of}
-use Rattle.turn_client_api.specs.declared.grant.DataConnection.{DataConnection}
-use Rattle.turn_client_api.specs.declared.grant.DataOffer.{DataOffer}
-use Rattle.turn_client_api.specs.declared.grant.Grant.{Grant}
-use Rattle.turn_client_api.specs.declared.grant.Grant.TheVariants.{Allocation, Permission, Channel, Offer, Connection}
-use Rattle.turn_client_api.specs.declared.grant.Origin.{Origin}
-use Rattle.turn_client_api.specs.declared.grant.Origin.TheVariants.{OwnConnect, ServerRequest, ServerIndication}
-use Rattle.turn_client_api.specs.declared.grant.Progress.{Progress}
-use Rattle.turn_client_api.specs.declared.grant.Progress.TheVariants.{Pending, Active}
-use Rattle.turn_client_api.specs.declared.grant.Purpose.{Purpose}
-use Rattle.turn_client_api.specs.declared.grant.Purpose.TheVariants.{ForRefresh, ForPermission, ForChannel, ForConnect}
-use Rattle.turn_client_api.specs.declared.grant.Relay.{Relay}
-use Rattle.turn_client_api.specs.declared.state.Phase.{Phase}
-use Rattle.turn_client_api.specs.declared.state.Phase.TheVariants.{Requesting, Authenticating, Allocated}
-use Rattle.turn_client_api.specs.Connections.{accepts_attempt, attempt_indicated, attempt_requested, bind_again, bind_answered, bind_step, deadline_set, is_connected, not_bound}
-use Rattle.turn_client_api.specs.Effect.{allocate_denied, allocate_granted, allocation_mismatch, channel_answered, closed, connect_answered, effect}
-use Rattle.turn_client_api.specs.Effect.{fail_all, family_not_supported, has_code, is_asked_permission, lasting}
-use Rattle.turn_client_api.specs.Effect.{lasting_if, listed_permissions_answered, min_lifetime, new_allocation, permission_answered}
-use Rattle.turn_client_api.specs.Effect.{permission_answered_for, prolonged, refreshed, taken_addresses, relayed_in, transaction_ended, with_offer}
-use Rattle.turn_client_api.specs.Grants.{changed_allocation, channel_at, find_allocation_to, first_in, is_channel_of}
-use Rattle.turn_client_api.specs.Grants.{is_connect_to, is_connection_from, is_permission_of, permission_state, purposes_of}
-use Rattle.turn_client_api.specs.Judgement.{Judgement, Unrelated, Challenged, Fatal, LateResponse, DataIndication, ConnectionAttempt, SignedRequest, SignedSuccess, SignedError}
-use Rattle.turn_client_api.specs.Judgement.{allocated_judgement, answers_allocate, answers_one, authenticating_judgement, bind_judgement}
-use Rattle.turn_client_api.specs.Judgement.{by_class, challenge_in, challenged_or, class_in, connection_id_in}
-use Rattle.turn_client_api.specs.Judgement.{is_bind_of, judgement_of, lifetime_in, method_in, peer_in}
-use Rattle.turn_client_api.specs.Payloads.{Outcome, Handled, Ignored, answered_purposes, message_step, response_step, signed_step, wrong_step, challenge_step}
-use Rattle.turn_client_api.specs.Requests.{connection_attempt_method, data_method, fresh_id}
-use Rattle.turn_client_laws.proofs.CaseLemmas.{bind-by, by_found, by_test}
-use Rattle.turn_client_laws.proofs.GrantOriginLemmas.{has-mapped}
-use Rattle.turn_client_laws.proofs.GrantOriginMessageLemmas.{challenge-grants, wrong-grants}
-use Rattle.turn_client_api.proofs.HasLemmas.{Has, has-append, has-filter}
+use Rattle.turn_client_laws.proofs.Common.{◌≡◌, ◌⊎◌, ℕ, Bool, true, false, not, cond, eqb, leb, ◌&&◌, ◌||◌, List, [], ◌∷◌, ◌++◌, map, filter, fold, length, Option, Some, None, refl, subst, sym, inl}
+use Rattle.turn_client_laws.proofs.Common.{inr, ⊤, find, is_some, option_map_or, socket_ip, IpAddr, SocketAddr, cases_Bool, eqb-true}
+use Rattle.turn_client_laws.proofs.Machine.{id_of, Tcp, MessageClass, Request, Indication, Success, Error, AddressFamily, Challenge, IsValidated, validation_of, Validation, Validated, ResendRequest}
+use Rattle.turn_client_laws.proofs.Machine.{Refused, is_outstanding, is_response, same_address, State, auth_of, DataConnection, DataOffer, Grant, Allocation, Permission, Channel, Offer, Connection}
+use Rattle.turn_client_laws.proofs.Machine.{Origin, OwnConnect, ServerRequest, ServerIndication, Progress, Pending, Active, Purpose, ForRefresh, ForPermission, ForChannel, ForConnect, Relay, Phase}
+use Rattle.turn_client_laws.proofs.Machine.{Requesting, Authenticating, Allocated, accepts_attempt, attempt_indicated, attempt_requested, bind_again, bind_answered, bind_step, deadline_set}
+use Rattle.turn_client_laws.proofs.Machine.{is_connected, not_bound, allocate_denied, allocate_granted, allocation_mismatch, channel_answered, closed, connect_answered, effect, fail_all}
+use Rattle.turn_client_laws.proofs.Machine.{family_not_supported, has_code, is_asked_permission, lasting, lasting_if, listed_permissions_answered, min_lifetime, new_allocation, permission_answered}
+use Rattle.turn_client_laws.proofs.Machine.{permission_answered_for, prolonged, refreshed, taken_addresses, relayed_in, transaction_ended, with_offer, changed_allocation, channel_at}
+use Rattle.turn_client_laws.proofs.Machine.{find_allocation_to, first_in, is_channel_of, is_connect_to, is_connection_from, is_permission_of, permission_state, purposes_of, Judgement, Unrelated}
+use Rattle.turn_client_laws.proofs.Machine.{Challenged, Fatal, LateResponse, DataIndication, ConnectionAttempt, SignedRequest, SignedSuccess, SignedError, allocated_judgement, answers_allocate}
+use Rattle.turn_client_laws.proofs.Machine.{answers_one, authenticating_judgement, bind_judgement, by_class, challenge_in, challenged_or, class_in, connection_id_in, is_bind_of, judgement_of}
+use Rattle.turn_client_laws.proofs.Machine.{lifetime_in, method_in, peer_in, Outcome, Handled, Ignored, answered_purposes, message_step, response_step, signed_step, wrong_step, challenge_step}
+use Rattle.turn_client_laws.proofs.Machine.{connection_attempt_method, data_method, fresh_id, Has, has-append, has-filter}
+use Rattle.turn_client_laws.proofs.Laws.{bind-by, by_found, by_test, has-mapped, challenge-grants, wrong-grants}
 
 -- ---- what else a judgement says
 

@@ -1,53 +1,17 @@
 -- What is bound in a run was opened for an offer, and each offer has its cause.
-use Rattle.std.proofs.Common.{◌≡◌, ◌⊎◌, ◌∙◌, ℕ, Bool, true, not, ltb, ◌||◌, List, [], ◌∷◌, ◌++◌, filter, length, Option, Some, Result, refl, subst, sym, ap, inl, inr}
-use Rattle.std.specs.Prelude.{⊤, filter_map, is_some}
-use Rattle.std.specs.List.{Contains}
-use Rattle.std.specs.Net.Socket.{socket_ip}
-use Rattle.std.specs.declared.net.ip_addr.IpAddr.{IpAddr}
-use Rattle.std.specs.declared.net.socket_addr.SocketAddr.{SocketAddr}
-use Rattle.std.proofs.lemmas.Bool.{and_parts, cases_Bool, eqb-true}
-use Rattle.std.proofs.lemmas.Option.{none-some, same_Some}
-use Rattle.turn_stun.specs.Message.{id_of}
-use Rattle.turn_stun.specs.declared.message.header.MessageClass.TheVariants.{Request, Indication}
-use Rattle.turn_auth.specs.Validation.{IsValidated, validation_of}
-use Rattle.turn_stun.specs.declared.transport.TransportType.{TransportType}
-use Rattle.turn_stun.specs.declared.transport.TransportType.TheVariants.{Tcp}
-use Rattle.turn_client_api.specs.Config.{Config}
-use Rattle.turn_client_api.specs.State.{State, auth_of, initial}
-use Rattle.turn_client_api.specs.declared.call.Call.{Call}
-use Rattle.turn_client_api.specs.declared.call.Call.TheVariants.{AllocatedTcpSocket}
-use Rattle.turn_client_api.specs.declared.error.TcpAllocateError.{TcpAllocateError}
-use Rattle.turn_client_api.specs.declared.grant.DataConnection.{DataConnection}
-use Rattle.turn_client_api.specs.declared.grant.DataOffer.{DataOffer}
-use Rattle.turn_client_api.specs.declared.grant.Grant.{Grant}
-use Rattle.turn_client_api.specs.declared.grant.Grant.TheVariants.{Permission, Connection}
-use Rattle.turn_client_api.specs.declared.grant.Lease.{Lease}
-use Rattle.turn_client_api.specs.declared.grant.Origin.{Origin}
-use Rattle.turn_client_api.specs.declared.grant.Origin.TheVariants.{OwnConnect, ServerRequest, ServerIndication}
-use Rattle.turn_client_api.specs.declared.grant.Progress.{Progress}
-use Rattle.turn_client_api.specs.declared.grant.Progress.TheVariants.{Active}
-use Rattle.turn_client_api.specs.declared.grant.Purpose.{Purpose}
-use Rattle.turn_client_api.specs.declared.grant.Purpose.TheVariants.{ForAllocation, ForBind, ForConnect}
-use Rattle.turn_client_api.specs.Connections.{accepts_attempt, is_connected, is_connecting, is_indicated, max_indicated}
-use Rattle.turn_client_api.specs.Grants.{find_allocation_to, has_active_permission, is_active, permission_progress, permission_state, purposes_of, same_ip}
-use Rattle.turn_client_api.specs.Judgement.{SignedSuccess, class_in, connection_id_in, judgement_of, method_in, peer_in}
-use Rattle.turn_client_api.specs.Payloads.{answered_purposes, is_answered, is_message, message_step}
-use Rattle.turn_client_api.specs.Requests.{connect_method, connection_attempt_method}
-use Rattle.turn_client_api.specs.Steps.{state_after, state_after_all}
-use Rattle.turn_client_laws.specs.Handled.{Input, handled}
-use Rattle.turn_client_laws.specs.LawsGone.{GivesBack}
-use Rattle.turn_client_laws.specs.LawsHandled.{IsDoneBy, IsOverControl}
-use Rattle.turn_client_laws.specs.LawsPeers.{HasPermission}
-use Rattle.turn_client_laws.proofs.ChallengeJudgement.{judgement-says}
-use Rattle.turn_client_api.proofs.AddressLemmas.{same_ip-true}
-use Rattle.turn_client_laws.proofs.GrantOriginMessageLemmas.{SignedSuccess-is}
-use Rattle.turn_client_api.proofs.HasLemmas.{Has, first-has, has-filter, has-filter_map, has-right}
-use Rattle.turn_client_laws.proofs.StandLemmas.{contains-has, has-contains}
-use Rattle.turn_client_laws.proofs.InputBringLemmas.{IsBrought, leaves-bring}
+use Rattle.turn_client_laws.proofs.Common.{◌≡◌, ◌⊎◌, ◌∙◌, ℕ, Bool, true, not, ltb, ◌||◌, List, [], ◌∷◌, ◌++◌, filter, length, Option, Some, Result, refl, subst, sym, ap, inl, inr, ⊤, filter_map}
+use Rattle.turn_client_laws.proofs.Common.{is_some, Contains, socket_ip, IpAddr, SocketAddr, and_parts, cases_Bool, eqb-true, none-some, same_Some}
+use Rattle.turn_client_laws.proofs.Machine.{id_of, Request, Indication, IsValidated, validation_of, TransportType, Tcp, Config, State, auth_of, initial, Call, AllocatedTcpSocket, TcpAllocateError}
+use Rattle.turn_client_laws.proofs.Machine.{DataConnection, DataOffer, Grant, Permission, Connection, Lease, Origin, OwnConnect, ServerRequest, ServerIndication, Progress, Active, Purpose}
+use Rattle.turn_client_laws.proofs.Machine.{ForAllocation, ForBind, ForConnect, accepts_attempt, is_connected, is_connecting, is_indicated, max_indicated, find_allocation_to, has_active_permission}
+use Rattle.turn_client_laws.proofs.Machine.{is_active, permission_progress, permission_state, purposes_of, same_ip, SignedSuccess, class_in, connection_id_in, judgement_of, method_in, peer_in}
+use Rattle.turn_client_laws.proofs.Machine.{answered_purposes, is_answered, is_message, message_step, connect_method, connection_attempt_method, state_after, state_after_all, same_ip-true, Has}
+use Rattle.turn_client_laws.proofs.Machine.{first-has, has-filter, has-filter_map, has-right}
+use Rattle.turn_client_laws.proofs.Laws.{Input, handled, GivesBack, IsDoneBy, IsOverControl, HasPermission, judgement-says, SignedSuccess-is, contains-has, has-contains, IsBrought, leaves-bring}
 use Rattle.turn_client_runs.specs.Bound.{IsBoundSince}
 use Rattle.turn_client_runs.specs.Granted.{IsGivenIn, IsGranted}
-use Rattle.turn_client_runs.specs.Offers.{Attempts, AttemptsAs, BoundAreOffered, IsConnectSuccess, HasOfferCause, IsAttemptedIn, IsBoundForOffer, IsConnectCalled, IsConnectedIn, IsGrantedForOffer, IsOffered}
-use Rattle.turn_client_runs.specs.Offers.{IsOpened, TakesOffer, offer_to}
+use Rattle.turn_client_runs.specs.Offers.{Attempts, AttemptsAs, BoundAreOffered, IsConnectSuccess, HasOfferCause, IsAttemptedIn, IsBoundForOffer, IsConnectCalled, IsConnectedIn, IsGrantedForOffer}
+use Rattle.turn_client_runs.specs.Offers.{IsOffered, IsOpened, TakesOffer, offer_to}
 use Rattle.turn_client_runs.proofs.BoundLemmas.{streams-have-success}
 use Rattle.turn_client_runs.proofs.ComingLemmas.{inputs-come}
 use Rattle.turn_client_runs.proofs.ListedPurposes.{IsConnectTo, IsListed, IsOpening, answered-listed, bind-listed, connect-listed, input-listed}

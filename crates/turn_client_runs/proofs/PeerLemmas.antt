@@ -1,24 +1,9 @@
 -- The senders of the payloads of a run.
-use Rattle.std.proofs.Common.{◌≡◌, Bool, true, false, cond, List, [], ◌∷◌, Option, Some, None, refl, subst, ap, inl, inr}
-use Rattle.std.proofs.lemmas.List.Elements.{Contains-append_cases}
-use Rattle.std.specs.List.{Contains}
-use Rattle.std.specs.declared.net.socket_addr.SocketAddr.{SocketAddr}
-use Rattle.turn_client_api.specs.State.{State}
-use Rattle.turn_client_api.specs.Payloads.{Payload, Outcome, Handled, Ignored, PeerData, PeerIcmp}
-use Rattle.turn_client_api.specs.Streams.{owned, payload_in}
-use Rattle.turn_client_laws.specs.Handled.{Input, handled, processed, payloads_by}
-use Rattle.turn_client_laws.specs.Handled.{input_payload}
-use Rattle.turn_client_laws.specs.LawsHandled.{IsBoundAt}
-use Rattle.turn_client_laws.specs.LawsPeers.{IsPermittedInput, IsMessageFromPermitted, HasNoPeer}
-use Rattle.turn_client_api.specs.Steps.{state_after}
-use Rattle.turn_client_api.specs.declared.call.Call.{Call}
-use Rattle.turn_client_api.specs.declared.call.Call.TheVariants.{Recv, PollRecv}
-use Rattle.turn_client_api.specs.declared.state.Mode.{Mode}
-use Rattle.turn_client_api.specs.declared.state.Mode.TheVariants.{Control, Waiting, Bound}
-use Rattle.turn_client_api.specs.declared.state.Stream.{Stream}
-use Rattle.turn_client_laws.proofs.HandledLemmas.{poll_recv-Gives, recv-AreOf, input-IsFromPermitted}
-use Rattle.turn_client_api.proofs.HasLemmas.{has-filter_map}
-use Rattle.turn_client_laws.proofs.StandLemmas.{contains-has}
+use Rattle.turn_client_laws.proofs.Common.{◌≡◌, Bool, true, false, cond, List, [], ◌∷◌, Option, Some, None, refl, subst, ap, inl, inr, Contains-append_cases, Contains, SocketAddr}
+use Rattle.turn_client_laws.proofs.Machine.{State, Payload, Outcome, Handled, Ignored, PeerData, PeerIcmp, owned, payload_in, state_after, Call, Recv, PollRecv, Mode, Control, Waiting, Bound, Stream}
+use Rattle.turn_client_laws.proofs.Machine.{has-filter_map}
+use Rattle.turn_client_laws.proofs.Laws.{Input, handled, processed, payloads_by, input_payload, IsBoundAt, IsPermittedInput, IsMessageFromPermitted, HasNoPeer, poll_recv-Gives, recv-AreOf}
+use Rattle.turn_client_laws.proofs.Laws.{input-IsFromPermitted, contains-has}
 use Rattle.turn_client_runs.specs.Peers.{InputDelivers, IsPeerPermitted, IsDeliveredIn, ReportsOfPermitted}
 use Rattle.turn_client_runs.specs.Inputs.{IsAmong, delivered_by, answered_in, handled_in, payloads_in}
 use Rattle.turn_client_runs.proofs.ComingLemmas.{Stands, inputs-stand}

@@ -1,29 +1,15 @@
 -- A piece, followed by polling, returns the whole of the buffered bytes and of the piece.
-use Rattle.std.proofs.Common.{◌≡◌, ℕ, suc, ◌+◌, ◌<◌, ◌≤◌, Bool, true, false, cond, List, [], ◌∷◌, ◌++◌, length, Option, Some, None, refl, ap, sym, subst, ◌∙◌, arith}
-use Rattle.std.specs.Prelude.{is_some}
-use Rattle.std.specs.declared.net.socket_addr.SocketAddr.{SocketAddr}
-use Rattle.turn_stun.specs.declared.transport.TransportType.TheVariants.{Tcp}
-use Rattle.turn_types.specs.Cuts.{Drained}
-use Rattle.turn_types.specs.Frames.{begins_no_frame, frame_len}
+use Rattle.turn_client_laws.proofs.Common.{◌≡◌, ℕ, suc, ◌+◌, ◌<◌, ◌≤◌, Bool, true, false, cond, List, [], ◌∷◌, ◌++◌, length, Option, Some, None, refl, ap, sym, subst, ◌∙◌, arith, is_some, SocketAddr}
+use Rattle.turn_client_laws.proofs.Machine.{Tcp, Drained, begins_no_frame, frame_len, same_address, State, Mode, Control, Waiting, Bound, Broken, Stream, Payload, Outcome, Handled, Ignored, PeerData}
+use Rattle.turn_client_laws.proofs.Machine.{is_ready, sent_by, stream_at, next_frame_step, detached_frame_step, with_bytes, first_frame_step, place_kept, recv_step, stream_step, then_all}
+use Rattle.turn_client_laws.proofs.Machine.{same_address-self, has-all, has-found}
+use Rattle.turn_client_laws.proofs.Laws.{IsEmptyIfBroken, weight, bytes-twice, bytes-aside}
 use Rattle.turn_types.specs.Streams as T
-use Rattle.turn_agent.specs.Agent.{same_address}
-use Rattle.turn_client_api.specs.State.{State}
-use Rattle.turn_client_api.specs.declared.state.Mode.{Mode}
-use Rattle.turn_client_api.specs.declared.state.Mode.TheVariants.{Control, Waiting, Bound, Broken}
-use Rattle.turn_client_api.specs.declared.state.Stream.{Stream}
-use Rattle.turn_client_api.specs.Payloads.{Payload, Outcome, Handled, Ignored, PeerData}
-use Rattle.turn_client_api.specs.Streams.{is_ready, sent_by, stream_at, next_frame_step, detached_frame_step, with_bytes}
-use Rattle.turn_client_api.specs.Receive.{first_frame_step, place_kept, recv_step, stream_step, then_all}
-use Rattle.turn_client_laws.specs.LawsStreams.{IsEmptyIfBroken}
-use Rattle.turn_client_api.proofs.AddressLemmas.{same_address-self}
-use Rattle.turn_client_api.proofs.HasLemmas.{has-all, has-found}
-use Rattle.turn_client_laws.proofs.StreamWeightLemmas.{weight}
-use Rattle.turn_client_laws.proofs.StepFrameLemmas.{bytes-twice}
 use Rattle.turn_client_runs.specs.Cut.{AwaitsBytes, bytes_at, fed_piece, outcome_payloads, left, meant, mode_at, whole, whole_of}
 use Rattle.turn_client_runs.proofs.AllStepsLemmas.{all-rest, all_steps, gives_then, polled_out, polled_out-all, then_all-all}
 use Rattle.turn_client_runs.proofs.FedStepLemmas.{Agrees, empty-left, framed-first, none-left, ready-fed, steps-whole}
 use Rattle.turn_client_runs.proofs.FollowLemmas.{IsFramed, IsThere, Suits, SuitsMode, control-framed, waiting-framed}
-use Rattle.turn_client_runs.proofs.StreamAtLemmas.{IsAlone, OthersWait, aside-alone, bytes-aside, bytes-found, found-local, none-bytes, none-false, self-bytes}
+use Rattle.turn_client_runs.proofs.StreamAtLemmas.{IsAlone, OthersWait, aside-alone, bytes-found, found-local, none-bytes, none-false, self-bytes}
 use Rattle.turn_client_runs.proofs.WholeLemmas.{broken-whole, none-whole, whole-waits}
 
 -- ---- input

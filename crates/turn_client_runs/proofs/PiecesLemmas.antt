@@ -1,20 +1,10 @@
 -- The law of cuts: pieces return what all their bytes return.
-use Rattle.std.proofs.Common.{◌≡◌, ◌≢◌, ℕ, Bool, List, [], ◌∷◌, ◌++◌, flat_map, Option, Some, None, refl, ap, sym, ◌∙◌, append_assoc}
-use Rattle.std.specs.List.{concat}
-use Rattle.std.proofs.lemmas.Grind.{flat_map-append}
-use Rattle.std.proofs.lemmas.List.{append-nil}
-use Rattle.std.proofs.lemmas.List.Elements.{All-head, All-tail}
-use Rattle.std.specs.declared.net.socket_addr.SocketAddr.{SocketAddr}
-use Rattle.turn_types.specs.Cuts.{Drained, behind, fed}
+use Rattle.turn_client_laws.proofs.Common.{◌≡◌, ◌≢◌, ℕ, Bool, List, [], ◌∷◌, ◌++◌, flat_map, Option, Some, None, refl, ap, sym, ◌∙◌, append_assoc, concat, flat_map-append, append-nil, All-head}
+use Rattle.turn_client_laws.proofs.Common.{All-tail, SocketAddr}
+use Rattle.turn_client_laws.proofs.Machine.{Drained, behind, fed, size_in-IsPrefixCut, State, Control, Stream, Payload, stream_at, with_bytes}
+use Rattle.turn_client_laws.proofs.Laws.{bytes-twice}
 use Rattle.turn_types.specs.Streams as T
 use Rattle.turn_types.proofs.CutLemmas.{drained-append}
-use Rattle.turn_types.proofs.FrameLemmas.{size_in-IsPrefixCut}
-use Rattle.turn_client_api.specs.State.{State}
-use Rattle.turn_client_api.specs.declared.state.Mode.TheVariants.{Control}
-use Rattle.turn_client_api.specs.declared.state.Stream.{Stream}
-use Rattle.turn_client_api.specs.Payloads.{Payload}
-use Rattle.turn_client_api.specs.Streams.{stream_at, with_bytes}
-use Rattle.turn_client_laws.proofs.StepFrameLemmas.{bytes-twice}
 use Rattle.turn_client_runs.specs.Cut.{AreNonempty, AwaitsBytes, IsSameForAnyCut, bytes_at, fed_piece, fed_pieces, is_control_stream, left, mode_at, one_by_one, part_at_step, whole, whole_of}
 use Rattle.turn_client_runs.proofs.FedStepLemmas.{Agrees}
 use Rattle.turn_client_runs.proofs.FollowLemmas.{Suits, SuitsMode}

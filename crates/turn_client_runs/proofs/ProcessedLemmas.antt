@@ -1,13 +1,7 @@
 -- What a call changes and returns is by its inputs.
-use Rattle.std.proofs.Common.{List, subst, inl, inr, refl}
-use Rattle.turn_client_api.specs.State.{State}
-use Rattle.turn_client_api.specs.Steps.{state_after, state_after_all}
-use Rattle.turn_client_api.specs.declared.call.Call.{Call}
-use Rattle.turn_client_laws.specs.Handled.{Input}
-use Rattle.turn_client_laws.specs.LawsGranted.{IsGrantedIn}
-use Rattle.turn_client_laws.specs.LawsHandled.{TakesInput}
-use Rattle.turn_client_laws.proofs.GrantedLemmas.{leaves-grants}
-use Rattle.turn_client_laws.proofs.InputChainLemmas.{calls-do}
+use Rattle.turn_client_laws.proofs.Common.{List, subst, inl, inr, refl}
+use Rattle.turn_client_laws.proofs.Machine.{State, state_after, state_after_all, Call}
+use Rattle.turn_client_laws.proofs.Laws.{Input, IsGrantedIn, TakesInput, leaves-grants, calls-do}
 use Rattle.turn_client_runs.specs.Inputs.{IsAmong}
 use Rattle.turn_client_runs.specs.Processed.{ActivatesNothing, CallsProcessInputs, ProcessesAll}
 use Rattle.turn_client_runs.proofs.CallGrants.{quiet}

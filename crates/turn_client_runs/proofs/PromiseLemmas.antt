@@ -1,12 +1,7 @@
 -- Each promise, of any run of a new client.
-use Rattle.std.proofs.Common.{◌≡◌, ℕ, List, None, Option, ap, subst}
-use Rattle.std.specs.declared.net.socket_addr.SocketAddr.{SocketAddr}
-use Rattle.turn_stun.specs.declared.transport.TransportType.{TransportType}
-use Rattle.turn_client_api.specs.Config.{Config}
-use Rattle.turn_client_api.specs.State.{State, initial}
-use Rattle.turn_client_laws.specs.LawsNumbers.{HasDistinctNumbers}
-use Rattle.turn_client_api.specs.declared.call.Call.{Call}
-use Rattle.turn_client_laws.proofs.DistinctNumbers.{initial-numbers, leaves-apart}
+use Rattle.turn_client_laws.proofs.Common.{◌≡◌, ℕ, List, None, Option, ap, subst, SocketAddr}
+use Rattle.turn_client_laws.proofs.Machine.{TransportType, Config, State, initial, Call, poll_recv_step, Payload, Tcp, state_after_all}
+use Rattle.turn_client_laws.proofs.Laws.{HasDistinctNumbers, initial-numbers, leaves-apart, AreApart, call-apart, initial-apart, contains-has, handled}
 use Rattle.turn_client_runs.specs.Challenges.{IsWithinChallengeLimit}
 use Rattle.turn_client_runs.specs.Promises.{AfterEach, BoundHaveSuccess, CutsAgree, FewAreAnswered, GrantsHaveReplies, DeliversOnlyPermitted, NumbersAreDistinct, RealmIsAnswered, RealmStays}
 use Rattle.turn_client_runs.specs.Promises.{RepliesCountOnce}
@@ -16,12 +11,7 @@ use Rattle.turn_client_runs.specs.InOrder.{InputsFollow}
 use Rattle.turn_client_runs.specs.Processed.{CallsProcessInputs}
 use Rattle.turn_client_runs.specs.Replies.{CountsOnce}
 use Rattle.turn_client_runs.specs.Cut.{AwaitsBytes}
-use Rattle.turn_client_api.specs.Streams.{poll_recv_step}
-use Rattle.turn_client_api.specs.Payloads.{Payload}
-use Rattle.turn_client_laws.specs.LawsStreams.{AreApart}
-use Rattle.turn_stun.specs.declared.transport.TransportType.TheVariants.{Tcp}
 use Rattle.turn_client_runs.proofs.QuietLemmas.{calls-keep, poll-quiet}
-use Rattle.turn_client_laws.proofs.StreamCallLemmas.{call-apart, initial-apart}
 use Rattle.turn_client_runs.proofs.BoundLemmas.{connections-have-success, streams-are-bound-before, streams-have-success}
 use Rattle.turn_client_runs.proofs.ChallengeLemmas.{challenge-counts, falls-by-replies, few-answered, initial-patient, leaves-patient, realm-stays, run-configured}
 use Rattle.turn_client_runs.proofs.HeldLemmas.{held-from}
@@ -45,9 +35,6 @@ use Rattle.turn_client_runs.proofs.RunGrants.{first-hold, grants-have-replies}
 use Rattle.turn_client_runs.proofs.SentRuns.{run-goes_out}
 use Rattle.turn_client_runs.proofs.ComingLemmas.{inputs-come}
 use Rattle.turn_client_runs.proofs.ReceivedRuns.{inputs-received}
-use Rattle.turn_client_laws.proofs.StandLemmas.{contains-has}
-use Rattle.turn_client_laws.specs.Handled.{handled}
-use Rattle.turn_client_api.specs.Steps.{state_after_all}
 
 once : (s : State) (calls : List Call) → CountsOnce s calls
 once s calls = (

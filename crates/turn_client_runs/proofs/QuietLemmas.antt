@@ -1,24 +1,9 @@
 -- A client that was polled until nothing was returned is quiet.
-use Rattle.std.proofs.Common.{◌≡◌, ℕ, zero, suc, ◌+◌, List, [], ◌∷◌, find, Option, Some, None, refl, ap, ◌∙◌, arith}
-use Rattle.std.specs.declared.net.socket_addr.SocketAddr.{SocketAddr}
-use Rattle.turn_stun.specs.declared.transport.TransportType.TheVariants.{Tcp}
-use Rattle.turn_client_api.specs.Config.{Config}
-use Rattle.turn_client_api.specs.State.{State, initial}
-use Rattle.turn_client_api.specs.Payloads.{Payload, Outcome}
-use Rattle.turn_client_api.specs.Streams.{is_ready, max_steps, poll_recv_step}
-use Rattle.turn_client_api.specs.Receive.{recv_step}
-use Rattle.turn_client_api.specs.Steps.{state_after, state_after_all}
-use Rattle.turn_client_api.specs.declared.call.Call.{Call}
-use Rattle.turn_client_laws.specs.LawsStreams.{AreApart}
-use Rattle.turn_client_laws.proofs.Edits.{IgnoresAll, KeepsAllEdits}
-use Rattle.turn_client_laws.proofs.EditsOfCalls.{calls-walk}
-use Rattle.turn_client_laws.proofs.EditsOfMessages.{edits-IsKept}
-use Rattle.turn_client_laws.proofs.FixedFields.{fixed-all-edits}
-use Rattle.turn_client_laws.proofs.RunKeepLemmas.{IsKept, poll_recv-kept, recv-kept}
-use Rattle.turn_client_laws.proofs.StreamCallLemmas.{call-apart, initial-apart}
-use Rattle.turn_client_laws.proofs.StreamDrainLemmas.{steps-done}
+use Rattle.turn_client_laws.proofs.Common.{◌≡◌, ℕ, zero, suc, ◌+◌, List, [], ◌∷◌, find, Option, Some, None, refl, ap, ◌∙◌, arith, SocketAddr}
+use Rattle.turn_client_laws.proofs.Machine.{Tcp, Config, State, initial, Payload, Outcome, is_ready, max_steps, poll_recv_step, recv_step, state_after, state_after_all, Call}
+use Rattle.turn_client_laws.proofs.Laws.{AreApart, IgnoresAll, KeepsAllEdits, calls-walk, edits-IsKept, fixed-all-edits, IsKept, poll_recv-kept, recv-kept, call-apart, initial-apart, steps-done}
+use Rattle.turn_client_laws.proofs.Laws.{weight, weight-le}
 use Rattle.turn_client_laws.proofs.StreamStepLemmas.{poll_recv-apart, recv-apart}
-use Rattle.turn_client_laws.proofs.StreamWeightLemmas.{weight, weight-le}
 use Rattle.turn_client_runs.specs.Cut.{GetsQuiet, AwaitsBytes, and_then, fed_piece, polled_until_none}
 use Rattle.turn_client_runs.proofs.AllStepsLemmas.{all-done, polled_out, polled_out-all}
 

@@ -1,22 +1,9 @@
 -- Realm and algorithm stay, from input to input too.
-use Rattle.std.proofs.Common.{not, cond, List, [], ◌∷◌, Some, None, refl, ap, ◌∙◌, inl, inr}
-use Rattle.std.specs.List.{Contains}
-use Rattle.turn_types.specs.Frames.{begins_message}
-use Rattle.turn_client_api.specs.State.{State}
-use Rattle.turn_client_api.specs.declared.state.Mode.{Mode}
-use Rattle.turn_client_api.specs.declared.state.Mode.TheVariants.{Control, Waiting}
-use Rattle.turn_client_api.specs.declared.state.Stream.{Stream}
-use Rattle.turn_client_api.specs.declared.call.Call.{Call}
-use Rattle.turn_client_api.specs.Connections.{bind_step}
-use Rattle.turn_client_api.specs.Payloads.{Outcome, Handled, Ignored, channel_sent, is_channel_frame, is_message, message_step}
-use Rattle.turn_client_laws.specs.Handled.{Input, handled, processed}
-use Rattle.turn_client_laws.specs.LawsHandled.{DiffersInStreams, InputsLead}
-use Rattle.turn_client_laws.specs.LawsSteps.{KeepsRealm}
-use Rattle.turn_client_api.specs.Steps.{state_after, state_after_all}
-use Rattle.turn_client_api.proofs.HasLemmas.{Has, has-append}
+use Rattle.turn_client_laws.proofs.Common.{not, cond, List, [], ◌∷◌, Some, None, refl, ap, ◌∙◌, inl, inr, Contains}
+use Rattle.turn_client_laws.proofs.Machine.{begins_message, State, Mode, Control, Waiting, Stream, Call, bind_step, Outcome, Handled, Ignored, channel_sent, is_channel_frame, is_message, message_step}
+use Rattle.turn_client_laws.proofs.Machine.{state_after, state_after_all, Has, has-append}
+use Rattle.turn_client_laws.proofs.Laws.{Input, handled, processed, DiffersInStreams, InputsLead, KeepsRealm, bind-keeps, call-keeps, keeps-same, message-keeps, contains-has}
 use Rattle.turn_client_laws.proofs.MoveLemmas.{by_test}
-use Rattle.turn_client_laws.proofs.PhasesGoOn.{bind-keeps, call-keeps, keeps-same, message-keeps}
-use Rattle.turn_client_laws.proofs.StandLemmas.{contains-has}
 use Rattle.turn_client_runs.specs.Inputs.{handled_in}
 use Rattle.turn_client_runs.proofs.InputsOfRuns.{leads-or}
 

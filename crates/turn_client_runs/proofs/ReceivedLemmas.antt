@@ -1,30 +1,14 @@
 -- What the streams of a client hold was received by `recv`.
-use Rattle.std.proofs.Common.{◌≡◌, ◌∙◌, ◌++◌, ℕ, zero, suc, Bool, true, false, cond, List, [], ◌∷◌, map, filter, Option, Some, None, refl, sym, subst, ap, inl, inr}
-use Rattle.std.proofs.lemmas.Bool.{cases_Bool}
-use Rattle.std.specs.Prelude.{drop, find, is_some, take}
-use Rattle.std.specs.declared.net.socket_addr.SocketAddr.{SocketAddr}
-use Rattle.turn_types.specs.Frames.{begins_no_frame, frame_len}
-use Rattle.turn_agent.specs.Agent.{same_address}
-use Rattle.turn_client_api.specs.State.{State}
-use Rattle.turn_client_api.specs.declared.state.Mode.{Mode}
-use Rattle.turn_client_api.specs.declared.state.Mode.TheVariants.{Control, Waiting, Bound, Broken}
-use Rattle.turn_client_api.specs.declared.state.Stream.{Stream}
-use Rattle.turn_client_api.specs.Calls.{with_stream}
-use Rattle.turn_client_api.specs.Connections.{connection_at}
-use Rattle.turn_client_laws.specs.Handled.{Input, fed_taken, frame_taken, is_front, piece_inputs, poll_recv_inputs, stream_inputs, stream_inputs_taken, taken_first, taken_in}
-use Rattle.turn_client_api.specs.Streams.{stream_with_piece}
-use Rattle.turn_client_laws.specs.Handled.{taken_of_len, then_taken, inputs_taken, unless_given}
-use Rattle.turn_client_api.specs.Payloads.{Payload, Outcome, Handled, Ignored, PeerData}
-use Rattle.turn_client_api.specs.Receive.{connection_gone, first_frame_step, piece_step, stream_step, then_all}
-use Rattle.turn_client_api.specs.Streams.{broken_at, frame_step, framed_by, framed_stream_step, go_on, is_ready, max_steps, payload_in, poll_recv_step, next_frame_step, first_ready_step}
-use Rattle.turn_client_api.specs.Streams.{detached_frame_step, steps_until_payload, with_bytes, without_stream}
+use Rattle.turn_client_laws.proofs.Common.{◌≡◌, ◌∙◌, ◌++◌, ℕ, zero, suc, Bool, true, false, cond, List, [], ◌∷◌, map, filter, Option, Some, None, refl, sym, subst, ap, inl, inr, cases_Bool, drop}
+use Rattle.turn_client_laws.proofs.Common.{find, is_some, take, SocketAddr}
+use Rattle.turn_client_laws.proofs.Machine.{begins_no_frame, frame_len, same_address, State, Mode, Control, Waiting, Bound, Broken, Stream, with_stream, connection_at, stream_with_piece, Payload}
+use Rattle.turn_client_laws.proofs.Machine.{Outcome, Handled, Ignored, PeerData, connection_gone, first_frame_step, piece_step, stream_step, then_all, broken_at, frame_step, framed_by}
+use Rattle.turn_client_laws.proofs.Machine.{framed_stream_step, go_on, is_ready, max_steps, payload_in, poll_recv_step, next_frame_step, first_ready_step, detached_frame_step, steps_until_payload}
+use Rattle.turn_client_laws.proofs.Machine.{with_bytes, without_stream, same_address-true, Has, has-append, has-filter, has-found}
+use Rattle.turn_client_laws.proofs.Laws.{Input, fed_taken, frame_taken, is_front, piece_inputs, poll_recv_inputs, stream_inputs, stream_inputs_taken, taken_first, taken_in, taken_of_len, then_taken}
+use Rattle.turn_client_laws.proofs.Laws.{inputs_taken, unless_given, has-mapped, on_test, broken_by, bytes_by, mode_by, Rebound, frame-rebound}
 use Rattle.turn_client_runs.specs.Received.{unless_broken}
-use Rattle.turn_client_api.proofs.AddressLemmas.{same_address-true}
-use Rattle.turn_client_laws.proofs.GrantOriginLemmas.{has-mapped}
-use Rattle.turn_client_api.proofs.HasLemmas.{Has, has-append, has-filter, has-found}
-use Rattle.turn_client_laws.proofs.MoveLemmas.{by_test, on_test}
-use Rattle.turn_client_laws.proofs.StreamDrainLemmas.{broken_by, bytes_by, mode_by}
-use Rattle.turn_client_laws.proofs.StreamMessageLemmas.{Rebound, frame-rebound}
+use Rattle.turn_client_laws.proofs.MoveLemmas.{by_test}
 
 -- for bytes at a local address: the rest of what is known is known
 module _ (Known : SocketAddr → List ℕ → Type 0) (none : (a : SocketAddr) → Known a []) (less : (a : SocketAddr) (n : ℕ) (bytes : List ℕ) → Known a bytes → Known a (drop n bytes)) where

@@ -1,29 +1,11 @@
 -- The bytes in the stream of an input were received by the run's calls of `recv`.
-use Rattle.std.proofs.Common.{◌≡◌, ◌∙◌, ◌++◌, ◌&&◌, ℕ, Bool, true, false, cond, List, [], ◌∷◌, Option, Some, None, refl, sym, subst, ap, inl, inr, append_assoc}
-use Rattle.std.specs.Prelude.{drop, take}
-use Rattle.std.proofs.lemmas.List.{append-nil, take-append-drop}
-use Rattle.std.specs.declared.net.socket_addr.SocketAddr.{SocketAddr}
-use Rattle.turn_stun.specs.declared.transport.TransportType.{TransportType}
-use Rattle.turn_stun.specs.declared.transport.TransportType.TheVariants.{Udp, Tcp}
-use Rattle.turn_stun.specs.declared.transport.Transmit.{Transmit}
-use Rattle.turn_agent.specs.Agent.{same_address}
-use Rattle.turn_client_api.specs.State.{State}
-use Rattle.turn_client_api.specs.declared.call.Call.{Call}
-use Rattle.turn_client_api.specs.declared.call.Call.TheVariants.{Recv, PollRecv}
-use Rattle.turn_client_api.specs.declared.state.Mode.{Mode}
-use Rattle.turn_client_api.specs.declared.state.Mode.TheVariants.{Control, Broken}
-use Rattle.turn_client_api.specs.declared.state.Stream.{Stream}
-use Rattle.turn_client_laws.specs.Handled.{Input, handled, recv_inputs, stream_inputs}
-use Rattle.turn_client_laws.specs.LawsHandled.{TakesInput}
-use Rattle.turn_client_api.specs.Payloads.{Outcome, Ignored, channel_sent, datagram_step, is_channel_frame, is_message, message_step}
-use Rattle.turn_client_api.specs.Receive.{is_from_server, recv_step, stream_step}
-use Rattle.turn_client_api.specs.Steps.{state_after, state_after_all}
-use Rattle.turn_client_api.specs.Streams.{stream_at}
-use Rattle.turn_client_api.proofs.AddressLemmas.{same_address-self, same_address-true, differ-sym}
-use Rattle.turn_client_api.proofs.HasLemmas.{Has, has-found}
+use Rattle.turn_client_laws.proofs.Common.{◌≡◌, ◌∙◌, ◌++◌, ◌&&◌, ℕ, Bool, true, false, cond, List, [], ◌∷◌, Option, Some, None, refl, sym, subst, ap, inl, inr, append_assoc, drop, take, append-nil}
+use Rattle.turn_client_laws.proofs.Common.{take-append-drop, SocketAddr}
+use Rattle.turn_client_laws.proofs.Machine.{TransportType, Udp, Tcp, Transmit, same_address, State, Call, Recv, PollRecv, Mode, Control, Broken, Stream, Outcome, Ignored, channel_sent, datagram_step}
+use Rattle.turn_client_laws.proofs.Machine.{is_channel_frame, is_message, message_step, is_from_server, recv_step, stream_step, state_after, state_after_all, stream_at, same_address-self}
+use Rattle.turn_client_laws.proofs.Machine.{same_address-true, differ-sym, Has, has-found}
+use Rattle.turn_client_laws.proofs.Laws.{Input, handled, recv_inputs, stream_inputs, TakesInput, others-opened, message-same}
 use Rattle.turn_client_laws.proofs.MoveLemmas.{by_test}
-use Rattle.turn_client_laws.proofs.StreamCallLemmas.{others-opened}
-use Rattle.turn_client_laws.proofs.StreamMessageLemmas.{message-same}
 use Rattle.turn_client_runs.specs.Received.{HasArrived, piece_in_call, pieces_for, unless_broken}
 use Rattle.turn_client_runs.proofs.CallGrants.{quiet}
 use Rattle.turn_client_runs.proofs.ReceivedLemmas.{AllKnown, Goes, opened-known, poll-known, stream-known}

@@ -1,11 +1,6 @@
 -- A handshake, and then 700 s in which each grant is refreshed, are one run.
-use Rattle.std.proofs.Common.{◌≡◌, ℕ, ◌+◌, ◌≤◌, List, [], arith, refl, subst, sym}
-use Rattle.std.specs.declared.net.socket_addr.SocketAddr.{SocketAddr}
-use Rattle.turn_agent.specs.declared.transaction.Transaction.{Transaction}
-use Rattle.turn_client_api.specs.Config.{Config}
-use Rattle.turn_client_api.specs.State.{State}
-use Rattle.turn_client_api.specs.Steps.{state_after_all}
-use Rattle.turn_client_api.specs.declared.call.Call.TheVariants.{PollEvent}
+use Rattle.turn_client_laws.proofs.Common.{◌≡◌, ℕ, ◌+◌, ◌≤◌, List, [], arith, refl, subst, sym, SocketAddr}
+use Rattle.turn_client_laws.proofs.Machine.{Transaction, Config, State, state_after_all, PollEvent}
 use Rattle.turn_client_runs.specs.HandshakeRows.{new_client}
 use Rattle.turn_client_runs.specs.History.{no_history, with_call}
 use Rattle.turn_client_runs.specs.Lasting.{RunsSteadily}

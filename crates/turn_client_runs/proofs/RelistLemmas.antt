@@ -1,46 +1,19 @@
 -- The purpose for which a request is made again, and listed: the first in order of those that the old one
 -- is listed for.
-use Rattle.std.proofs.Common.{◌≡◌, ◌⊎◌, ℕ, eqb, ltb, leb, Bool, true, false, not, cond, ◌&&◌, List, [], ◌∷◌, filter, length, Option, Some, None, refl, inl, inr}
-use Rattle.std.specs.Prelude.{find, IfSome, is_some}
-use Rattle.std.specs.Option.{option_map_or}
-use Rattle.std.specs.Net.Socket.{socket_ip}
-use Rattle.std.specs.declared.net.socket_addr.SocketAddr.{SocketAddr}
-use Rattle.turn_stun.specs.Message.{id_of}
-use Rattle.turn_stun.specs.declared.transport.TransportType.TheVariants.{Tcp}
-use Rattle.turn_types.specs.Frames.{begins_message}
-use Rattle.turn_types.specs.declared.family.AddressFamily.TheVariants.{IPV4, IPV6}
-use Rattle.turn_auth.specs.LongTerm.{Challenge}
+use Rattle.turn_client_laws.proofs.Common.{◌≡◌, ◌⊎◌, ℕ, eqb, ltb, leb, Bool, true, false, not, cond, ◌&&◌, List, [], ◌∷◌, filter, length, Option, Some, None, refl, inl, inr, find, IfSome, is_some}
+use Rattle.turn_client_laws.proofs.Common.{option_map_or, socket_ip, SocketAddr}
+use Rattle.turn_client_laws.proofs.Machine.{id_of, Tcp, begins_message, IPV4, IPV6, Challenge, first_sent, Transaction, State, AllocationCreateFailed, DataConnection, Listing, Purpose, ForAllocation}
+use Rattle.turn_client_laws.proofs.Machine.{Phase, New, Authenticating, Allocated, Mode, Control, Waiting, Stream, attempt_indicated, attempt_requested, bind_again, bind_answered, bind_step}
+use Rattle.turn_client_laws.proofs.Machine.{connection_at, is_connected, accepts_attempt, not_bound, allocate_denied, allocate_granted, closed, transaction_ended, fail_all, family_not_supported}
+use Rattle.turn_client_laws.proofs.Machine.{has_code, in_phase, find_allocation_to, is_connection_from, is_for_allocation, purposes_of, unlisted, wait, Judgement, Challenged, Fatal, ConnectionAttempt}
+use Rattle.turn_client_laws.proofs.Machine.{SignedRequest, SignedSuccess, SignedError, bind_judgement, connection_id_in, is_bind_of, judgement_of, lifetime_in, method_in, peer_in, Outcome, Handled}
+use Rattle.turn_client_laws.proofs.Machine.{Ignored, challenge_step, channel_sent, datagram_step, is_channel_frame, is_message, message_step, response_step, signed_step, wrong_step}
+use Rattle.turn_client_laws.proofs.Machine.{connection_attempt_method, connection_bind_method, fresh_id, listings, request_for, requested, retried, state_after_retry, with_held, frame_step, Has}
+use Rattle.turn_client_laws.proofs.Machine.{has-right}
+use Rattle.turn_client_laws.proofs.Laws.{Input, processed, IsMade, has-mapped, Adds, Never, adds-filter, adds-more, adds-same, adds-wider, on_test, requested-made, has-contains}
 use Rattle.turn_agent.specs.Agent as A
-use Rattle.turn_agent.specs.Agent.{first_sent}
-use Rattle.turn_agent.specs.declared.transaction.Transaction.{Transaction}
-use Rattle.turn_client_api.specs.State.{State}
-use Rattle.turn_client_api.specs.declared.event.TurnEvent.TheVariants.{AllocationCreateFailed}
-use Rattle.turn_client_api.specs.declared.grant.DataConnection.{DataConnection}
-use Rattle.turn_client_api.specs.declared.grant.Listing.{Listing}
-use Rattle.turn_client_api.specs.declared.grant.Purpose.{Purpose}
-use Rattle.turn_client_api.specs.declared.grant.Purpose.TheVariants.{ForAllocation}
-use Rattle.turn_client_api.specs.declared.state.Phase.{Phase}
-use Rattle.turn_client_api.specs.declared.state.Phase.TheVariants.{New, Authenticating, Allocated}
-use Rattle.turn_client_api.specs.declared.state.Mode.{Mode}
-use Rattle.turn_client_api.specs.declared.state.Mode.TheVariants.{Control, Waiting}
-use Rattle.turn_client_api.specs.declared.state.Stream.{Stream}
-use Rattle.turn_client_api.specs.Connections.{attempt_indicated, attempt_requested, bind_again, bind_answered, bind_step, connection_at, is_connected, accepts_attempt, not_bound}
-use Rattle.turn_client_api.specs.Effect.{allocate_denied, allocate_granted, closed, transaction_ended, fail_all, family_not_supported, has_code, in_phase}
-use Rattle.turn_client_api.specs.Grants.{find_allocation_to, is_connection_from, is_for_allocation, purposes_of, unlisted, wait}
-use Rattle.turn_client_laws.specs.Handled.{Input, processed}
-use Rattle.turn_client_api.specs.Judgement.{Judgement, Challenged, Fatal, ConnectionAttempt, SignedRequest, SignedSuccess, SignedError, bind_judgement}
-use Rattle.turn_client_api.specs.Judgement.{connection_id_in, is_bind_of, judgement_of, lifetime_in, method_in, peer_in}
-use Rattle.turn_client_laws.specs.LawsRequests.{IsMade}
-use Rattle.turn_client_api.specs.Payloads.{Outcome, Handled, Ignored, challenge_step, channel_sent, datagram_step, is_channel_frame, is_message, message_step, response_step, signed_step, wrong_step}
-use Rattle.turn_client_api.specs.Requests.{connection_attempt_method, connection_bind_method, fresh_id, listings, request_for, requested}
-use Rattle.turn_client_api.specs.Retry.{retried, state_after_retry, with_held}
-use Rattle.turn_client_api.specs.Streams.{frame_step}
-use Rattle.turn_client_laws.proofs.GrantOriginLemmas.{has-mapped}
-use Rattle.turn_client_api.proofs.HasLemmas.{Has, has-right}
-use Rattle.turn_client_laws.proofs.MoveLemmas.{Adds, Never, adds-filter, adds-more, adds-same, adds-wider, by_test, on_test}
-use Rattle.turn_client_laws.proofs.MoveMessageLemmas.{requested-made}
+use Rattle.turn_client_laws.proofs.MoveLemmas.{by_test}
 use Rattle.turn_client_laws.proofs.MoveReplyLemmas.{response-fits}
-use Rattle.turn_client_laws.proofs.StandLemmas.{has-contains}
 
 -- the new request is for this alone, or for the first in order of what the old one is listed for
 abbrev pub IsRetriedFor : List ℕ → State → Purpose → Purpose → Type 0

@@ -1,23 +1,9 @@
 -- In a run a reply that is accepted ends its request.
-use Rattle.std.proofs.Common.{◌++◌, ◌≡◌, ◌⊎◌, ◌∙◌, ℕ, Bool, true, false, List, [], ◌∷◌, inl, inr, refl, sym, subst, ap}
-use Rattle.std.specs.declared.net.socket_addr.SocketAddr.{SocketAddr}
-use Rattle.turn_stun.specs.Message.{id_of}
-use Rattle.turn_agent.specs.Agent.{is_outstanding}
-use Rattle.turn_client_api.specs.State.{State}
-use Rattle.turn_client_api.specs.Requests.{fresh_id}
-use Rattle.turn_client_api.specs.Judgement.{bind_judgement}
-use Rattle.turn_client_api.specs.Connections.{bind_answered, bind_step}
-use Rattle.turn_client_api.specs.Payloads.{Outcome, is_message, message_step}
-use Rattle.turn_client_laws.specs.Handled.{Input, processed}
-use Rattle.turn_client_laws.specs.LawsHandled.{InputsLead}
-use Rattle.turn_client_laws.specs.LawsReplies.{IsAccepted, IsDrawn, IsNotAwaited}
-use Rattle.turn_client_api.specs.Steps.{state_after, state_after_all}
-use Rattle.turn_client_api.specs.declared.call.Call.{Call}
-use Rattle.turn_client_laws.proofs.AcceptedReplyLemmas.{accepted-gone, accepted-outstanding, bind-ended, bind-outstanding}
-use Rattle.turn_client_laws.proofs.BoundLemmas.{found-local}
+use Rattle.turn_client_laws.proofs.Common.{◌++◌, ◌≡◌, ◌⊎◌, ◌∙◌, ℕ, Bool, true, false, List, [], ◌∷◌, inl, inr, refl, sym, subst, ap, SocketAddr}
+use Rattle.turn_client_laws.proofs.Machine.{id_of, is_outstanding, State, fresh_id, bind_judgement, bind_answered, bind_step, Outcome, is_message, message_step, state_after, state_after_all, Call}
+use Rattle.turn_client_laws.proofs.Laws.{Input, processed, InputsLead, IsAccepted, IsDrawn, IsNotAwaited, accepted-gone, accepted-outstanding, bind-ended, bind-outstanding, found-local, IsBrought}
+use Rattle.turn_client_laws.proofs.Laws.{lead-brings, brought}
 use Rattle.turn_client_laws.proofs.NewIdCallLemmas.{draws-IsBringing, leaves-draws}
-use Rattle.turn_client_laws.proofs.InputBringLemmas.{IsBrought, lead-brings}
-use Rattle.turn_client_laws.proofs.InputLemmas.{brought}
 use Rattle.turn_client_runs.specs.Replies.{AreReplies, EndsItsRequest, IsBindReply, IsMadeAmong, IsMadeBetween, IsMadeIn, IsMadeSince, IsMadeUntil, IsReplyInput, InputMakesRequest}
 use Rattle.turn_client_runs.proofs.MadeLemmas.{control-made, waiting-made}
 use Rattle.turn_client_runs.proofs.InputsOfRuns.{handled-leads, has-among, leads-from, leads-to}

@@ -1,31 +1,10 @@
 -- A reply to an ALLOCATE tells of each requested family once.
-use Rattle.std.proofs.Common.{◌≡◌, ◌∙◌, ℕ, ◌+◌, ◌≤◌, Bool, true, false, cond, not, ◌&&◌, leb, List, [], ◌∷◌, ◌++◌, map, filter, length, refl}
-use Rattle.std.proofs.Common.{sym, subst, arith, inl, inr}
-use Rattle.std.specs.List.{list_any}
-use Rattle.std.proofs.lemmas.Bool.{and_parts, cases_Bool, false_from_ne_true, not-true}
-use Rattle.std.specs.declared.net.socket_addr.SocketAddr.{SocketAddr}
-use Rattle.turn_stun.specs.declared.transport.TransportType.{TransportType}
-use Rattle.turn_types.specs.declared.family.AddressFamily.{AddressFamily}
-use Rattle.turn_types.specs.declared.family.AddressFamily.TheVariants.{IPV4, IPV6}
-use Rattle.turn_client_api.specs.Config.{is_family_list, same_family}
-use Rattle.turn_client_api.specs.State.{State}
-use Rattle.turn_client_api.specs.declared.event.TurnEvent.{TurnEvent}
-use Rattle.turn_client_api.specs.declared.event.TurnEvent.TheVariants.{AllocationCreated, AllocationCreateFailed}
-use Rattle.turn_client_api.specs.declared.grant.Grant.TheVariants.{Allocation}
-use Rattle.turn_client_api.specs.declared.grant.Relay.{Relay}
-use Rattle.turn_client_api.specs.declared.grant.Purpose.TheVariants.{ForAllocation}
-use Rattle.turn_client_api.specs.Grants.{is_of_family}
-use Rattle.turn_client_api.specs.Grants.{family_of, wait}
-use Rattle.turn_client_api.specs.Effect.{allocate_denied, allocate_granted, allocated}
-use Rattle.turn_client_api.specs.Effect.{closed, fail_all, family_not_supported, has_code, in_phase}
-use Rattle.turn_client_api.specs.Effect.{missing_families, new_allocation}
-use Rattle.turn_client_api.specs.Effect.{relayed_in, taken_addresses}
-use Rattle.turn_client_api.specs.Judgement.{lifetime_in}
-use Rattle.turn_client_api.specs.declared.state.Phase.TheVariants.{Authenticating}
-use Rattle.turn_client_api.specs.Requests.{requested}
-use Rattle.turn_client_laws.proofs.CaseLemmas.{by_found, by_test}
-use Rattle.turn_client_api.proofs.HasLemmas.{Has, has-filter}
-use Rattle.turn_client_laws.proofs.InAllocationLemmas.{any-has, has-any, same_family-true}
+use Rattle.turn_client_laws.proofs.Common.{◌≡◌, ◌∙◌, ℕ, ◌+◌, ◌≤◌, Bool, true, false, cond, not, ◌&&◌, leb, List, [], ◌∷◌, ◌++◌, map, filter, length, refl, sym, subst, arith, inl, inr, list_any}
+use Rattle.turn_client_laws.proofs.Common.{and_parts, cases_Bool, false_from_ne_true, not-true, SocketAddr}
+use Rattle.turn_client_laws.proofs.Machine.{TransportType, AddressFamily, IPV4, IPV6, is_family_list, same_family, State, TurnEvent, AllocationCreated, AllocationCreateFailed, Allocation, Relay}
+use Rattle.turn_client_laws.proofs.Machine.{ForAllocation, is_of_family, family_of, wait, allocate_denied, allocate_granted, allocated, closed, fail_all, family_not_supported, has_code, in_phase}
+use Rattle.turn_client_laws.proofs.Machine.{missing_families, new_allocation, relayed_in, taken_addresses, lifetime_in, Authenticating, requested, Has, has-filter}
+use Rattle.turn_client_laws.proofs.Laws.{by_found, by_test, any-has, has-any, same_family-true}
 use Rattle.turn_client_runs.specs.Reported.{is_awaited_by, is_like, is_to_come}
 use Rattle.turn_client_runs.proofs.LastingCounts.{passes, passes-append, passes-filter, passes-none}
 use Rattle.turn_client_runs.proofs.ReportedCounts.{passes-over, passes-without}

@@ -1,46 +1,14 @@
 -- A call that takes no input tells nothing anew, but for what it requests.
-use Rattle.std.proofs.Common.{◌≡◌, ◌∙◌, ℕ, ◌+◌, ◌≤◌, Bool, true, false, cond, ◌&&◌, eqb, leb, List, [], ◌∷◌, ◌++◌, filter, filter_map, find, flat_map, Option, Some, None, Result, refl, sym}
-use Rattle.std.proofs.Common.{arith, inl, inr}
-use Rattle.std.specs.Prelude.{nat_le, slice_get, ⊤}
-use Rattle.std.specs.List.{list_any}
-use Rattle.std.specs.Net.Socket.{socket_ip}
-use Rattle.std.proofs.lemmas.Bool.{and_parts, cases_Bool, false_from_ne_true}
-use Rattle.std.proofs.lemmas.Option.{none-some}
-use Rattle.std.specs.declared.net.ip_addr.IpAddr.{IpAddr}
-use Rattle.std.specs.declared.net.socket_addr.SocketAddr.{SocketAddr}
-use Rattle.turn_stun.specs.declared.transport.TransportType.{TransportType}
-use Rattle.turn_stun.specs.declared.transport.TransportType.TheVariants.{Udp, Tcp}
-use Rattle.turn_agent.specs.Agent.{due, same_address}
-use Rattle.turn_client_api.specs.State.{State, agent_of, later_by}
-use Rattle.turn_client_api.specs.declared.call.Call.{Call}
-use Rattle.turn_client_api.specs.declared.call.Call.TheVariants.{Delete, CreatePermission, BindChannel, TcpConnect, AllocatedTcpSocket, TcpClosed, SendTo, Recv, PollRecv, Poll, PollTransmit}
-use Rattle.turn_client_api.specs.declared.call.Call.TheVariants.{PollEvent, RelayedAddresses, Permissions, HavePermission, ProtocolError, SetPermissionKept, SetChannelKept}
-use Rattle.turn_client_api.specs.declared.event.TurnEvent.{TurnEvent}
-use Rattle.turn_client_api.specs.declared.grant.DataConnection.{DataConnection}
-use Rattle.turn_client_api.specs.declared.grant.Grant.{Grant}
-use Rattle.turn_client_api.specs.declared.grant.Grant.TheVariants.{Connection, Offer}
-use Rattle.turn_client_api.specs.declared.grant.Origin.{Origin}
-use Rattle.turn_client_api.specs.declared.grant.Origin.TheVariants.{ServerRequest}
-use Rattle.turn_client_api.specs.declared.grant.Relay.{Relay}
-use Rattle.turn_client_api.specs.declared.state.Phase.{Phase}
-use Rattle.turn_client_api.specs.declared.state.Phase.TheVariants.{New, Allocated}
-use Rattle.turn_client_api.specs.Calls.{active_channel, bound_to, can_send_to, deleted, in_allocation, is_allocated, is_closed, is_control, is_granted_in, is_local_taken}
-use Rattle.turn_client_api.specs.Calls.{is_offer_of}
-use Rattle.turn_client_api.specs.Calls.{is_open_to, keep_step, marked, marked_if, offer_origin, offer_taken, on_channel, on_connection, send_over, socket_opened, socket_refused, socket_step}
-use Rattle.turn_client_api.specs.Calls.{with_marks, without_first}
-use Rattle.turn_client_api.specs.Due.{is_paused, keepalive_times}
-use Rattle.turn_client_api.specs.Effect.{closed, fail_all}
-use Rattle.turn_client_api.specs.Grants.{allocations, as_connection, changed_allocation, family_of_ip, is_of_family, is_past, is_permission_of}
-use Rattle.turn_client_api.specs.Grants.{same_transport}
-use Rattle.turn_client_api.specs.Grants.{with_expired, without_grants}
-use Rattle.turn_client_api.specs.Receive.{connection_gone}
-use Rattle.turn_client_api.specs.Retry.{bind_time}
-use Rattle.turn_client_api.specs.Steps.{state_after}
-use Rattle.turn_client_api.specs.Transmit.{idle_step, keepalive_step, queue_step, refreshes_in, reply_step, transmit_step}
-use Rattle.turn_client_api.proofs.AddressLemmas.{same_address-true}
-use Rattle.turn_client_laws.proofs.CaseLemmas.{by_found, by_test}
-use Rattle.turn_client_api.proofs.HasLemmas.{filter-none}
-use Rattle.turn_client_laws.proofs.InAllocationLemmas.{has-any}
+use Rattle.turn_client_laws.proofs.Common.{◌≡◌, ◌∙◌, ℕ, ◌+◌, ◌≤◌, Bool, true, false, cond, ◌&&◌, eqb, List, [], ◌∷◌, ◌++◌, filter, flat_map, Option, Some, None, Result, refl, sym, arith, inl, inr}
+use Rattle.turn_client_laws.proofs.Common.{nat_le, slice_get, ⊤, list_any, and_parts, cases_Bool, false_from_ne_true, none-some, IpAddr, SocketAddr}
+use Rattle.turn_client_laws.proofs.Machine.{TransportType, Tcp, due, same_address, State, agent_of, later_by, Call, Delete, CreatePermission, BindChannel, TcpConnect, AllocatedTcpSocket, TcpClosed}
+use Rattle.turn_client_laws.proofs.Machine.{SendTo, Recv, PollRecv, Poll, PollTransmit, PollEvent, RelayedAddresses, Permissions, HavePermission, ProtocolError, SetPermissionKept, SetChannelKept}
+use Rattle.turn_client_laws.proofs.Machine.{TurnEvent, DataConnection, Grant, Connection, Offer, Origin, ServerRequest, Relay, Phase, New, Allocated, deleted, in_allocation, is_allocated, is_closed}
+use Rattle.turn_client_laws.proofs.Machine.{is_control, is_granted_in, is_local_taken, is_offer_of, is_open_to, keep_step, marked, marked_if, offer_origin, offer_taken, socket_opened, socket_refused}
+use Rattle.turn_client_laws.proofs.Machine.{socket_step, with_marks, without_first, is_paused, keepalive_times, closed, fail_all, allocations, changed_allocation, family_of_ip, is_of_family, is_past}
+use Rattle.turn_client_laws.proofs.Machine.{is_permission_of, same_transport, with_expired, without_grants, connection_gone, bind_time, state_after, idle_step, keepalive_step, queue_step}
+use Rattle.turn_client_laws.proofs.Machine.{refreshes_in, reply_step, transmit_step, same_address-true, filter-none}
+use Rattle.turn_client_laws.proofs.Laws.{by_found, by_test, send_to-by, has-any}
 use Rattle.turn_client_runs.specs.Reported.{is_to_come}
 use Rattle.turn_client_runs.proofs.LastingCounts.{passes, passes-append}
 use Rattle.turn_client_runs.proofs.ReportedLemmas.{Spends, connection-comes, is_of_connection, offer-comes, spends-mapped, spends-removed, spends-same, spends-trans}
@@ -131,21 +99,6 @@ module _ (e : TurnEvent) (s : State) where
   socket-leaves id peer None origin now found = refused-leaves id peer origin found
   socket-leaves id peer (Some local) origin now found = by_test Leaves (is_local_taken local s) _ _ (λ f. same) (λ f. opened-leaves id peer local origin now found)
 
-  -- ---- data for a peer
-
-  connection-leaves : (o : Option DataConnection) (bytes : List ℕ) → Leaves (on_connection o bytes s)
-  connection-leaves (Some c) bytes = same
-  connection-leaves None bytes = same
-
-  channel-leaves : (channels : List (ℕ × ℕ)) (peer : SocketAddr) (bytes : List ℕ) (now : ℕ) → Leaves (on_channel channels peer bytes now s)
-  channel-leaves [] peer bytes now = stays (on_channel [] peer bytes now s).1 refl refl refl
-  channel-leaves ((number, expiry) ∷ others) peer bytes now =
-      by_test Leaves (leb now expiry) _ _ (λ f. same) (λ f. stays (on_channel [] peer bytes now s).1 refl refl refl)
-
-  over-leaves : (transport : TransportType) (peer : SocketAddr) (bytes : List ℕ) (now : ℕ) → Leaves (send_over transport peer bytes now s)
-  over-leaves Tcp peer bytes now = connection-leaves (find (bound_to peer) (filter_map as_connection s.grants)) bytes
-  over-leaves Udp peer bytes now = channel-leaves (filter_map (active_channel peer) s.grants) peer bytes now
-
   -- ---- packets
 
   abbrev Sends : {A : Type 0} → A × State → Type 0
@@ -207,8 +160,7 @@ module _ (e : TurnEvent) (s : State) where
       (λ f. by_found Leaves (λ origin. socket_step id peer local origin now s) (offer_origin id peer s) _ (λ origin g. socket-leaves id peer local origin now g) same) (λ f. same)
   quiet-spends (TcpClosed local remote now) is =
       by_test (Spends e s) (same_transport s.transport Tcp && same_address remote s.remote) (connection_gone local s) s (λ f. gone-spends e local s) (λ f. same)
-  quiet-spends (SendTo transport peer bytes now) is =
-      by_test Leaves (can_send_to transport (socket_ip peer) s) _ _ (λ f. over-leaves transport peer bytes now) (λ f. same)
+  quiet-spends (SendTo transport peer bytes now) is = send_to-by (Spends e s) transport peer bytes now s (λ ids. stays (record s { ids = ids }) refl refl refl)
   quiet-spends (Poll now) is = poll-spends e now s
   quiet-spends (PollTransmit now) is = let (events, grants, families) = transmit-sends now in stays (transmit_step now s).1 events grants families
   quiet-spends ProtocolError is =

@@ -1,12 +1,9 @@
 -- How many elements pass a test, as lists change.
-use Rattle.std.proofs.Common.{◌≡◌, ◌+◌, ◌≤◌, Bool, true, false, cond, not, List, [], ◌∷◌, map, filter, filter_map, reverse, Option, Some, drop, inl, inr, refl, sym, arith}
-use Rattle.std.specs.Prelude.{slice_get}
-use Rattle.std.specs.Option.{option_map_or}
-use Rattle.std.proofs.lemmas.Bool.{cases_Bool}
-use Rattle.std.proofs.lemmas.List.{reverse-append}
-use Rattle.turn_client_api.proofs.HasLemmas.{Has, cases_Option}
+use Rattle.turn_client_laws.proofs.Common.{◌≡◌, ◌+◌, ◌≤◌, Bool, true, cond, not, List, [], ◌∷◌, map, filter, filter_map, reverse, Option, Some, drop, inl, inr, refl, sym, arith, slice_get}
+use Rattle.turn_client_laws.proofs.Common.{option_map_or, cases_Bool, reverse-append}
+use Rattle.turn_client_laws.proofs.Machine.{Has, cases_Option}
 use Rattle.turn_client_runs.specs.Reported.{count}
-use Rattle.turn_client_runs.proofs.LastingCounts.{passes, passes-append, passes-filter}
+use Rattle.turn_client_runs.proofs.LastingCounts.{passes, passes-append, passes-filter, one-more}
 
 pub count-passes : {X : Type 0} (p : X → Bool) (xs : List X) → count p xs ≡ passes p xs
 count-passes p [] = refl
@@ -41,11 +38,6 @@ pub passes-kept : {X : Type 0} (p : X → Bool) (f : X → X) → ((x : X) → p
 passes-kept p f each [] = refl
 passes-kept p f each (x ∷ xs) = rw (each x) (omega (arith, passes-kept p f each xs))
 
-le-cond : (b c : Bool) → (b ≡ true → c ≡ true) → cond b 1 0 ≤ cond c 1 0
-le-cond true c h = rw (h refl) (omega arith)
-le-cond false true h = omega arith
-le-cond false false h = omega arith
-
 -- what comes of those that pass
 pub passes-made : {X Y : Type 0} (p : X → Bool) (q : Y → Bool) (f : X → Option Y) (xs : List X) → ((x : X) (y : Y) → Has x xs → f x ≡ Some y → q y ≡ true → p x ≡ true)
     → passes q (filter_map f xs) ≤ passes p xs
@@ -54,7 +46,7 @@ passes-made p q f (x ∷ xs) each =
     let more = passes-made p q f xs (λ y z h. each y z (inr h)) in
     elim (cases_Option (f x)) [
       | inl e ↦ rw e (omega (arith, more))
-      | inr (y, e) ↦ rw e (omega (arith, more, le-cond (q y) (p x) (each x y (inl refl) e)))
+      | inr (y, e) ↦ rw e (omega (arith, more, one-more (q y) (p x) (each x y (inl refl) e)))
     ]
 
 -- the first, and the others

@@ -1,49 +1,14 @@
 -- An input tells of what may be reported, once.
-use Rattle.std.proofs.Common.{◌≡◌, ◌∙◌, ℕ, ◌+◌, ◌≤◌, ◌<◌, Bool, true, false, cond, not, ◌&&◌, eqb, ltb, List, [], ◌∷◌, ◌++◌, filter, filter_map, length, map, Option, Some, None, refl, sym}
-use Rattle.std.proofs.Common.{subst, arith, inl, inr}
-use Rattle.std.specs.Prelude.{IfSome, find, is_some}
-use Rattle.std.specs.Net.Socket.{socket_ip}
-use Rattle.std.specs.Option.{option_map_or}
-use Rattle.std.proofs.lemmas.Bool.{and_parts, cases_Bool, eqb-true, lt-ltb}
-use Rattle.std.proofs.lemmas.List.{length-append}
-use Rattle.std.specs.declared.net.socket_addr.SocketAddr.{SocketAddr}
-use Rattle.turn_stun.specs.Message.{id_of}
-use Rattle.turn_stun.specs.declared.transport.TransportType.TheVariants.{Tcp}
-use Rattle.turn_auth.specs.LongTerm.{Challenge}
-use Rattle.turn_agent.specs.Agent.{same_address}
-use Rattle.turn_client_api.specs.State.{State}
-use Rattle.turn_client_api.specs.declared.event.TurnEvent.{TurnEvent}
-use Rattle.turn_client_api.specs.declared.event.TurnEvent.TheVariants.{TcpConnected, TcpConnectFailed}
-use Rattle.turn_client_api.specs.declared.grant.DataConnection.{DataConnection}
-use Rattle.turn_client_api.specs.declared.grant.DataOffer.{DataOffer}
-use Rattle.turn_client_api.specs.declared.grant.Grant.{Grant}
-use Rattle.turn_client_api.specs.declared.grant.Grant.TheVariants.{Connection, Offer}
-use Rattle.turn_client_api.specs.declared.grant.Origin.{Origin}
-use Rattle.turn_client_api.specs.declared.grant.Origin.TheVariants.{ServerIndication, ServerRequest}
-use Rattle.turn_client_api.specs.declared.grant.Purpose.{Purpose}
-use Rattle.turn_client_api.specs.declared.state.Phase.{Phase}
-use Rattle.turn_client_api.specs.declared.state.Phase.TheVariants.{New}
-use Rattle.turn_client_api.specs.declared.state.Queued.{Queued}
-use Rattle.turn_client_api.specs.Connections.{accepts_attempt, attempt_indicated, attempt_requested, bind_answered, bind_step, bound, connection_at}
-use Rattle.turn_client_api.specs.Connections.{deadline_set, is_connected, not_bound, with_deadline}
-use Rattle.turn_client_api.specs.Effect.{closed, fail_all, transaction_ended, with_offer}
-use Rattle.turn_client_api.specs.Grants.{as_connection, find_allocation_to, is_connection_from, purposes_of, unlisted, without_grants}
-use Rattle.turn_client_api.specs.Judgement.{Judgement, Challenged, ConnectionAttempt, Fatal, SignedError, SignedRequest, SignedSuccess, bind_judgement, connection_id_in}
-use Rattle.turn_client_api.specs.Judgement.{is_bind_of, judgement_of, method_in, peer_in}
-use Rattle.turn_client_api.specs.Payloads.{Handled, Ignored, Outcome, challenge_step, message_step, wrong_step}
-use Rattle.turn_client_api.specs.Receive.{connection_gone}
-use Rattle.turn_client_api.specs.Requests.{connection_attempt_method, fresh_id, requested}
-use Rattle.turn_client_api.specs.Retry.{bind_time, retried, state_after_retry, with_held}
-use Rattle.turn_client_api.specs.State.{later_by}
-use Rattle.turn_client_laws.specs.Handled.{Input, processed}
-use Rattle.turn_client_laws.specs.LawsHandled.{DiffersInStreams, InputsLead}
-use Rattle.turn_client_api.proofs.AddressLemmas.{same_address-self, same_address-true}
-use Rattle.turn_client_laws.proofs.BoundLemmas.{found-local}
-use Rattle.turn_client_laws.proofs.CaseLemmas.{bind-by, by_found, by_accepted, by_test}
-use Rattle.turn_client_laws.proofs.EditsOfMessages.{connection-there}
-use Rattle.turn_client_api.proofs.HasLemmas.{Has, cases_Option}
-use Rattle.turn_client_laws.proofs.ListedGrants.{AllHaveGrant}
-use Rattle.turn_client_laws.proofs.OneInputLemmas.{input-by}
+use Rattle.turn_client_laws.proofs.Common.{◌≡◌, ◌∙◌, ℕ, ◌+◌, ◌≤◌, ◌<◌, Bool, true, false, cond, not, ◌&&◌, eqb, ltb, List, [], ◌∷◌, ◌++◌, filter, filter_map, length, map, Option, Some, None, refl}
+use Rattle.turn_client_laws.proofs.Common.{sym, subst, arith, inl, inr, IfSome, find, is_some, socket_ip, option_map_or, and_parts, cases_Bool, eqb-true, lt-ltb, length-append, SocketAddr}
+use Rattle.turn_client_laws.proofs.Machine.{id_of, Tcp, Challenge, same_address, State, TurnEvent, TcpConnected, TcpConnectFailed, DataConnection, DataOffer, Grant, Connection, Offer, Origin}
+use Rattle.turn_client_laws.proofs.Machine.{ServerIndication, ServerRequest, Purpose, Phase, New, Queued, accepts_attempt, attempt_indicated, attempt_requested, bind_answered, bind_step, bound}
+use Rattle.turn_client_laws.proofs.Machine.{connection_at, deadline_set, is_connected, not_bound, with_deadline, closed, fail_all, transaction_ended, with_offer, as_connection, find_allocation_to}
+use Rattle.turn_client_laws.proofs.Machine.{is_connection_from, purposes_of, unlisted, without_grants, Judgement, Challenged, ConnectionAttempt, Fatal, SignedError, SignedRequest, SignedSuccess}
+use Rattle.turn_client_laws.proofs.Machine.{bind_judgement, connection_id_in, is_bind_of, judgement_of, method_in, peer_in, Handled, Ignored, Outcome, challenge_step, message_step, wrong_step}
+use Rattle.turn_client_laws.proofs.Machine.{connection_gone, connection_attempt_method, fresh_id, requested, bind_time, retried, state_after_retry, with_held, later_by, same_address-self}
+use Rattle.turn_client_laws.proofs.Machine.{same_address-true, Has, cases_Option}
+use Rattle.turn_client_laws.proofs.Laws.{Input, processed, DiffersInStreams, InputsLead, found-local, bind-by, by_found, by_accepted, by_test, connection-there, AllHaveGrant, input-by}
 use Rattle.turn_client_runs.specs.Reported.{attempts_in, is_like, is_to_come}
 use Rattle.turn_client_runs.proofs.LastingCounts.{passes, passes-all, passes-append, passes-more}
 use Rattle.turn_client_runs.proofs.LoneConnects.{HasLoneConnects}

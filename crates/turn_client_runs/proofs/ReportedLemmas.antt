@@ -1,24 +1,9 @@
 -- How many events like one wait or may still come, as the parts of a step change the state.
-use Rattle.std.proofs.Common.{◌≡◌, ℕ, ◌+◌, ◌≤◌, Bool, true, false, cond, not, ◌&&◌, List, [], ◌∷◌, ◌++◌, map, filter, fold, reverse, Some, refl, arith, inl, inr}
-use Rattle.std.specs.Prelude.{⊤, is_some}
-use Rattle.std.proofs.lemmas.Bool.{cases_Bool}
-use Rattle.std.specs.declared.net.ip_addr.IpAddr.{IpAddr}
-use Rattle.std.specs.declared.net.socket_addr.SocketAddr.{SocketAddr}
-use Rattle.turn_stun.specs.declared.transport.TransportType.{TransportType}
-use Rattle.turn_client_api.specs.State.{State}
-use Rattle.turn_client_api.specs.declared.event.TurnEvent.{TurnEvent}
-use Rattle.turn_client_api.specs.declared.event.TurnEvent.TheVariants.{PermissionCreated, PermissionCreateFailed, ChannelCreated, ChannelCreateFailed}
-use Rattle.turn_client_api.specs.declared.event.TurnEvent.TheVariants.{TcpConnected, TcpConnectFailed}
-use Rattle.turn_client_api.specs.declared.grant.Grant.{Grant}
-use Rattle.turn_client_api.specs.declared.grant.DataConnection.{DataConnection}
-use Rattle.turn_client_api.specs.declared.grant.DataOffer.{DataOffer}
-use Rattle.turn_client_api.specs.declared.grant.Grant.TheVariants.{Permission, Channel, Connect, Offer, Connection}
-use Rattle.turn_client_api.specs.declared.grant.Lease.{Lease}
-use Rattle.turn_client_api.specs.declared.grant.Progress.{Progress}
-use Rattle.turn_client_api.specs.declared.grant.Progress.TheVariants.{Pending, Active, Reserved}
-use Rattle.turn_client_api.specs.Grants.{failure_of, failures_among, wait, without_grants}
-use Rattle.turn_client_api.specs.Poll.{failed}
-use Rattle.turn_client_api.proofs.HasLemmas.{Has, has-filter}
+use Rattle.turn_client_laws.proofs.Common.{◌≡◌, ℕ, ◌+◌, ◌≤◌, Bool, true, cond, not, ◌&&◌, List, [], ◌∷◌, ◌++◌, map, filter, fold, reverse, Some, refl, arith, inl, inr, ⊤, is_some, cases_Bool, IpAddr}
+use Rattle.turn_client_laws.proofs.Common.{SocketAddr}
+use Rattle.turn_client_laws.proofs.Machine.{TransportType, State, TurnEvent, PermissionCreated, PermissionCreateFailed, ChannelCreated, ChannelCreateFailed, TcpConnected, TcpConnectFailed, Grant}
+use Rattle.turn_client_laws.proofs.Machine.{DataConnection, DataOffer, Permission, Channel, Connect, Offer, Connection, Lease, Progress, Pending, Active, Reserved, failure_of, failures_among, wait}
+use Rattle.turn_client_laws.proofs.Machine.{without_grants, failed, Has, has-filter}
 use Rattle.turn_client_runs.specs.Reported.{is_awaited_by, is_like, is_to_come}
 use Rattle.turn_client_runs.proofs.LastingCounts.{passes, passes-append, passes-filter}
 use Rattle.turn_client_runs.proofs.ReportedCounts.{passes-both, passes-kept, passes-made, passes-reverse, passes-without}
@@ -61,18 +46,6 @@ module _ (e : TurnEvent) where
   -- grants change, and what may come of them does not
   pub spends-mapped : (f : Grant → Grant) → ((g : Grant) → is_to_come e (f g) ≡ is_to_come e g) → (s t : State) → t.events ≡ s.events → t.grants ≡ map f s.grants → t.families ≡ s.families → Spends s t
   spends-mapped f each s t events grants families = rw (events, grants, families) (omega (arith, passes-kept (is_to_come e) f each s.grants))
-
-  -- one grant more, of which the event may not come
-  pub spends-more : (g : Grant) → is_to_come e g ≡ false → (s t : State) → t.events ≡ s.events → t.grants ≡ s.grants ++ g ∷ [] → t.families ≡ s.families → Spends s t
-  spends-more g none s t events grants families =
-      let fits : cond (is_to_come e g) 1 0 ≤ 0 = rw none (omega arith) in
-      rw (events, grants, families) (omega (arith, fits, passes-append (is_to_come e) s.grants (g ∷ [])))
-
-  -- one event more, which is none like this one
-  pub spends-unreported : (x : TurnEvent) → is_like e x ≡ false → (s t : State) → t.events ≡ s.events ++ x ∷ [] → t.grants ≡ s.grants → t.families ≡ s.families → Spends s t
-  spends-unreported x none s t events grants families =
-      let fits : cond (is_like e x) 1 0 ≤ 0 = rw none (omega arith) in
-      rw (events, grants, families) (omega (arith, fits, passes-append (is_like e) s.events (x ∷ [])))
 
   -- the failures of grants that are removed
   failures : (which : Grant → Bool) → ((g : Grant) → which g ≡ true → IsLosable g) → (s : State)

@@ -1,59 +1,23 @@
 -- A reply of the server tells of what may be reported, once.
-use Rattle.std.proofs.Common.{◌≡◌, ◌∙◌, ℕ, ◌≤◌, Bool, true, false, cond, not, ◌&&◌, ◌||◌, eqb, leb, List, [], ◌∷◌, map, filter, filter_map, fold, Option, Some, None, refl}
-use Rattle.std.proofs.Common.{sym, subst, arith, inl, inr}
-use Rattle.std.specs.Prelude.{is_some}
-use Rattle.std.specs.List.{list_any}
-use Rattle.std.proofs.lemmas.Bool.{and_parts, cases_Bool, eq-eqb, false_from_ne_true}
-use Rattle.std.specs.declared.net.ip_addr.IpAddr.{IpAddr}
-use Rattle.std.specs.declared.net.socket_addr.SocketAddr.{SocketAddr}
-use Rattle.turn_stun.specs.declared.transport.TransportType.{TransportType}
-use Rattle.turn_types.specs.declared.family.AddressFamily.{AddressFamily}
-use Rattle.turn_client_api.specs.State.{State, later_by, seconds}
-use Rattle.turn_client_api.specs.declared.event.TurnEvent.{TurnEvent}
-use Rattle.turn_client_api.specs.declared.event.TurnEvent.TheVariants.{PermissionCreated, PermissionCreateFailed, ChannelCreated}
-use Rattle.turn_client_api.specs.declared.event.TurnEvent.TheVariants.{ChannelCreateFailed}
-use Rattle.turn_client_api.specs.declared.event.TurnEvent.TheVariants.{TcpConnectFailed}
-use Rattle.turn_client_api.specs.declared.grant.Grant.{Grant}
-use Rattle.turn_client_api.specs.declared.grant.Grant.TheVariants.{Allocation, Permission, Channel, Connect, Offer, Connection}
-use Rattle.turn_client_api.specs.declared.grant.DataOffer.{DataOffer}
-use Rattle.turn_client_api.specs.declared.grant.Origin.TheVariants.{OwnConnect}
-use Rattle.turn_client_api.specs.declared.grant.Relay.{Relay}
-use Rattle.turn_client_api.specs.declared.grant.Progress.{Progress}
-use Rattle.turn_client_api.specs.declared.grant.Progress.TheVariants.{Pending, Active, Reserved}
-use Rattle.turn_client_api.specs.declared.grant.Purpose.{Purpose}
-use Rattle.turn_client_api.specs.declared.grant.Purpose.TheVariants.{ForRefresh, ForPermission, ForChannel, ForConnect}
-use Rattle.turn_client_api.specs.Grants.{channel_at, changed_allocation, first_in, is_channel_of, is_connect_to, is_of, is_of_family, is_permission_of, is_pending_permission}
-use Rattle.turn_client_api.specs.Grants.{permission_progress, permission_state}
-use Rattle.turn_client_api.specs.Grants.{as_allocation, purposes_of, same_ip, unlisted, wait, with_allocations, without_grants}
-use Rattle.turn_client_api.specs.Effect.{active_channel_answered, active_permission_answered, all_gone, allocate_denied, allocate_granted, allocation_mismatch, challenges_reset}
-use Rattle.turn_client_api.specs.Effect.{channel_answered, channel_lifetime}
-use Rattle.turn_client_api.specs.Effect.{connect_answered, delete_answered, effect, granted_until, has_code, is_asked_permission, lasting}
-use Rattle.turn_client_api.specs.Effect.{lasting_if, transaction_ended}
-use Rattle.turn_client_api.specs.Effect.{listed_permissions_answered, min_lifetime, pending_channel_answered, pending_permission_answered}
-use Rattle.turn_client_api.specs.Effect.{permission_answered, permission_answered_for}
-use Rattle.turn_client_api.specs.Effect.{permission_lifetime, permission_refused_too, prolonged, refreshed, reserved_time}
-use Rattle.turn_client_api.specs.Judgement.{connection_id_in, lifetime_in, method_in}
-use Rattle.turn_client_api.specs.declared.state.Phase.{Phase}
-use Rattle.turn_client_api.specs.declared.state.Phase.TheVariants.{Authenticating}
-use Rattle.turn_client_api.specs.Payloads.{Handled, Outcome, is_answered, response_step, signed_step}
-use Rattle.turn_client_api.specs.Requests.{fresh_id}
-use Rattle.turn_stun.specs.Message.{id_of}
-use Rattle.turn_client_laws.specs.LawsStates.{is_asked_by}
-use Rattle.turn_client_api.proofs.AddressLemmas.{same_address-self, same_address-true, same_ip-true}
-use Rattle.turn_client_laws.proofs.CaseLemmas.{by_found, by_test}
-use Rattle.turn_client_laws.proofs.Edits.{listing}
-use Rattle.turn_client_laws.proofs.EditsOfReplies.{channel-there}
-use Rattle.turn_client_laws.proofs.GrantOriginEffectLemmas.{same_ip-same}
-use Rattle.turn_client_api.proofs.HasLemmas.{Has, filter-has, first-has, has-filter, has-filter_map, has-left, map-has}
-use Rattle.turn_client_laws.proofs.InAllocationLemmas.{any-has, has-any}
-use Rattle.turn_client_laws.proofs.ListedGrants.{AllHaveGrant, HasGrant}
-use Rattle.turn_client_laws.proofs.TwoPurposes.{purpose-with}
+use Rattle.turn_client_laws.proofs.Common.{◌≡◌, ◌∙◌, ℕ, ◌≤◌, Bool, true, false, cond, not, ◌&&◌, ◌||◌, eqb, leb, List, [], ◌∷◌, map, filter, filter_map, fold, Option, Some, None, refl, sym, subst}
+use Rattle.turn_client_laws.proofs.Common.{arith, inl, inr, is_some, list_any, and_parts, cases_Bool, eq-eqb, false_from_ne_true, IpAddr, SocketAddr}
+use Rattle.turn_client_laws.proofs.Machine.{TransportType, AddressFamily, State, later_by, seconds, TurnEvent, PermissionCreated, PermissionCreateFailed, ChannelCreated, ChannelCreateFailed}
+use Rattle.turn_client_laws.proofs.Machine.{TcpConnectFailed, Grant, Allocation, Permission, Channel, Connect, Offer, Connection, DataOffer, OwnConnect, Relay, Progress, Pending, Active, Reserved}
+use Rattle.turn_client_laws.proofs.Machine.{Purpose, ForRefresh, ForPermission, ForChannel, ForConnect, channel_at, changed_allocation, first_in, is_channel_of, is_connect_to, is_of, is_of_family}
+use Rattle.turn_client_laws.proofs.Machine.{is_permission_of, is_pending_permission, permission_progress, permission_state, as_allocation, purposes_of, same_ip, unlisted, wait, with_allocations}
+use Rattle.turn_client_laws.proofs.Machine.{without_grants, active_channel_answered, active_permission_answered, all_gone, allocate_denied, allocate_granted, allocation_mismatch, challenges_reset}
+use Rattle.turn_client_laws.proofs.Machine.{channel_answered, channel_lifetime, connect_answered, delete_answered, effect, granted_until, has_code, is_asked_permission, lasting, lasting_if}
+use Rattle.turn_client_laws.proofs.Machine.{transaction_ended, listed_permissions_answered, min_lifetime, pending_channel_answered, pending_permission_answered, permission_answered}
+use Rattle.turn_client_laws.proofs.Machine.{permission_answered_for, permission_lifetime, permission_refused_too, prolonged, refreshed, reserved_time, connection_id_in, lifetime_in, method_in, Phase}
+use Rattle.turn_client_laws.proofs.Machine.{Authenticating, Handled, Outcome, is_answered, response_step, signed_step, fresh_id, id_of, same_address-self, same_address-true, same_ip-true, Has}
+use Rattle.turn_client_laws.proofs.Machine.{filter-has, first-has, has-filter, has-filter_map, has-left, map-has}
+use Rattle.turn_client_laws.proofs.Laws.{is_asked_by, by_found, by_test, listing, channel-there, same_ip-same, any-has, has-any, AllHaveGrant, HasGrant, purpose-with}
 use Rattle.turn_client_runs.specs.Reported.{is_like, is_to_come}
 use Rattle.turn_client_runs.proofs.LoneConnects.{HasLoneConnects}
 use Rattle.turn_client_runs.proofs.ReportedAllocates.{IsSettled, allocation-comes, denied-spends, granted-spends}
 use Rattle.turn_client_runs.proofs.ReportedLemmas.{IsLosable, Spends, channel-created, channel-failed, channel-reserved, connect-comes, offer-comes, permission-created, permission-failed}
-use Rattle.turn_client_runs.proofs.ReportedLemmas.{spends-exchanged, spends-failed-later, spends-fold, spends-mapped, spends-removed}
-use Rattle.turn_client_runs.proofs.ReportedLemmas.{spends-replaced, spends-same, spends-reported, spends-reported-first, spends-trans}
+use Rattle.turn_client_runs.proofs.ReportedLemmas.{spends-exchanged, spends-failed-later, spends-fold, spends-mapped, spends-removed, spends-replaced, spends-same, spends-reported}
+use Rattle.turn_client_runs.proofs.ReportedLemmas.{spends-reported-first, spends-trans}
 
 -- ---- what is found
 

@@ -1,41 +1,13 @@
 -- What a call requests may be reported once more.
-use Rattle.std.proofs.Common.{◌≡◌, ◌⊎◌, ◌∙◌, ℕ, ◌+◌, ◌≤◌, Bool, true, false, cond, not, ◌&&◌, ◌||◌, List, [], ◌∷◌, map, filter_map, Option, Some, None, Result, refl, sym, subst, arith, inl, inr}
-use Rattle.std.specs.Prelude.{is_none, is_some}
-use Rattle.std.specs.List.{list_any}
-use Rattle.std.specs.Net.Socket.{socket_ip}
-use Rattle.std.proofs.lemmas.Bool.{and_parts, cases_Bool, false_from_ne_true, or_parts}
-use Rattle.std.specs.declared.net.ip_addr.IpAddr.{IpAddr}
-use Rattle.std.specs.declared.net.socket_addr.SocketAddr.{SocketAddr}
-use Rattle.turn_stun.specs.declared.transport.TransportType.{TransportType}
-use Rattle.turn_stun.specs.declared.transport.TransportType.TheVariants.{Tcp}
-use Rattle.turn_agent.specs.Agent.{same_address}
-use Rattle.turn_client_api.specs.State.{State}
-use Rattle.turn_client_api.specs.declared.call.Call.{Call}
-use Rattle.turn_client_api.specs.declared.call.Call.TheVariants.{BindChannel, CreatePermission, TcpConnect}
-use Rattle.turn_client_api.specs.declared.error.BindChannelError.{BindChannelError}
-use Rattle.turn_client_api.specs.declared.error.CreatePermissionError.{CreatePermissionError}
-use Rattle.turn_client_api.specs.declared.error.TcpConnectError.{TcpConnectError}
-use Rattle.turn_client_api.specs.declared.event.TurnEvent.{TurnEvent}
-use Rattle.turn_client_api.specs.declared.event.TurnEvent.TheVariants.{PermissionCreated, PermissionCreateFailed, ChannelCreated, ChannelCreateFailed}
-use Rattle.turn_client_api.specs.declared.event.TurnEvent.TheVariants.{TcpConnected, TcpConnectFailed}
-use Rattle.turn_client_api.specs.declared.grant.Grant.{Grant}
-use Rattle.turn_client_api.specs.declared.grant.Grant.TheVariants.{Permission, Channel, Connect, Offer, Connection}
-use Rattle.turn_client_api.specs.declared.grant.Progress.{Progress}
-use Rattle.turn_client_api.specs.declared.grant.Progress.TheVariants.{Pending}
-use Rattle.turn_client_api.specs.declared.grant.Purpose.TheVariants.{ForConnect, ForPermission}
-use Rattle.turn_client_api.specs.Connections.{is_connected, is_connecting, is_connection_to}
-use Rattle.turn_client_api.specs.Calls.{bind_channel, bound_by, channel_step, channels_to, connect_step, create_permission_step, free_number, is_allocated}
-use Rattle.turn_client_api.specs.Calls.{is_in_progress, missing_permission, tcp_connect_step}
-use Rattle.turn_client_api.specs.Calls.{permission_step, progress_to, reserved_from}
-use Rattle.turn_client_api.specs.Calls.{bind_channel_step}
-use Rattle.turn_client_api.specs.Grants.{find_allocation_to, has_active_permission, is_connect_to, is_permission_of, permission_state, same_ip, with_grant}
-use Rattle.turn_client_api.specs.Requests.{fresh_id, requested}
-use Rattle.turn_client_api.specs.Steps.{state_after}
-use Rattle.turn_client_api.proofs.AddressLemmas.{same_address-true, same_ip-true}
-use Rattle.turn_client_laws.proofs.CaseLemmas.{by_test}
-use Rattle.turn_client_laws.proofs.DoubleLemmas.{no-permission}
-use Rattle.turn_client_api.proofs.HasLemmas.{Has, filter_map-has, has-right}
-use Rattle.turn_client_laws.proofs.InAllocationLemmas.{any-has, has-any}
+use Rattle.turn_client_laws.proofs.Common.{◌≡◌, ◌⊎◌, ◌∙◌, ℕ, ◌+◌, ◌≤◌, Bool, true, false, cond, not, ◌&&◌, ◌||◌, List, [], ◌∷◌, map, filter_map, Option, Some, None, Result, refl, sym, subst, arith}
+use Rattle.turn_client_laws.proofs.Common.{inl, inr, is_none, is_some, list_any, socket_ip, and_parts, cases_Bool, false_from_ne_true, or_parts, IpAddr, SocketAddr}
+use Rattle.turn_client_laws.proofs.Machine.{TransportType, Tcp, same_address, State, Call, BindChannel, CreatePermission, TcpConnect, BindChannelError, CreatePermissionError, TcpConnectError}
+use Rattle.turn_client_laws.proofs.Machine.{TurnEvent, PermissionCreated, PermissionCreateFailed, ChannelCreated, ChannelCreateFailed, TcpConnected, TcpConnectFailed, Grant, Permission, Channel}
+use Rattle.turn_client_laws.proofs.Machine.{Connect, Offer, Connection, Progress, Pending, ForConnect, ForPermission, is_connected, is_connecting, is_connection_to, bind_channel, bound_by}
+use Rattle.turn_client_laws.proofs.Machine.{channel_step, channels_to, connect_step, create_permission_step, free_number, is_allocated, is_in_progress, missing_permission, tcp_connect_step}
+use Rattle.turn_client_laws.proofs.Machine.{permission_step, progress_to, reserved_from, bind_channel_step, find_allocation_to, has_active_permission, is_connect_to, is_permission_of}
+use Rattle.turn_client_laws.proofs.Machine.{permission_state, same_ip, with_grant, fresh_id, requested, state_after, same_address-true, same_ip-true, Has, filter_map-has, has-right}
+use Rattle.turn_client_laws.proofs.Laws.{by_test, no-permission, any-has, has-any}
 use Rattle.turn_client_runs.specs.Reported.{is_about, is_connection, is_request_for, is_to_come, requested_by}
 use Rattle.turn_client_runs.proofs.LastingCounts.{passes, passes-append}
 use Rattle.turn_client_runs.proofs.ReportedCalls.{in-allocation}

@@ -1,38 +1,12 @@
 -- In each part of a run no cause is reported twice.
-use Rattle.std.proofs.Common.{◌≡◌, ℕ, ◌+◌, ◌≤◌, true, List, [], ◌∷◌, refl, sym, subst, arith, inl, inr, ◌∙◌, false}
-use Rattle.std.specs.List.{list_any}
-use Rattle.std.proofs.lemmas.Bool.{false_from_ne_true}
-use Rattle.std.specs.List.{Contains}
-use Rattle.std.specs.declared.net.socket_addr.SocketAddr.{SocketAddr}
-use Rattle.turn_stun.specs.declared.transport.TransportType.{TransportType}
-use Rattle.turn_client_api.specs.Config.{Config, is_family_list}
-use Rattle.turn_client_api.specs.State.{State, initial}
-use Rattle.turn_client_api.specs.declared.call.Call.{Call}
-use Rattle.turn_client_api.specs.declared.call.Call.TheVariants.{BindChannel, CreatePermission, PollEvent, PollRecv, Recv, TcpConnect}
-use Rattle.turn_client_api.specs.declared.event.TurnEvent.{TurnEvent}
-use Rattle.turn_client_api.specs.declared.event.TurnEvent.TheVariants.{PermissionCreated, PermissionCreateFailed, ChannelCreated, ChannelCreateFailed}
-use Rattle.turn_client_api.specs.declared.event.TurnEvent.TheVariants.{TcpConnected, TcpConnectFailed}
-use Rattle.turn_client_api.specs.declared.grant.Grant.{Grant}
-use Rattle.turn_types.specs.declared.family.AddressFamily.{AddressFamily}
-use Rattle.turn_client_laws.proofs.InAllocationLemmas.{has-any}
-use Rattle.turn_client_api.specs.Receive.{connection_gone}
-use Rattle.turn_client_api.specs.Steps.{state_after, state_after_all}
-use Rattle.turn_client_api.specs.Streams.{without_stream}
-use Rattle.turn_client_laws.specs.Handled.{Input, handled}
-use Rattle.turn_client_laws.specs.LawsAllocates.{AllocatesInOrder}
-use Rattle.turn_client_laws.specs.LawsHandled.{ProcessesInputs, TakesInput}
-use Rattle.turn_client_laws.specs.LawsOrder.{IsUngranted}
-use Rattle.turn_client_laws.specs.LawsStates.{HasGrantsAsked, HasItsGrant}
-use Rattle.turn_client_laws.proofs.ConfiguredLemmas.{call-configured}
-use Rattle.turn_client_laws.proofs.EditsOfMessages.{edits-IsKept}
-use Rattle.turn_client_laws.proofs.FixedFields.{fixed-all-edits}
-use Rattle.turn_client_api.proofs.HasLemmas.{Has, has-all}
-use Rattle.turn_client_laws.proofs.ListedGrants.{AllHaveGrant, StayFounded, StayFounded-KeepsAllEdits}
-use Rattle.turn_client_laws.proofs.StandLemmas.{has-contains}
-use Rattle.turn_client_laws.proofs.InputChainLemmas.{calls-do}
-use Rattle.turn_client_laws.proofs.InputKeepLemmas.{before-kept}
-use Rattle.turn_client_runs.specs.Reported.{CausesAreReportedOnce, IsOfGrant, IsReportedOncePerRequest, attempts_in, caused_by, due_of}
-use Rattle.turn_client_runs.specs.Reported.{in_calls, is_about, is_awaited_by, is_like, is_to_come, reported_by}
+use Rattle.turn_client_laws.proofs.Common.{◌≡◌, ℕ, ◌+◌, ◌≤◌, true, List, [], ◌∷◌, refl, sym, subst, arith, inl, inr, ◌∙◌, false, list_any, false_from_ne_true, Contains, SocketAddr}
+use Rattle.turn_client_laws.proofs.Machine.{TransportType, Config, is_family_list, State, initial, Call, BindChannel, CreatePermission, PollEvent, PollRecv, Recv, TcpConnect, TurnEvent}
+use Rattle.turn_client_laws.proofs.Machine.{PermissionCreated, PermissionCreateFailed, ChannelCreated, ChannelCreateFailed, TcpConnected, TcpConnectFailed, Grant, AddressFamily, connection_gone}
+use Rattle.turn_client_laws.proofs.Machine.{state_after, state_after_all, without_stream, Has, has-all}
+use Rattle.turn_client_laws.proofs.Laws.{has-any, Input, handled, AllocatesInOrder, ProcessesInputs, TakesInput, IsUngranted, HasGrantsAsked, HasItsGrant, call-configured, edits-IsKept}
+use Rattle.turn_client_laws.proofs.Laws.{fixed-all-edits, AllHaveGrant, StayFounded, StayFounded-KeepsAllEdits, has-contains, calls-do, before-kept}
+use Rattle.turn_client_runs.specs.Reported.{CausesAreReportedOnce, IsOfGrant, IsReportedOncePerRequest, attempts_in, caused_by, due_of, in_calls, is_about, is_awaited_by, is_like, is_to_come}
+use Rattle.turn_client_runs.specs.Reported.{reported_by}
 use Rattle.turn_client_runs.proofs.LastingCounts.{passes, passes-none}
 use Rattle.turn_client_runs.proofs.LoneCalls.{call-lone, input-lone}
 use Rattle.turn_client_runs.proofs.LoneConnects.{HasLoneConnects}

@@ -1,30 +1,13 @@
 -- A `poll` tells of what may be reported, once.
-use Rattle.std.proofs.Common.{◌≡◌, ℕ, Bool, true, false, ◌&&◌, ◌||◌, List, [], ◌∷◌, ◌++◌, map, find, fold, reverse, Option, Some, None, refl, arith, inl, inr}
-use Rattle.std.specs.Prelude.{is_some}
-use Rattle.std.proofs.lemmas.Bool.{and_parts, cases_Bool, eq-eqb}
-use Rattle.turn_types.specs.declared.family.AddressFamily.{AddressFamily}
-use Rattle.turn_agent.specs.Agent.{timed_out_transaction}
-use Rattle.turn_client_api.specs.State.{State, agent_of, later_by}
-use Rattle.turn_client_api.specs.declared.event.TurnEvent.{TurnEvent}
-use Rattle.turn_client_api.specs.declared.event.TurnEvent.TheVariants.{AllocationCreateFailed, ChannelCreateFailed}
-use Rattle.turn_client_api.specs.declared.grant.Grant.{Grant}
-use Rattle.turn_client_api.specs.declared.grant.Grant.TheVariants.{Channel, Connection}
-use Rattle.turn_client_api.specs.declared.grant.Progress.TheVariants.{Active, Reserved}
-use Rattle.turn_client_api.specs.declared.grant.Purpose.{Purpose}
-use Rattle.turn_client_api.specs.declared.grant.Relay.{Relay}
-use Rattle.turn_client_api.specs.declared.poll.TurnPollRet.{TurnPollRet}
-use Rattle.turn_client_api.specs.declared.state.Phase.{Phase}
-use Rattle.turn_client_api.specs.declared.state.Phase.TheVariants.{Requesting, Authenticating, Allocated}
-use Rattle.turn_client_api.specs.Due.{has_event, has_reply}
-use Rattle.turn_client_api.specs.Effect.{closed, reserved_time, transaction_ended}
-use Rattle.turn_client_api.specs.Grants.{allocations, family_of, is_channel_of, is_connect, is_for_any, is_of, is_pending_channel, is_pending_permission, without_grants}
-use Rattle.turn_client_api.specs.Poll.{allocation_expires, answer_step, as_reported, channel_expired, first_reported, is_expired_channel, is_expired_permission, is_listed_for_allocation}
-use Rattle.turn_client_api.specs.Poll.{is_over, is_timed_out_offer, is_unbound, expired_at, expired_allocation, expired_in, next_offer, offer_step, poll_step, refreshes_timed_out, set_free}
-use Rattle.turn_client_api.specs.Poll.{silent_step}
-use Rattle.turn_client_api.specs.Poll.{timed_out_purposes, timed_out_step, timed_step, unreported_in}
-use Rattle.turn_client_laws.proofs.CaseLemmas.{answer-by, by_found, by_test}
-use Rattle.turn_client_api.proofs.HasLemmas.{Has, cases_Option, has-found, has-unreversed}
-use Rattle.turn_client_api.proofs.ExpirySteps.{expired_in-does}
+use Rattle.turn_client_laws.proofs.Common.{◌≡◌, ℕ, Bool, true, false, ◌&&◌, ◌||◌, List, [], ◌∷◌, ◌++◌, map, find, fold, reverse, Option, Some, None, refl, arith, inl, inr, is_some, and_parts}
+use Rattle.turn_client_laws.proofs.Common.{cases_Bool, eq-eqb}
+use Rattle.turn_client_laws.proofs.Machine.{AddressFamily, timed_out_transaction, State, agent_of, later_by, TurnEvent, AllocationCreateFailed, ChannelCreateFailed, Grant, Channel, Connection, Active}
+use Rattle.turn_client_laws.proofs.Machine.{Reserved, Purpose, Relay, TurnPollRet, Phase, Requesting, Authenticating, Allocated, has_event, has_reply, closed, reserved_time, transaction_ended}
+use Rattle.turn_client_laws.proofs.Machine.{allocations, family_of, is_channel_of, is_connect, is_for_any, is_of, is_pending_channel, is_pending_permission, without_grants, allocation_expires}
+use Rattle.turn_client_laws.proofs.Machine.{answer_step, as_reported, channel_expired, first_reported, is_expired_channel, is_expired_permission, is_listed_for_allocation, is_over, is_timed_out_offer}
+use Rattle.turn_client_laws.proofs.Machine.{is_unbound, expired_at, expired_allocation, expired_in, next_offer, offer_step, poll_step, refreshes_timed_out, set_free, silent_step, timed_out_purposes}
+use Rattle.turn_client_laws.proofs.Machine.{timed_out_step, timed_step, unreported_in, Has, cases_Option, has-found, has-unreversed, expired_in-does}
+use Rattle.turn_client_laws.proofs.Laws.{answer-by, by_found, by_test}
 use Rattle.turn_client_runs.specs.Reported.{is_like, is_to_come}
 use Rattle.turn_client_runs.proofs.LastingCounts.{passes, passes-append}
 use Rattle.turn_client_runs.proofs.ReportedCounts.{passes-reverse}

@@ -1,17 +1,8 @@
 -- The law of cuts over the calls of a run.
-use Rattle.std.proofs.Common.{◌≡◌, ◌≢◌, ℕ, zero, suc, ◌+◌, ◌<◌, List, [], ◌∷◌, ◌++◌, Option, Some, None, refl, ap, sym, subst, ◌∙◌, arith, append_assoc}
-use Rattle.std.specs.Prelude.{MatchOption, option_to_list}
-use Rattle.std.proofs.lemmas.List.Elements.{All-cons, All-nil}
-use Rattle.std.specs.declared.net.socket_addr.SocketAddr.{SocketAddr}
-use Rattle.turn_stun.specs.declared.transport.TransportType.TheVariants.{Tcp}
-use Rattle.turn_client_api.specs.State.{State}
-use Rattle.turn_client_api.specs.declared.call.Call.{Call}
-use Rattle.turn_client_api.specs.Payloads.{Payload}
-use Rattle.turn_client_api.specs.Streams.{max_steps, poll_recv_step}
-use Rattle.turn_client_api.specs.Receive.{recv_step}
-use Rattle.turn_client_api.specs.Steps.{state_after, state_after_all}
-use Rattle.turn_client_laws.proofs.StreamFewerLemmas.{IsLessThan, steps-less}
-use Rattle.turn_client_laws.proofs.StreamWeightLemmas.{weight, weight-le}
+use Rattle.turn_client_laws.proofs.Common.{◌≡◌, ◌≢◌, ℕ, zero, suc, ◌+◌, ◌<◌, List, [], ◌∷◌, ◌++◌, Option, Some, None, refl, ap, sym, subst, ◌∙◌, arith, append_assoc, MatchOption, option_to_list}
+use Rattle.turn_client_laws.proofs.Common.{All-cons, All-nil, SocketAddr}
+use Rattle.turn_client_laws.proofs.Machine.{Tcp, State, Call, Payload, max_steps, poll_recv_step, recv_step, state_after, state_after_all}
+use Rattle.turn_client_laws.proofs.Laws.{IsLessThan, steps-less, weight, weight-le}
 use Rattle.turn_client_runs.specs.Cut.{AreNonempty, ArePieces, ArePolls, AwaitsBytes, IsSameInRuns, and_then, fed_pieces, outcome_payloads, given_in, given_in_run, joined, polled_until_none}
 use Rattle.turn_client_runs.proofs.PiecesLemmas.{any-cut}
 

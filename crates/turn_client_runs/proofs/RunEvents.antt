@@ -1,30 +1,9 @@
 -- Each event that waits has its cause in the run.
-use Rattle.std.proofs.Common.{◌≡◌, ◌⊎◌, ℕ, List, [], None, refl, inl, inr}
-use Rattle.std.specs.List.{Contains}
-use Rattle.std.specs.declared.net.socket_addr.SocketAddr.{SocketAddr}
-use Rattle.turn_stun.specs.Message.{id_of}
-use Rattle.turn_stun.specs.declared.transport.TransportType.{TransportType}
-use Rattle.turn_client_api.specs.Config.{Config}
-use Rattle.turn_client_api.specs.State.{State, initial}
-use Rattle.turn_client_api.specs.declared.call.Call.{Call}
-use Rattle.turn_client_api.specs.declared.event.TurnEvent.{TurnEvent}
-use Rattle.turn_client_api.specs.declared.event.TurnEvent.TheVariants.{AllocationCreated, PermissionCreated, ChannelCreated, ChannelCreateFailed}
-use Rattle.turn_client_api.specs.declared.event.TurnEvent.TheVariants.{TcpConnected}
-use Rattle.turn_client_api.specs.declared.grant.Grant.{Grant}
-use Rattle.turn_client_api.specs.declared.grant.Grant.TheVariants.{Allocation, Permission, Channel, Connection}
-use Rattle.turn_client_api.specs.declared.grant.Progress.TheVariants.{Active}
-use Rattle.turn_client_api.specs.declared.grant.Purpose.{Purpose}
-use Rattle.turn_client_api.specs.declared.grant.Purpose.TheVariants.{ForRefresh, ForChannel, ForBind}
-use Rattle.turn_client_api.specs.Grants.{purposes_of}
-use Rattle.turn_client_api.specs.Steps.{state_after, state_after_all}
-use Rattle.turn_client_laws.specs.Handled.{Input}
-use Rattle.turn_client_laws.specs.LawsAllocates.{AllocatesInOrder}
-use Rattle.turn_client_laws.specs.LawsGone.{GivesBack}
-use Rattle.turn_client_laws.specs.LawsGranted.{IsActiveGrant}
-use Rattle.turn_client_laws.specs.LawsHandled.{IsDoneBy}
-use Rattle.turn_client_api.proofs.HasLemmas.{Has, first-has}
-use Rattle.turn_client_laws.proofs.StandLemmas.{contains-has, has-contains}
-use Rattle.turn_client_laws.proofs.InputBringLemmas.{leaves-bring}
+use Rattle.turn_client_laws.proofs.Common.{◌≡◌, ◌⊎◌, ℕ, List, [], None, refl, inl, inr, Contains, SocketAddr}
+use Rattle.turn_client_laws.proofs.Machine.{id_of, TransportType, Config, State, initial, Call, TurnEvent, AllocationCreated, PermissionCreated, ChannelCreated, ChannelCreateFailed, TcpConnected}
+use Rattle.turn_client_laws.proofs.Machine.{Grant, Allocation, Permission, Channel, Connection, Active, Purpose, ForRefresh, ForChannel, ForBind, purposes_of, state_after, state_after_all, Has}
+use Rattle.turn_client_laws.proofs.Machine.{first-has}
+use Rattle.turn_client_laws.proofs.Laws.{Input, AllocatesInOrder, GivesBack, IsActiveGrant, IsDoneBy, contains-has, has-contains, leaves-bring}
 use Rattle.turn_client_runs.specs.Events.{Creates, EventsHaveCauses, FailsBy, FailsItself, HasEventCause, IsRefusedIn, Refuses, Reports, Waits, relayed_over}
 use Rattle.turn_client_runs.proofs.AskedPeers.{HasAskedConnections, HasAskedPeers}
 use Rattle.turn_client_runs.proofs.EventCalls.{call-adds}

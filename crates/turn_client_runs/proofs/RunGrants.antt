@@ -1,39 +1,10 @@
 -- What is active after a run was granted in it.
-use Rattle.std.proofs.Common.{◌≡◌, ◌⊎◌, ◌∙◌, ◌++◌, arith, ℕ, List, [], ◌∷◌, Ok, refl, subst, sym, ap, inl, inr}
-use Rattle.std.specs.List.{Contains}
-use Rattle.turn_stun.specs.Message.{id_of}
-use Rattle.std.specs.declared.net.socket_addr.SocketAddr.{SocketAddr}
-use Rattle.turn_stun.specs.declared.transport.TransportType.{TransportType}
-use Rattle.turn_stun.specs.declared.transport.TransportType.TheVariants.{Udp, Tcp}
-use Rattle.turn_client_api.specs.Config.{Config}
-use Rattle.turn_client_api.specs.State.{State, initial}
-use Rattle.turn_client_api.specs.declared.call.Call.{Call}
-use Rattle.turn_client_api.specs.declared.call.Call.TheVariants.{Delete}
-use Rattle.turn_client_api.specs.declared.grant.Grant.{Grant}
-use Rattle.turn_client_api.specs.declared.grant.Grant.TheVariants.{Allocation, Permission, Channel, Connect, Offer, Connection}
-use Rattle.turn_client_api.specs.declared.grant.Relay.{Relay}
-use Rattle.turn_client_api.specs.declared.grant.Progress.TheVariants.{Pending, Active, Reserved}
-use Rattle.turn_client_api.specs.declared.grant.Purpose.{Purpose}
-use Rattle.turn_client_api.specs.declared.grant.Purpose.TheVariants.{ForAllocation, ForBind, ForRefresh, ForPermission, ForChannel}
-use Rattle.turn_client_api.specs.Calls.{delete_step}
-use Rattle.turn_client_api.specs.Grants.{purposes_of}
-use Rattle.turn_client_laws.specs.Handled.{Input, handled}
-use Rattle.turn_client_laws.specs.LawsAllocates.{AllocatesInOrder}
-use Rattle.turn_client_laws.specs.LawsGranted.{HasChannelTo, IsActiveGrant, WasActive}
-use Rattle.turn_client_laws.specs.LawsHandled.{IsDoneBy}
-use Rattle.turn_client_laws.specs.LawsGone.{GivesBack}
-use Rattle.turn_client_laws.specs.LawsNumbers.{HasDistinctNumbers}
-use Rattle.turn_client_laws.specs.LawsOrder.{FitsPhase}
-use Rattle.turn_client_laws.specs.LawsStates.{HasGrantsAsked}
-use Rattle.turn_client_api.specs.Steps.{state_after, state_after_all}
-use Rattle.turn_client_laws.proofs.AllocateFamilies.{initial-AllocatesInOrder, leaves-AllocatesInOrder}
-use Rattle.turn_client_laws.specs.LawsDoubles.{HasNoDoubles}
-use Rattle.turn_client_laws.proofs.DistinctGrants.{initial-single, leaves-single}
-use Rattle.turn_client_laws.proofs.DistinctNumbers.{initial-numbers, leaves-apart}
-use Rattle.turn_client_api.proofs.HasLemmas.{Has}
-use Rattle.turn_client_laws.proofs.ListedGrants.{initial-HasGrantsAsked, leaves-HasGrantsAsked}
-use Rattle.turn_client_laws.proofs.SendOrderLemmas.{initial-steady, leaves-steadies}
-use Rattle.turn_client_laws.proofs.StandLemmas.{contains-has, covers-has, covers-stood, has-contains}
+use Rattle.turn_client_laws.proofs.Common.{◌≡◌, ◌⊎◌, ◌∙◌, ◌++◌, arith, ℕ, List, [], ◌∷◌, Ok, refl, subst, sym, ap, inl, inr, Contains, SocketAddr}
+use Rattle.turn_client_laws.proofs.Machine.{id_of, TransportType, Udp, Tcp, Config, State, initial, Call, Delete, Grant, Allocation, Permission, Channel, Connect, Offer, Connection, Relay, Pending}
+use Rattle.turn_client_laws.proofs.Machine.{Active, Reserved, Purpose, ForAllocation, ForBind, ForRefresh, ForPermission, ForChannel, delete_step, purposes_of, state_after, state_after_all, Has}
+use Rattle.turn_client_laws.proofs.Laws.{Input, handled, AllocatesInOrder, HasChannelTo, IsActiveGrant, WasActive, IsDoneBy, GivesBack, HasDistinctNumbers, FitsPhase, HasGrantsAsked}
+use Rattle.turn_client_laws.proofs.Laws.{initial-AllocatesInOrder, leaves-AllocatesInOrder, HasNoDoubles, initial-single, leaves-single, initial-numbers, leaves-apart, initial-HasGrantsAsked}
+use Rattle.turn_client_laws.proofs.Laws.{leaves-HasGrantsAsked, initial-steady, leaves-steadies, contains-has, covers-has, covers-stood, has-contains}
 use Rattle.turn_client_runs.specs.Granted.{GrantsAddress, HasReply, IsAllocated, IsAnsweredIn, IsDeletedBy, IsGivenIn, IsGranted, IsGranting, IsRelayed, HoldsThrough}
 use Rattle.turn_client_runs.proofs.AddressInputs.{call-allocated}
 use Rattle.turn_client_runs.proofs.AskedFamilies.{asks-family, inputs-signed}

@@ -1,8 +1,6 @@
 -- What holds after a run held from the first on, or one of its calls caused it, and it holds since.
-use Rattle.std.proofs.Common.{◌≡◌, ◌⊎◌, List, [], ◌∷◌, ◌++◌, refl, ap, inl, inr}
-use Rattle.turn_client_api.specs.State.{State}
-use Rattle.turn_client_api.specs.Steps.{state_after, state_after_all}
-use Rattle.turn_client_api.specs.declared.call.Call.{Call}
+use Rattle.turn_client_laws.proofs.Common.{◌≡◌, ◌⊎◌, List, [], ◌∷◌, ◌++◌, refl, ap, inl, inr}
+use Rattle.turn_client_laws.proofs.Machine.{State, state_after, state_after_all, Call}
 use Rattle.turn_client_runs.specs.Granted.{HoldsThrough}
 
 -- one of these calls did it, and the claim holds after it and after each later one

@@ -1,61 +1,24 @@
 -- Which packets a call queues that processes no input, and which data connections it requests to be bound.
-use Rattle.std.proofs.Common.{◌≡◌, ◌⊎◌, ◌∙◌, ◌++◌, ℕ, Bool, true, false, not, cond, ◌&&◌, ◌||◌, leb, List, [], ◌∷◌, drop, filter, filter_map, flat_map}
-use Rattle.std.proofs.Common.{Option, Some, None, Result, Ok, Err, refl, sym, subst, ap}
-use Rattle.std.proofs.Common.{arith, inl, inr}
-use Rattle.std.specs.Prelude.{codes, find, is_some, nat_le, slice_get}
-use Rattle.std.specs.List.{list_any}
-use Rattle.std.specs.Net.Socket.{socket_ip}
-use Rattle.std.specs.declared.net.ip_addr.IpAddr.{IpAddr}
-use Rattle.std.specs.declared.net.socket_addr.SocketAddr.{SocketAddr}
-use Rattle.turn_stun.specs.declared.transport.TransportType.{TransportType}
-use Rattle.turn_stun.specs.declared.transport.TransportType.TheVariants.{Udp, Tcp}
-use Rattle.turn_agent.specs.Agent.{due, same_address, timed_out_transaction}
-use Rattle.turn_client_api.specs.State.{State, agent_of, later_by}
-use Rattle.turn_client_api.specs.declared.call.Call.{Call}
-use Rattle.turn_client_api.specs.declared.call.Call.TheVariants.{Delete, CreatePermission, BindChannel, TcpConnect, AllocatedTcpSocket, TcpClosed, SendTo, Recv, PollRecv, Poll, PollTransmit}
-use Rattle.turn_client_api.specs.declared.call.Call.TheVariants.{PollEvent, RelayedAddresses, Permissions, HavePermission, ProtocolError, SetPermissionKept, SetChannelKept}
-use Rattle.turn_client_api.specs.declared.error.TcpAllocateError.{TcpAllocateError}
-use Rattle.turn_client_api.specs.declared.grant.DataConnection.{DataConnection}
-use Rattle.turn_client_api.specs.declared.grant.Grant.{Grant}
-use Rattle.turn_client_api.specs.declared.grant.Grant.TheVariants.{Allocation, Connect, Connection, Permission}
-use Rattle.turn_client_api.specs.declared.grant.Listing.{Listing}
-use Rattle.turn_client_api.specs.declared.grant.Origin.{Origin}
-use Rattle.turn_client_api.specs.declared.grant.Origin.TheVariants.{ServerRequest}
-use Rattle.turn_client_api.specs.declared.grant.Progress.TheVariants.{Pending}
-use Rattle.turn_client_api.specs.declared.grant.Purpose.{Purpose}
-use Rattle.turn_client_api.specs.declared.grant.Purpose.TheVariants.{ForBind, ForChannel, ForConnect, ForPermission, ForRefresh}
-use Rattle.turn_client_api.specs.declared.grant.Relay.{Relay}
-use Rattle.turn_client_api.specs.declared.poll.Socket5Tuple.{Socket5Tuple}
-use Rattle.turn_client_api.specs.declared.poll.TurnPollRet.{TurnPollRet}
-use Rattle.turn_client_api.specs.declared.state.Phase.{Phase}
-use Rattle.turn_client_api.specs.declared.state.Phase.TheVariants.{New, Requesting, Authenticating, Allocated}
-use Rattle.turn_client_api.specs.declared.state.Queued.{Queued}
-use Rattle.turn_client_api.specs.Calls.{active_channel, allocated_tcp_socket_step, bind_channel, bound_by, bound_to, can_send_to}
-use Rattle.turn_client_api.specs.Calls.{channel_step, channels_to, connect_step, deleted, free_number}
-use Rattle.turn_client_api.specs.Calls.{answered_with, in_allocation, is_allocated, is_closed, is_control, is_in_progress, is_local_taken, is_open_to, offer_origin, offer_taken, on_channel}
-use Rattle.turn_client_api.specs.Calls.{on_connection, permission_step, reserved_from, send_over, socket_opened, socket_refused, socket_step}
-use Rattle.turn_client_api.specs.Connections.{connection_at, is_connected, is_connecting}
-use Rattle.turn_client_api.specs.Due.{has_event, has_reply, is_paused, keepalive_times}
-use Rattle.turn_client_api.specs.Effect.{closed, fail_all, transaction_ended}
-use Rattle.turn_client_api.specs.Grants.{allocations, as_connection, family_of, family_of_ip, find_allocation_to, has_active_permission}
-use Rattle.turn_client_api.specs.Grants.{is_past, is_permission_of, permission_state, same_transport, with_expired, with_grant}
-use Rattle.turn_client_api.specs.Poll.{answer_step, is_listed_for_allocation, expired_at, next_offer, offer_step, poll_step, timed_out_step, timed_step}
-use Rattle.turn_client_api.specs.Requests.{accepted_reply, asked_lifetime, connection_timed_out, fresh_id, requested}
-use Rattle.turn_client_api.specs.Retry.{bind_time}
-use Rattle.turn_client_api.specs.Steps.{state_after}
-use Rattle.turn_client_api.specs.Transmit.{idle_step, is_due_in, keepalive_step, queue_step, refresh_purpose, refreshes_in, refreshes_of_rank, reply_step, transmit_step, without_first_reply}
-use Rattle.turn_client_laws.specs.LawsHandled.{TakesInput}
-use Rattle.turn_client_laws.specs.LawsRequests.{AsksFor, IsListedFor}
-use Rattle.turn_client_laws.proofs.CaseLemmas.{answer-by, by_found, by_test}
-use Rattle.turn_client_api.proofs.HasLemmas.{Has, first-has, has-filter_map, has-flat_map}
-use Rattle.turn_client_laws.proofs.AfterExpiryLemmas.{expired_at-shrinks}
-use Rattle.turn_client_laws.proofs.MoveLemmas.{Adds, adds-one, adds-same}
-use Rattle.turn_client_laws.proofs.MoveInputLemmas.{listings-made}
-use Rattle.turn_client_laws.proofs.StandLemmas.{contains-has, has-contains}
+use Rattle.turn_client_laws.proofs.Common.{◌≡◌, ◌⊎◌, ◌∙◌, ◌++◌, ℕ, Bool, true, false, not, cond, ◌&&◌, ◌||◌, leb, List, [], ◌∷◌, filter, filter_map, flat_map, Option, Some, None, Result, Ok, Err}
+use Rattle.turn_client_laws.proofs.Common.{refl, sym, subst, ap, arith, inl, inr, codes, is_some, nat_le, slice_get, list_any, socket_ip, IpAddr, SocketAddr}
+use Rattle.turn_client_laws.proofs.Machine.{Tcp, due, same_address, timed_out_transaction, State, agent_of, later_by, Call, Delete, CreatePermission, BindChannel, TcpConnect, AllocatedTcpSocket}
+use Rattle.turn_client_laws.proofs.Machine.{TcpClosed, SendTo, Recv, PollRecv, Poll, PollTransmit, PollEvent, RelayedAddresses, Permissions, HavePermission, ProtocolError, SetPermissionKept}
+use Rattle.turn_client_laws.proofs.Machine.{SetChannelKept, TcpAllocateError, Grant, Allocation, Connect, Connection, Permission, Listing, Origin, ServerRequest, Pending, Purpose, ForBind, ForChannel}
+use Rattle.turn_client_laws.proofs.Machine.{ForConnect, ForPermission, ForRefresh, Relay, Socket5Tuple, TurnPollRet, Phase, New, Requesting, Authenticating, Allocated, Queued}
+use Rattle.turn_client_laws.proofs.Machine.{allocated_tcp_socket_step, bind_channel, bound_by, channel_step, channels_to, connect_step, deleted, free_number, answered_with, in_allocation}
+use Rattle.turn_client_laws.proofs.Machine.{is_allocated, is_closed, is_control, is_in_progress, is_local_taken, is_open_to, offer_origin, offer_taken, permission_step, reserved_from, socket_opened}
+use Rattle.turn_client_laws.proofs.Machine.{socket_refused, socket_step, connection_at, is_connected, is_connecting, has_event, has_reply, is_paused, keepalive_times, closed, fail_all}
+use Rattle.turn_client_laws.proofs.Machine.{transaction_ended, allocations, family_of, family_of_ip, find_allocation_to, has_active_permission, is_past, is_permission_of, permission_state}
+use Rattle.turn_client_laws.proofs.Machine.{same_transport, with_expired, with_grant, answer_step, is_listed_for_allocation, expired_at, next_offer, offer_step, poll_step, timed_out_step, timed_step}
+use Rattle.turn_client_laws.proofs.Machine.{accepted_reply, asked_lifetime, connection_timed_out, fresh_id, requested, bind_time, state_after, idle_step, is_due_in, keepalive_step, queue_step}
+use Rattle.turn_client_laws.proofs.Machine.{refresh_purpose, refreshes_in, refreshes_of_rank, reply_step, transmit_step, without_first_reply, Has, first-has, has-filter_map, has-flat_map}
+use Rattle.turn_client_laws.proofs.Laws.{TakesInput, AsksFor, IsListedFor, answer-by, by_found, by_test, send_to-by, expired_at-shrinks, Adds, adds-one, adds-same, listings-made, contains-has}
+use Rattle.turn_client_laws.proofs.Laws.{has-contains}
 use Rattle.turn_client_runs.specs.Sent.{IsNoBind}
 use Rattle.turn_client_runs.proofs.SentQueues.{GoesOut, Queues, queues-one, queues-same}
 use Rattle.turn_client_runs.proofs.SentTexts.{IsElse, accepted-else, delete-else, refused-else, request-else}
 use Rattle.turn_client_runs.proofs.TogetherLemmas.{listing-here}
+use Rattle.turn_client_laws.proofs.EditsOfTime.{has-dropped}
 
 -- ---- what a call opens
 
@@ -78,10 +41,6 @@ opens-or id tuple peer local now s =
     Claim x = (x.0 ≡ Ok tt) ⊎ (x.1 ≡ s)
 
 -- ---- the queue gets shorter
-
-dropped-has : (queue : List Queued) (q : Queued) → Has q (drop 1 queue) → Has q queue
-dropped-has [] q there = there
-dropped-has (x ∷ queue) q there = inr there
 
 unreplied-has : (queue : List Queued) (q : Queued) → Has q (without_first_reply queue) → Has q queue
 unreplied-has [] q there = there
@@ -179,18 +138,6 @@ module _ (call : Call) (s : State) where
   refused-queues id peer (ServerRequest request) = one _ refl refl refl (refused-else connection_timed_out (codes "Connection Timeout or Failure") s request)
   refused-queues id peer origin = same (offer_taken id peer s) refl
 
-  connection-queues : (o : Option DataConnection) (bytes : List ℕ) → Leaves (on_connection o bytes s)
-  connection-queues (Some c) bytes = same s refl
-  connection-queues None bytes = same s refl
-
-  data-queues : (channels : List (ℕ × ℕ)) (peer : SocketAddr) (bytes : List ℕ) (now : ℕ) → Leaves (on_channel channels peer bytes now s)
-  data-queues [] peer bytes now = same (on_channel [] peer bytes now s).1 refl
-  data-queues ((number, expiry) ∷ others) peer bytes now = by_test Leaves (leb now expiry) _ _ (λ e. same s refl) (λ e. same (on_channel [] peer bytes now s).1 refl)
-
-  over-queues : (transport : TransportType) (peer : SocketAddr) (bytes : List ℕ) (now : ℕ) → Leaves (send_over transport peer bytes now s)
-  over-queues Tcp peer bytes now = connection-queues (find (bound_to peer) (filter_map as_connection s.grants)) bytes
-  over-queues Udp peer bytes now = data-queues (filter_map (active_channel peer) s.grants) peer bytes now
-
   -- what is sent is queued no more
   fewer : (t : State) → ((q : Queued) → Has q t.queue → Has q s.queue) → After t
   fewer t within q there = inl (within q there)
@@ -205,7 +152,7 @@ module _ (call : Call) (s : State) where
   transmit-queues now =
       by_found Leaves _ (due (agent_of s) now) _ (λ t e. λ q there. inl there)
       (by_test Leaves (is_paused now s) (reply_step s) (queue_step now s) (λ e. fewer (reply_step s).1 (unreplied-has s.queue))
-      (λ e. by_found Leaves _ (slice_get s.queue 0) (idle_step s.phase now s) (λ q f. λ x there. inl (dropped-has s.queue x there)) (idle-queues s.phase now)))
+      (λ e. by_found Leaves _ (slice_get s.queue 0) (idle_step s.phase now s) (λ q f. λ x there. inl (has-dropped s.queue x there)) (idle-queues s.phase now)))
 
 -- the caller opened a data connection, or could not
 module _ (id : ℕ) (tuple : Socket5Tuple) (peer : SocketAddr) (now : ℕ) (s : State) where
@@ -279,7 +226,7 @@ call-queues (TcpClosed local remote now) s other =
     (λ e. by_test (After call s) (is_some (connection_at local s)) _ s (λ f. λ q there. inl there) (λ f. same call s s refl)) (λ e. same call s s refl)
 call-queues (SendTo transport peer bytes now) s other =
     let call = SendTo transport peer bytes now in
-    by_test (Leaves call s) (can_send_to transport (socket_ip peer) s) _ _ (λ e. over-queues call s transport peer bytes now) (λ e. same call s s refl)
+    send_to-by (After call s) transport peer bytes now s (λ ids. same call s (record s { ids = ids }) refl)
 call-queues (Poll now) s other = same (Poll now) s (poll_step now s).1 (poll-quiet now s)
 call-queues (PollTransmit now) s other = transmit-queues (PollTransmit now) s now
 call-queues PollEvent s other = λ q there. inl there

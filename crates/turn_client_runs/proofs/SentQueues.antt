@@ -1,41 +1,16 @@
 -- Which packets messages queue.
-use Rattle.std.proofs.Common.{◌≡◌, ◌⊎◌, ℕ, Bool, true, false, not, cond, ◌&&◌, ◌||◌, eqb, leb, ltb, List, [], ◌∷◌, ◌++◌, fold, length, Option, Some, None, refl, inl, inr}
-use Rattle.std.proofs.Common.{◌∙◌}
-use Rattle.std.specs.Prelude.{codes, find, is_some}
-use Rattle.std.specs.Net.Socket.{socket_ip}
-use Rattle.std.specs.declared.net.ip_addr.IpAddr.{IpAddr}
-use Rattle.std.specs.declared.net.socket_addr.SocketAddr.{SocketAddr}
-use Rattle.turn_auth.specs.LongTerm.{Challenge}
-use Rattle.turn_stun.specs.Message.{id_of}
-use Rattle.turn_stun.specs.declared.transport.TransportType.TheVariants.{Tcp}
-use Rattle.turn_types.specs.declared.family.AddressFamily.{AddressFamily}
-use Rattle.turn_types.specs.declared.family.AddressFamily.TheVariants.{IPV4, IPV6}
-use Rattle.turn_client_api.specs.State.{State}
-use Rattle.turn_client_api.specs.declared.event.TurnEvent.TheVariants.{AllocationCreateFailed}
-use Rattle.turn_client_api.specs.declared.grant.DataConnection.{DataConnection}
-use Rattle.turn_client_api.specs.declared.grant.Listing.{Listing}
-use Rattle.turn_client_api.specs.declared.grant.Origin.TheVariants.{ServerIndication, ServerRequest}
-use Rattle.turn_client_api.specs.declared.grant.Progress.{Progress}
-use Rattle.turn_client_api.specs.declared.grant.Progress.TheVariants.{Active, Pending}
-use Rattle.turn_client_api.specs.declared.grant.Purpose.{Purpose}
-use Rattle.turn_client_api.specs.declared.grant.Purpose.TheVariants.{ForAllocation, ForBind, ForChannel, ForConnect, ForPermission, ForRefresh}
-use Rattle.turn_client_api.specs.declared.state.Phase.{Phase}
-use Rattle.turn_client_api.specs.declared.state.Phase.TheVariants.{Authenticating, New}
-use Rattle.turn_client_api.specs.declared.state.Queued.{Queued}
-use Rattle.turn_client_api.specs.Connections.{attempt_indicated, attempt_requested, bind_again, bind_answered, bind_step, bound, is_connected, not_bound}
-use Rattle.turn_client_api.specs.Effect.{allocate_denied, allocate_granted, allocated, allocation_mismatch, challenges_reset, channel_answered, closed, connect_answered, effect}
-use Rattle.turn_client_api.specs.Effect.{all_gone, fail_all, family_not_supported, has_code, in_phase, min_lifetime, permission_answered, permission_answered_for, prolonged, refreshed}
-use Rattle.turn_client_api.specs.Effect.{relayed_in, taken_addresses, transaction_ended, with_offer}
-use Rattle.turn_client_api.specs.Grants.{channel_at, find_allocation_to, first_in, is_connection_from, permission_state, purposes_of, unlisted, wait}
-use Rattle.turn_client_api.specs.Judgement.{Challenged, ConnectionAttempt, Fatal, Judgement, SignedError, SignedRequest, SignedSuccess, bind_judgement, connection_id_in, is_bind_of, judgement_of}
-use Rattle.turn_client_api.specs.Judgement.{lifetime_in, method_in, peer_in}
-use Rattle.turn_client_api.specs.Payloads.{Handled, Ignored, Outcome, answered_purposes, challenge_step, message_step, response_step, signed_step, wrong_step}
-use Rattle.turn_client_api.specs.Requests.{connection_attempt_method, connection_already_exists, bad_request, fresh_id, refused_reply, replied, requested}
-use Rattle.turn_client_api.specs.Retry.{retried, state_after_retry, with_held}
-use Rattle.turn_client_laws.proofs.CaseLemmas.{bind-by, by_found, by_accepted, by_test, indicated-by}
-use Rattle.turn_client_laws.proofs.EditsOfMessages.{purposes-listed}
-use Rattle.turn_client_api.proofs.HasLemmas.{Has, has-found}
-use Rattle.turn_client_laws.proofs.MoveLemmas.{Adds, adds-one, adds-same}
+use Rattle.turn_client_laws.proofs.Common.{◌≡◌, ◌⊎◌, ℕ, Bool, true, false, not, cond, ◌&&◌, ◌||◌, eqb, leb, ltb, List, [], ◌∷◌, ◌++◌, fold, length, Option, Some, None, refl, inl, inr, ◌∙◌, codes}
+use Rattle.turn_client_laws.proofs.Common.{find, is_some, socket_ip, IpAddr, SocketAddr}
+use Rattle.turn_client_laws.proofs.Machine.{Challenge, id_of, Tcp, AddressFamily, IPV4, IPV6, State, AllocationCreateFailed, DataConnection, Listing, ServerIndication, ServerRequest, Progress, Active}
+use Rattle.turn_client_laws.proofs.Machine.{Pending, Purpose, ForAllocation, ForBind, ForChannel, ForConnect, ForPermission, ForRefresh, Phase, Authenticating, New, Queued, attempt_indicated}
+use Rattle.turn_client_laws.proofs.Machine.{attempt_requested, bind_again, bind_answered, bind_step, bound, is_connected, not_bound, allocate_denied, allocate_granted, allocated, allocation_mismatch}
+use Rattle.turn_client_laws.proofs.Machine.{challenges_reset, channel_answered, closed, connect_answered, effect, all_gone, fail_all, family_not_supported, has_code, in_phase, min_lifetime}
+use Rattle.turn_client_laws.proofs.Machine.{permission_answered, permission_answered_for, prolonged, refreshed, relayed_in, taken_addresses, transaction_ended, with_offer, channel_at}
+use Rattle.turn_client_laws.proofs.Machine.{find_allocation_to, first_in, is_connection_from, permission_state, purposes_of, unlisted, wait, Challenged, ConnectionAttempt, Fatal, Judgement}
+use Rattle.turn_client_laws.proofs.Machine.{SignedError, SignedRequest, SignedSuccess, bind_judgement, connection_id_in, is_bind_of, judgement_of, lifetime_in, method_in, peer_in, Handled, Ignored}
+use Rattle.turn_client_laws.proofs.Machine.{Outcome, answered_purposes, challenge_step, message_step, response_step, signed_step, wrong_step, connection_attempt_method, connection_already_exists}
+use Rattle.turn_client_laws.proofs.Machine.{bad_request, fresh_id, refused_reply, replied, requested, retried, state_after_retry, with_held, Has, has-found}
+use Rattle.turn_client_laws.proofs.Laws.{bind-by, by_found, by_accepted, by_test, indicated-by, purposes-listed, Adds, adds-one, adds-same}
 use Rattle.turn_client_runs.specs.Sent.{IsBindOf, IsNoBind}
 use Rattle.turn_client_runs.proofs.SentTexts.{refused-else, request-else, retried-else}
 

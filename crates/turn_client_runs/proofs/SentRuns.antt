@@ -1,61 +1,17 @@
 -- In a run all packets go to the server, from the control address or over the data connection that they bind, and
 -- data to the peer that was named.
-use Rattle.std.proofs.Common.{◌≡◌, ◌⊎◌, ◌∙◌, ◌++◌, ℕ, Bool, true, false, cond, leb, List, [], ◌∷◌, filter_map, flat_map}
-use Rattle.std.proofs.Common.{Option, Some, None, Result, Ok, refl, subst, ap, inl, inr, arith}
-use Rattle.std.specs.Prelude.{find, is_none, is_some, nat_le, slice_get, ⊤}
-use Rattle.std.specs.List.{Contains, list_any}
-use Rattle.std.specs.Net.Socket.{socket_ip}
-use Rattle.std.proofs.lemmas.Bool.{and_parts, leb-true}
-use Rattle.std.specs.declared.net.socket_addr.SocketAddr.{SocketAddr}
-use Rattle.turn_stun.specs.Message.{id_of}
-use Rattle.turn_stun.specs.declared.transport.TransportType.{TransportType}
-use Rattle.turn_stun.specs.declared.transport.TransportType.TheVariants.{Udp, Tcp}
-use Rattle.turn_stun.specs.declared.transport.Transmit.{Transmit}
-use Rattle.turn_types.specs.Channel.{channel_frame}
-use Rattle.turn_types.specs.Send.{send_indication}
-use Rattle.turn_agent.specs.Agent.{due, is_due, same_address}
-use Rattle.turn_agent.specs.declared.transaction.Transaction.{Transaction}
-use Rattle.turn_client_api.specs.Config.{Config, timers_of}
-use Rattle.turn_client_api.specs.State.{State, agent_of, initial}
-use Rattle.turn_client_api.specs.declared.call.Call.{Call}
-use Rattle.turn_client_api.specs.declared.call.Call.TheVariants.{Recv, PollRecv}
+use Rattle.turn_client_laws.proofs.Common.{◌≡◌, ◌⊎◌, ◌∙◌, ◌++◌, ℕ, Bool, true, false, cond, leb, List, [], ◌∷◌, filter_map, flat_map, Option, Some, None, Result, Ok, refl, subst, ap, inl, inr, arith}
+use Rattle.turn_client_laws.proofs.Common.{find, is_none, is_some, nat_le, slice_get, ⊤, Contains, list_any, socket_ip, and_parts, leb-true, SocketAddr}
+use Rattle.turn_client_laws.proofs.Machine.{id_of, TransportType, Udp, Tcp, Transmit, channel_frame, send_indication, due, is_due, same_address, Transaction, Config, timers_of, State, agent_of}
+use Rattle.turn_client_laws.proofs.Machine.{initial, Call, Recv, PollRecv, DataConnection, Grant, Channel, Connection, Lease, Listing, Active, Purpose, ForBind, Phase, New, Requesting, Allocated}
+use Rattle.turn_client_laws.proofs.Machine.{Queued, active_channel, bound_to, can_send_to, on_channel, on_connection, send_over, send_to_step, bind_step, connection_at, is_paused, keepalive_times}
+use Rattle.turn_client_laws.proofs.Machine.{allocations, as_connection, purposes_of, message_step, connection_gone, binding_indication, first_allocate, fresh_id, request_for, state_after}
+use Rattle.turn_client_laws.proofs.Machine.{state_after_all, idle_step, keepalive_step, queue_step, refreshes_in, reply_in, reply_step, sent_at_once, transmit_step, same_address-true, Has, first-has}
+use Rattle.turn_client_laws.proofs.Machine.{has-all, has-filter_map, has-found}
+use Rattle.turn_client_laws.proofs.Laws.{TakesInput, IsAnswer, AsksServer, IsToServer, by_found, by_test, KeepsAllEdits, calls-walk, edits-IsKept, purposes-listed, bind-moves, message-moves, on_test}
+use Rattle.turn_client_laws.proofs.Laws.{gone-settles, all-phase-edits, IsKept, poll_recv-kept, recv-kept, contains-has, has-contains}
 use Rattle.turn_client_api.specs.declared.error.SendError.{SendError}
-use Rattle.turn_client_api.specs.declared.grant.DataConnection.{DataConnection}
-use Rattle.turn_client_api.specs.declared.grant.Grant.{Grant}
-use Rattle.turn_client_api.specs.declared.grant.Grant.TheVariants.{Channel, Connection}
-use Rattle.turn_client_api.specs.declared.grant.Lease.{Lease}
-use Rattle.turn_client_api.specs.declared.grant.Listing.{Listing}
-use Rattle.turn_client_api.specs.declared.grant.Progress.TheVariants.{Active}
-use Rattle.turn_client_api.specs.declared.grant.Purpose.{Purpose}
-use Rattle.turn_client_api.specs.declared.grant.Purpose.TheVariants.{ForBind}
-use Rattle.turn_client_api.specs.declared.state.Phase.{Phase}
-use Rattle.turn_client_api.specs.declared.state.Phase.TheVariants.{New, Requesting, Allocated}
-use Rattle.turn_client_api.specs.declared.state.Queued.{Queued}
-use Rattle.turn_client_api.specs.Calls.{active_channel, bound_to, can_send_to, on_channel, on_connection, send_over, send_to_step}
-use Rattle.turn_client_api.specs.Connections.{bind_step, connection_at}
-use Rattle.turn_client_api.specs.Due.{is_paused, keepalive_times}
-use Rattle.turn_client_api.specs.Grants.{allocations, as_connection, purposes_of}
-use Rattle.turn_client_api.specs.Payloads.{message_step}
-use Rattle.turn_client_api.specs.Receive.{connection_gone}
-use Rattle.turn_client_api.specs.Requests.{binding_indication, first_allocate, fresh_id, request_for}
-use Rattle.turn_client_api.specs.Steps.{state_after, state_after_all}
-use Rattle.turn_client_api.specs.Transmit.{idle_step, keepalive_step, queue_step, refreshes_in, reply_in, reply_step, sent_at_once, transmit_step}
-use Rattle.turn_client_laws.specs.LawsHandled.{TakesInput}
-use Rattle.turn_client_laws.specs.LawsRequests.{IsAnswer}
-use Rattle.turn_client_laws.specs.LawsStates.{AsksServer, IsToServer}
-use Rattle.turn_client_api.proofs.AddressLemmas.{same_address-true}
-use Rattle.turn_client_laws.proofs.CaseLemmas.{by_found, by_test}
-use Rattle.turn_client_laws.proofs.Edits.{KeepsAllEdits}
-use Rattle.turn_client_laws.proofs.EditsOfCalls.{calls-walk}
-use Rattle.turn_client_laws.proofs.EditsOfMessages.{edits-IsKept, purposes-listed}
-use Rattle.turn_client_api.proofs.HasLemmas.{Has, first-has, has-all, has-filter_map, has-found}
-use Rattle.turn_client_laws.proofs.MoveMessageLemmas.{bind-moves, message-moves}
-use Rattle.turn_client_laws.proofs.MoveLemmas.{on_test}
-use Rattle.turn_client_laws.proofs.MoveSocketLemmas.{gone-settles}
-use Rattle.turn_client_laws.proofs.PhaseEdits.{all-phase-edits}
-use Rattle.turn_client_laws.proofs.RunKeepLemmas.{IsKept, poll_recv-kept, recv-kept}
 use Rattle.turn_client_laws.proofs.SentToServer.{initial-AsksServer, leaves-AsksServer}
-use Rattle.turn_client_laws.proofs.StandLemmas.{contains-has, has-contains}
 use Rattle.turn_client_runs.specs.Sent.{GoesToServer, IsBindOf, IsNoBind, IsOnConnection, IsSentTo, PacketsGoOut, SendsToPeers, SendsToServer, WasOpened, from_control}
 use Rattle.turn_client_runs.proofs.HoldLemmas.{holds-found}
 use Rattle.turn_client_runs.proofs.SentCalls.{OpensFor, call-queues, listed-opens, refreshes-else}

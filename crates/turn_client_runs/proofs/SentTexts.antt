@@ -1,25 +1,15 @@
 -- Which messages bind no data connection, by their first two bytes.
-use Rattle.std.proofs.Common.{◌≡◌, ◌+◌, ◌*◌, ℕ, Bool, true, List, [], ◌∷◌, Option, Some, None, refl}
-use Rattle.std.specs.Prelude.{◌≢◌, find, ⊤}
+use Rattle.turn_client_laws.proofs.Common.{◌≡◌, ◌+◌, ◌*◌, ℕ, Bool, true, List, [], ◌∷◌, Option, Some, None, refl, ◌≢◌, find, ⊤}
+use Rattle.turn_client_laws.proofs.Machine.{Challenge, Addition, additions_for, signed_by, with_additions, type_of, header_of, with_attribute, MessageClass, Error, Indication, Request, Success, State}
+use Rattle.turn_client_laws.proofs.Machine.{Purpose, ForAllocation, ForBind, ForChannel, ForConnect, ForPermission, ForRefresh, delete_text, accepted_reply, allocate_method, asked_attributes}
+use Rattle.turn_client_laws.proofs.Machine.{asked_lifetime, attribute, binding_indication, binding_method, channel_bind_method, connect_method, connection_attempt_method, connection_bind_method}
+use Rattle.turn_client_laws.proofs.Machine.{create_permission_method, dont_fragment_kind, error_kind, family_attributes, first_allocate, fresh_id, lifetime_attribute, message_of, refresh_method}
+use Rattle.turn_client_laws.proofs.Machine.{refused_reply, request_for, signed, transport_attribute, first_or, is_allocate_or_connect, is_channel_bind, is_create_permission, is_refresh, retried}
+use Rattle.turn_client_laws.proofs.Machine.{has-found}
 use Rattle.turn_auth.specs.Credentials.{Credentials}
-use Rattle.turn_auth.specs.LongTerm.{Challenge}
-use Rattle.turn_auth.specs.Signature.{Addition, additions_for, signed_by, with_additions}
 use Rattle.turn_auth.specs.declared.feature.Feature.{Feature}
-use Rattle.turn_stun.specs.Message.{type_of}
 use Rattle.turn_stun.specs.MessageType.{class_of, method_of, type_number}
-use Rattle.turn_stun.specs.Writer.{header_of, with_attribute}
 use Rattle.turn_stun.specs.Values.{error_code_value}
-use Rattle.turn_stun.specs.declared.message.header.MessageClass.{MessageClass}
-use Rattle.turn_stun.specs.declared.message.header.MessageClass.TheVariants.{Error, Indication, Request, Success}
-use Rattle.turn_client_api.specs.State.{State}
-use Rattle.turn_client_api.specs.declared.grant.Purpose.{Purpose}
-use Rattle.turn_client_api.specs.declared.grant.Purpose.TheVariants.{ForAllocation, ForBind, ForChannel, ForConnect, ForPermission, ForRefresh}
-use Rattle.turn_client_api.specs.Calls.{delete_text}
-use Rattle.turn_client_api.specs.Requests.{accepted_reply, allocate_method, asked_attributes, asked_lifetime, attribute, binding_indication, binding_method, channel_bind_method, connect_method}
-use Rattle.turn_client_api.specs.Requests.{connection_attempt_method, connection_bind_method, create_permission_method, dont_fragment_kind, error_kind, family_attributes, first_allocate, fresh_id}
-use Rattle.turn_client_api.specs.Requests.{lifetime_attribute, message_of, refresh_method, refused_reply, request_for, signed, transport_attribute}
-use Rattle.turn_client_api.specs.Retry.{first_or, is_allocate_or_connect, is_channel_bind, is_create_permission, is_refresh, retried}
-use Rattle.turn_client_api.proofs.HasLemmas.{has-found}
 use Rattle.turn_client_runs.specs.Sent.{IsNoBind}
 
 -- ---- the first two bytes stay

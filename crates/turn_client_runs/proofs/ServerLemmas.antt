@@ -1,31 +1,15 @@
 -- A signed success for each request.
-use Rattle.std.proofs.Common.{◌≡◌, ◌∙◌, ℕ, ◌^◌, ◌<◌, true, false, List, [], ◌∷◌, length, Some, None, ap, arith, refl, subst, sym}
-use Rattle.std.specs.Prelude.{IsSome, IsSomeAnd, Option}
+use Rattle.turn_client_laws.proofs.Common.{◌≡◌, ◌∙◌, ℕ, ◌^◌, ◌<◌, true, false, List, [], ◌∷◌, length, Some, None, ap, arith, refl, subst, sym, IsSome, IsSomeAnd, Option}
+use Rattle.turn_client_laws.proofs.Machine.{first_of, seen_after, seen_of, Attribute, attributes_of, id_of, type_of, AddsAttribute, IsWritten, header_of, with_attribute, Success, Udp}
+use Rattle.turn_client_laws.proofs.Machine.{attributes_of-is, Challenge, is_unsigned, with_integrity, IsValidated, held_key, validation_of, is_outstanding, State, auth_of, Purpose, ForAllocation}
+use Rattle.turn_client_laws.proofs.Machine.{ForRefresh, ForPermission, ForChannel, ForConnect, ForBind, purposes_of, class_in, lifetime_in, method_in, is_message, method_for, same_address-self}
 use Rattle.std.specs.Cmp.Lexicographic.{nat_list_eq_equiv}
-use Rattle.turn_stun.specs.Attributes.{first_of, seen_after, seen_of}
-use Rattle.turn_stun.specs.Message.{Attribute, attributes_of, id_of, type_of}
 use Rattle.turn_stun.specs.MessageType.{class_of, method_of, type_number}
-use Rattle.turn_stun.specs.Writer.{AddsAttribute, IsWritten, header_of, with_attribute}
-use Rattle.turn_stun.specs.declared.message.header.MessageClass.TheVariants.{Success}
-use Rattle.turn_stun.specs.declared.transport.TransportType.TheVariants.{Udp}
-use Rattle.turn_stun.proofs.FaultLemmas.{attributes_of-is}
 use Rattle.turn_stun.proofs.WriteLemmas.{header_of-IsMessage, header_of-IsWritten, with_attribute-AddsAttribute, with_attribute-IsWritten}
 use Rattle.turn_types.specs.Values.{number_value}
-use Rattle.turn_auth.specs.LongTerm.{Challenge}
 use Rattle.turn_auth.specs.Integrity.{IntegrityHolds, covered_text, integrity_holds, integrity_kind, mac_of}
-use Rattle.turn_auth.specs.Signature.{is_unsigned, with_integrity}
-use Rattle.turn_auth.specs.Validation.{IsValidated, held_key, validation_of}
 use Rattle.turn_auth.specs.declared.integrity.IntegrityAlgorithm.{IntegrityAlgorithm}
 use Rattle.turn_auth.proofs.SignLemmas.{begun_is_unsigned, is_unsigned-push}
-use Rattle.turn_agent.specs.Agent.{is_outstanding}
-use Rattle.turn_client_api.specs.State.{State, auth_of}
-use Rattle.turn_client_api.specs.declared.grant.Purpose.{Purpose}
-use Rattle.turn_client_api.specs.declared.grant.Purpose.TheVariants.{ForAllocation, ForRefresh, ForPermission, ForChannel, ForConnect, ForBind}
-use Rattle.turn_client_api.specs.Grants.{purposes_of}
-use Rattle.turn_client_api.specs.Judgement.{class_in, lifetime_in, method_in}
-use Rattle.turn_client_api.specs.Payloads.{is_message}
-use Rattle.turn_client_api.specs.Requests.{method_for}
-use Rattle.turn_client_api.proofs.AddressLemmas.{same_address-self}
 use Rattle.turn_client_runs.specs.Lasting.{Grants, IsSuccess}
 use Rattle.turn_client_runs.specs.Server.{RequestsCanBeGranted, from_server, success_for}
 use Rattle.turn_client_runs.proofs.LastingRuns.{datagram-message}

@@ -1,26 +1,12 @@
 -- A stream of a client that was polled to the end holds less than the longest frame.
-use Rattle.std.proofs.Common.{◌≡◌, ◌∙◌, ◌<◌, ℕ, List, [], ◌∷◌, ◌++◌, length, sym, subst, refl, arith}
-use Rattle.std.specs.Prelude.{All}
-use Rattle.std.specs.declared.net.socket_addr.SocketAddr.{SocketAddr}
-use Rattle.std.proofs.lemmas.List.Elements.{All-contains, All-tail}
-use Rattle.turn_stun.specs.declared.transport.TransportType.{TransportType}
-use Rattle.turn_client_api.specs.Config.{Config}
-use Rattle.turn_client_laws.specs.LawsStreams.{AreApart, NeedsMoreBytes, IsEmptyIfBroken}
-use Rattle.turn_client_api.specs.State.{State, initial}
-use Rattle.turn_client_api.specs.Streams.{poll_recv_step}
-use Rattle.turn_client_api.specs.declared.call.Call.{Call}
-use Rattle.turn_client_api.specs.declared.call.Call.TheVariants.{PollRecv}
-use Rattle.turn_client_api.specs.declared.state.Mode.{Mode}
-use Rattle.turn_client_api.specs.declared.state.Mode.TheVariants.{Broken}
-use Rattle.turn_client_laws.proofs.StandLemmas.{contains-has}
-use Rattle.turn_client_laws.proofs.StreamCallLemmas.{call-apart, initial-apart}
-use Rattle.turn_client_laws.proofs.StreamDrainLemmas.{poll_recv-drained}
+use Rattle.turn_client_laws.proofs.Common.{◌≡◌, ◌∙◌, ◌<◌, ℕ, List, [], ◌∷◌, ◌++◌, length, sym, subst, refl, arith, All, SocketAddr, All-contains, All-tail}
+use Rattle.turn_client_laws.proofs.Machine.{TransportType, Config, State, initial, poll_recv_step, Call, PollRecv, Mode, Broken, state_after_all}
+use Rattle.turn_client_laws.proofs.Laws.{AreApart, NeedsMoreBytes, IsEmptyIfBroken, contains-has, call-apart, initial-apart, poll_recv-drained}
 use Rattle.turn_client_laws.proofs.StreamShortLemmas.{drained-short}
 use Rattle.turn_client_runs.specs.Short.{StreamsAreShort}
 use Rattle.turn_client_runs.proofs.QuietLemmas.{calls-keep}
 use Rattle.turn_client_runs.proofs.ReceivedRuns.{streams-received}
 use Rattle.turn_client_runs.proofs.RunGrants.{first-hold}
-use Rattle.turn_client_api.specs.Steps.{state_after_all}
 
 -- what ends a list of bytes are bytes
 ends-bytes : (before bytes : List ℕ) → All (λ b. b < 256) (before ++ bytes) → All (λ b. b < 256) bytes

@@ -1,16 +1,12 @@
 -- The bytes of a signed message.
-use Rattle.std.proofs.Common.{◌≡◌, ℕ, ◌+◌, ◌^◌, ◌<◌, ◌≤◌, true, List, length, arith, refl}
-use Rattle.turn_stun.specs.Message.{attributes_of, padded_len}
-use Rattle.turn_stun.specs.Writer.{AddsAttribute, IsWritten}
-use Rattle.turn_stun.proofs.FaultLemmas.{IsMessage-no_fault}
+use Rattle.turn_client_laws.proofs.Common.{◌≡◌, ℕ, ◌+◌, ◌^◌, ◌<◌, ◌≤◌, true, List, length, arith, refl}
+use Rattle.turn_client_laws.proofs.Machine.{attributes_of, padded_len, AddsAttribute, IsWritten, IsMessage-no_fault, is_unsigned, with_integrity, is_message}
 use Rattle.turn_stun.proofs.WriteLemmas.{IsWritten-IsMessage, with_attribute-AddsAttribute, with_attribute-IsWritten}
 use Rattle.turn_auth.specs.Integrity.{IntegrityHolds, covered_text, integrity_kind, mac_of}
-use Rattle.turn_auth.specs.Signature.{is_unsigned, with_integrity}
 use Rattle.turn_auth.specs.declared.integrity.IntegrityAlgorithm.{IntegrityAlgorithm}
 use Rattle.turn_auth.specs.declared.integrity.IntegrityAlgorithm.TheVariants.{Sha1, Sha256}
 use Rattle.turn_auth.proofs.DigestLemmas.{length-hmac_sha1, length-hmac_sha256}
 use Rattle.turn_auth.proofs.SignLemmas.{signed_behind}
-use Rattle.turn_client_api.specs.Payloads.{is_message}
 
 mac-len : (algorithm : IntegrityAlgorithm) (key text : List ℕ) → length (mac_of algorithm key text) ≤ 32
 mac-len Sha1 key text = omega (arith, length-hmac_sha1 key text)

@@ -1,40 +1,12 @@
 -- Once the first challenge is answered, and until the allocation, all that is outstanding is a signed
 -- ALLOCATE: calls keep that.
-use Rattle.std.proofs.Common.{◌≡◌, ◌⊎◌, ◌≤◌, ◌∙◌, ℕ, true, false, cond, ◌&&◌, [], Option, None, inl, inr, refl, sym, subst, ap, arith}
-use Rattle.std.specs.Net.Socket.{socket_ip}
-use Rattle.std.specs.declared.net.ip_addr.IpAddr.{IpAddr}
-use Rattle.turn_stun.specs.declared.transport.TransportType.{TransportType}
-use Rattle.turn_stun.specs.declared.transport.TransportType.TheVariants.{Tcp}
-use Rattle.turn_agent.specs.declared.transaction.Transaction.{Transaction}
-use Rattle.turn_client_api.specs.State.{State}
-use Rattle.turn_client_api.specs.declared.call.Call.{Call}
-use Rattle.turn_client_api.specs.declared.call.Call.TheVariants.{Delete, CreatePermission, BindChannel, TcpConnect, AllocatedTcpSocket, Recv, PollRecv, PollTransmit}
-use Rattle.turn_client_api.specs.declared.call.Call.TheVariants.{RelayedAddresses, Permissions, HavePermission}
-use Rattle.turn_client_api.specs.declared.grant.Relay.{Relay}
-use Rattle.turn_client_api.specs.declared.grant.Purpose.{Purpose}
-use Rattle.turn_client_api.specs.declared.grant.Purpose.TheVariants.{ForAllocation}
-use Rattle.turn_client_api.specs.declared.state.Phase.{Phase}
-use Rattle.turn_client_api.specs.declared.state.Phase.TheVariants.{New, Requesting, Authenticating, Allocated, Closed}
-use Rattle.turn_client_api.specs.Calls.{is_allocated, is_control}
-use Rattle.turn_client_api.specs.Grants.{find_allocation_to, same_transport}
-use Rattle.turn_client_laws.specs.LawsAllocates.{AllocatesInOrder}
-use Rattle.turn_client_laws.specs.LawsOrder.{FitsPhase, IsUngranted}
-use Rattle.turn_client_laws.specs.LawsRequests.{AsksFor, IsMadeAs, IsRequestOf, IsSentAgain}
-use Rattle.turn_client_laws.specs.LawsSteps.{rank}
-use Rattle.turn_client_api.specs.Requests.{fresh_id, request_for}
-use Rattle.turn_client_api.specs.Steps.{state_after}
-use Rattle.turn_client_laws.proofs.Edits.{KeepsEdits}
-use Rattle.turn_client_laws.proofs.PhaseEdits.{phase-edits}
-use Rattle.turn_client_laws.proofs.EditsOfCalls.{IsQuiet, quiet-walk}
-use Rattle.turn_client_laws.proofs.EditsOfReplies.{and-false}
-use Rattle.turn_client_api.proofs.HasLemmas.{Has}
-use Rattle.turn_client_laws.proofs.MoveInputLemmas.{requests-made}
-use Rattle.turn_client_laws.proofs.PhasesGoOn.{call-keeps}
-use Rattle.turn_client_laws.proofs.RunKeepLemmas.{poll_recv-kept, recv-kept}
-use Rattle.turn_client_laws.proofs.SendOrderLemmas.{leaves-steadies}
-use Rattle.turn_client_laws.proofs.StandLemmas.{contains-has, has-contains}
+use Rattle.turn_client_laws.proofs.Common.{◌≡◌, ◌⊎◌, ◌≤◌, ◌∙◌, ℕ, true, false, cond, ◌&&◌, [], Option, None, inl, inr, refl, sym, subst, ap, arith, socket_ip, IpAddr}
+use Rattle.turn_client_laws.proofs.Machine.{TransportType, Tcp, Transaction, State, Call, Delete, CreatePermission, BindChannel, TcpConnect, AllocatedTcpSocket, Recv, PollRecv, PollTransmit}
+use Rattle.turn_client_laws.proofs.Machine.{RelayedAddresses, Permissions, HavePermission, Relay, Purpose, ForAllocation, Phase, New, Requesting, Authenticating, Allocated, Closed, is_allocated}
+use Rattle.turn_client_laws.proofs.Machine.{is_control, find_allocation_to, same_transport, fresh_id, request_for, state_after, Has}
+use Rattle.turn_client_laws.proofs.Laws.{AllocatesInOrder, FitsPhase, IsUngranted, AsksFor, IsMadeAs, IsRequestOf, IsSentAgain, rank, KeepsEdits, phase-edits, IsQuiet, quiet-walk, and-false}
+use Rattle.turn_client_laws.proofs.Laws.{requests-made, call-keeps, poll_recv-kept, recv-kept, leaves-steadies, contains-has, has-contains, call-configured}
 use Rattle.turn_client_runs.specs.Granted.{IsSignedAllocate}
-use Rattle.turn_client_laws.proofs.ConfiguredLemmas.{call-configured}
 use Rattle.turn_client_runs.proofs.SignedLemmas.{AreSigned, Signs, SignsIn, StaySigned, StaySigned-IsKept, further-signs, later-signs, same-signs}
 
 -- ---- what a caller requests needs an allocation

@@ -1,42 +1,14 @@
 -- Once the first challenge is answered, and until the allocation, all that is outstanding is a signed
 -- ALLOCATE: messages keep that.
-use Rattle.std.proofs.Common.{◌≡◌, ◌≤◌, ◌∙◌, ◌+◌, ℕ, Bool, true, false, not, eqb, ltb, List, [], ◌∷◌, ◌++◌, Option, Some, None, inl, inr, refl, sym, subst, ap, arith}
-use Rattle.std.specs.Prelude.{IsSome, is_some, ⊤}
-use Rattle.std.proofs.lemmas.Bool.{and_parts, eq-eqb, eqb-true}
-use Rattle.std.specs.declared.net.socket_addr.SocketAddr.{SocketAddr}
-use Rattle.turn_stun.specs.Message.{id_of}
-use Rattle.turn_auth.specs.LongTerm.{Challenge}
-use Rattle.turn_agent.specs.Agent.{first_sent, is_outstanding, is_response, without_transaction}
-use Rattle.turn_agent.specs.declared.transaction.Transaction.{Transaction}
-use Rattle.turn_client_api.specs.Config.{Config}
-use Rattle.turn_client_api.specs.State.{State}
-use Rattle.turn_client_api.specs.declared.grant.Purpose.{Purpose}
-use Rattle.turn_client_api.specs.declared.grant.Purpose.TheVariants.{ForAllocation}
-use Rattle.turn_client_api.specs.declared.state.Phase.{Phase}
-use Rattle.turn_client_api.specs.declared.state.Phase.TheVariants.{New, Requesting, Authenticating, Allocated, Closed}
-use Rattle.turn_client_api.specs.Connections.{bind_step, connection_at}
-use Rattle.turn_client_api.specs.Effect.{closed, transaction_ended, fail_all}
-use Rattle.turn_client_api.specs.Grants.{purposes_of}
-use Rattle.turn_client_api.specs.Judgement.{Challenged, Fatal, Unrelated, answers_one, challenge_in, class_in, judgement_of}
-use Rattle.turn_client_laws.specs.LawsAllocates.{AllocatesInOrder}
-use Rattle.turn_client_laws.specs.LawsOrder.{IsUngranted}
-use Rattle.turn_client_laws.specs.LawsRequests.{IsMadeAs}
-use Rattle.turn_client_laws.specs.LawsSteps.{rank}
-use Rattle.turn_client_api.specs.Payloads.{challenge_step, message_step, wrong_step}
-use Rattle.turn_client_api.specs.Receive.{connection_gone}
-use Rattle.turn_client_api.specs.Requests.{fresh_id, request_for}
-use Rattle.turn_client_api.specs.Retry.{phase_after, retried, state_after_retry, with_held}
-use Rattle.turn_client_laws.proofs.AllocateFamilies.{StayInOrder, StayInOrder-KeepsAllEdits, in_order-stated, stated-in_order}
-use Rattle.turn_client_laws.proofs.EditsOfMessages.{edits-IsKept, purposes-listed, retried-has}
-use Rattle.turn_client_api.proofs.HasLemmas.{Has, has-append, has-filter}
-use Rattle.turn_client_laws.proofs.InAllocationLemmas.{any-has, not-both}
-use Rattle.turn_client_laws.proofs.MoveLemmas.{on_test}
-use Rattle.turn_client_laws.proofs.MoveMessageLemmas.{message-moves}
-use Rattle.turn_client_laws.proofs.PhasesGoOn.{Keeps, bind-keeps, message-keeps}
-use Rattle.turn_client_laws.proofs.RunKeepLemmas.{IsKept}
-use Rattle.turn_client_laws.proofs.StandLemmas.{contains-has, has-contains}
+use Rattle.turn_client_laws.proofs.Common.{◌≡◌, ◌≤◌, ◌∙◌, ◌+◌, ℕ, Bool, true, false, not, eqb, ltb, List, [], ◌∷◌, ◌++◌, Option, Some, None, inl, inr, refl, sym, subst, ap, arith, IsSome, is_some, ⊤}
+use Rattle.turn_client_laws.proofs.Common.{and_parts, eq-eqb, eqb-true, SocketAddr}
+use Rattle.turn_client_laws.proofs.Machine.{id_of, Challenge, first_sent, is_outstanding, is_response, without_transaction, Transaction, Config, State, Purpose, ForAllocation, Phase, New, Requesting}
+use Rattle.turn_client_laws.proofs.Machine.{Authenticating, Allocated, Closed, bind_step, connection_at, closed, transaction_ended, fail_all, purposes_of, Challenged, Fatal, Unrelated, answers_one}
+use Rattle.turn_client_laws.proofs.Machine.{challenge_in, class_in, judgement_of, challenge_step, message_step, wrong_step, connection_gone, fresh_id, request_for, phase_after, retried}
+use Rattle.turn_client_laws.proofs.Machine.{state_after_retry, with_held, Has, has-append, has-filter}
+use Rattle.turn_client_laws.proofs.Laws.{AllocatesInOrder, IsUngranted, IsMadeAs, rank, StayInOrder, StayInOrder-KeepsAllEdits, in_order-stated, stated-in_order, edits-IsKept, purposes-listed}
+use Rattle.turn_client_laws.proofs.Laws.{retried-has, any-has, not-both, on_test, message-moves, Keeps, bind-keeps, message-keeps, IsKept, contains-has, has-contains, message-configured}
 use Rattle.turn_client_runs.specs.Granted.{HaveOneRealm, IsSignedAllocate}
-use Rattle.turn_client_laws.proofs.ConfiguredLemmas.{message-configured}
 
 -- ---- what is kept
 
@@ -80,7 +52,7 @@ same-signs s t e h = subst Signs (sym e) h
 pub closed-signs : (s t : State) → t ≡ closed s → Signs t
 closed-signs s t e = same-signs (closed s) t e tt
 
-some-held : (o : Option Challenge) → IsSome o → (c : Challenge) × (o ≡ Some c)
+pub some-held : (o : Option Challenge) → IsSome o → (c : Challenge) × (o ≡ Some c)
 some-held (Some c) some = (c, refl)
 some-held None some = cc
 

@@ -1,48 +1,24 @@
 -- A client whose server does not answer.
-use Rattle.std.proofs.Common.{◌≡◌, ◌⊎◌, ℕ, zero, suc, ◌+◌, ◌^◌, ◌<◌, ◌≤◌, max, Bool, true, false, ltb, List, [], ◌∷◌, drop, sum, Some, None, refl, inl, inr, ap, sym, subst, ◌∙◌, arith}
-use Rattle.std.specs.Prelude.{if◌then◌else◌, is_some}
-use Rattle.std.proofs.lemmas.Bool.{cases_lt, eq-eqb, le-leb, le-ltb, leb-true, lt-ltb, ltb-true}
-use Rattle.std.specs.declared.net.socket_addr.SocketAddr.{SocketAddr}
-use Rattle.turn_stun.specs.declared.transport.TransportType.{TransportType}
-use Rattle.turn_stun.specs.declared.transport.TransportType.TheVariants.{Udp, Tcp}
-use Rattle.turn_agent.specs.Agent.{due, is_due, is_timed_out, resent, sent_again, timed_out_transaction, transaction_timeout}
-use Rattle.turn_agent.specs.Schedule.{Timers, doubled_sum, doubled_wait, resends_of, schedule, udp_resends, wait_at}
-use Rattle.turn_agent.specs.declared.transaction.Transaction.{Transaction}
+use Rattle.turn_client_laws.proofs.Common.{◌≡◌, ◌⊎◌, ℕ, zero, suc, ◌+◌, ◌^◌, ◌<◌, ◌≤◌, max, Bool, true, false, ltb, List, [], ◌∷◌, drop, sum, Some, None, refl, inl, inr, ap, sym, subst, ◌∙◌, arith}
+use Rattle.turn_client_laws.proofs.Common.{if◌then◌else◌, is_some, cases_lt, eq-eqb, le-leb, le-ltb, leb-true, lt-ltb, ltb-true, SocketAddr}
+use Rattle.turn_client_laws.proofs.Machine.{TransportType, Udp, Tcp, due, is_due, is_timed_out, resent, sent_again, timed_out_transaction, transaction_timeout, Timers, doubled_sum, doubled_wait}
+use Rattle.turn_client_laws.proofs.Machine.{resends_of, schedule, udp_resends, wait_at, Transaction, timers_of, State, agent_of, initial, Phase, New, Requesting, Closed, Queued, allocations}
+use Rattle.turn_client_laws.proofs.Machine.{transaction_ended, first_allocate, fresh_id, TurnEvent, first_sent, is_paused, pause_end, idle_step, next_transmit, queue_step, reply_step, transmit_step}
+use Rattle.turn_client_laws.proofs.Machine.{without_first_reply, answer_by, answer_step, next_offer, poll_step, timed_out_step, timed_step, state_after, state_after_all, Call, Poll, PollTransmit}
+use Rattle.turn_client_laws.proofs.Machine.{PollEvent}
+use Rattle.turn_client_laws.proofs.Laws.{call-keeps, not_due-transmit}
 use Rattle.turn_agent.proofs.ScheduleLemmas.{sum-schedule}
-use Rattle.turn_client_api.specs.Config.{timers_of}
-use Rattle.turn_client_api.specs.State.{State, agent_of, initial}
-use Rattle.turn_client_api.specs.declared.state.Phase.{Phase}
-use Rattle.turn_client_api.specs.declared.state.Phase.TheVariants.{New, Requesting, Closed}
-use Rattle.turn_client_api.specs.declared.state.Queued.{Queued}
-use Rattle.turn_client_api.specs.Grants.{allocations}
-use Rattle.turn_client_api.specs.Effect.{transaction_ended}
-use Rattle.turn_client_api.specs.Requests.{first_allocate, fresh_id}
-use Rattle.turn_client_api.specs.declared.event.TurnEvent.{TurnEvent}
-use Rattle.turn_agent.specs.Agent.{first_sent}
-use Rattle.turn_client_api.specs.Due.{is_paused, pause_end}
-use Rattle.turn_client_api.specs.Transmit.{idle_step, next_transmit, queue_step, reply_step, transmit_step, without_first_reply}
-use Rattle.turn_client_api.specs.Poll.{answer_by, answer_step, next_offer, poll_step, timed_out_step, timed_step}
-use Rattle.turn_client_api.specs.Steps.{state_after, state_after_all}
-use Rattle.turn_client_api.specs.declared.call.Call.{Call}
-use Rattle.turn_client_api.specs.declared.call.Call.TheVariants.{Poll, PollTransmit, PollEvent}
-use Rattle.turn_client_laws.proofs.PhasesGoOn.{call-keeps}
 use Rattle.turn_client_runs.proofs.ChallengeLemmas.{run-configured}
+use Rattle.turn_client_runs.specs.History.{waited}
 use Rattle.turn_client_runs.specs.OnTime.{IsOnTime, time_of, time_of_all}
 use Rattle.turn_client_runs.specs.Silence.{BringsNothing, GivesUpInSilence, RunsInSilence}
 
 -- ---- the waits
 
--- the sum of the waits after so many sends
-waited : Timers → TransportType → ℕ → ℕ
-waited timers transport zero = 0
-waited timers transport (suc n) = waited timers transport n + wait_at timers transport n
-
 waited-suc : (timers : Timers) (transport : TransportType) (n : ℕ) → waited timers transport (suc n) ≡ waited timers transport n + wait_at timers transport n
-unfolding waited
 waited-suc timers transport n = refl
 
-waited-mono : (timers : Timers) (transport : TransportType) (m n : ℕ) → m ≤ n → waited timers transport m ≤ waited timers transport n
-unfolding waited
+pub waited-mono : (timers : Timers) (transport : TransportType) (m n : ℕ) → m ≤ n → waited timers transport m ≤ waited timers transport n
 waited-mono timers transport m zero h = let e : m ≡ 0 = omega (arith, h) in rw e (omega arith)
 waited-mono timers transport m (suc n) h = elim (cases_lt n m) [
   | inl over ↦ let e : m ≡ suc n = omega (arith, h, over) in rw e (omega arith)
@@ -57,7 +33,7 @@ doubled-last first greatest place (suc n) =
     rw e (omega (arith, doubled-last first greatest (place + 1) n))
 
 waited-doubled : (timers : Timers) (n : ℕ) → n ≤ udp_resends timers → waited timers Udp n ≡ doubled_sum timers.initial timers.max 0 n
-unfolding waited doubled_sum
+unfolding doubled_sum
 waited-doubled timers zero h = refl
 waited-doubled timers (suc n) h =
     let inside : ltb n (udp_resends timers) ≡ true = lt-ltb n (udp_resends timers) (omega (arith, h)) in
@@ -69,7 +45,6 @@ waited-doubled timers (suc n) h =
     rw (inside, others) (sym more)
 
 waited-all : (timers : Timers) (transport : TransportType) → waited timers transport (suc (resends_of timers transport)) ≡ sum (schedule timers)
-unfolding waited
 waited-all timers Tcp = omega arith
 waited-all timers Udp =
     let last : ltb (udp_resends timers) (udp_resends timers) ≡ false = le-ltb _ _ (omega arith) in
@@ -109,9 +84,6 @@ data IsSilent (start now : ℕ) (s : State) : Type 0 where
 
 -- ---- what it sends
 
-pub transmits : (now : ℕ) (s : State) → due (agent_of s) now ≡ None → transmit_step now s ≡ (if is_paused now s then reply_step s else queue_step now s)
-transmits now s none = rw (none, transmit_step) refl
-
 pub queue-idle : (now : ℕ) (s : State) (p : Phase) → s.queue ≡ [] → s.phase ≡ p → queue_step now s ≡ idle_step p now s
 queue-idle now s p e f = rw (e, queue_step, f) refl
 
@@ -120,7 +92,7 @@ unsent-transmits start before now s u =
     let none : due (agent_of s) now ≡ None = rw u.none refl in
     let early : pause_end s ≡ 0 = rw u.never refl in
     let idle : is_paused now s ≡ false = rw early (le-ltb now 0 (omega arith)) in
-    transmits now s none ∙ rw idle (queue-idle now s New u.queue u.phase)
+    not_due-transmit now s none ∙ rw idle (queue-idle now s New u.queue u.phase)
 
 -- one transaction, and the test of it
 module _ (now : ℕ) (s : State) (x : Transaction) (only : s.transactions ≡ x ∷ []) where
@@ -238,7 +210,7 @@ asking-sends start now s range a = by (is_due (timers s) s.transport now x) refl
         wait false = rw (queue-idle now s Requesting a.queue a.phase) a
 
     by : (b : Bool) → is_due (timers s) s.transport now x ≡ b → Next (transmit_step now s).1
-    by false e = rw (transmits now s (due-none now s x a.only e)) idle
+    by false e = rw (not_due-transmit now s (due-none now s x a.only e)) idle
     by true e =
         let (more, past) = Rattle.std.proofs.lemmas.Bool.and_parts (ltb x.resends (resends_of (timers s) s.transport)) _ e in
         let late = leb-true (transaction_timeout (timers s) s.transport x) now past in
@@ -247,7 +219,6 @@ asking-sends start now s range a = by (is_due (timers s) s.transport now x) refl
         subst Next (sym is) (next (ltb-true x.resends (resends_of (timers s) s.transport) more) (omega (arith, late, range)))
 
 unsent-sends : (start now : ℕ) (s : State) → IsUnsent start now s → IsAsking start now (transmit_step now s).1
-unfolding waited
 unsent-sends start now s u = rw (unsent-transmits start now now s u) (record {
   phase = refl;
   queue = u.queue;

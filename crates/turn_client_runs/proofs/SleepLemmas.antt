@@ -1,15 +1,8 @@
 -- What `poll` returns in a run is timely.
-use Rattle.std.proofs.Common.{suc, List, [], ◌∷◌, inl, refl, arith}
-use Rattle.std.specs.Prelude.{All}
-use Rattle.turn_client_api.specs.State.{State, initial}
-use Rattle.turn_client_api.specs.Steps.{state_after}
-use Rattle.turn_client_api.specs.declared.call.Call.{Call}
-use Rattle.turn_client_api.specs.declared.call.Call.TheVariants.{Poll}
-use Rattle.turn_client_laws.specs.LawsOrder.{FitsPhase}
-use Rattle.turn_client_laws.specs.LawsGrantAllocations.{GrantsHaveAllocations}
-use Rattle.turn_client_laws.proofs.SendOrderLemmas.{initial-steady, leaves-steadies, steady-FitsPhaseForPoll}
-use Rattle.turn_client_laws.proofs.InAllocation.{GrantsHaveAllocations-AllHaveAllocation, initial-GrantsHaveAllocations, leaves-GrantsHaveAllocations}
-use Rattle.turn_client_laws.proofs.TimelyLemmas.{poll-timely}
+use Rattle.turn_client_laws.proofs.Common.{suc, List, [], ◌∷◌, inl, refl, arith, All}
+use Rattle.turn_client_laws.proofs.Machine.{State, initial, state_after, Call, Poll}
+use Rattle.turn_client_laws.proofs.Laws.{FitsPhase, GrantsHaveAllocations, initial-steady, leaves-steadies, steady-FitsPhaseForPoll, GrantsHaveAllocations-AllHaveAllocation}
+use Rattle.turn_client_laws.proofs.Laws.{initial-GrantsHaveAllocations, leaves-GrantsHaveAllocations, poll-timely}
 use Rattle.turn_client_runs.specs.Holds.{HoldsInAnyRun, HoldsOfRuns}
 use Rattle.turn_client_runs.specs.Sleeps.{IsPolledInTime, SleepsInTime, SleepsThroughNothing, ReportsTimely, ReportsTimelyNext}
 use Rattle.turn_client_runs.proofs.ExpiryLemmas.{poll-waits}

@@ -1,20 +1,11 @@
 -- The stream at a local address, and those at others.
-use Rattle.std.proofs.Common.{◌≡◌, ℕ, Bool, true, false, cond, List, [], ◌∷◌, map, find, Option, Some, None, refl, ap, sym, subst, ◌∙◌, inl, inr}
-use Rattle.std.proofs.lemmas.Bool.{cases_Bool}
-use Rattle.std.specs.List.{IsDistinct}
-use Rattle.std.specs.Option.{option_map}
-use Rattle.std.specs.declared.net.socket_addr.SocketAddr.{SocketAddr}
-use Rattle.turn_agent.specs.Agent.{same_address}
-use Rattle.turn_client_api.specs.State.{State}
-use Rattle.turn_client_api.specs.declared.state.Mode.TheVariants.{Broken}
-use Rattle.turn_client_api.specs.declared.state.Stream.{Stream}
-use Rattle.turn_client_api.specs.Streams.{broken_at, is_ready, stream_at, with_bytes}
-use Rattle.turn_client_laws.specs.LawsBodies.{IsAsideFrom}
-use Rattle.turn_client_api.proofs.AddressLemmas.{same_address-true, differ-sym}
+use Rattle.turn_client_laws.proofs.Common.{◌≡◌, ℕ, Bool, true, false, cond, List, [], ◌∷◌, map, find, Option, Some, None, refl, ap, sym, subst, ◌∙◌, inl, inr, cases_Bool, IsDistinct, option_map}
+use Rattle.turn_client_laws.proofs.Common.{SocketAddr}
+use Rattle.turn_client_laws.proofs.Machine.{same_address, State, Broken, Stream, broken_at, is_ready, stream_at, with_bytes, same_address-true, differ-sym, Has, has-found, IsNoneOf, ends}
+use Rattle.turn_client_laws.proofs.Laws.{IsAsideFrom, has-mapped}
 use Rattle.turn_client_laws.proofs.FrameRestLemmas.{bytes_by}
-use Rattle.turn_client_laws.proofs.GrantOriginLemmas.{has-mapped}
-use Rattle.turn_client_api.proofs.HasLemmas.{Has, has-found}
-use Rattle.turn_client_api.proofs.StreamEnds.{IsNoneOf, ends}
+use Rattle.turn_client_laws.proofs.StreamApartLemmas.{ends-map}
+use Rattle.turn_client_laws.proofs.StepFrameLemmas.{broken_by}
 
 -- ---- lists
 
@@ -41,9 +32,6 @@ found-local a s stream e = same_address-true stream.local a (has-found (λ (x : 
 
 bytes-local : (a : SocketAddr) (bytes : List ℕ) (x : Stream) → (bytes_by a bytes x).local ≡ x.local
 bytes-local a bytes x = elim (same_address x.local a) as (λ b. (cond b (record x { bytes = bytes }) x).local ≡ x.local) [ true ↦ refl | false ↦ refl ]
-
-abbrev broken_by : SocketAddr → Stream → Stream
-broken_by a x = cond (same_address x.local a) (record x { mode = Broken; bytes = [] }) x
 
 broken-local : (a : SocketAddr) (x : Stream) → (broken_by a x).local ≡ x.local
 broken-local a x = elim (same_address x.local a) as (λ b. (cond b (record x { mode = Broken; bytes = [] }) x).local ≡ x.local) [
@@ -153,13 +141,9 @@ fed-found a bytes s stream alone e = find-fed a bytes s.streams stream alone.dis
 
 -- ---- what changes this stream alone
 
-ends-mapped : (f : Stream → Stream) → ((x : Stream) → (f x).local ≡ x.local) → (xs : List Stream) → ends (map f xs) ≡ ends xs
-ends-mapped f keeps [] = refl
-ends-mapped f keeps (x ∷ xs) = rw (keeps x, ends-mapped f keeps xs) refl
-
 pub aside-alone : (a : SocketAddr) (s t : State) → IsAsideFrom a s t → with_bytes a [] t ≡ t → IsDistinct same_address (ends s.streams) → OthersWait a s.streams → IsAlone a t
 aside-alone a s t aside empty distinct others = record {
-  distinct = subst (λ (l : List SocketAddr). IsDistinct same_address l) (sym (ap ends aside.same ∙ ends-mapped aside.change aside.ends s.streams)) distinct;
+  distinct = subst (λ (l : List SocketAddr). IsDistinct same_address l) (sym (ap ends aside.same ∙ ends-map aside.change aside.ends s.streams)) distinct;
   empty = empty;
   others = λ x there differs. by x differs (has-mapped aside.change x s.streams (subst (λ (xs : List Stream). Has x xs) aside.same there));
 }
@@ -170,9 +154,3 @@ aside-alone a s t aside empty distinct others = record {
         let other : same_address y.local a ≡ false = subst (λ (l : SocketAddr). same_address l a ≡ false) ends_there differs in
         let same : x ≡ y = e ∙ aside.others y other in
         subst (λ (z : Stream). is_ready z ≡ false) (sym same) (others y before other)
-
-pub broken-aside : (a : SocketAddr) (s : State) → IsAsideFrom a s (broken_at a s)
-broken-aside a s = record { change = broken_by a; same = refl; ends = broken-local a; others = λ x h. rw h refl }
-
-pub bytes-aside : (a : SocketAddr) (bytes : List ℕ) (s : State) → IsAsideFrom a s (with_bytes a bytes s)
-bytes-aside a bytes s = record { change = bytes_by a bytes; same = refl; ends = bytes-local a bytes; others = λ x h. rw h refl }

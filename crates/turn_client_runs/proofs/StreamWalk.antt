@@ -1,26 +1,11 @@
 -- What a call that takes input keeps of its state with the streams, and what holds of each of its inputs.
-use Rattle.std.proofs.Common.{◌≡◌, ℕ, zero, suc, Bool, true, false, cond, List, [], ◌∷◌, ◌++◌, take, drop, Option, Some, None, refl, sym, subst, inl, inr}
-use Rattle.std.specs.Prelude.{find}
-use Rattle.std.specs.declared.net.socket_addr.SocketAddr.{SocketAddr}
-use Rattle.turn_stun.specs.declared.transport.Transmit.{Transmit}
-use Rattle.turn_types.specs.Frames.{begins_no_frame, frame_len}
-use Rattle.turn_agent.specs.Agent.{same_address}
-use Rattle.turn_client_api.specs.State.{State}
-use Rattle.turn_client_api.specs.declared.call.Call.{Call}
-use Rattle.turn_client_api.specs.declared.call.Call.TheVariants.{PollRecv, Recv}
-use Rattle.turn_client_api.specs.declared.state.Mode.{Mode}
-use Rattle.turn_client_api.specs.declared.state.Mode.TheVariants.{Bound, Broken, Control, Waiting}
-use Rattle.turn_client_api.specs.declared.state.Stream.{Stream}
-use Rattle.turn_client_api.specs.Payloads.{Handled, Ignored, Outcome, Payload, PeerData}
-use Rattle.turn_client_api.specs.Receive.{connection_gone, first_frame_step, piece_step, stream_step, then_all}
-use Rattle.turn_client_api.specs.Steps.{state_after}
-use Rattle.turn_client_api.specs.Streams.{broken_at, detached_frame_step, first_ready_step, framed_by, go_on, is_ready, max_steps, next_frame_step, payload_in, poll_recv_step, steps_until_payload}
-use Rattle.turn_client_api.specs.Streams.{with_bytes, without_stream, stream_with_piece}
-use Rattle.turn_client_laws.specs.Handled.{Input, datagram_input, fed_taken, handled, inputs_taken, is_front, piece_inputs, poll_recv_inputs, processed, stream_input, stream_inputs}
-use Rattle.turn_client_laws.specs.Handled.{stream_inputs_taken, taken_first, taken_in, taken_of_len, then_taken, unless_given}
-use Rattle.turn_client_laws.specs.LawsHandled.{TakesInput}
-use Rattle.turn_client_api.proofs.HasLemmas.{Has, has-append, has-found}
-use Rattle.turn_client_laws.proofs.PacketLemmas.{packet-by}
+use Rattle.turn_client_laws.proofs.Common.{◌≡◌, ℕ, zero, suc, Bool, true, false, cond, List, [], ◌∷◌, ◌++◌, take, drop, Option, Some, None, refl, sym, subst, inl, inr, find, SocketAddr}
+use Rattle.turn_client_laws.proofs.Machine.{Transmit, begins_no_frame, frame_len, same_address, State, Call, PollRecv, Recv, Mode, Bound, Broken, Control, Waiting, Stream, Handled, Ignored, Outcome}
+use Rattle.turn_client_laws.proofs.Machine.{Payload, PeerData, connection_gone, first_frame_step, piece_step, stream_step, then_all, state_after, broken_at, detached_frame_step, first_ready_step}
+use Rattle.turn_client_laws.proofs.Machine.{framed_by, go_on, is_ready, max_steps, next_frame_step, payload_in, poll_recv_step, steps_until_payload, with_bytes, without_stream, stream_with_piece, Has}
+use Rattle.turn_client_laws.proofs.Machine.{has-append, has-found}
+use Rattle.turn_client_laws.proofs.Laws.{Input, datagram_input, fed_taken, handled, inputs_taken, is_front, piece_inputs, poll_recv_inputs, processed, stream_input, stream_inputs, stream_inputs_taken}
+use Rattle.turn_client_laws.proofs.Laws.{taken_first, taken_in, taken_of_len, then_taken, unless_given, TakesInput, packet-by}
 
 -- a stream with this local address and this mode is there
 abbrev pub IsThere : Stream → State → Type 0

@@ -1,33 +1,10 @@
 -- What the listings of one ID are for: one request, a channel and the permission requested with it, or
 -- allocations that are deleted.
-use Rattle.std.proofs.Common.{◌≡◌, ◌⊎◌, ◌∙◌, ℕ, true, false, eqb, List, [], ◌∷◌, Some, inl, inr, refl, sym, subst}
-use Rattle.std.specs.List.{list_any}
-use Rattle.std.proofs.lemmas.Bool.{eq-eqb, or_parts}
-use Rattle.turn_stun.specs.Message.{id_of}
-use Rattle.turn_agent.specs.Agent.{is_outstanding}
-use Rattle.turn_client_api.specs.State.{State}
-use Rattle.turn_client_api.specs.declared.call.Call.{Call}
-use Rattle.turn_client_api.specs.declared.call.Call.TheVariants.{Delete, CreatePermission, BindChannel, TcpConnect, AllocatedTcpSocket, Recv, PollRecv, PollTransmit}
-use Rattle.turn_client_api.specs.declared.grant.Listing.{Listing}
-use Rattle.turn_client_api.specs.declared.grant.Purpose.{Purpose}
-use Rattle.turn_client_api.specs.declared.grant.Purpose.TheVariants.{ForRefresh, ForPermission, ForChannel}
-use Rattle.turn_client_api.specs.Grants.{is_of_request, purposes_of}
-use Rattle.turn_client_laws.specs.Handled.{Input, handled, processed}
-use Rattle.turn_client_laws.specs.LawsGone.{GivesBack}
-use Rattle.turn_client_laws.specs.LawsHandled.{DiffersInStreams, ProcessesInputs, TakesInput, InputsLead}
-use Rattle.turn_client_laws.specs.LawsRequests.{AsksFor, IsListedAgain, IsListedAs, IsListedFor, IsListingOf}
-use Rattle.turn_client_api.specs.Requests.{fresh_id}
-use Rattle.turn_client_api.specs.Steps.{state_after}
-use Rattle.turn_client_laws.proofs.Edits.{listing}
-use Rattle.turn_client_api.proofs.HasLemmas.{Has}
-use Rattle.turn_client_laws.proofs.InAllocationLemmas.{has-any}
-use Rattle.turn_client_laws.proofs.MoveMessageLemmas.{input-moves}
-use Rattle.turn_client_laws.proofs.MoveSocketLemmas.{gone-settles}
-use Rattle.turn_client_laws.proofs.MoveInputLemmas.{listings-made}
-use Rattle.turn_client_laws.proofs.NewIdLemmas.{fresh-free}
-use Rattle.turn_client_laws.proofs.StandLemmas.{contains-has, has-contains}
-use Rattle.turn_client_laws.proofs.InputChainLemmas.{calls-do}
-use Rattle.turn_client_laws.proofs.TwoPurposes.{purpose-with}
+use Rattle.turn_client_laws.proofs.Common.{◌≡◌, ◌⊎◌, ◌∙◌, ℕ, true, false, eqb, List, [], ◌∷◌, Some, inl, inr, refl, sym, subst, list_any, eq-eqb, or_parts}
+use Rattle.turn_client_laws.proofs.Machine.{id_of, is_outstanding, State, Call, Delete, CreatePermission, BindChannel, TcpConnect, AllocatedTcpSocket, Recv, PollRecv, PollTransmit, Listing, Purpose}
+use Rattle.turn_client_laws.proofs.Machine.{ForRefresh, ForPermission, ForChannel, is_of_request, purposes_of, fresh_id, state_after, Has}
+use Rattle.turn_client_laws.proofs.Laws.{Input, handled, processed, GivesBack, DiffersInStreams, ProcessesInputs, TakesInput, InputsLead, AsksFor, IsListedAgain, IsListedFor, IsListingOf, listing}
+use Rattle.turn_client_laws.proofs.Laws.{has-any, input-moves, gone-settles, listings-made, fresh-free, contains-has, has-contains, calls-do, purpose-with, IsListingHere}
 
 -- ---- purposes of one request
 
@@ -71,12 +48,6 @@ asks-one (PollTransmit now) s p q at then (is, inr (there, e)) (was, inr (also, 
 asks-one (PollTransmit now) s p q at then (is, inl (new, e)) (was, inr (there, f)) = cc (sym new ∙ there)
 asks-one (PollTransmit now) s p q at then (is, inr (there, e)) (was, inl (new, f)) = cc (sym new ∙ there)
 asks-one call s p q at then none asks = absurd none
-
--- the call made a request of its own, which is listed so
-abbrev pub IsListingHere : Call → State → Listing → Type 0
-IsListingHere call s l =
-    (purpose : Purpose) × (at : ℕ) × AsksFor call s purpose at × IsListedFor purpose l.purpose
-    × IsListedAs purpose at s (state_after call s) l
 
 -- the call processes inputs, or what it lists it requests itself
 pub listing-here : (call : Call) (s : State) → TakesInput call ⊎ ((l : Listing) → IsListingOf call s l → IsListingHere call s l)

@@ -1,52 +1,15 @@
 -- A stream that waits to be bound has no bound data connection.
-use Rattle.std.proofs.Common.{◌≡◌, ◌⊎◌, ◌∙◌, ℕ, Bool, true, false, cond, not, ◌&&◌, List, [], ◌∷◌, ◌++◌, map, filter, Option, Some, None, Result, refl, sym, subst, ap, inl, inr}
-use Rattle.std.specs.Prelude.{is_some}
-use Rattle.std.specs.List.{Contains, list_any}
-use Rattle.std.proofs.lemmas.Bool.{cases_Bool, or_parts}
-use Rattle.std.proofs.lemmas.Option.{none-some, same_Some}
-use Rattle.std.specs.declared.net.socket_addr.SocketAddr.{SocketAddr}
-use Rattle.turn_stun.specs.declared.transport.TransportType.{TransportType}
-use Rattle.turn_stun.specs.declared.transport.TransportType.TheVariants.{Tcp}
-use Rattle.turn_agent.specs.Agent.{same_address}
-use Rattle.turn_client_api.specs.Config.{Config}
-use Rattle.turn_client_api.specs.State.{State, initial, later_by}
-use Rattle.turn_client_api.specs.declared.call.Call.{Call}
-use Rattle.turn_client_api.specs.declared.call.Call.TheVariants.{AllocatedTcpSocket, Delete, PollRecv, Recv}
-use Rattle.turn_client_api.specs.declared.error.TcpAllocateError.{TcpAllocateError}
-use Rattle.turn_client_api.specs.declared.grant.DataConnection.{DataConnection}
-use Rattle.turn_client_api.specs.declared.grant.Grant.{Grant}
-use Rattle.turn_client_api.specs.declared.grant.Grant.TheVariants.{Channel, Connection, Permission}
-use Rattle.turn_client_api.specs.declared.grant.Origin.{Origin}
-use Rattle.turn_client_api.specs.declared.grant.Origin.TheVariants.{ServerRequest}
-use Rattle.turn_client_api.specs.declared.grant.Progress.TheVariants.{Pending}
-use Rattle.turn_client_api.specs.declared.state.Mode.TheVariants.{Bound, Broken, Waiting}
-use Rattle.turn_client_api.specs.declared.state.Stream.{Stream}
-use Rattle.turn_client_api.specs.Calls.{is_allocated, is_control, is_local_taken, is_offer_of, offer_origin, socket_opened, socket_refused, socket_step, without_first}
-use Rattle.turn_client_api.specs.Connections.{bind_step, connection_at}
-use Rattle.turn_client_api.specs.Grants.{is_connection_from, same_transport, without_grants}
-use Rattle.turn_client_api.specs.Payloads.{is_message, message_step}
-use Rattle.turn_client_api.specs.Receive.{connection_gone}
-use Rattle.turn_client_api.specs.Retry.{bind_time}
-use Rattle.turn_client_api.specs.Steps.{state_after}
-use Rattle.turn_client_api.specs.Streams.{broken_at, with_bytes, without_stream}
-use Rattle.turn_client_laws.specs.Handled.{Input, handled, processed}
-use Rattle.turn_client_laws.specs.LawsBound.{IsConnectedBy}
-use Rattle.turn_client_laws.specs.LawsHandled.{IsOverControl}
-use Rattle.turn_client_api.proofs.AddressLemmas.{same_address-self}
+use Rattle.turn_client_laws.proofs.Common.{◌≡◌, ◌⊎◌, ◌∙◌, ℕ, Bool, true, false, cond, not, ◌&&◌, List, [], ◌∷◌, ◌++◌, map, filter, Option, Some, None, Result, refl, sym, subst, ap, inl, inr, is_some}
+use Rattle.turn_client_laws.proofs.Common.{Contains, list_any, cases_Bool, or_parts, none-some, same_Some, SocketAddr}
+use Rattle.turn_client_laws.proofs.Machine.{TransportType, Tcp, same_address, Config, State, initial, later_by, Call, AllocatedTcpSocket, Delete, PollRecv, Recv, TcpAllocateError, DataConnection}
+use Rattle.turn_client_laws.proofs.Machine.{Grant, Channel, Connection, Permission, Origin, ServerRequest, Pending, Bound, Broken, Waiting, Stream, is_allocated, is_control, is_local_taken}
+use Rattle.turn_client_laws.proofs.Machine.{is_offer_of, offer_origin, socket_opened, socket_refused, socket_step, without_first, bind_step, connection_at, is_connection_from, same_transport}
+use Rattle.turn_client_laws.proofs.Machine.{without_grants, is_message, message_step, connection_gone, bind_time, state_after, broken_at, with_bytes, without_stream, same_address-self, Has}
+use Rattle.turn_client_laws.proofs.Machine.{has-append, has-filter}
+use Rattle.turn_client_laws.proofs.Laws.{Input, handled, processed, IsConnectedBy, IsOverControl, by_found, by_test, no-connection, delete-walk, quiet-walk, Binds, BindsOrLeaves, bind-leaves}
+use Rattle.turn_client_laws.proofs.Laws.{has-mapped, bringing, deadline-has, has-any, on_choice, input-by, Covers, Leaves, contains-has, covers-has, has-contains, was-first, Same, Same-KeepsEdits}
+use Rattle.turn_client_laws.proofs.Laws.{message-same}
 use Rattle.turn_client_laws.proofs.BoundStreamLemmas.{leaves-connection}
-use Rattle.turn_client_laws.proofs.CaseLemmas.{by_found, by_test}
-use Rattle.turn_client_laws.proofs.DoubleLemmas.{no-connection}
-use Rattle.turn_client_laws.proofs.EditsOfCalls.{delete-walk, quiet-walk}
-use Rattle.turn_client_laws.proofs.GrantOriginCallLemmas.{Binds, BindsOrLeaves, bind-leaves}
-use Rattle.turn_client_laws.proofs.GrantOriginLemmas.{has-mapped}
-use Rattle.turn_client_laws.proofs.GrantedLemmas.{bringing, deadline-has}
-use Rattle.turn_client_api.proofs.HasLemmas.{Has, has-append, has-filter}
-use Rattle.turn_client_laws.proofs.InAllocationLemmas.{has-any}
-use Rattle.turn_client_laws.proofs.MoveLemmas.{on_choice}
-use Rattle.turn_client_laws.proofs.OneInputLemmas.{input-by}
-use Rattle.turn_client_laws.proofs.StandLemmas.{Covers, Leaves, contains-has, covers-has, has-contains}
-use Rattle.turn_client_laws.proofs.TakenOfferLemmas.{was-first}
-use Rattle.turn_client_laws.proofs.StreamMessageLemmas.{Same, Same-KeepsEdits, message-same}
 use Rattle.turn_client_runs.proofs.BoundLemmas.{not_both}
 use Rattle.turn_client_runs.proofs.StreamWalk.{IsThere, KeepsStreams, input-goes}
 

@@ -1,21 +1,11 @@
 -- The whole of what is received over a stream, part by part.
-use Rattle.std.proofs.Common.{◌≡◌, ℕ, Bool, true, false, cond, eqb, List, [], ◌∷◌, length, map, drop, take, Option, Some, None, refl, ap, sym, ◌∙◌, arith}
-use Rattle.std.proofs.lemmas.Bool.{ne_eqb}
-use Rattle.std.proofs.lemmas.List.{length-take-le}
-use Rattle.std.specs.Option.{option_map_or}
-use Rattle.std.specs.declared.net.socket_addr.SocketAddr.{SocketAddr}
-use Rattle.turn_types.specs.Cuts.{Drained, behind}
-use Rattle.turn_types.specs.Frames.{begins_no_frame, frame_len}
+use Rattle.turn_client_laws.proofs.Common.{◌≡◌, ℕ, Bool, true, false, cond, eqb, List, [], ◌∷◌, length, map, drop, take, Option, Some, None, refl, ap, sym, ◌∙◌, arith, ne_eqb, length-take-le}
+use Rattle.turn_client_laws.proofs.Common.{option_map_or, SocketAddr}
+use Rattle.turn_client_laws.proofs.Machine.{Drained, behind, begins_no_frame, frame_len, frame_len-IsWhole, size_in-IsPrefixCut, State, Mode, Control, Waiting, Bound, Broken, Stream, Payload}
+use Rattle.turn_client_laws.proofs.Machine.{broken_at, frame_step, sent_by, stream_at}
 use Rattle.turn_types.specs.Streams as T
 use Rattle.turn_types.proofs.CutLemmas.{by_first}
-use Rattle.turn_types.proofs.FrameLemmas.{frame_len-IsWhole, size_in-IsPrefixCut}
 use Rattle.turn_types.proofs.StepLemmas.{byte-drained}
-use Rattle.turn_client_api.specs.State.{State}
-use Rattle.turn_client_api.specs.declared.state.Mode.{Mode}
-use Rattle.turn_client_api.specs.declared.state.Mode.TheVariants.{Control, Waiting, Bound, Broken}
-use Rattle.turn_client_api.specs.declared.state.Stream.{Stream}
-use Rattle.turn_client_api.specs.Payloads.{Payload}
-use Rattle.turn_client_api.specs.Streams.{broken_at, frame_step, sent_by, stream_at}
 use Rattle.turn_client_runs.specs.Cut.{framed_whole, after_frame, outcome_payloads, left, mode_at, part_at_step, read_from_front, whole, whole_in}
 use Rattle.turn_client_runs.proofs.FollowLemmas.{IsFramed, control-framed, waiting-framed}
 use Rattle.turn_client_runs.proofs.StreamAtLemmas.{broken-found, found-local}

@@ -1,8 +1,5 @@
-use Rattle.std.proofs.Common.{refl}
-use Rattle.turn_stun.specs.Message.{attributes_from, fault_of}
-use Rattle.turn_stun.specs.Attributes.{seen_after}
-use Rattle.turn_types.specs.Cuts.{drained_at_most}
-use Rattle.turn_client_api.specs.Streams.{steps_until_payload}
+use Rattle.turn_client_laws.proofs.Common.{refl}
+use Rattle.turn_client_laws.proofs.Machine.{attributes_from, fault_of, seen_after, drained_at_most, steps_until_payload}
 use Rattle.turn_client_runs.specs.Cut.{fed_pieces, polled_until_none}
 use Rattle.turn_client_runs.proofs.cut.streams_are_worked.Goals as goal
 

@@ -1,5 +1,4 @@
-use Rattle.turn_client_laws.specs.LawsNumbers.{HasDistinctNumbers}
-use Rattle.turn_client_laws.proofs.DistinctNumbers.{initial-numbers, leaves-apart}
+use Rattle.turn_client_laws.proofs.Laws.{HasDistinctNumbers, initial-numbers, leaves-apart}
 use Rattle.turn_client_runs.proofs.HoldLemmas.{holds-any, holds-found}
 use Rattle.turn_client_runs.proofs.numbers.numbers_stay_distinct.Goals as goal
 

@@ -1,5 +1,5 @@
-use Rattle.turn_client_runs.proofs.PromiseLemmas.{run-bound, run-cuts, run-events, run-few, run-granted, run-hears, run-held, run-lasts}
-use Rattle.turn_client_runs.proofs.PromiseLemmas.{run-numbers, run-offers, run-order, run-processed, run-realm, run-replies, run-sent, run-short}
+use Rattle.turn_client_runs.proofs.PromiseLemmas.{run-bound, run-cuts, run-events, run-few, run-granted, run-hears, run-held, run-lasts, run-numbers, run-offers, run-order, run-processed, run-realm}
+use Rattle.turn_client_runs.proofs.PromiseLemmas.{run-replies, run-sent, run-short}
 use Rattle.turn_client_runs.proofs.promises.runs_keep_their_promises.Goals as goal
 
 pub returns : goal.returns

@@ -1,8 +1,6 @@
-use Rattle.std.proofs.Common.{refl}
-use Rattle.turn_stun.specs.Attributes.{seen_after}
-use Rattle.turn_stun.specs.Message.{attributes_from, fault_of}
-use Rattle.turn_client_api.specs.Streams.{steps_until_payload}
-use Rattle.turn_client_laws.specs.Handled.{inputs_taken}
+use Rattle.turn_client_laws.proofs.Common.{refl}
+use Rattle.turn_client_laws.proofs.Machine.{seen_after, attributes_from, fault_of, steps_until_payload}
+use Rattle.turn_client_laws.proofs.Laws.{inputs_taken}
 use Rattle.turn_client_runs.proofs.reported.events_are_counted.Goals as goal
 
 pub returns-clause-ended : goal.returns-clause-ended

@@ -1,5 +1,5 @@
-use Rattle.std.proofs.Common.{refl}
-use Rattle.turn_client_api.specs.Due.{refresh_time}
+use Rattle.turn_client_laws.proofs.Common.{refl}
+use Rattle.turn_client_laws.proofs.Machine.{refresh_time}
 use Rattle.turn_client_runs.proofs.SleepLemmas.{any-reports, run-sleeps}
 use Rattle.turn_client_runs.proofs.sleeps.runs_miss_no_deadline.Goals as goal
 
