@@ -1,7 +1,6 @@
 -- Properties of the loop after some steps.
-use Rattle.std.proofs.Common.{◌≡◌, ◌∙◌, ℕ, zero, suc, ◌+◌, ◌-◌, ◌<◌, List, add-one, ap, arith, inl, inr, refl, subst, suc-add, sym, zero-add}
-use Rattle.std.specs.Prelude.{OnErr, Result, Ok, Err}
-use Rattle.turn_client_api.specs.State.{State}
+use Rattle.turn_client_laws.proofs.Common.{◌≡◌, ◌∙◌, ℕ, zero, suc, ◌+◌, ◌-◌, ◌<◌, List, add-one, ap, arith, inl, inr, refl, subst, suc-add, sym, zero-add, OnErr, Result, Ok, Err}
+use Rattle.turn_client_laws.proofs.Machine.{State}
 use Rattle.turn_driver.specs.Given.{Given}
 use Rattle.turn_driver.specs.Next.{Answer, Rests, NextEnds, next_step}
 use Rattle.turn_driver.specs.Driver.{Draws, DriveState, going, once_more, drive_steps, with_answer}

@@ -1,19 +1,9 @@
 -- A client that has ended and returns nothing has nothing left to return.
-use Rattle.std.proofs.Common.{◌≡◌, ◌∙◌, ℕ, Bool, true, false, cond, List, [], ◌∷◌, Option, Some, None, ap, filter_map, refl, slice_get, subst, sym}
-use Rattle.std.specs.Option.{option_map_or}
-use Rattle.std.specs.List.{cons_option, list_any}
-use Rattle.turn_stun.specs.declared.transport.Transmit.{Transmit}
-use Rattle.turn_agent.specs.Agent.{due}
-use Rattle.std.specs.Prelude.{IfOk, OnOk, Result, Ok, Err, nat_le}
-use Rattle.turn_client_api.specs.State.{State, agent_of}
-use Rattle.turn_client_api.specs.declared.state.Phase.{Phase}
-use Rattle.turn_client_api.specs.declared.state.Phase.TheVariants.{New, Requesting, Authenticating, Allocated, Closed}
-use Rattle.turn_client_api.specs.declared.state.Queued.{Queued}
-use Rattle.turn_client_api.specs.Due.{is_paused, keepalive_times}
-use Rattle.turn_client_api.specs.Requests.{binding_indication, fresh_id, id_used, to_server}
-use Rattle.turn_client_api.specs.Transmit.{idle_step, keepalive_step, queue_step, refresh_step, reply_in, reply_step, sent, transmit_step, without_first_reply}
-use Rattle.turn_client_api.specs.declared.event.TurnEvent.{TurnEvent}
-use Rattle.turn_client_api.specs.Answers.{event_step}
+use Rattle.turn_client_laws.proofs.Common.{◌≡◌, ◌∙◌, ℕ, Bool, true, false, cond, List, [], ◌∷◌, Option, Some, None, ap, filter_map, refl, slice_get, subst, sym, option_map_or, cons_option, list_any}
+use Rattle.turn_client_laws.proofs.Common.{IfOk, OnOk, Result, Ok, Err, nat_le}
+use Rattle.turn_client_laws.proofs.Machine.{Transmit, due, State, agent_of, Phase, New, Requesting, Authenticating, Allocated, Closed, Queued, is_paused, keepalive_times, binding_indication, fresh_id}
+use Rattle.turn_client_laws.proofs.Machine.{id_used, to_server, idle_step, keepalive_step, queue_step, refresh_step, reply_in, reply_step, sent, transmit_step, without_first_reply, TurnEvent}
+use Rattle.turn_client_laws.proofs.Machine.{event_step}
 use Rattle.turn_driver.specs.Next.{AnswersRest, answer_of, to_send, to_report, waiting}
 use Rattle.turn_driver.specs.declared.next.Next.{Next}
 use Rattle.turn_driver.specs.declared.task.Rest.{Rest}

@@ -3,6 +3,7 @@ pub mod RunLemmas
 pub mod DriverLemmas
 pub mod OnTimeLemmas
 pub mod RestWeights
+pub mod RestExpiry
 pub mod RestPolls
 pub mod RestSends
 pub mod RestLemmas

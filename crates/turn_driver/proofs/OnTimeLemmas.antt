@@ -1,40 +1,20 @@
 -- A loop is on time.
-use Rattle.std.proofs.Common.{◌≡◌, ◌∙◌, ltb, ℕ, ◌^◌, ◌≤◌, Bool, true, false, cond, List, [], ◌∷◌, ◌++◌, Option, Some, None, ap, arith, inl, inr, refl, subst, sym, slice_get}
-use Rattle.std.specs.Prelude.{IfOk, Ok, Err, Result, filter, filter_map, flat_map, nat_le}
-use Rattle.std.specs.List.{AllByRecursion, list_any}
-use Rattle.std.proofs.lemmas.Bool.{cases_Bool, ltb-false, ltb-true}
-use Rattle.turn_stun.specs.declared.transport.Transmit.{Transmit}
-use Rattle.turn_agent.specs.Agent.{due}
-use Rattle.turn_agent.specs.declared.transaction.Transaction.{Transaction}
-use Rattle.turn_client_api.specs.State.{State, agent_of}
-use Rattle.turn_client_api.specs.declared.state.Phase.{Phase}
-use Rattle.turn_client_api.specs.declared.state.Phase.TheVariants.{New, Requesting, Authenticating, Allocated, Closed}
-use Rattle.turn_client_api.specs.declared.state.Queued.{Queued}
-use Rattle.turn_client_api.specs.declared.call.Call.{Call}
-use Rattle.turn_client_api.specs.declared.call.Call.TheVariants.{Recv, PollEvent}
-use Rattle.turn_client_api.specs.declared.event.TurnEvent.{TurnEvent}
-use Rattle.turn_client_api.specs.declared.grant.Grant.{Grant}
-use Rattle.turn_client_api.specs.declared.grant.Grant.TheVariants.{Allocation, Permission, Channel, Connect, Offer, Connection}
-use Rattle.turn_client_api.specs.declared.grant.Purpose.{Purpose}
-use Rattle.turn_client_api.specs.declared.grant.Relay.{Relay}
-use Rattle.turn_client_api.specs.Grants.{allocations, family_of}
-use Rattle.turn_types.specs.declared.family.AddressFamily.{AddressFamily}
-use Rattle.turn_client_api.specs.Due.{is_paused, keepalive_times, refresh_time}
-use Rattle.turn_client_api.specs.Steps.{state_after, state_after_all}
-use Rattle.turn_client_api.specs.Transmit.{idle_step, is_due_in, is_refresh_due, keepalive_step, next_refresh, next_transmit, queue_step}
-use Rattle.turn_client_api.specs.Transmit.{refresh_purpose, refresh_step, refreshes_in, refreshes_of_rank, reply_step}
+use Rattle.turn_client_laws.proofs.Common.{◌≡◌, ◌∙◌, ltb, ℕ, ◌^◌, ◌≤◌, Bool, true, false, cond, List, [], ◌∷◌, ◌++◌, Option, Some, None, ap, arith, inl, inr, refl, subst, sym, slice_get, IfOk, Ok}
+use Rattle.turn_client_laws.proofs.Common.{Err, Result, filter, filter_map, flat_map, nat_le, AllByRecursion, list_any, cases_Bool, ltb-false, ltb-true}
+use Rattle.turn_client_laws.proofs.Machine.{Transmit, due, Transaction, State, agent_of, Phase, New, Requesting, Authenticating, Allocated, Closed, Queued, Call, Recv, PollEvent, TurnEvent, Grant}
+use Rattle.turn_client_laws.proofs.Machine.{Allocation, Permission, Channel, Connect, Offer, Connection, Purpose, Relay, allocations, family_of, AddressFamily, is_paused, keepalive_times}
+use Rattle.turn_client_laws.proofs.Machine.{refresh_time, state_after, state_after_all, idle_step, is_due_in, is_refresh_due, keepalive_step, next_refresh, next_transmit, queue_step, refresh_purpose}
+use Rattle.turn_client_laws.proofs.Machine.{refresh_step, refreshes_in, refreshes_of_rank, reply_step}
 use Rattle.turn_client_runs.specs.OnTime.{IsOnTime, time_of, time_of_all}
 use Rattle.turn_driver.specs.Next.{IsRestful}
 use Rattle.turn_driver.specs.OnTime.{AllOnTime, BeginsInTime, IsLoop, Iteration, LoopsAreOnTime, WakesOnTime, calls_in, calls_of}
 use Rattle.turn_driver.specs.Run.{IsAsk, hand_in_calls}
 use Rattle.turn_driver.specs.declared.task.Rest.{Rest}
 use Rattle.turn_driver.specs.declared.task.Rest.TheVariants.{Until, Now, Ended}
+use Rattle.turn_client_runs.proofs.LastingEffects.{filter-same}
+use Rattle.turn_client_runs.proofs.LastingRowLemmas.{at-once}
 
 -- ---- the next packet does not depend on the events
-
-filter-same : {X : Type 0} (p q : X → Bool) (xs : List X) → ((x : X) → p x ≡ q x) → filter p xs ≡ filter q xs
-filter-same p q [] same = refl
-filter-same p q (x ∷ xs) same = rw (same x, filter-same p q xs same) refl
 
 flat_map-same : {X Y : Type 0} (f g : X → List Y) (xs : List X) → ((x : X) → f x ≡ g x) → flat_map f xs ≡ flat_map g xs
 flat_map-same f g [] same = refl
@@ -99,9 +79,6 @@ module _ (now : ℕ) (s : State) (events : List TurnEvent) where
       by (Some t) e = rw (e, next_transmit) refl
 
 -- ---- on time
-
-at-once : (now : ℕ) (s : State) → now ≤ 2 ^ 62 → IsOnTime now now s
-at-once now s range = record { later = omega arith; in_range = range; punctual = λ t from before. absurd (omega (arith, from, before)) }
 
 joined : (before now next : ℕ) (s : State) → IsOnTime before now s → IsOnTime now next s → IsOnTime before next s
 joined before now next s first second = let l = first.later in let m = second.later in record {

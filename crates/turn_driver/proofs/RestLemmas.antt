@@ -1,31 +1,12 @@
 -- A loop that passes nothing in comes to rest.
-use Rattle.std.proofs.Common.{◌≡◌, ◌∙◌, ℕ, zero, suc, ◌+◌, ◌^◌, ◌<◌, ◌≤◌, Bool, true, false, cond, nat_lt, List, [], ◌∷◌, Option, Some, None, ◌⊎◌, ap, arith, inl, inr, length, refl, subst}
-use Rattle.std.proofs.Common.{suc-add, sym, zero-add}
-use Rattle.std.specs.Prelude.{find, ⊤}
-use Rattle.std.proofs.lemmas.Bool.{ltb-false}
-use Rattle.turn_stun.specs.declared.transport.Transmit.{Transmit}
-use Rattle.turn_client_api.specs.Alarm.{HasWorkNow, IsTimely}
-use Rattle.turn_client_api.specs.Payloads.{Handled, Ignored, Outcome, Payload, PeerData, PeerIcmp}
-use Rattle.turn_client_api.specs.Poll.{poll_step}
-use Rattle.turn_client_api.specs.State.{State, initial}
-use Rattle.turn_client_api.specs.Steps.{state_after, state_after_all}
-use Rattle.turn_client_api.specs.Streams.{first_ready_step, go_on, is_ready, max_steps, next_frame_step, poll_recv_step, steps_until_payload}
-use Rattle.turn_client_api.specs.Transmit.{transmit_step}
-use Rattle.turn_client_api.specs.declared.call.Call.{Call}
-use Rattle.turn_client_api.specs.declared.call.Call.TheVariants.{Poll as PollCall, PollRecv, Recv}
-use Rattle.turn_client_api.specs.declared.event.TurnEvent.{TurnEvent}
-use Rattle.turn_client_api.specs.declared.poll.TurnPollRet.{TurnPollRet}
+use Rattle.turn_client_laws.proofs.Common.{◌≡◌, ◌∙◌, ℕ, zero, suc, ◌+◌, ◌^◌, ◌<◌, ◌≤◌, Bool, true, false, cond, nat_lt, List, [], ◌∷◌, Option, Some, None, ◌⊎◌, ap, arith, inl, inr, length, refl}
+use Rattle.turn_client_laws.proofs.Common.{subst, suc-add, sym, zero-add, find, ⊤, ltb-false}
+use Rattle.turn_client_laws.proofs.Machine.{Transmit, HasWorkNow, IsTimely, Handled, Ignored, Outcome, Payload, PeerData, PeerIcmp, poll_step, State, initial, state_after, state_after_all}
+use Rattle.turn_client_laws.proofs.Machine.{first_ready_step, go_on, is_ready, max_steps, next_frame_step, poll_recv_step, steps_until_payload, transmit_step, Call, Poll as PollCall, PollRecv, Recv}
+use Rattle.turn_client_laws.proofs.Machine.{TurnEvent, TurnPollRet, Stream}
+use Rattle.turn_client_laws.proofs.Laws.{GrantsHaveAllocations, FitsPhase, calls-walk, SameIn, fixed-all-edits, GrantsHaveAllocations-AllHaveAllocation, initial-GrantsHaveAllocations}
+use Rattle.turn_client_laws.proofs.Laws.{leaves-GrantsHaveAllocations, initial-steady, leaves-steadies, steady-FitsPhaseForPoll, step-lighter, weight, poll-timely, call-configured}
 use Rattle.turn_client_api.specs.declared.poll.TurnPollRet.TheVariants as Poll
-use Rattle.turn_client_api.specs.declared.state.Stream.{Stream}
-use Rattle.turn_client_laws.specs.LawsGrantAllocations.{GrantsHaveAllocations}
-use Rattle.turn_client_laws.specs.LawsOrder.{FitsPhase}
-use Rattle.turn_client_laws.proofs.EditsOfCalls.{calls-walk}
-use Rattle.turn_client_laws.proofs.FixedFields.{SameIn, fixed-all-edits}
-use Rattle.turn_client_laws.proofs.InAllocation.{GrantsHaveAllocations-AllHaveAllocation, initial-GrantsHaveAllocations, leaves-GrantsHaveAllocations}
-use Rattle.turn_client_laws.proofs.SendOrderLemmas.{initial-steady, leaves-steadies, steady-FitsPhaseForPoll}
-use Rattle.turn_client_laws.proofs.StreamDrainLemmas.{step-lighter}
-use Rattle.turn_client_laws.proofs.StreamWeightLemmas.{weight}
-use Rattle.turn_client_laws.proofs.TimelyLemmas.{poll-timely}
 use Rattle.turn_driver.specs.Driver.{DriveState, begun, drive_state, drive_steps, going, once_more, with_answer}
 use Rattle.turn_driver.specs.Given.{Given, packet_in}
 use Rattle.turn_driver.specs.Next.{Answer, Does, Rests, by_streams, by_time, next_step, poll_answer, to_send, waiting}
@@ -41,6 +22,7 @@ use Rattle.turn_driver.proofs.RestWaitSends.{transmit-awaits}
 use Rattle.turn_driver.proofs.RestWaits.{left_to_await}
 use Rattle.turn_driver.proofs.RestWeights.{GetsOn, IsLess, KeepsUp, descends, gets-on-further, left_to_do, less-trans}
 use Rattle.turn_driver.proofs.RunLemmas.{next-run}
+use Rattle.turn_client_runs.proofs.QuietLemmas.{calls-keep}
 
 -- ---- numbers of which the first that changes gets less
 
@@ -54,10 +36,6 @@ pub record Measures (fit : State → Type 0) (left : ℕ → State → List ℕ)
   pub sends : (now : ℕ) (s : State) → now ≤ 2 ^ 62 → fit s → (packet : Transmit (List ℕ)) → (transmit_step now s).0 ≡ Some packet → GetsOn (left now) s (transmit_step now s).1
   pub reports : (now : ℕ) (event : TurnEvent) (events : List TurnEvent) (s : State) → GetsOn (left now) (record s { events = event ∷ events }) (record s { events = events })
   pub drains : (now : ℕ) (s t : State) → weight t.streams < weight s.streams → GetsOn (left now) s t
-
-calls-fit : (fit : State → Type 0) → ((call : Call) (s : State) → fit s → fit (state_after call s)) → (calls : List Call) (s : State) → fit s → fit (state_after_all s calls)
-calls-fit fit keeps [] s is = is
-calls-fit fit keeps (call ∷ calls) s is = calls-fit fit keeps calls (state_after call s) (keeps call s is)
 
 -- ---- one answer
 
@@ -182,7 +160,7 @@ module _ (fit : State → Type 0) (measure : ℕ → State → List ℕ) (size :
   settles-first s is goes later = by (next_step now s) refl goes
     where
       fit-after : fit (next_step now s).1
-      fit-after = let (calls, all, reported) = next-run now s in rw reported.1 (calls-fit fit m.calls calls s is)
+      fit-after = let (calls, all, reported) = next-run now s in rw reported.1 (calls-keep fit m.calls calls s is)
 
       -- after the first poll
       after : (n : ℕ) (p : Answer × State) → next_step now s ≡ p → ((most : ℕ) (given : List Given) → n ≤ most → IsAtRest (drive_steps most now (with_answer given p)).rest) → Settles now s
@@ -277,14 +255,11 @@ record IsFit (s : State) : Type 0 where
   in_allocations : GrantsHaveAllocations s
   pauses : 0 < s.config.request_cadence
 
-pub config-stays : (call : Call) (s : State) → (state_after call s).config ≡ s.config
-config-stays call s = calls-walk (SameIn (λ f. f.1.0)) (fixed-all-edits (λ f. f.1.0)) (λ t streams. refl) call s
-
 call-fit : (call : Call) (s : State) → IsFit s → IsFit (state_after call s)
 call-fit call s is = record {
   phase = leaves-steadies call s (state_after call s) (inl refl) is.phase;
   in_allocations = leaves-GrantsHaveAllocations call s (state_after call s) (inl refl) is.in_allocations;
-  pauses = rw (config-stays call s) is.pauses;
+  pauses = rw (call-configured call s) is.pauses;
 }
 
 pausing : Measures IsFit left_to_do 5
@@ -312,7 +287,7 @@ call-patient call s is = record {
   in_allocations = leaves-GrantsHaveAllocations call s (state_after call s) (inl refl) is.in_allocations;
   waits =
       let transport : (state_after call s).transport ≡ s.transport = calls-walk (SameIn (λ f. f.0)) (fixed-all-edits (λ f. f.0)) (λ t streams. refl) call s in
-      rw (transport, config-stays call s) is.waits;
+      rw (transport, call-configured call s) is.waits;
 }
 
 waiting-long : Measures IsPatient left_to_await 7
@@ -335,7 +310,7 @@ loops-come-to-rest transport local remote config seed calls now (inl pauses) ran
       in_allocations = initial-GrantsHaveAllocations transport local remote config seed;
       pauses = pauses;
     } in
-    rests IsFit left_to_do 5 pausing (state_after_all first calls) now range (calls-fit IsFit call-fit calls first fits)
+    rests IsFit left_to_do 5 pausing (state_after_all first calls) now range (calls-keep IsFit call-fit calls first fits)
 loops-come-to-rest transport local remote config seed calls now (inr waits) range =
     let first : State = initial transport local remote config seed in
     let fits : IsPatient first = record {
@@ -343,4 +318,4 @@ loops-come-to-rest transport local remote config seed calls now (inr waits) rang
       in_allocations = initial-GrantsHaveAllocations transport local remote config seed;
       waits = waits;
     } in
-    rests IsPatient left_to_await 7 waiting-long (state_after_all first calls) now range (calls-fit IsPatient call-patient calls first fits)
+    rests IsPatient left_to_await 7 waiting-long (state_after_all first calls) now range (calls-keep IsPatient call-patient calls first fits)

@@ -1,170 +1,19 @@
 -- `poll` leaves less to do, or as much.
-use Rattle.std.proofs.Common.{◌≡◌, ◌∙◌, ℕ, ◌+◌, ◌<◌, Bool, true, false, cond, eqb, not, ◌&&◌, ◌||◌, List, [], ◌∷◌, Option, Some, None, ◌⊎◌, ap, arith, filter, filter_map, inl, inr, length, refl}
-use Rattle.std.proofs.Common.{slice_get, subst, sym}
-use Rattle.std.specs.Prelude.{find, fold, reverse}
-use Rattle.std.specs.Option.{option_map_or}
-use Rattle.std.proofs.lemmas.Bool.{eq-eqb, not_from_true}
-use Rattle.std.proofs.lemmas.List.{append-nil}
-use Rattle.std.specs.declared.net.socket_addr.SocketAddr.{SocketAddr}
-use Rattle.turn_types.specs.declared.family.AddressFamily.{AddressFamily}
-use Rattle.turn_agent.specs.Agent.{timed_out_transaction}
-use Rattle.turn_agent.specs.declared.transaction.Transaction.{Transaction}
-use Rattle.turn_client_api.specs.Config.{timers_of}
-use Rattle.turn_client_api.specs.Due.{has_event, has_reply}
-use Rattle.turn_client_api.specs.Effect.{closed, reserved_time, transaction_ended}
-use Rattle.turn_client_api.specs.Grants.{allocations, family_of, is_channel_of, is_of, is_of_family, without_grants}
-use Rattle.turn_client_api.specs.Poll.{answer_by, answer_step, as_reported, channel_expired, failed, first_reported, first_unreported, is_expired_channel, is_listed_for_allocation, expired_at}
-use Rattle.turn_client_api.specs.Poll.{allocation_expires, expired_allocation, expired_in, next_offer, offer_step, poll_step, timed_out_purposes, timed_out_step}
-use Rattle.turn_client_api.specs.Poll.{timed_step, unbound, unreported_in}
-use Rattle.turn_client_api.specs.State.{State, agent_of, later_by}
-use Rattle.turn_client_api.specs.declared.grant.DataOffer.{DataOffer}
-use Rattle.turn_client_api.specs.declared.grant.Grant.{Grant}
-use Rattle.turn_client_api.specs.declared.grant.Grant.TheVariants.{Allocation, Channel, Connect, Connection, Offer, Permission}
-use Rattle.turn_client_api.specs.declared.grant.Progress.TheVariants.{Active, Reserved}
-use Rattle.turn_client_api.specs.declared.grant.Purpose.{Purpose}
-use Rattle.turn_client_api.specs.declared.grant.Relay.{Relay}
-use Rattle.turn_client_api.specs.declared.poll.TurnPollRet.{TurnPollRet}
+use Rattle.turn_client_laws.proofs.Common.{◌≡◌, ◌∙◌, ℕ, ◌<◌, Bool, true, false, cond, eqb, not, ◌&&◌, ◌||◌, List, [], ◌∷◌, Option, Some, None, ap, arith, filter_map, inl, inr, length, refl, slice_get}
+use Rattle.turn_client_laws.proofs.Common.{subst, sym, option_map_or, eq-eqb, not_from_true, SocketAddr}
+use Rattle.turn_client_laws.proofs.Machine.{AddressFamily, timed_out_transaction, Transaction, timers_of, has_event, has_reply, closed, transaction_ended, allocations, family_of, is_of_family}
+use Rattle.turn_client_laws.proofs.Machine.{answer_by, answer_step, as_reported, first_reported, first_unreported, is_listed_for_allocation, expired_at, next_offer, offer_step, poll_step}
+use Rattle.turn_client_laws.proofs.Machine.{timed_out_step, timed_step, unreported_in, State, agent_of, DataOffer, Grant, Allocation, Channel, Connect, Connection, Offer, Permission, Purpose, Relay}
+use Rattle.turn_client_laws.proofs.Machine.{TurnPollRet, Phase, New, Requesting, Authenticating, Allocated, Closed, first-has, has-filter_map, has-found}
+use Rattle.turn_client_laws.proofs.Laws.{answer-by, same_family-true, weight}
 use Rattle.turn_client_api.specs.declared.poll.TurnPollRet.TheVariants as Poll
-use Rattle.turn_client_api.specs.declared.state.Phase.{Phase}
-use Rattle.turn_client_api.specs.declared.state.Phase.TheVariants.{New, Requesting, Authenticating, Allocated, Closed}
-use Rattle.turn_client_laws.proofs.CaseLemmas.{answer-by}
-use Rattle.turn_client_api.proofs.HasLemmas.{Has, first-has, has-filter_map, has-found, has-unreversed}
-use Rattle.turn_client_laws.proofs.InAllocationLemmas.{same_family-true}
-use Rattle.turn_client_api.proofs.ExpirySteps.{expired_in-does}
-use Rattle.turn_client_laws.proofs.StreamWeightLemmas.{weight}
-use Rattle.turn_driver.proofs.RestWeights.{GetsOn, IsParted, KeepsUp, fewer, five-same, gets-on-further, left_to_do, load, load-append, may-same, may_send, parted}
-use Rattle.turn_driver.proofs.RestWeights.{removed-load, resends_left, steps_of}
-
--- ---- what time changes in a client, apart from what timed out
-
-abbrev pub IsLighter : State → State → Type 0
-IsLighter s t = (load t.grants < load s.grants) ⊎ ((load t.grants ≡ load s.grants) × (length t.events + length t.closes ≡ length s.events + length s.closes))
-
--- all but the grants, the events and the connections to close stays
-pub record Stands (s t : State) : Type 0 where
-  pub config : t.config ≡ s.config
-  pub transport : t.transport ≡ s.transport
-  pub last_send : t.last_send ≡ s.last_send
-  pub streams : t.streams ≡ s.streams
-  pub transactions : t.transactions ≡ s.transactions
-  pub queue : t.queue ≡ s.queue
-
-pub stands-self : (s : State) → Stands s s
-stands-self s = record { config = refl; transport = refl; last_send = refl; streams = refl; transactions = refl; queue = refl }
-
-pub stands-trans : (s t u : State) → Stands s t → Stands t u → Stands s u
-stands-trans s t u a b = record {
-  config = b.config ∙ a.config;
-  transport = b.transport ∙ a.transport;
-  last_send = b.last_send ∙ a.last_send;
-  streams = b.streams ∙ a.streams;
-  transactions = b.transactions ∙ a.transactions;
-  queue = b.queue ∙ a.queue;
-}
-
-pub record Ages (s t : State) : Type 0 where
-  pub stands : Stands s t
-  pub phase : t.phase ≡ s.phase
-  pub lighter : IsLighter s t
-
-lighter-trans : (s t u : State) → IsLighter s t → IsLighter t u → IsLighter s u
-lighter-trans s t u (inl a) (inl b) = inl (omega (arith, a, b))
-lighter-trans s t u (inl a) (inr b) = let e = b.0 in inl (omega (arith, a, e))
-lighter-trans s t u (inr a) (inl b) = let e = a.0 in inl (omega (arith, e, b))
-lighter-trans s t u (inr a) (inr b) = inr (b.0 ∙ a.0, b.1 ∙ a.1)
-
-ages-self : (s : State) → Ages s s
-ages-self s = record { stands = stands-self s; phase = refl; lighter = inr (refl, refl) }
-
-ages-trans : (s t u : State) → Ages s t → Ages t u → Ages s u
-ages-trans s t u a b = record { stands = stands-trans s t u a.stands b.stands; phase = b.phase ∙ a.phase; lighter = lighter-trans s t u a.lighter b.lighter }
-
--- ---- what expires in one allocation
-
-failed-ages : (which : Grant → Bool) (s : State) → Ages s (failed which s)
-failed-ages which s = record {
-  stands = record { config = refl; transport = refl; last_send = refl; streams = refl; transactions = refl; queue = refl };
-  phase = refl;
-  lighter = by (parted which s.grants);
-}
-  where
-    by : IsParted which s.grants → IsLighter s (failed which s)
-    by (inl (same, none)) = inr (ap load same, rw none refl)
-    by (inr less) = inl less
-
-unbound-ages : (which : Grant → Bool) (s : State) → Ages s (unbound which s)
-unbound-ages which s = record {
-  stands = record { config = refl; transport = refl; last_send = refl; streams = refl; transactions = refl; queue = refl };
-  phase = refl;
-  lighter = by (parted which s.grants);
-}
-  where
-    by : IsParted which s.grants → IsLighter s (unbound which s)
-    by (inl (same, none)) = inr (ap load same, rw (none, append-nil s.closes) refl)
-    by (inr less) = inl less
-
-freed-ages : (which : Grant → Bool) (s : State) → Ages s (without_grants which s)
-freed-ages which s = record {
-  stands = record { config = refl; transport = refl; last_send = refl; streams = refl; transactions = refl; queue = refl };
-  phase = refl;
-  lighter = by (parted which s.grants);
-}
-  where
-    by : IsParted which s.grants → IsLighter s (without_grants which s)
-    by (inl (same, none)) = inr (ap load same, refl)
-    by (inr less) = inl less
-
-channel-ages : (o : Option Grant) (s : State) → ((g : Grant) → o ≡ Some g → Has g s.grants) → Ages s (channel_expired o s)
-channel-ages (Some (Channel number peer (Active lease))) s there = record {
-  stands = record { config = refl; transport = refl; last_send = refl; streams = refl; transactions = refl; queue = refl };
-  phase = refl;
-  lighter = inl (
-      let less = removed-load (is_channel_of number) (Channel number peer (Active lease)) s.grants (there (Channel number peer (Active lease)) refl) (eq-eqb number number refl) in
-      let more = load-append (filter (λ g. not (is_channel_of number g)) s.grants) (Channel number peer (Reserved (later_by reserved_time lease.expiry)) ∷ []) in
-      omega (arith, less, more));
-}
-channel-ages o s there = ages-self s
-
-expired_in-ages : (family : AddressFamily) (given : Option ℕ) (purposes : List Purpose) (now : ℕ) (s : State) → Ages s (expired_in family given purposes now s)
-expired_in-ages family given purposes now =
-    let has_expired = λ (x : Grant). is_of family x && is_expired_channel now x in
-    expired_in-does Ages family given purposes now (record {
-      trans = ages-trans;
-      channels = λ t. failed-ages _ t;
-      permissions = λ t. failed-ages _ t;
-      last_channel = λ t. channel-ages (find has_expired (reverse t.grants)) t (λ x found. has-unreversed x t.grants (has-found has_expired x (reverse t.grants) found).0);
-      expired_permissions = λ t. failed-ages _ t;
-      connects = λ t. failed-ages _ t;
-      connections = λ t. unbound-ages _ t;
-      offers = λ t. failed-ages _ t;
-      refreshes = λ t. record {
-        stands = record { config = refl; transport = refl; last_send = refl; streams = refl; transactions = refl; queue = refl };
-        phase = refl;
-        lighter = inr (refl, refl);
-      };
-      frees = λ t. freed-ages _ t;
-    })
-
-allocation-ages : (given : Option ℕ) (purposes : List Purpose) (now : ℕ) (s : State) (a : Relay) → Ages s (expired_allocation given purposes now s a)
-allocation-ages given purposes now s a = by (allocation_expires purposes now s a)
-  where
-    by : (b : Bool) → Ages s (cond b (without_grants (is_of (family_of a.relayed)) s) (expired_in (family_of a.relayed) given purposes now s))
-    by true = freed-ages (is_of (family_of a.relayed)) s
-    by false = expired_in-ages (family_of a.relayed) given purposes now s
-
-each-ages : (given : Option ℕ) (purposes : List Purpose) (now : ℕ) (relays : List Relay) (s : State) → Ages s (fold (expired_allocation given purposes now) s relays)
-each-ages given purposes now [] s = ages-self s
-each-ages given purposes now (a ∷ relays) s =
-    let t = expired_allocation given purposes now s a in
-    ages-trans s t (fold (expired_allocation given purposes now) t relays) (allocation-ages given purposes now s a) (each-ages given purposes now relays t)
-
-pub expired_at-ages : (given : Option ℕ) (now : ℕ) (s : State) → Ages s (expired_at given now s)
-expired_at-ages given now s = each-ages given (timed_out_purposes given s) now (allocations s) s
+use Rattle.turn_driver.proofs.RestExpiry.{Ages, IsLighter, Stands, expired_at-ages, stands-self}
+use Rattle.turn_driver.proofs.RestWeights.{GetsOn, KeepsUp, fewer, five-same, gets-on-further, left_to_do, load, may-same, may_send, resends_left, steps_of}
 
 -- ---- the five numbers
 
-ages-KeepsUp : (now : ℕ) (s t : State) → Ages s t → KeepsUp (left_to_do now) s t
-ages-KeepsUp now s t ages = by ages.lighter
+ages-KeepsUp : (purposes : List Purpose) (now : ℕ) (s t : State) → Ages purposes s t → KeepsUp (left_to_do now) s t
+ages-KeepsUp purposes now s t ages = by ages.lighter
   where
     stands : Stands s t
     stands = ages.stands
@@ -184,9 +33,9 @@ ages-KeepsUp now s t ages = by ages.lighter
     queue : length t.queue ≡ length s.queue
     queue = rw stands.queue refl
 
-    by : IsLighter s t → KeepsUp (left_to_do now) s t
+    by : IsLighter purposes s t → KeepsUp (left_to_do now) s t
     by (inl less) = inl (inr (bytes, inr (may, inr (awaits, inl less))))
-    by (inr (same, reported)) = inr (five-same _ _ _ _ _ _ _ _ _ _ bytes may awaits same (omega (arith, resends, queue, reported)), stands.transactions)
+    by (inr (same, listed, reported)) = inr (five-same _ _ _ _ _ _ _ _ _ _ bytes may awaits (ap load same) (omega (arith, resends, queue, reported)), stands.transactions)
 
 -- a request is no longer awaited, and the streams and the pause are as they were
 fewer-GetsOn : (now : ℕ) (s t u : State) → t.streams ≡ s.streams → t.config ≡ s.config → t.last_send ≡ s.last_send → Stands t u → length t.transactions < length s.transactions
@@ -233,7 +82,7 @@ none-IsReported : (p : Phase) (now : ℕ) (s : State) → IsReported (left_to_do
 none-IsReported New now s = inr (refl, refl)
 none-IsReported Requesting now s = answer-IsReported (left_to_do now) (closing now) None now s s (inr (refl, refl))
 none-IsReported Authenticating now s = answer-IsReported (left_to_do now) (closing now) None now s s (inr (refl, refl))
-none-IsReported Allocated now s = answer-IsReported (left_to_do now) (closing now) None now s (expired_at None now s) (ages-KeepsUp now s (expired_at None now s) (expired_at-ages None now s))
+none-IsReported Allocated now s = answer-IsReported (left_to_do now) (closing now) None now s (expired_at None now s) (ages-KeepsUp [] now s (expired_at None now s) (expired_at-ages None now s))
 none-IsReported Closed now s = inr (refl, refl)
 
 -- a request timed out

@@ -1,26 +1,10 @@
 -- A client that sends a packet has less left to do, if there is a pause between two requests.
-use Rattle.std.proofs.Common.{◌≡◌, ◌∙◌, ℕ, ◌+◌, ◌-◌, ◌^◌, ◌<◌, ◌≤◌, Bool, true, false, cond, eqb, List, [], ◌∷◌, Option, Some, None, ap, arith, filter_map, inl, inr, length, min, refl, slice_get}
-use Rattle.std.proofs.Common.{sym}
-use Rattle.std.specs.Prelude.{drop, nat_le}
-use Rattle.std.specs.List.{cons_option, list_any}
-use Rattle.std.specs.Option.{option_map_or}
-use Rattle.std.proofs.lemmas.Bool.{and_parts, eq-eqb, lt-ltb, ltb-true}
-use Rattle.turn_stun.specs.declared.transport.TransportType.{TransportType}
-use Rattle.turn_stun.specs.declared.transport.Transmit.{Transmit}
-use Rattle.turn_agent.specs.Agent.{due, is_due, resent}
-use Rattle.turn_agent.specs.Schedule.{Timers, resends_of}
-use Rattle.turn_agent.specs.declared.transaction.Transaction.{Transaction}
-use Rattle.turn_client_api.specs.Config.{timers_of}
-use Rattle.turn_client_api.specs.Due.{is_paused, keepalive_times, pause_end}
-use Rattle.turn_client_api.specs.Requests.{binding_indication, fresh_id, id_used, request_for, to_server}
-use Rattle.turn_client_api.specs.State.{State, agent_of}
-use Rattle.turn_client_api.specs.Transmit.{idle_step, keepalive_step, next_refresh, queue_step, refresh_step, reply_in, reply_step, sent, sent_at_once, transmit_step, without_first_reply}
-use Rattle.turn_client_api.specs.declared.grant.Purpose.{Purpose}
-use Rattle.turn_client_api.specs.declared.state.Phase.{Phase}
-use Rattle.turn_client_api.specs.declared.state.Phase.TheVariants.{New, Requesting, Authenticating, Allocated, Closed}
-use Rattle.turn_client_api.specs.declared.state.Queued.{Queued}
-use Rattle.turn_client_api.proofs.HasLemmas.{Has, has-found}
-use Rattle.turn_client_laws.proofs.StreamWeightLemmas.{weight}
+use Rattle.turn_client_laws.proofs.Common.{◌≡◌, ◌∙◌, ℕ, ◌+◌, ◌-◌, ◌^◌, ◌<◌, ◌≤◌, Bool, true, false, cond, eqb, List, [], ◌∷◌, Option, Some, None, ap, arith, filter_map, inl, inr, length, min, refl}
+use Rattle.turn_client_laws.proofs.Common.{slice_get, sym, drop, nat_le, cons_option, list_any, option_map_or, and_parts, eq-eqb, lt-ltb, ltb-true}
+use Rattle.turn_client_laws.proofs.Machine.{TransportType, Transmit, due, is_due, resent, Timers, resends_of, Transaction, timers_of, is_paused, keepalive_times, pause_end, binding_indication}
+use Rattle.turn_client_laws.proofs.Machine.{fresh_id, id_used, request_for, to_server, State, agent_of, idle_step, keepalive_step, next_refresh, queue_step, refresh_step, reply_in, reply_step, sent}
+use Rattle.turn_client_laws.proofs.Machine.{sent_at_once, transmit_step, without_first_reply, Purpose, Phase, New, Requesting, Authenticating, Allocated, Closed, Queued, Has, has-found}
+use Rattle.turn_client_laws.proofs.Laws.{weight}
 use Rattle.turn_driver.proofs.RestWeights.{GetsOn, left_to_do, may_send, resends_left}
 
 -- ---- the pause

@@ -1,31 +1,13 @@
 -- A client that sends a packet has less left to do, if no request times out when it is sent.
-use Rattle.std.proofs.Common.{◌≡◌, ◌∙◌, ℕ, ◌^◌, ◌<◌, ◌≤◌, max, Bool, true, false, cond, not, ◌&&◌, leb, List, [], ◌∷◌, Option, Some, None, arith, inl, inr, length, refl, subst, sym}
-use Rattle.std.specs.Prelude.{IfSome, drop, map, nat_le, option_and_then, option_to_list, slice_get}
-use Rattle.std.specs.List.{list_any}
-use Rattle.std.specs.Option.{option_map_or}
-use Rattle.std.proofs.lemmas.Bool.{and_parts, cases_Bool, eq-eqb, leb-true}
-use Rattle.std.proofs.lemmas.Option.{cond_some, none-some}
-use Rattle.turn_stun.specs.declared.transport.Transmit.{Transmit}
-use Rattle.turn_agent.specs.Agent.{due, first_sent, is_due, resent, transaction_timeout}
-use Rattle.turn_agent.specs.Schedule.{wait_at}
-use Rattle.turn_agent.specs.declared.transaction.Transaction.{Transaction}
-use Rattle.turn_client_api.specs.Config.{timers_of}
-use Rattle.turn_client_api.specs.Due.{has_allocation_in_use, is_paused, is_refreshable, keepalive_times, pause_end, refresh_time, refresh_time_by_kind}
-use Rattle.turn_client_api.specs.Grants.{family_of, has_request, is_for}
-use Rattle.turn_client_api.specs.Requests.{asked_lifetime, binding_indication, fresh_id, id_used, request_for, to_server}
-use Rattle.turn_client_api.specs.State.{State, agent_of, later_by}
-use Rattle.turn_client_api.specs.Transmit.{idle_step, is_refresh_due, keepalive_step, next_refresh, queue_step, refresh_purpose, refresh_step, reply_step, sent, sent_at_once, transmit_step}
-use Rattle.turn_client_api.specs.declared.grant.Grant.{Grant}
-use Rattle.turn_client_api.specs.declared.grant.Grant.TheVariants.{Allocation, Channel, Permission}
-use Rattle.turn_client_api.specs.declared.grant.Progress.TheVariants.{Active}
-use Rattle.turn_client_api.specs.declared.grant.Purpose.{Purpose}
-use Rattle.turn_client_api.specs.declared.grant.Purpose.TheVariants.{ForChannel, ForPermission, ForRefresh}
-use Rattle.turn_client_api.specs.declared.state.Phase.{Phase}
-use Rattle.turn_client_api.specs.declared.state.Phase.TheVariants.{New, Requesting, Authenticating, Allocated, Closed}
-use Rattle.turn_client_api.specs.declared.state.Queued.{Queued}
-use Rattle.turn_client_laws.proofs.GrantOriginEffectLemmas.{same_ip-same}
-use Rattle.turn_client_api.proofs.HasLemmas.{Has, has-found}
-use Rattle.turn_client_laws.proofs.InAllocationLemmas.{same_family-self}
+use Rattle.turn_client_laws.proofs.Common.{◌≡◌, ◌∙◌, ℕ, ◌^◌, ◌<◌, ◌≤◌, max, Bool, true, false, cond, not, ◌&&◌, leb, List, [], ◌∷◌, Option, Some, None, arith, inl, inr, length, refl, subst, sym}
+use Rattle.turn_client_laws.proofs.Common.{IfSome, drop, map, nat_le, option_to_list, slice_get, list_any, option_map_or, and_parts, cases_Bool, eq-eqb, leb-true, cond_some, none-some}
+use Rattle.turn_client_laws.proofs.Machine.{Transmit, due, first_sent, is_due, resent, transaction_timeout, wait_at, Transaction, timers_of, has_allocation_in_use, is_paused, is_refreshable}
+use Rattle.turn_client_laws.proofs.Machine.{keepalive_times, pause_end, refresh_time, refresh_time_by_kind, family_of, has_request, is_for, asked_lifetime, binding_indication, fresh_id, id_used}
+use Rattle.turn_client_laws.proofs.Machine.{request_for, to_server, State, agent_of, later_by, idle_step, is_refresh_due, keepalive_step, next_refresh, queue_step, refresh_purpose, refresh_step}
+use Rattle.turn_client_laws.proofs.Machine.{reply_step, sent, sent_at_once, transmit_step, Grant, Allocation, Channel, Permission, Active, Purpose, ForChannel, ForPermission, ForRefresh, Phase, New}
+use Rattle.turn_client_laws.proofs.Machine.{Requesting, Authenticating, Allocated, Closed, Queued, Has, has-found}
+use Rattle.turn_client_laws.proofs.Laws.{same_ip-same, same_family-self}
+use Rattle.std.specs.Prelude.{option_and_then}
 use Rattle.turn_client_runs.proofs.LastingTransmits.{IsNext, next-of}
 use Rattle.turn_driver.proofs.RestSends.{reply-shorter}
 use Rattle.turn_driver.proofs.RestWaits.{asked-fewer, is_over, left_to_await, may_keep, not-over, over-append, resent-fewer}

@@ -1,24 +1,9 @@
 -- What a client has left to do at one time, if no request times out when it is sent: seven numbers, of which the first that
 -- changes gets less.
-use Rattle.std.proofs.Common.{◌≡◌, ◌∙◌, ℕ, ◌+◌, ◌^◌, ◌<◌, ◌≤◌, Bool, true, false, cond, eqb, ◌||◌, List, [], ◌∷◌, ◌++◌, ap, arith, filter, inl, inr}
-use Rattle.std.proofs.Common.{refl, sym}
-use Rattle.std.specs.Prelude.{nat_le}
-use Rattle.std.specs.List.{list_any}
-use Rattle.std.proofs.lemmas.Bool.{cases_Bool, eq-eqb, leb-true}
-use Rattle.turn_stun.specs.declared.transport.TransportType.{TransportType}
-use Rattle.turn_agent.specs.Agent.{resent, transaction_timeout}
-use Rattle.turn_agent.specs.Schedule.{Timers, wait_at}
-use Rattle.turn_agent.specs.declared.transaction.Transaction.{Transaction}
-use Rattle.turn_client_api.specs.Config.{timers_of}
-use Rattle.turn_client_api.specs.Due.{keepalive_times}
-use Rattle.turn_client_api.specs.Grants.{is_for}
-use Rattle.turn_client_api.specs.State.{State}
-use Rattle.turn_client_api.specs.declared.grant.Grant.{Grant}
-use Rattle.turn_client_api.specs.declared.grant.Listing.{Listing}
-use Rattle.turn_client_api.specs.declared.state.Phase.{Phase}
-use Rattle.turn_client_api.specs.declared.state.Phase.TheVariants.{New}
-use Rattle.turn_client_api.proofs.HasLemmas.{Has}
-use Rattle.turn_client_laws.proofs.StreamWeightLemmas.{weight}
+use Rattle.turn_client_laws.proofs.Common.{◌≡◌, ◌∙◌, ℕ, ◌+◌, ◌^◌, ◌<◌, ◌≤◌, Bool, true, false, cond, eqb, ◌||◌, List, [], ◌∷◌, ◌++◌, ap, arith, filter, inl, inr, refl, sym, nat_le, list_any}
+use Rattle.turn_client_laws.proofs.Common.{cases_Bool, eq-eqb, leb-true}
+use Rattle.turn_client_laws.proofs.Machine.{TransportType, resent, transaction_timeout, Timers, wait_at, Transaction, timers_of, keepalive_times, is_for, State, Grant, Listing, Phase, New, Has}
+use Rattle.turn_client_laws.proofs.Laws.{weight}
 use Rattle.turn_driver.proofs.RestWeights.{load, queued}
 
 -- ---- requests of which the wait is over

@@ -1,17 +1,9 @@
 -- What a client has left to do at one time: five numbers, of which the first that changes gets less.
-use Rattle.std.proofs.Common.{◌≡◌, ◌∙◌, ℕ, zero, suc, ◌+◌, ◌-◌, ◌<◌, ◌≤◌, Bool, true, false, cond, not, List, [], ◌∷◌, ◌++◌, ◌⊎◌, ap, arith, filter, inl, inr, length, refl, subst, sym}
-use Rattle.std.proofs.lemmas.Bool.{cases_Bool}
-use Rattle.turn_stun.specs.declared.transport.TransportType.{TransportType}
-use Rattle.turn_agent.specs.Schedule.{Timers, resends_of}
-use Rattle.turn_agent.specs.declared.transaction.Transaction.{Transaction}
-use Rattle.turn_client_api.specs.Config.{timers_of}
-use Rattle.turn_client_api.specs.Due.{is_paused}
-use Rattle.turn_client_api.specs.State.{State}
-use Rattle.turn_client_api.specs.declared.grant.Grant.{Grant}
-use Rattle.turn_client_api.specs.declared.grant.Grant.TheVariants.{Allocation, Channel, Connect, Connection, Offer, Permission}
-use Rattle.turn_client_api.specs.declared.grant.Progress.TheVariants.{Active, Pending, Reserved}
-use Rattle.turn_client_api.proofs.HasLemmas.{Has}
-use Rattle.turn_client_laws.proofs.StreamWeightLemmas.{weight}
+use Rattle.turn_client_laws.proofs.Common.{◌≡◌, ◌∙◌, ℕ, zero, suc, ◌+◌, ◌-◌, ◌<◌, ◌≤◌, Bool, true, false, cond, not, List, [], ◌∷◌, ◌++◌, ◌⊎◌, ap, arith, filter, inl, inr, length, refl, subst, sym}
+use Rattle.turn_client_laws.proofs.Common.{cases_Bool}
+use Rattle.turn_client_laws.proofs.Machine.{TransportType, Timers, resends_of, Transaction, timers_of, is_paused, State, Grant, Allocation, Channel, Connect, Connection, Offer, Permission, Active}
+use Rattle.turn_client_laws.proofs.Machine.{Pending, Reserved, Has}
+use Rattle.turn_client_laws.proofs.Laws.{weight}
 
 -- ---- lists of numbers of which the first that differ decide
 

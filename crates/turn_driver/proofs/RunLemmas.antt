@@ -1,21 +1,9 @@
 -- What the loop does is a sequence of calls, and nothing that they return is lost.
-use Rattle.std.proofs.Common.{◌≡◌, ◌∙◌, ℕ, zero, suc, Bool, true, false, nat_lt, cond, List, [], ◌∷◌, ◌++◌, Option, Some, None, ap, inl, inr, option_map, refl, subst, sym}
-use Rattle.std.specs.Prelude.{IfOk, OnOk, Result, Ok, Err, option_to_list}
-use Rattle.std.specs.List.{AllByRecursion}
+use Rattle.turn_client_laws.proofs.Common.{◌≡◌, ◌∙◌, ℕ, zero, suc, Bool, true, false, nat_lt, cond, List, [], ◌∷◌, ◌++◌, Option, Some, None, ap, inl, inr, option_map, refl, subst, sym, IfOk, OnOk}
+use Rattle.turn_client_laws.proofs.Common.{Result, Ok, Err, option_to_list, AllByRecursion, append-nil, append_assoc}
+use Rattle.turn_client_laws.proofs.Machine.{Transmit, State, event_step, Payload, poll_step, state_after, state_after_all, poll_recv_step, transmit_step, Call, Recv, PollRecv, Poll, PollTransmit}
+use Rattle.turn_client_laws.proofs.Machine.{PollEvent, TurnEvent, TurnPollRet}
 use Rattle.turn_driver.specs.declared.task.Task.{Task}
-use Rattle.std.proofs.lemmas.List.{append-nil, append_assoc}
-use Rattle.turn_stun.specs.declared.transport.Transmit.{Transmit}
-use Rattle.turn_client_api.specs.State.{State}
-use Rattle.turn_client_api.specs.Answers.{event_step}
-use Rattle.turn_client_api.specs.Payloads.{Payload}
-use Rattle.turn_client_api.specs.Poll.{poll_step}
-use Rattle.turn_client_api.specs.Steps.{state_after, state_after_all}
-use Rattle.turn_client_api.specs.Streams.{poll_recv_step}
-use Rattle.turn_client_api.specs.Transmit.{transmit_step}
-use Rattle.turn_client_api.specs.declared.call.Call.{Call}
-use Rattle.turn_client_api.specs.declared.call.Call.TheVariants.{Recv, PollRecv, Poll, PollTransmit, PollEvent}
-use Rattle.turn_client_api.specs.declared.event.TurnEvent.{TurnEvent}
-use Rattle.turn_client_api.specs.declared.poll.TurnPollRet.{TurnPollRet}
 use Rattle.turn_client_api.specs.declared.poll.TurnPollRet.TheVariants as Poll
 use Rattle.turn_driver.specs.Given.{Given, FromPeer, Happened, ToSend}
 use Rattle.turn_driver.specs.Next.{Answer, Does, Rests, by_streams, by_time, next_step, to_send, to_report, waiting}
@@ -23,6 +11,7 @@ use Rattle.turn_driver.specs.Run.{IsAsk, IsRun, IsWhole, all_given, asked_for, g
 use Rattle.turn_driver.specs.Driver.{DriveState, begun, going, once_more, driven, drive_steps, with_answer}
 use Rattle.turn_driver.specs.declared.task.Rest.{Rest}
 use Rattle.turn_driver.specs.declared.task.Rest.TheVariants.{Until, Now, Ended}
+use Rattle.turn_client_runs.proofs.LastingRuns.{joined}
 
 -- ---- one answer
 
@@ -74,10 +63,6 @@ given-append s (call ∷ calls) more =
     ap (λ given. given_by call s ++ given) (given-append (state_after call s) calls more)
     ∙ sym (append_assoc (given_by call s) (all_given (state_after call s) calls) (all_given (state_after_all (state_after call s) calls) more))
 
-behind-append : (s : State) (calls more : List Call) → state_after_all s (calls ++ more) ≡ state_after_all (state_after_all s calls) more
-behind-append s [] more = refl
-behind-append s (call ∷ calls) more = behind-append (state_after call s) calls more
-
 asks-append : (now : ℕ) (calls more : List Call) → AllByRecursion (IsAsk now) calls → AllByRecursion (IsAsk now) more → AllByRecursion (IsAsk now) (calls ++ more)
 asks-append now [] more all others = others
 asks-append now (call ∷ calls) more (asks, all) others = (asks, asks-append now calls more all others)
@@ -89,7 +74,7 @@ IsRun-append calls more t u v one other = (
       ∙ (ap (λ (s : State). (t.given ++ all_given t.client calls) ++ all_given s more) one.1
       ∙ (append_assoc t.given (all_given t.client calls) (all_given (state_after_all t.client calls) more)
       ∙ sym (ap (λ given. t.given ++ given) (given-append t.client calls more))))),
-  other.1 ∙ (ap (λ (s : State). state_after_all s more) one.1 ∙ sym (behind-append t.client calls more)),
+  other.1 ∙ (ap (λ (s : State). state_after_all s more) one.1 ∙ sym (joined t.client calls more)),
 )
 
 -- ---- one iteration of the loop

@@ -1,7 +1,5 @@
-use Rattle.std.proofs.Common.{◌≡◌, ◌∙◌, Vec, Global, ℕ, List, Option, Some, None, ap, inr, refl, subst, sym}
-use Rattle.std.specs.Prelude.{IfOk}
-use Rattle.std.proofs.lemmas.Result.{on_err_weaker}
-use Rattle.turn_stun.specs.declared.transport.Transmit.{Transmit}
+use Rattle.turn_client_laws.proofs.Common.{◌≡◌, ◌∙◌, Vec, Global, ℕ, List, Option, Some, None, ap, inr, refl, subst, sym, IfOk, on_err_weaker}
+use Rattle.turn_client_laws.proofs.Machine.{Transmit}
 use Rattle.turn_driver.specs.Given.{packet_in, packet_of}
 use Rattle.turn_driver.specs.Driver.{Draws, DriveState, begun, driven, drive_steps}
 use Rattle.turn_driver.specs.declared.task.Task.{Task}

@@ -1,5 +1,4 @@
-use Rattle.std.proofs.Common.{rules, ◌≡◌, ◌∙◌, ◌++◌, ◌∷◌, [], Vec, Global, ap, map, refl, sym}
-use Rattle.std.proofs.lemmas.List.{map-append}
+use Rattle.turn_client_laws.proofs.Common.{rules, ◌≡◌, ◌∙◌, ◌++◌, ◌∷◌, [], Vec, Global, ap, map, refl, sym, map-append}
 use Rattle.turn_driver.specs.Given.{given_of}
 use Rattle.turn_driver.specs.Next.{Does, Rests, answer_of}
 use Rattle.turn_driver.specs.Driver.{going, drive_steps, with_answer}

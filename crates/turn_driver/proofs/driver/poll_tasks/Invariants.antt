@@ -1,4 +1,4 @@
-use Rattle.std.proofs.Common.{◌≡◌}
+use Rattle.turn_client_laws.proofs.Common.{◌≡◌}
 use Rattle.turn_driver.specs.Driver.{drive_state, drive_steps}
 use Rattle.turn_driver.proofs.driver.poll_tasks.Given as goal
 
