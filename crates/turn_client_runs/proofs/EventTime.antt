@@ -12,6 +12,13 @@ use Rattle.turn_client_laws.proofs.Laws.{answer-by, by_found, by_test, has-mappe
 use Rattle.turn_client_runs.specs.Events.{FailsInTime, HasFailed}
 use Rattle.turn_client_runs.proofs.EventLemmas.{AddsReported, adds-before, adds-none, reported-one, reports-fold, reports-same, reports-trans}
 
+-- the last channel that expires is there, and has expired
+pub expired_channel-there : (family : AddressFamily) (now : ℕ) (s : State) (g : Grant) → find (λ g. is_of family g && is_expired_channel now g) (reverse s.grants) ≡ Some g
+    → Has g s.grants × (is_expired_channel now g ≡ true)
+expired_channel-there family now s g e =
+    let (there, is) = has-found (λ g. is_of family g && is_expired_channel now g) g (reverse s.grants) e in
+    (has-unreversed g s.grants there, (and_parts (is_of family g) (is_expired_channel now g) is).1)
+
 -- ---- what fails, where a request that was made for these purposes may have timed out
 
 module _ (given : Option ℕ) (purposes : List Purpose) (now : ℕ) (before : State) where
@@ -129,7 +136,7 @@ module _ (given : Option ℕ) (purposes : List Purpose) (now : ℕ) (before : St
     trans = reports-trans Keeps Lost;
     channels = failed-says _ (asked-for family is_pending_channel lost-channel);
     permissions = failed-says _ (asked-for family is_pending_permission lost-permission);
-    last_channel = λ s. channel-says (find (test family) (reverse s.grants)) s (found family s);
+    last_channel = λ s. channel-says (find (λ g. is_of family g && is_expired_channel now g) (reverse s.grants)) s (expired_channel-there family now s);
     expired_permissions = failed-says _ (of-kind family (is_expired_permission now) expired-permission);
     connects = failed-says _ (asked-for family is_connect lost-connect);
     connections = failed-says _ (of-kind family (is_unbound purposes now) unbound-connection);
@@ -137,14 +144,6 @@ module _ (given : Option ℕ) (purposes : List Purpose) (now : ℕ) (before : St
     refreshes = λ s keeps. (keeps, λ e there. inl there);
     frees = λ s. without-says _ s;
   })
-    where
-      test : AddressFamily → Grant → Bool
-      test family g = is_of family g && is_expired_channel now g
-
-      found : (family : AddressFamily) (s : State) (g : Grant) → find (test family) (reverse s.grants) ≡ Some g → Has g s.grants × (is_expired_channel now g ≡ true)
-      found family s g e =
-          let (there, is) = has-found (test family) g (reverse s.grants) e in
-          (has-unreversed g s.grants there, (and_parts (is_of family g) (is_expired_channel now g) is).1)
 
   expired_at-says : (relays : List Relay) (s : State) → Say s (fold (expired_allocation given purposes now) s relays)
   expired_at-says relays = reports-fold Keeps Lost (expired_allocation given purposes now) relays

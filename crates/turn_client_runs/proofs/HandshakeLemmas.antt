@@ -1,6 +1,7 @@
 -- A client whose server answers its first requests.
 use Rattle.turn_client_laws.proofs.Common.{◌≡◌, ◌≢◌, ◌⊎◌, ℕ, ◌+◌, ◌^◌, ◌<◌, ◌≤◌, min, Bool, true, false, cond, ◌||◌, ltb, eqb, List, [], ◌∷◌, ◌++◌, map, drop, Option, Some, None, refl, inl, inr, ap}
-use Rattle.turn_client_laws.proofs.Common.{sym, subst, ◌∙◌, arith, IfSome, IsSome, filter, if◌then◌else◌, nat_le, slice_get, list_any, option_map_or, and_parts, eq-eqb, eqb-true, lt-ltb, SocketAddr}
+use Rattle.turn_client_laws.proofs.Common.{All, sym, subst, ◌∙◌, arith, IfSome, IsSome, filter, if◌then◌else◌, nat_le, slice_get, list_any, option_map_or, and_parts, eq-eqb, eqb-true, lt-ltb}
+use Rattle.turn_client_laws.proofs.Common.{SocketAddr}
 use Rattle.turn_client_laws.proofs.Machine.{id_of, Success, Udp, Transmit, Challenge, IsValidated, validation_of, Validation, Validated, ResendRequest, Refused, challenge_of-sound, due, first_sent}
 use Rattle.turn_client_laws.proofs.Machine.{is_outstanding, is_response, timed_out_transaction, without_transaction, wait_at, Transaction, timers_of, State, agent_of, auth_of, initial, Phase, New}
 use Rattle.turn_client_laws.proofs.Machine.{Requesting, Authenticating, Allocated, Queued, Listing, Purpose, ForAllocation, DataOffer, Relay, allocations, is_for_allocation, purposes_of}
@@ -368,26 +369,20 @@ plain-later delay before now s p later = record {
     sent None h = tt
     sent (Some time) h = omega (arith, h, later)
 
+asked-later : (delay before now until : ℕ) (s : State) (x : Transaction) → IsAsked delay before until s x → All (λ y. now ≤ y.last_send + delay) s.transactions → IsAsked delay now until s x
+asked-later delay before now until s x a answered = record {
+  only = a.only;
+  young = a.young;
+  sent = a.sent;
+  heard = has-all (λ y. now ≤ y.last_send + delay) x s.transactions answered (subst (Has x) (sym a.only) (inl refl));
+}
+
 passes : (delay start before now : ℕ) (s : State) → IsStage delay start before s → IsInTime delay before now s → IsStage delay start now s
 passes delay start before now s (new p u none zero) t = new (plain-later delay before now s p t.on_time.later) (unsent-waits start before now s u t.on_time) none zero
 passes delay start before now s (first p x a e q ps zero) t =
-    first (plain-later delay before now s p t.on_time.later) x
-    (record {
-      only = a.only;
-      young = a.young;
-      sent = a.sent;
-      heard = has-all (λ (y : Transaction). now ≤ y.last_send + delay) x s.transactions t.answered
-          (subst (λ (xs : List Transaction). Has x xs) (sym a.only) (inl refl));
-    }) e q ps zero
+    first (plain-later delay before now s p t.on_time.later) x (asked-later delay before now start s x a t.answered) e q ps zero
 passes delay start before now s (second p x a e) t =
-    second (plain-later delay before now s p t.on_time.later) x
-    (record {
-      only = a.only;
-      young = a.young;
-      sent = a.sent;
-      heard = has-all (λ (y : Transaction). now ≤ y.last_send + delay) x s.transactions t.answered
-          (subst (λ (xs : List Transaction). Has x xs) (sym a.only) (inl refl));
-    }) e
+    second (plain-later delay before now s p t.on_time.later) x (asked-later delay before now (start + delay) s x a t.answered) e
 passes delay start before now s (done e) t = done e
 
 steps-on : (delay start before : ℕ) (s : State) (call : Call) → IsStage delay start before s → IsInTime delay before (time_of before call) s → IsStep call s

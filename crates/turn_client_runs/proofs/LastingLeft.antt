@@ -4,9 +4,10 @@ use Rattle.turn_client_laws.proofs.Common.{ap, sym, subst, ◌∙◌, arith, lis
 use Rattle.turn_client_laws.proofs.Machine.{AddressFamily, State, Grant, Allocation, Permission, Channel, Connection, Lease, Listing, Active, Reserved, Purpose, ForRefresh, ForPermission, ForChannel}
 use Rattle.turn_client_laws.proofs.Machine.{Relay, reserved, allocations, family_of, family_of_grant, is_channel_of, is_connect, is_for, is_of, is_past, is_pending_channel, is_pending_permission}
 use Rattle.turn_client_laws.proofs.Machine.{unlisted, without_grants, channel_expired, failed, is_expired_channel, is_expired_permission, is_over, is_timed_out_offer, is_unbound, expired_at}
-use Rattle.turn_client_laws.proofs.Machine.{expired_allocation, expired_in, unbound, Has, filter-has, has-append, has-filter, has-found, has-left, has-unreversed, expired_in-does}
-use Rattle.turn_client_laws.proofs.Laws.{any-has, has-any, IsReserved}
+use Rattle.turn_client_laws.proofs.Machine.{expired_allocation, expired_in, unbound, Has, filter-has, has-append, has-filter, has-left, expired_in-does}
+use Rattle.turn_client_laws.proofs.Laws.{any-has, has-any, IsReserved, and-false}
 use Rattle.turn_client_runs.specs.History.{History, was_let_go}
+use Rattle.turn_client_runs.proofs.EventTime.{expired_channel-there}
 use Rattle.turn_client_runs.proofs.LastingCounts.{length-filtered, length-without, passes, passes-all, passes-append, passes-both, passes-cut, passes-filter, passes-none, passes-same}
 use Rattle.turn_client_runs.proofs.LastingListings.{filter-all, requests-left}
 use Rattle.turn_client_runs.proofs.LastingStands.{AreRequests, AreSingle, listed_as, IsActive, IsRefreshing, IsUnique, is_waiting, request-more}
@@ -446,26 +447,14 @@ module _ (now : ℕ) where
     trans = passes-trans;
     channels = λ s. failed-passes _ s (λ g plain e. absurd (never (is_of family g) (is_pending_channel g) e));
     permissions = λ s. failed-passes _ s (λ g plain e. absurd (never (is_of family g) (is_pending_permission g) e));
-    last_channel = λ s. channel-passes (find (test family) (reverse s.grants)) s (found family s);
+    last_channel = λ s. channel-passes (find (λ g. is_of family g && is_expired_channel now g) (reverse s.grants)) s (expired_channel-there family now s);
     expired_permissions = λ s. failed-passes _ s (λ g plain e. gone-permission g (and_parts (is_of family g) _ e).1);
     connects = λ s. failed-passes _ s (λ g plain e. absurd (never (is_of family g) (is_connect g) e));
     connections = λ s. unbound-passes _ s (λ g plain e. gone-unbound g plain (and_parts (is_of family g) _ e).1);
     offers = λ s. failed-passes _ s (λ g plain e. no-offer g (and_parts (is_of family g) _ e).1);
-    refreshes = λ s. unlisted-passes _ s (λ g. nothing (is_of family g));
+    refreshes = λ s. unlisted-passes _ s (λ g. and-false (is_of family g));
     frees = λ s. freed-passes _ s (λ g plain e. gone-over g (and_parts (is_of family g) _ e).1);
   })
-    where
-      test : AddressFamily → Grant → Bool
-      test family g = is_of family g && is_expired_channel now g
-
-      found : (family : AddressFamily) (s : State) (g : Grant) → find (test family) (reverse s.grants) ≡ Some g → Has g s.grants × (is_expired_channel now g ≡ true)
-      found family s g e =
-          let (there, is) = has-found (test family) g (reverse s.grants) e in
-          (has-unreversed g s.grants there, (and_parts (is_of family g) (is_expired_channel now g) is).1)
-
-      nothing : (b : Bool) → (b && false) ≡ false
-      nothing true = refl
-      nothing false = refl
 
   -- no allocation has expired
   all-passes : (relays : List Relay) → ((a : Relay) → Has a relays → is_past now a ≡ false) → (s : State) → Passes s (fold (expired_allocation None [] now) s relays)
