@@ -12,6 +12,7 @@ use Rattle.turn_client_laws.proofs.Laws.{found-local, bind-by, by_found, by_acce
 use Rattle.turn_client_laws.proofs.Laws.{Binds, has-mapped, SignedSuccess-is, asked_for, for-allocation, has-contains, IsBrought}
 use Rattle.turn_client_runs.specs.Events.{FailsIn, IsNoRefresh, IsRefusedIn, LacksFamily, IsStillAsked, Reports, relayed_over}
 use Rattle.turn_client_runs.specs.Granted.{IsOverIts}
+use Rattle.turn_client_runs.proofs.AppendLemmas.{has-last}
 use Rattle.turn_client_runs.proofs.EventReplies.{Lacks, RefusesFor, Replied, StillAsks, signed-says}
 use Rattle.turn_client_runs.proofs.GrantInputs.{IsAccepting, IsGivenAt, accepting, bind-accepting}
 use Rattle.turn_client_runs.proofs.MadeLemmas.{control-made}
@@ -189,10 +190,9 @@ module _ (local : SocketAddr) (message : List ℕ) (now : ℕ) (s : State) where
   none-binds t same e there = inl (subst (Has e) same there)
 
   one-binds : (x : TurnEvent) (t : State) → t.events ≡ s.events ++ x ∷ [] → ((e : TurnEvent) → e ≡ x → BindReports t e) → BindAdds t
-  one-binds x t is reported e there = elim (has-append e s.events (x ∷ []) (subst (Has e) is there)) [
+  one-binds x t is reported e there = elim (has-last e s.events x (subst (Has e) is there)) [
     | inl old ↦ inl old
-    | inr (inl same) ↦ inr (reported e same)
-    | inr (inr none) ↦ absurd none
+    | inr same ↦ inr (reported e same)
   ]
 
   answered-binds : (c : DataConnection) → s.phase ≡ Allocated → connection_at local s ≡ Some c → method_in message ≡ connection_bind_method → BindAdds (bind_answered c message now s)

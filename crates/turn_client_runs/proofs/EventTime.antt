@@ -10,6 +10,7 @@ use Rattle.turn_client_laws.proofs.Machine.{poll_step, silent_step, timed_out_pu
 use Rattle.turn_client_laws.proofs.Machine.{expired_in-does}
 use Rattle.turn_client_laws.proofs.Laws.{answer-by, by_found, by_test, has-mapped, IsReserved, has-contains}
 use Rattle.turn_client_runs.specs.Events.{FailsInTime, HasFailed}
+use Rattle.turn_client_runs.proofs.AppendLemmas.{has-last}
 use Rattle.turn_client_runs.proofs.EventLemmas.{AddsReported, adds-before, adds-none, reported-one, reports-fold, reports-same, reports-trans}
 
 -- the last channel that expires is there, and has expired
@@ -79,10 +80,9 @@ module _ (given : Option ℕ) (purposes : List Purpose) (now : ℕ) (before : St
       )
     where
       grants : Keeps s → (g : Grant) → Has g (reserved number peer expiry.expiry s).grants → Has g before.grants ⊎ IsReserved g
-      grants keeps g there = elim (has-append g (without_grants (is_channel_of number) s).grants _ there) [
+      grants keeps g there = elim (has-last g (without_grants (is_channel_of number) s).grants _ there) [
         | inl old ↦ (without-keeps (is_channel_of number) s keeps).1 g old
-        | inr (inl is) ↦ inr (subst IsReserved (sym is) tt)
-        | inr (inr none) ↦ absurd none
+        | inr is ↦ inr (subst IsReserved (sym is) tt)
       ]
   channel-says o s found = reports-same Keeps Lost s
 

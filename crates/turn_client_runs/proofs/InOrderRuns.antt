@@ -5,12 +5,13 @@ use Rattle.turn_client_laws.proofs.Machine.{TransportType, Udp, Tcp, Transmit, s
 use Rattle.turn_client_laws.proofs.Machine.{ServerRequest, Socket5Tuple, Mode, Control, Waiting, Bound, Broken, Stream, allocated_tcp_socket_step, is_allocated, is_control, is_local_taken}
 use Rattle.turn_client_laws.proofs.Machine.{offer_origin, socket_opened, socket_refused, socket_step, with_stream, connection_at, same_transport, Handled, Ignored, Outcome, channel_sent}
 use Rattle.turn_client_laws.proofs.Machine.{datagram_step, is_channel_frame, is_message, message_step, connection_gone, first_frame_step, is_from_server, piece_step, recv_step, stream_step, then_all}
-use Rattle.turn_client_laws.proofs.Machine.{state_after, state_after_all, stream_at, without_stream, same_address-self, same_address-true, Has, has-append, has-found, map-has, ends}
+use Rattle.turn_client_laws.proofs.Machine.{state_after, state_after_all, stream_at, without_stream, same_address-self, same_address-true, Has, has-found, map-has, ends}
 use Rattle.turn_client_laws.proofs.Laws.{Input, datagram_input, fed_taken, handled, piece_inputs, poll_recv_inputs, recv_inputs, stream_inputs, AreApart, by_found, by_test, delete-walk, quiet-walk}
 use Rattle.turn_client_laws.proofs.Laws.{all-of, call-apart, initial-apart, Same, Same-KeepsEdits, message-same}
 use Rattle.turn_client_runs.specs.InOrder.{InputsFollow, Opens, OpensNone, bytes_out_of, held_at}
 use Rattle.turn_client_runs.specs.Inputs.{handled_in}
 use Rattle.turn_client_runs.specs.Received.{piece_in_call, pieces_for, unless_broken}
+use Rattle.turn_client_runs.proofs.AppendLemmas.{has-last}
 use Rattle.turn_client_runs.proofs.InOrderSteps.{Flows, Goes, differs-or, fed-goes, filter-flows, holds-rest, no-more, out-append, poll-goes, then_all-goes}
 use Rattle.turn_client_runs.proofs.QuietLemmas.{calls-keep}
 use Rattle.turn_client_runs.proofs.SentCalls.{opens-or}
@@ -160,10 +161,9 @@ module _ (a : SocketAddr) where
 
   -- another stream is opened
   with_stream-flows : (local : SocketAddr) (all taken : List ℕ) (s : State) → (local ≡ a → ⊥) → Flows a all taken s.streams → Flows a all taken (with_stream local s).streams
-  with_stream-flows local all taken s other flows x there at = elim (has-append x (without_stream local s).streams _ there) [
+  with_stream-flows local all taken s other flows x there at = elim (has-last x (without_stream local s).streams _ there) [
     | inl old ↦ filter-flows a all taken _ s.streams flows x old at
-    | inr (inl e) ↦ absurd (other (sym (ap (λ (z : Stream). z.local) e) ∙ at))
-    | inr (inr none) ↦ absurd none
+    | inr e ↦ absurd (other (sym (ap (λ (z : Stream). z.local) e) ∙ at))
   ]
 
   socket-flows : (id : ℕ) (tuple : Socket5Tuple) (peer : SocketAddr) (local : Option SocketAddr) (now : ℕ) (s : State) (all taken : List ℕ)

@@ -7,6 +7,7 @@ use Rattle.turn_client_laws.proofs.Machine.{Queued, Grant, Listing, Purpose, Has
 use Rattle.turn_client_laws.proofs.Laws.{has-mapped, any-has, has-any, purpose-with}
 use Rattle.turn_client_runs.specs.History.{History, IsSeldom, extra_since, waited}
 use Rattle.turn_client_runs.specs.Lasting.{expiry_of}
+use Rattle.turn_client_runs.proofs.AppendLemmas.{has-last}
 use Rattle.turn_client_runs.proofs.LastingCounts.{passes-all}
 use Rattle.turn_client_runs.proofs.LastingHistory.{GoesOn, known-later, lone-more, waited-next}
 use Rattle.turn_client_runs.proofs.LastingListings.{requests-more}
@@ -326,21 +327,18 @@ module _ (count slots extras delay now : ℕ) (past later : History) (s : State)
     prompt = k.prompt;
     pace = k.pace;
     sent = k.sent;
-    aged = λ x h. elim (has-append x left (new ∷ []) h) [
+    aged = λ x h. elim (has-last x left new h) [
       | inl old ↦ let same = on.same x (still x old) in let was = k.aged x (still x old) in omega (arith, same, was)
-      | inr (inl e) ↦ rw e (omega (arith, early_made))
-      | inr (inr none) ↦ absurd none
+      | inr e ↦ rw e (omega (arith, early_made))
     ];
     lone = lone-more s left new refl still (λ x y hx hy e. k.lone x y (still x hx) (still y hy) e);
-    begun = λ x h. elim (has-append x left (new ∷ []) h) [
+    begun = λ x h. elim (has-last x left new h) [
       | inl old ↦ let same = on.same x (still x old) in let begun = k.begun x (still x old) in omega (arith, same, begun)
-      | inr (inl e) ↦ rw e early_made
-      | inr (inr none) ↦ absurd none
+      | inr e ↦ rw e early_made
     ];
-    heard = λ x h. elim (has-append x left (new ∷ []) h) [
+    heard = λ x h. elim (has-last x left new h) [
       | inl old ↦ let same = on.same x (still x old) in let late = k.heard x (still x old) in omega (arith, same, late)
-      | inr (inl e) ↦ rw e answered_by
-      | inr (inr none) ↦ absurd none
+      | inr e ↦ rw e answered_by
     ];
     seldom = seldom;
     row = row;

@@ -14,6 +14,7 @@ use Rattle.turn_client_api.specs.declared.error.BindChannelError.TheVariants as 
 use Rattle.turn_client_api.specs.declared.error.CreatePermissionError.TheVariants as Create
 use Rattle.turn_client_runs.specs.History.{History}
 use Rattle.turn_client_runs.specs.Lasting.{expiry_of}
+use Rattle.turn_client_runs.proofs.AppendLemmas.{has-last}
 use Rattle.turn_client_runs.proofs.LastingHistory.{lone-more}
 use Rattle.turn_client_runs.proofs.LastingCounts.{passes, passes-all, passes-append, passes-none}
 use Rattle.turn_client_runs.proofs.LastingStands.{Goes, IsPending, IsRequested, requested-more, AreSingle, IsAsked, IsRequest, IsAwaited, IsIdle, IsKept, IsUnique, Stands, allocation-stands, due_of}
@@ -146,21 +147,18 @@ module _ (count slots extras delay now : ℕ) (past : History) (s : State) (k : 
     prompt = k.prompt;
     pace = k.pace;
     sent = k.sent;
-    aged = λ x h. elim (has-append x s.transactions (sent ∷ []) h) [
+    aged = λ x h. elim (has-last x s.transactions sent h) [
       | inl old ↦ k.aged x old
-      | inr (inl e) ↦ rw e (omega (arith, fresh))
-      | inr (inr none) ↦ absurd none
+      | inr e ↦ rw e (omega (arith, fresh))
     ];
     lone = lone-more s s.transactions sent refl (λ x h. h) k.lone;
-    begun = λ x h. elim (has-append x s.transactions (sent ∷ []) h) [
+    begun = λ x h. elim (has-last x s.transactions sent h) [
       | inl old ↦ k.begun x old
-      | inr (inl e) ↦ rw e (omega (arith, fresh))
-      | inr (inr none) ↦ absurd none
+      | inr e ↦ rw e (omega (arith, fresh))
     ];
-    heard = λ x h. elim (has-append x s.transactions (sent ∷ []) h) [
+    heard = λ x h. elim (has-last x s.transactions sent h) [
       | inl old ↦ k.heard x old
-      | inr (inl e) ↦ rw e (omega (arith, fresh))
-      | inr (inr none) ↦ absurd none
+      | inr e ↦ rw e (omega (arith, fresh))
     ];
     seldom = k.seldom;
     row = k.row;

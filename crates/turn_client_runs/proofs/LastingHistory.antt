@@ -3,10 +3,11 @@ use Rattle.turn_client_laws.proofs.Common.{◌≡◌, ℕ, zero, suc, ◌+◌, �
 use Rattle.turn_client_laws.proofs.Common.{sym, subst, ◌∙◌, arith, filter, map, nat_le, list_any, and_parts, and_right, eq-eqb, le-leb, leb-true, lt-leb, not-true, or_cases, or_left, or_parts}
 use Rattle.turn_client_laws.proofs.Common.{or_right, length-append, filter-append}
 use Rattle.turn_client_laws.proofs.Machine.{TransportType, id_of, is_outstanding, timed_out_transaction, transaction_timeout, Timers, resends_of, wait_at, Transaction, timers_of, fresh_id, State}
-use Rattle.turn_client_laws.proofs.Machine.{agent_of, state_after, Call, Recv, is_kept, Grant, Listing, Permission, Channel, Has, find-none, has-append}
+use Rattle.turn_client_laws.proofs.Machine.{agent_of, state_after, Call, Recv, is_kept, Grant, Listing, Permission, Channel, Has, find-none}
 use Rattle.turn_client_laws.proofs.Laws.{has-any, fresh-free}
 use Rattle.turn_client_runs.specs.History.{History, is_replied, IsSeldom, all_waits, extra_since, first_made, is_extra, lets_channel_go, lets_permission_go, lost, waited, was_let_go, with_call}
 use Rattle.turn_client_runs.specs.Lasting.{expiry_of}
+use Rattle.turn_client_runs.proofs.AppendLemmas.{has-last}
 use Rattle.turn_client_runs.proofs.LastingStands.{AreLetGo, Goes, IsKept, IsKnown, IsPending, IsRequested, IsWell, Stands, due_of, kept-changed, requested-more, still-paced}
 use Rattle.turn_client_runs.proofs.SilenceLemmas.{waited-mono}
 
@@ -55,18 +56,15 @@ old-apart s x there = by (eqb x.id (fresh_id s)) refl
 pub lone-more : (s : State) (xs : List Transaction) (new : Transaction) → new.id ≡ fresh_id s → ((x : Transaction) → Has x xs → Has x s.transactions)
     → ((x y : Transaction) → Has x xs → Has y xs → x.id ≡ y.id → x ≡ y)
     → (x y : Transaction) → Has x (xs ++ new ∷ []) → Has y (xs ++ new ∷ []) → x.id ≡ y.id → x ≡ y
-lone-more s xs new fresh old lone x y hx hy e = elim (has-append x xs (new ∷ []) hx) [
-  | inl ox ↦ elim (has-append y xs (new ∷ []) hy) [
+lone-more s xs new fresh old lone x y hx hy e = elim (has-last x xs new hx) [
+  | inl ox ↦ elim (has-last y xs new hy) [
     | inl oy ↦ lone x y ox oy e
-    | inr (inl is) ↦ absurd (apart x ox (e ∙ (ap (λ (z : Transaction). z.id) is ∙ fresh)))
-    | inr (inr none) ↦ absurd none
+    | inr is ↦ absurd (apart x ox (e ∙ (ap (λ (z : Transaction). z.id) is ∙ fresh)))
   ]
-  | inr (inl is) ↦ elim (has-append y xs (new ∷ []) hy) [
+  | inr is ↦ elim (has-last y xs new hy) [
     | inl oy ↦ absurd (apart y oy (sym e ∙ (ap (λ (z : Transaction). z.id) is ∙ fresh)))
-    | inr (inl as_well) ↦ is ∙ sym as_well
-    | inr (inr none) ↦ absurd none
+    | inr as_well ↦ is ∙ sym as_well
   ]
-  | inr (inr none) ↦ absurd none
 ]
   where
     apart : (z : Transaction) → Has z xs → z.id ≡ fresh_id s → ⊥

@@ -4,9 +4,10 @@ use Rattle.turn_client_laws.proofs.Common.{ap, sym, subst, ◌∙◌, arith, lis
 use Rattle.turn_client_laws.proofs.Machine.{AddressFamily, State, Grant, Allocation, Permission, Channel, Connection, Lease, Listing, Active, Reserved, Purpose, ForRefresh, ForPermission, ForChannel}
 use Rattle.turn_client_laws.proofs.Machine.{Relay, reserved, allocations, family_of, family_of_grant, is_channel_of, is_connect, is_for, is_of, is_past, is_pending_channel, is_pending_permission}
 use Rattle.turn_client_laws.proofs.Machine.{unlisted, without_grants, channel_expired, failed, is_expired_channel, is_expired_permission, is_over, is_timed_out_offer, is_unbound, expired_at}
-use Rattle.turn_client_laws.proofs.Machine.{expired_allocation, expired_in, unbound, Has, filter-has, has-append, has-filter, has-left, expired_in-does}
+use Rattle.turn_client_laws.proofs.Machine.{expired_allocation, expired_in, unbound, Has, filter-has, has-filter, has-left, expired_in-does}
 use Rattle.turn_client_laws.proofs.Laws.{any-has, has-any, IsReserved, and-false}
 use Rattle.turn_client_runs.specs.History.{History, was_let_go}
+use Rattle.turn_client_runs.proofs.AppendLemmas.{has-last}
 use Rattle.turn_client_runs.proofs.EventTime.{expired_channel-there}
 use Rattle.turn_client_runs.proofs.LastingCounts.{length-filtered, length-without, passes, passes-all, passes-append, passes-both, passes-cut, passes-filter, passes-none, passes-same}
 use Rattle.turn_client_runs.proofs.LastingListings.{filter-all, requests-left}
@@ -293,10 +294,9 @@ module _ (now : ℕ) (which : Grant → Bool) (gs : List Grant) (ls : List Listi
     pub reserved-expires : ExpiresInto now gs ls (hs ++ new ∷ []) ms
     reserved-expires = record {
       stays = λ g there not. has-left g hs (new ∷ []) (left-expires.stays g there not);
-      came = λ g h. elim (has-append g hs (new ∷ []) h) [
+      came = λ g h. elim (has-last g hs new h) [
         | inl old ↦ left-expires.came g old
-        | inr (inl e) ↦ inr (subst (TakesPlace now gs ms) (sym e) takes)
-        | inr (inr none) ↦ absurd none
+        | inr e ↦ inr (subst (TakesPlace now gs ms) (sym e) takes)
       ];
       listed = left-expires.listed;
       remains = left-expires.remains;
@@ -321,7 +321,7 @@ module _ (now : ℕ) (which : Grant → Bool) (gs : List Grant) (ls : List Listi
       refreshing = left-tidy.refreshing;
       single = single-new;
       linked = λ id. request-more hs (hs ++ new ∷ []) (listed_as id ms) (λ g h. has-left g hs (new ∷ []) h) (left-tidy.linked id);
-      plain = λ g h. elim (has-append g hs (new ∷ []) h) [ inl old ↦ left-tidy.plain g old | inr (inl e) ↦ rw e (inr (inr tt)) | inr (inr none) ↦ absurd none ];
+      plain = λ g h. elim (has-last g hs new h) [ inl old ↦ left-tidy.plain g old | inr e ↦ rw e (inr (inr tt)) ];
     }
       where
         single-new : AreSingle (hs ++ new ∷ [])

@@ -3,11 +3,12 @@ use Rattle.turn_client_laws.proofs.Common.{◌≡◌, ◌⊎◌, ℕ, ◌+◌, �
 use Rattle.turn_client_laws.proofs.Common.{filter, length-append, length-map, list_any, and_from, and_parts, cases_Bool, cases_lt, eqb-true, le-leb, not-true, not_from_false, or_left, or_right}
 use Rattle.turn_client_laws.proofs.Common.{eq-eqb}
 use Rattle.turn_client_laws.proofs.Machine.{AddressFamily, Transaction, Config, State, Grant, Allocation, Permission, Channel, Active, Pending, Listing, Purpose, ForRefresh, ForPermission, ForChannel}
-use Rattle.turn_client_laws.proofs.Machine.{family_of, family_of_grant, has_request, is_for, purposes_of, is_kept, pause_end, Queued, effect, same_ip-true, Has, filter-has, has-append, has-filter}
-use Rattle.turn_client_laws.proofs.Machine.{has-left, has-right, map-has, channel_bind_method, method_for, method_in, is_answered}
+use Rattle.turn_client_laws.proofs.Machine.{family_of, family_of_grant, has_request, is_for, purposes_of, is_kept, pause_end, Queued, effect, same_ip-true, Has, filter-has, has-filter, has-left}
+use Rattle.turn_client_laws.proofs.Machine.{has-right, map-has, channel_bind_method, method_for, method_in, is_answered}
 use Rattle.turn_client_laws.proofs.Laws.{IsReserved, has-mapped, Room, any-has, has-any, room-more, same_family-true}
 use Rattle.turn_client_runs.specs.History.{History, was_let_go}
 use Rattle.turn_client_runs.specs.Lasting.{as_granted, Answers, Grants, ahead_of, expiry_of, with_expiry}
+use Rattle.turn_client_runs.proofs.AppendLemmas.{has-last}
 use Rattle.turn_client_runs.proofs.LastingCounts.{or_else, or_first, length-without, passes, passes-all, passes-append, passes-filter, passes-map, passes-mapped, passes-none, passes-split}
 use Rattle.turn_client_runs.proofs.LastingCounts.{passes-same, passes-two}
 use Rattle.turn_client_runs.proofs.LastingStands.{AllRemain, Follows, Goes, IsPending, goes-more, goes-trans, requested-more, IsRequested, AreRequests, Brings, IsRequest, listed_as, IsAsked}
@@ -421,10 +422,9 @@ module _ (count slots extras delay now : ℕ) (past : History) (transactions : L
 
   -- it is one of the others, or the new one
   which : (g : Grant) → Has g after.grants → (Has g u.grants × (is_for p g ≡ false)) ⊎ (g ≡ new)
-  which g h = elim (has-append g others (new ∷ []) h) [
+  which g h = elim (has-last g others new h) [
     | inl old ↦ let (there, not) = has-filter (λ (g : Grant). not (is_for p g)) g u.grants old in inl (there, not-true (is_for p g) not)
-    | inr (inl e) ↦ inr e
-    | inr (inr none) ↦ absurd none
+    | inr e ↦ inr e
   ]
 
   stays-there : (g : Grant) → Has g u.grants → is_for p g ≡ false → Has g after.grants

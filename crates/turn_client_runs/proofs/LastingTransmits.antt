@@ -6,7 +6,7 @@ use Rattle.turn_client_laws.proofs.Machine.{Transmit, due, first_sent, State, ag
 use Rattle.turn_client_laws.proofs.Machine.{ForPermission, ForChannel, allocations, as_allocation, family_of, family_of_grant, has_request, is_for, same_ip, asked_lifetime, binding_indication}
 use Rattle.turn_client_laws.proofs.Machine.{fresh_id, id_used, request_for, to_server, has_reply, is_paused, is_refreshable, keepalive_times, refresh_time, is_due_in, is_refresh_due, keepalive_step}
 use Rattle.turn_client_laws.proofs.Machine.{next_refresh, queue_step, refresh_purpose, refreshes_in, refreshes_of_rank, reply_step, sent_at_once, transmit_step, without_first_reply, Has}
-use Rattle.turn_client_laws.proofs.Machine.{filter_map-has, first-has, has-append, has-filter, has-filter_map, has-flat_map, has-left, has-right}
+use Rattle.turn_client_laws.proofs.Machine.{filter_map-has, first-has, has-filter, has-filter_map, has-flat_map, has-left, has-right}
 use Rattle.turn_client_laws.proofs.Laws.{same_family-self, IsReserved, no_reply-kept, not_due-transmit, no_reply-left}
 use Rattle.std.specs.Prelude.{option_and_then}
 use Rattle.std.proofs.lemmas.Slice.Eq.{bytes_eq-Decides}
@@ -14,6 +14,7 @@ use Rattle.std.specs.Net.Addr.{ipv4_octets, ipv6_segments}
 use Rattle.std.specs.declared.net.ip_addr.IpAddr.TheVariants.{V4, V6}
 use Rattle.turn_client_runs.specs.History.{History}
 use Rattle.turn_client_runs.specs.Lasting.{expiry_of}
+use Rattle.turn_client_runs.proofs.AppendLemmas.{has-last}
 use Rattle.turn_client_runs.proofs.LastingCounts.{passes, passes-more, passes-same}
 use Rattle.turn_client_runs.proofs.LastingHistory.{lone-more}
 use Rattle.turn_client_runs.proofs.LastingStands.{Goes, goes-more, granted-active, leased-active, kept-rest, requested-more, IsActive, IsAwaited, IsIdle, IsRequested, IsLoose, IsUnique, IsKept}
@@ -231,28 +232,24 @@ module _ (count slots extras delay now : ℕ) (past : History) (s : State) (k : 
     prompt = k.prompt;
     pace = k.pace;
     sent = omega arith;
-    aged = λ x h. elim (has-append x s.transactions (first_sent id s.remote now text ∷ []) h) [
+    aged = λ x h. elim (has-last x s.transactions (first_sent id s.remote now text) h) [
       | inl old ↦ k.aged x old
-      | inr (inl e) ↦ rw e (omega (arith, fresh))
-      | inr (inr none) ↦ absurd none
+      | inr e ↦ rw e (omega (arith, fresh))
     ];
     lone = lone-more s s.transactions (first_sent id s.remote now text) refl (λ x h. h) k.lone;
-    begun = λ x h. elim (has-append x s.transactions (first_sent id s.remote now text ∷ []) h) [
+    begun = λ x h. elim (has-last x s.transactions (first_sent id s.remote now text) h) [
       | inl old ↦ k.begun x old
-      | inr (inl e) ↦ rw e (omega (arith, fresh))
-      | inr (inr none) ↦ absurd none
+      | inr e ↦ rw e (omega (arith, fresh))
     ];
-    heard = λ x h. elim (has-append x s.transactions (first_sent id s.remote now text ∷ []) h) [
+    heard = λ x h. elim (has-last x s.transactions (first_sent id s.remote now text) h) [
       | inl old ↦ k.heard x old
-      | inr (inl e) ↦ rw e (omega (arith, fresh))
-      | inr (inr none) ↦ absurd none
+      | inr e ↦ rw e (omega (arith, fresh))
     ];
     seldom = k.seldom;
     row = k.row;
-    asked = λ l h. elim (has-append l s.listed (listing ∷ []) h) [
+    asked = λ l h. elim (has-last l s.listed listing h) [
       | inl old ↦ k.asked l old
-      | inr (inl e) ↦ rw e (refresh.0, (next.grant, next.there, refresh.1))
-      | inr (inr none) ↦ absurd none
+      | inr e ↦ rw e (refresh.0, (next.grant, next.there, refresh.1))
     ];
     size = k.size;
     single = k.single;

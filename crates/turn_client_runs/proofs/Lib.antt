@@ -1,6 +1,7 @@
 pub mod AddressEdits
 pub mod AddressInputs
 pub mod AllStepsLemmas
+pub mod AppendLemmas
 pub mod AskedFamilies
 pub mod AskedLemmas
 pub mod AskedPeers

@@ -3,9 +3,10 @@ use Rattle.turn_client_laws.proofs.Common.{◌≡◌, ◌∙◌, ℕ, Bool, true
 use Rattle.turn_client_laws.proofs.Common.{option_map, SocketAddr, and_parts, eq-eqb, eqb-true, none-some, same_Some}
 use Rattle.turn_client_laws.proofs.Machine.{same_address-self, same_address-true, same_address, State, later_by, Call, Delete, AllocatedTcpSocket, Recv, PollRecv, DataOffer, Grant, Offer, Connection}
 use Rattle.turn_client_laws.proofs.Machine.{Origin, ServerRequest, Relay, all_expired, is_offer_of, offer_origin, offer_taken, socket_opened, without_first, connection_at, as_offer}
-use Rattle.turn_client_laws.proofs.Machine.{changed_allocation, is_channel_of, is_of, connection_gone, bind_time, state_after, Has, has-append, has-filter}
+use Rattle.turn_client_laws.proofs.Machine.{changed_allocation, is_channel_of, is_of, connection_gone, bind_time, state_after, Has, has-filter}
 use Rattle.turn_client_laws.proofs.Laws.{TakesInput, by_test, KeepsEdits, aged, rest-ignored, delete-walk, quiet-walk, tcp_socket-walk, has-mapped, contains-has, was-first}
 use Rattle.turn_client_runs.specs.Offers.{TakesOffer, offer_to}
+use Rattle.turn_client_runs.proofs.AppendLemmas.{has-last}
 use Rattle.turn_client_runs.proofs.OfferMessages.{allocation-alike}
 
 -- ---- offers, reported or not
@@ -22,10 +23,9 @@ module _ (id : ℕ) (peer : SocketAddr) (origin : Origin) where
 
   -- one more grant, which is no offer
   within-one : (grants : List Grant) (g : Grant) → ((o : DataOffer) → Offer o ≡ g → ⊥) → HasOffer (grants ++ g ∷ []) → HasOffer grants
-  within-one grants g other (r, there) = elim (has-append (offer_to id peer origin r) grants (g ∷ []) there) [
+  within-one grants g other (r, there) = elim (has-last (offer_to id peer origin r) grants g there) [
     | inl old ↦ (r, old)
-    | inr (inl is) ↦ absurd (other _ is)
-    | inr (inr none) ↦ absurd none
+    | inr is ↦ absurd (other _ is)
   ]
 
   within-first : (which : Grant → Bool) (grants : List Grant) → HasOffer (without_first which grants) → HasOffer grants

@@ -14,6 +14,7 @@ use Rattle.turn_client_laws.proofs.Machine.{answers_one, authenticating_judgemen
 use Rattle.turn_client_laws.proofs.Machine.{lifetime_in, method_in, peer_in, Outcome, Handled, Ignored, answered_purposes, message_step, response_step, signed_step, wrong_step, challenge_step}
 use Rattle.turn_client_laws.proofs.Machine.{connection_attempt_method, data_method, fresh_id, Has, has-append, has-filter}
 use Rattle.turn_client_laws.proofs.Laws.{bind-by, by_found, by_test, has-mapped, challenge-grants, wrong-grants}
+use Rattle.turn_client_runs.proofs.AppendLemmas.{has-last}
 
 -- ---- what else a judgement says
 
@@ -88,10 +89,9 @@ module _ (o : DataOffer) where
   filtered p gs there = (has-filter p (Offer o) gs there).0
 
   pub added : (gs : List Grant) (g : Grant) → (Offer o ≡ g → ⊥) → Has (Offer o) (gs ++ g ∷ []) → Has (Offer o) gs
-  added gs g other there = elim (has-append (Offer o) gs (g ∷ []) there) [
+  added gs g other there = elim (has-last (Offer o) gs g there) [
     | inl old ↦ old
-    | inr (inl is) ↦ absurd (other is)
-    | inr (inr none) ↦ absurd none
+    | inr is ↦ absurd (other is)
   ]
 
   mapped : (f : Grant → Grant) → ((g : Grant) → f g ≡ Offer o → g ≡ Offer o) → (gs : List Grant) → Has (Offer o) (map f gs) → Has (Offer o) gs
@@ -187,10 +187,9 @@ module _ (o : DataOffer) where
         kept g = not (is_connect_to peer g)
 
         by : (g : Bool) → is_granted ≡ g → (i : Option ℕ) → connection_id_in message ≡ i → HasIt (connect_answered peer (cond g i None) s) → HasIt s ⊎ IsSuccessFor (ForConnect peer)
-        by true g (Some id) e there = elim (has-append (Offer o) (filter kept s.grants) _ there) [
+        by true g (Some id) e there = elim (has-last (Offer o) (filter kept s.grants) _ there) [
           | inl old ↦ inl (filtered kept s.grants old)
-          | inr (inl is) ↦ inr (one-offer id peer g e is)
-          | inr (inr none) ↦ absurd none
+          | inr is ↦ inr (one-offer id peer g e is)
         ]
         by true g None e there = inl (filtered kept s.grants there)
         by false g i e there = inl (filtered kept s.grants there)
@@ -256,12 +255,11 @@ module _ (o : DataOffer) where
     IsNamedBy id peer = (Some id ≡ Some o.connection_id) × (Some peer ≡ Some o.peer)
 
     attempt-back : (id : ℕ) (peer : SocketAddr) (origin : Origin) → HasIt (with_offer id peer origin s) → HasIt s ⊎ ((o.origin ≡ origin) × IsNamedBy id peer × (o.peer ≡ peer))
-    attempt-back id peer origin there = elim (has-append (Offer o) s.grants _ there) [
+    attempt-back id peer origin there = elim (has-last (Offer o) s.grants _ there) [
       | inl old ↦ inl old
-      | inr (inl is) ↦
+      | inr is ↦
           let same : o ≡ record { connection_id = id; peer = peer; is_reported = false; origin = origin } = cc in
           inr (rw same (refl, (refl, refl), refl))
-      | inr (inr none) ↦ absurd none
     ]
 
     requested-back : HasIt (attempt_requested message s) → HasIt s ⊎ ((o.origin ≡ ServerRequest (id_of message)) × IsNamed)

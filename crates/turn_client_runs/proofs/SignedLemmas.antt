@@ -5,10 +5,11 @@ use Rattle.turn_client_laws.proofs.Common.{and_parts, eq-eqb, eqb-true, SocketAd
 use Rattle.turn_client_laws.proofs.Machine.{id_of, Challenge, first_sent, is_outstanding, is_response, without_transaction, Transaction, Config, State, Purpose, ForAllocation, Phase, New, Requesting}
 use Rattle.turn_client_laws.proofs.Machine.{Authenticating, Allocated, Closed, bind_step, connection_at, closed, transaction_ended, fail_all, purposes_of, Challenged, Fatal, Unrelated, answers_one}
 use Rattle.turn_client_laws.proofs.Machine.{challenge_in, class_in, judgement_of, challenge_step, message_step, wrong_step, connection_gone, fresh_id, request_for, phase_after, retried}
-use Rattle.turn_client_laws.proofs.Machine.{state_after_retry, with_held, Has, has-append, has-filter}
+use Rattle.turn_client_laws.proofs.Machine.{state_after_retry, with_held, Has, has-filter}
 use Rattle.turn_client_laws.proofs.Laws.{AllocatesInOrder, IsUngranted, IsMadeAs, rank, StayInOrder, StayInOrder-KeepsAllEdits, in_order-stated, stated-in_order, edits-IsKept, purposes-listed}
 use Rattle.turn_client_laws.proofs.Laws.{retried-has, any-has, not-both, on_test, message-moves, Keeps, bind-keeps, message-keeps, IsKept, contains-has, has-contains, message-configured}
 use Rattle.turn_client_runs.specs.Granted.{HaveOneRealm, IsSignedAllocate}
+use Rattle.turn_client_runs.proofs.AppendLemmas.{has-last}
 
 -- ---- what is kept
 
@@ -143,15 +144,14 @@ module _ (message : List ℕ) (now : ℕ) (s : State) (order : AllocatesInOrder 
   retried-signs : (id : ℕ) (purpose : Purpose) (d : Challenge) (u : State) → IsOfOneId s.transactions → is_outstanding id s.transactions ≡ true → purpose ≡ ForAllocation → u.config ≡ s.config
       → u.held ≡ Some d
       → AreSigned s.config (Some d) (without_transaction id s.transactions ++ first_sent (fresh_id s) s.remote now (request_for u purpose (fresh_id s)) ∷ [])
-  retried-signs id purpose d u one outstanding is same held x there = elim (has-append x (without_transaction id s.transactions) _ there) [
+  retried-signs id purpose d u one outstanding is same held x there = elim (has-last x (without_transaction id s.transactions) _ there) [
     | inl left ↦
         let (before, other) = has-filter (λ (z : Transaction). not (eqb z.id id)) x s.transactions left in
         let (y, here, same) = any-has (λ (z : Transaction). eqb z.id id) s.transactions outstanding in
         absurd (not-both (eqb x.id id) (eq-eqb x.id id (one x y before here ∙ eqb-true y.id id same)) other)
-    | inr (inl e) ↦
+    | inr e ↦
         signed-as u s.config (Some d) purpose (fresh_id s) x same (d, d, held, refl, refl, refl) is
         (ap (λ (z : Transaction). z.id) e) (ap (λ (z : Transaction). z.request) e)
-    | inr (inr none) ↦ absurd none
   ]
 
   -- the first challenge is answered, or the client ends
