@@ -1,9 +1,14 @@
-use Rattle.turn_client_grants.specs.Listed.{is_for_none}
+use Rattle.std.proofs.Common.{not, arith}
+use Rattle.std.specs.Prelude.{◌==◌}
+use Rattle.std.specs.Prelude.{◌&&◌}
+use Rattle.std.specs.List.{list_any}
+use Rattle.turn_client_api.specs.Grants.{is_for}
+use Rattle.turn_client_api.specs.declared.grant.Listing.{Listing}
 use Rattle.turn_client_grants.specs.GrantFilter.{holds}
-use Rattle.turn_client_grants.proofs.ListingLemmas.{ArePurposesOf-only}
+use Rattle.turn_client_grants.proofs.TableLemmas.{few-filtered}
 use Rattle.turn_client_grants.proofs.listings.Listings.unlist.Goals as goal
 
 pub invariant_of-self : goal.invariant_of-self
-invariant_of-self c =
+invariant_of-self c = λ id.
     rw c.unlist.ensures.items
-    (ArePurposesOf-only (is_for_none (holds c.args.which.now) c.args.grants.now) c.self.inside.items.items _ _ _ c.self.invariant c.remove_for.ensures.left c.remove_empty.ensures.left)
+    (omega (arith, few-filtered (λ (l : Listing). l.id == id) (λ l. not (list_any (λ g. holds c.args.which.now g && is_for l.purpose g) c.args.grants.now)) c.self.inside.items.items, c.self.invariant id))
