@@ -16,6 +16,7 @@ use crate::changes::Change;
 use crate::grant_filter::GrantFilter;
 use crate::key::Key;
 use crate::kind::{family_of_ip, is_same_transport};
+use crate::room;
 use crate::table::GrantTable;
 use crate::time::later;
 use std::alloc::{AllocError, Global};
@@ -146,7 +147,7 @@ impl GrantLedger {
         };
         self.table.reserve(grants, listings)?;
         self.events.reserve(all)?;
-        self.closes.reserve(closes)?;
+        room::reserve_queue(&mut self.closes, closes)?;
         Ok(())
     }
 }

@@ -34,6 +34,7 @@ mod past_expiry;
 mod purposes;
 mod reads;
 mod refresh;
+mod room;
 mod summary;
 mod table;
 mod time;

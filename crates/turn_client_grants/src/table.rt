@@ -25,9 +25,9 @@ use crate::grant_filter::GrantFilter;
 use crate::key::{self, Key};
 use crate::kind::is_pending;
 use crate::listings::Listings;
-use crate::offers;
 use crate::purposes::Purposes;
 use crate::summary::{Summary, kept_unless, summary_of, summary_with};
+use crate::{offers, room};
 use std::alloc::{AllocError, Global};
 use std::collections::HashMap;
 use std::marker::Model;
@@ -107,7 +107,7 @@ impl GrantTable {
         let Some(keys) = grants.checked_mul(2) else {
             return Err(AllocError);
         };
-        self.grants.reserve(grants)?;
+        room::reserve(&mut self.grants, grants)?;
         self.listed.reserve(listings)?;
         key::reserve(&mut self.found, keys)
     }

@@ -53,7 +53,12 @@ impl Queue {
         ensures items { self.new.items ≡ self.old.items }
         ensures room { OnOk result (packets ≤ self.new.room) }
     {
-        self.packets.reserve(packets)
+        // The first takes no room for others, which many clients never queue.
+        if self.packets.capacity() == 0 {
+            self.packets.reserve_exact(packets)
+        } else {
+            self.packets.reserve(packets)
+        }
     }
 
     /// Queues the packet, as the last one. `reserve` makes room.
