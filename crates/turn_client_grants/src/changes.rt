@@ -1,6 +1,6 @@
-//! How lists of grants and of requests change.
+//! How lists of grants change.
 
-ghost use Rattle.std.specs.Prelude.{◌≡◌, ◌≤◌, ◌<◌, ◌+◌, ◌++◌, ◌∷◌, [], true, filter, length, map, not, option_to_list, vec_capacity, vec_len};
+ghost use Rattle.std.specs.Prelude.{◌≡◌, ◌≤◌, ◌<◌, ◌+◌, ◌++◌, ◌∷◌, [], true, filter, length, map, not, vec_capacity, vec_len};
 ghost use Rattle.std.specs.List.{list_any};
 ghost use Rattle.std.specs.Prelude.{ℕ};
 ghost use Rattle.std.specs.declared.net.ip_addr.IpAddr.{IpAddr};
@@ -9,23 +9,19 @@ ghost use Rattle.turn_client_api.specs.Calls.{marked};
 ghost use Rattle.turn_client_api.specs.declared.grant.Grant.TheVariants.{Permission, Channel};
 ghost use Rattle.turn_client_api.specs.Connections.{deadline_set};
 ghost use Rattle.turn_client_api.specs.Effect.{lasting, new_allocation};
-ghost use Rattle.turn_client_api.specs.Grants.{changed_allocation, is_for, is_for_allocation, is_of_family};
-ghost use Rattle.turn_client_api.specs.Requests.{listings};
+ghost use Rattle.turn_client_api.specs.Grants.{changed_allocation, is_of_family};
 ghost use Rattle.turn_client_grants.specs.Found.{LeavesOthers};
 ghost use Rattle.turn_client_grants.specs.Keys.{is_found_by};
-ghost use Rattle.turn_client_grants.specs.Table.{changed, unlisted_in};
-ghost use Rattle.turn_client_grants.specs.GrantFilter.{holds, purposes_in};
+ghost use Rattle.turn_client_grants.specs.Table.{changed};
+ghost use Rattle.turn_client_grants.specs.GrantFilter.{holds};
 
 use crate::grant_filter::GrantFilter;
 use crate::key::Key;
-use crate::kind::{is_for, is_for_allocation, is_of_family};
-use crate::listed::is_for_one;
-use crate::purposes::Purposes;
+use crate::kind::is_of_family;
 use crate::time::{NANOS_PER_SECOND, later};
 use std::net::SocketAddr;
-use turn_client_api::{DataConnection, Grant, Lease, Listing, Progress, Purpose, Relay};
+use turn_client_api::{DataConnection, Grant, Lease, Progress, Relay};
 use turn_stun::instant::Instant;
-use turn_stun::transaction::TransactionId;
 use turn_types::AddressFamily;
 
 /// A change of grants that keep their places.
@@ -276,55 +272,4 @@ pub(crate) fn remove_found(grants: &mut Vec<Grant>, key: &Key)
     ensures len { vec_len grants.new ≤ vec_len grants.old }
 {
     grants.retain(|grant| !key.finds(grant));
-}
-
-/// Removes the listings for this grant.
-pub(crate) fn unlist_one(listed: &mut Vec<Listing>, grant: &Grant)
-    ensures items { listed.new.items ≡ filter (λ l. not (is_for l.purpose grant.now)) listed.old.items }
-    ensures capacity { vec_capacity listed.new ≡ vec_capacity listed.old }
-    ensures len { vec_len listed.new ≤ vec_len listed.old }
-{
-    listed.retain(|listing| !is_for(&listing.purpose, grant));
-}
-
-/// Removes the listings for these grants.
-pub(crate) fn unlist(listed: &mut Vec<Listing>, grants: &[Grant], which: &GrantFilter)
-    ensures items { listed.new.items ≡ unlisted_in (holds which.now) grants.now listed.old.items }
-    ensures capacity { vec_capacity listed.new ≡ vec_capacity listed.old }
-    ensures len { vec_len listed.new ≤ vec_len listed.old }
-{
-    listed.retain(|listing| !is_for_one(&listing.purpose, grants, which));
-}
-
-/// Removes the listings for an ALLOCATE.
-pub(crate) fn unlist_allocates(listed: &mut Vec<Listing>)
-    ensures items { listed.new.items ≡ filter (λ l. not (is_for_allocation l.purpose)) listed.old.items }
-    ensures capacity { vec_capacity listed.new ≡ vec_capacity listed.old }
-    ensures len { vec_len listed.new ≤ vec_len listed.old }
-{
-    listed.retain(|listing| !is_for_allocation(&listing.purpose));
-}
-
-/// Lists a purpose, if there is one.
-fn list_one(listed: &mut Vec<Listing>, id: TransactionId, purpose: &Option<Purpose>)
-    requires { vec_len listed.old + length (option_to_list purpose.now) ≤ vec_capacity listed.old }
-    ensures items { listed.new.items ≡ listed.old.items ++ listings id (option_to_list purpose.now) }
-    ensures capacity { vec_capacity listed.new ≡ vec_capacity listed.old }
-{
-    if let Some(purpose) = purpose {
-        listed.push_reserved(Listing {
-            id,
-            purpose: *purpose,
-        });
-    }
-}
-
-/// Lists a request with this ID that is made for these purposes, after all others.
-pub(crate) fn list(listed: &mut Vec<Listing>, id: TransactionId, purposes: &Purposes)
-    requires { vec_len listed.old + 2 ≤ vec_capacity listed.old }
-    ensures items { listed.new.items ≡ listed.old.items ++ listings id (purposes_in purposes.now) }
-    ensures capacity { vec_capacity listed.new ≡ vec_capacity listed.old }
-{
-    list_one(listed, id, &purposes.first);
-    list_one(listed, id, &purposes.second);
 }

@@ -1,6 +1,6 @@
 //! What the outstanding requests were made for, in their order and by their IDs.
 
-ghost use Rattle.std.specs.Prelude.{◌≡◌, ◌==◌, ◌≤◌, ◌+◌, ◌++◌, [], false, filter, length, map, not, OnOk};
+ghost use Rattle.std.specs.Prelude.{◌≡◌, ◌==◌, ◌≤◌, ◌+◌, ◌++◌, [], false, filter, length, map, not, option_to_list, vec_capacity, vec_len, OnOk};
 ghost use Rattle.std.specs.List.{list_any};
 ghost use Rattle.turn_client_api.specs.Grants.{is_for, is_for_allocation};
 ghost use Rattle.turn_client_api.specs.Requests.{listings};
@@ -8,12 +8,13 @@ ghost use Rattle.turn_client_grants.specs.Table.{unlisted_in};
 ghost use Rattle.turn_client_grants.specs.GrantFilter.{holds, purposes_in};
 
 use crate::grant_filter::GrantFilter;
-use crate::listed::{has_id, purposes_of};
+use crate::kind::{is_for, is_for_allocation};
+use crate::listed::is_for_one;
 use crate::purposes::Purposes;
-use crate::{changes, room};
+use crate::room;
 use std::alloc::{AllocError, Global};
 use std::marker::Model;
-use turn_client_api::{Grant, Listing};
+use turn_client_api::{Grant, Listing, Purpose};
 use turn_stun::transaction::TransactionId;
 
 /// What the requests that await their responses were made for, in the order of the requests. A request is listed for at
@@ -55,7 +56,7 @@ impl Listings {
         ensures ok { OnOk result (additional ≤ self.new.room) }
         ensures left { self.old.room ≤ self.new.room }
     {
-        self.items.reserve(additional)
+        room::reserve(&mut self.items, additional)
     }
 
     /// The listings in their order.
@@ -76,14 +77,21 @@ impl Listings {
     pub(crate) fn has_id(&self, id: TransactionId) -> bool
         ensures { result ≡ list_any (λ l. l.id == id) self.now.items }
     {
-        has_id(self.items.as_slice(), id)
+        self.items.iter().any(|listing| listing.id == id)
     }
 
     /// The purposes of the request with this ID.
     pub(crate) fn purposes_of(&self, id: TransactionId) -> Purposes
         ensures { purposes_in result ≡ map (λ l. l.purpose) (filter (λ l. l.id == id) self.now.items) }
     {
-        purposes_of(self.items.as_slice(), id)
+        let mut purposes = Purposes::none();
+        let listings = self.items.as_slice();
+        for listing in listings {
+            if listing.id == id {
+                purposes = purposes.and(listing.purpose);
+            }
+        }
+        purposes
     }
 
     /// Lists a new request, after all others, that is made for these purposes.
@@ -93,7 +101,8 @@ impl Listings {
         ensures items { self.new.items ≡ self.old.items ++ listings id (purposes_in purposes.now) }
         ensures room { self.old.room ≤ self.new.room + 2 }
     {
-        changes::list(&mut self.items, id, purposes);
+        list_one(&mut self.items, id, &purposes.first);
+        list_one(&mut self.items, id, &purposes.second);
     }
 
     /// Removes the listings for these grants.
@@ -101,7 +110,8 @@ impl Listings {
         ensures items { self.new.items ≡ unlisted_in (holds which.now) grants.now self.old.items }
         ensures room { self.old.room ≤ self.new.room }
     {
-        changes::unlist(&mut self.items, grants, which);
+        self.items
+            .retain(|listing| !is_for_one(&listing.purpose, grants, which));
     }
 
     /// Removes the listings for this grant.
@@ -109,7 +119,8 @@ impl Listings {
         ensures items { self.new.items ≡ filter (λ l. not (is_for l.purpose grant.now)) self.old.items }
         ensures room { self.old.room ≤ self.new.room }
     {
-        changes::unlist_one(&mut self.items, grant);
+        self.items
+            .retain(|listing| !is_for(&listing.purpose, grant));
     }
 
     /// Removes the listings for an ALLOCATE.
@@ -117,6 +128,21 @@ impl Listings {
         ensures items { self.new.items ≡ filter (λ l. not (is_for_allocation l.purpose)) self.old.items }
         ensures room { self.old.room ≤ self.new.room }
     {
-        changes::unlist_allocates(&mut self.items);
+        self.items
+            .retain(|listing| !is_for_allocation(&listing.purpose));
+    }
+}
+
+/// Lists a purpose, if there is one.
+fn list_one(listed: &mut Vec<Listing>, id: TransactionId, purpose: &Option<Purpose>)
+    requires { vec_len listed.old + length (option_to_list purpose.now) ≤ vec_capacity listed.old }
+    ensures items { listed.new.items ≡ listed.old.items ++ listings id (option_to_list purpose.now) }
+    ensures capacity { vec_capacity listed.new ≡ vec_capacity listed.old }
+{
+    if let Some(purpose) = purpose {
+        listed.push_reserved(Listing {
+            id,
+            purpose: *purpose,
+        });
     }
 }
