@@ -1,11 +1,11 @@
 -- A map that leads to the rows of a list, as rows are added and removed.
-use Rattle.std.specs.Prelude.{◌≡◌, Bool, true, false, cond, not, is_some, List, [], ◌∷◌, ◌++◌, map, filter, filter_map, slice_get, Option, Some, None, option_map, option_to_list}
+use Rattle.std.specs.Prelude.{◌≡◌, Bool, true, false, cond, not, is_some, List, [], ◌∷◌, ◌++◌, map, filter, filter_map, find, slice_get, Option, Some, None, option_map, option_to_list}
 use Rattle.std.specs.Prelude.{option_and_then, refl}
 use Rattle.std.specs.List.{list_any}
 use Rattle.std.proofs.lemmas.Map.Entries.{option_filter}
-use Rattle.std.proofs.Common.{arith, sym, ◌∙◌, append-nil, subst}
+use Rattle.std.proofs.Common.{ap, arith, sym, ◌∙◌, append-nil, subst}
 use Rattle.std.proofs.lemmas.List.Elements.{filter-append}
-use Rattle.turn_client_grants.specs.Index.{IsIndex}
+use Rattle.turn_client_grants.specs.Index.{IsIndex, leads}
 
 module _ {G : Type 0} where
   -- ---- tests and lists
@@ -31,6 +31,14 @@ module _ {G : Type 0} where
   filter-filter : (test passes : G → Bool) (gs : List G) → filter test (filter passes gs) ≡ filter passes (filter test gs)
   filter-filter test passes [] = refl
   filter-filter test passes (g ∷ gs) = grind (arith, filter-filter test passes gs)
+
+  -- ---- at most one
+
+  pub first-of : (found : Option G) (g : G) (gs : List G) → g ∷ gs ≡ option_to_list found → found ≡ Some g
+  first-of found g gs h = grind arith
+
+  pub rest-of : (found : Option G) (g : G) (gs : List G) → g ∷ gs ≡ option_to_list found → gs ≡ []
+  rest-of found g gs h = grind arith
 
   -- ---- reading
 
@@ -121,3 +129,32 @@ module _ {G : Type 0} where
       where
         none : (found : Option G) → is_some found ≡ false → found ≡ None
         none found h = grind arith
+
+    -- ---- with a map, or without one
+
+    -- a scan finds the only row that passes
+    found-alone : (p : G → Bool) (rows : List G) (found : Option G) → filter p rows ≡ option_to_list found → find p rows ≡ found
+    found-alone p [] None alone = refl
+    found-alone p [] (Some g) alone = cc
+    found-alone p (g ∷ rows) found alone = by (p g) refl (found-alone p rows found)
+      where
+        by : (b : Bool) → p g ≡ b → (filter p rows ≡ option_to_list found → find p rows ≡ found) → find p (g ∷ rows) ≡ found
+        by true e next = rw e (sym (first-of found g (filter p rows) (rw e at alone)))
+        by false e next = rw e (next (rw e at alone))
+
+    pub leads-made : (b : Bool) (map : K → Option G) (rows : List G) (k : K) → b ≡ true → leads test b map rows k ≡ map k
+    leads-made b map rows k made = rw made refl
+
+    pub leads-same : (b c : Bool) (map : K → Option G) (rows : List G) → c ≡ b → IsIndex test (leads test b map rows) rows → IsIndex test (leads test c map rows) rows
+    leads-same b c map rows same is = rw same is
+
+    -- any map tells what a scan finds
+    leads-scanned : (map then : K → Option G) (rows : List G) → IsIndex test map rows → IsIndex test (leads test false then rows) rows
+    unfolding IsIndex
+    leads-scanned map then rows is k = is k ∙ sym (ap option_to_list (found-alone (test k) rows (map k) (is k)))
+
+    -- the map, if there is one, changes as the rows do
+    pub leads-next : (b c : Bool) (map then : K → Option G) (next : K → Option G → Option G) (rows others : List G) → c ≡ b → (b ≡ true → (k : K) → then k ≡ next k (map k))
+        → IsIndex test (λ k. next k (leads test b map rows k)) others → IsIndex test (leads test c then others) others
+    leads-next true c map then next rows others same now is = rw same (index-same (λ k. next k (map k)) then others is (now refl))
+    leads-next false c map then next rows others same now is = rw same (leads-scanned (λ k. next k (leads test false map rows k)) then others is)

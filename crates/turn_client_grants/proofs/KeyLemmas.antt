@@ -24,14 +24,14 @@ use Rattle.turn_client_api.specs.declared.grant.Purpose.{Purpose}
 use Rattle.turn_client_api.specs.declared.grant.Progress.TheVariants.{Reserved}
 use Rattle.turn_client_api.specs.declared.grant.Relay.{Relay}
 use Rattle.turn_types.specs.declared.family.AddressFamily.{AddressFamily}
-use Rattle.turn_client_grants.specs.Index.{IsIndex}
+use Rattle.turn_client_grants.specs.Index.{IsIndex, leads}
 use Rattle.turn_client_grants.specs.Keys.{found_after, is_found_by, is_open_to}
 use Rattle.turn_client_grants.specs.Lists.{first_among}
 use Rattle.turn_client_grants.specs.Table.{are_apart, changed, has_no_double, unlisted_in}
 use Rattle.turn_client_grants.specs.declared.changes.Change.{Change}
 use Rattle.turn_client_grants.specs.declared.key.Key.{Key}
 use Rattle.turn_client_grants.specs.declared.key.Key.TheVariants as By
-use Rattle.turn_client_grants.proofs.IndexLemmas.{any-by_index, first-by_index, index-agrees, index-changed, index-found, index-filtered, index-pushed, index-pushed_other, index-same}
+use Rattle.turn_client_grants.proofs.IndexLemmas.{any-by_index, first-by_index, index-agrees, index-changed, index-found, index-filtered, index-pushed, index-pushed_other, index-same, first-of, leads-made, rest-of}
 use Rattle.turn_client_grants.proofs.TableLemmas.{changed-same}
 
 -- ---- a new grant has keys of its own
@@ -250,3 +250,33 @@ other-active a g h = grind arith
 
 pub other-permission : (a : IpAddr) (g : Grant) → is_permission_of a g ≡ false → permission_progress a g ≡ None
 other-permission a g h = grind arith
+
+-- ---- a map is made
+
+-- where a key finds at most one grant, adding all in turn leads to that one
+fold-alone : (k : Key) (rows : List Grant) (was at : Option Grant) → filter (is_found_by k) rows ≡ option_to_list at → fold (found_after k) was rows ≡ cond (is_some at) at was
+fold-alone k [] was None alone = refl
+fold-alone k [] was (Some g) alone = cc
+fold-alone k (g ∷ rows) was at alone = by (is_found_by k g) refl (fold-alone k rows)
+  where
+    by : (b : Bool) → is_found_by k g ≡ b
+        → ((was at : Option Grant) → filter (is_found_by k) rows ≡ option_to_list at → fold (found_after k) was rows ≡ cond (is_some at) at was)
+        → fold (found_after k) (found_after k was g) rows ≡ cond (is_some at) at was
+    by true e next =
+        let one : g ∷ filter (is_found_by k) rows ≡ option_to_list at = rw e at alone in
+        rw (e, first-of at g (filter (is_found_by k) rows) one) (next (Some g) None (rest-of at g (filter (is_found_by k) rows) one))
+    by false e next = rw e (next was at (rw e at alone))
+
+made-alone : (at : Option Grant) → cond (is_some at) at None ≡ at
+made-alone at = grind arith
+
+pub index-made : (rows : List Grant) (find then : Key → Option Grant) → IsIndex is_found_by find rows → ((k : Key) → then k ≡ fold (found_after k) None rows)
+    → IsIndex is_found_by then rows
+unfolding IsIndex
+index-made rows find then is now k = is k ∙ sym (ap option_to_list (now k ∙ (fold-alone k rows None (find k) (is k) ∙ made-alone (find k))))
+
+-- more grants than are scanned have a map
+pub first-mapped : {X : Type 0} (f : Grant → Option X) (map : Key → Option Grant) (rows : List Grant) (k : Key) (made : Bool) → IsIndex is_found_by (leads is_found_by made map rows) rows
+    → made ≡ true → ((g : Grant) → is_found_by k g ≡ false → f g ≡ None) → first_among f rows ≡ option_and_then f (map k)
+first-mapped f map rows k made is on other =
+    first-found f (leads is_found_by made map rows) rows k is other ∙ ap (option_and_then f) (leads-made is_found_by made map rows k on)

@@ -24,6 +24,7 @@ mod allocation_events;
 mod changes;
 mod due;
 mod grant_filter;
+mod index;
 mod key;
 mod kind;
 mod ledger;

@@ -1,9 +1,8 @@
 //! The table of grants.
 //!
-//! The grants are a list, in their order. A channel and a permission are found by a hash map, which
-//! leads from a channel's number, from the peer of a channel that is pending or active, and from the IP
-//! address of a permission to a copy of the grant. For the reads that each packet needs, a table of few
-//! grants is scanned instead. What is read from all grants at once, such as the next expiry and the next
+//! The grants are a list, in their order, which is scanned while they are few. Of more, a channel and a
+//! permission are found by a hash map, which leads from a channel's number, from the peer of a channel
+//! that is pending or active, and from the IP address of a permission to a copy of the grant. What is read from all grants at once, such as the next expiry and the next
 //! refresh, is a summary. It is computed anew only by a change after which it may be another one.
 
 ghost use Rattle.std.specs.Prelude.{◌≡◌, ◌≤◌, ◌<◌, ◌+◌, ◌++◌, ◌∷◌, ◌==◌, ◌&&◌, [], false, true, None, filter, length, map, not, OnOk};
@@ -22,14 +21,14 @@ ghost use Rattle.turn_client_grants.specs.GrantFilter.{holds, purposes_in};
 
 use crate::changes::{self, Change};
 use crate::grant_filter::GrantFilter;
-use crate::key::{self, Key};
+use crate::index::Index;
+use crate::key::Key;
 use crate::kind::is_pending;
 use crate::listings::Listings;
 use crate::purposes::Purposes;
 use crate::summary::{Summary, kept_unless, summary_of, summary_with};
 use crate::{offers, room};
 use std::alloc::{AllocError, Global};
-use std::collections::HashMap;
 use std::marker::Model;
 use std::net::SocketAddr;
 use turn_client_api::Grant;
@@ -53,8 +52,7 @@ mod read;
 pub struct GrantTable {
     grants: Vec<Grant>,
     listed: Listings,
-    // Copies of the grants, by their keys.
-    found: HashMap<Key, Grant>,
+    index: Index,
     summary: Summary,
 }
 
@@ -62,7 +60,7 @@ impl Model for GrantTable {
     ghost use Rattle.std.specs.Prelude.{◌-◌, min, vec_capacity, vec_len};
     ghost use Rattle.std.specs.HashMap as hash;
     ghost use Rattle.std.specs.HashMap.{spare};
-    ghost use Rattle.turn_client_grants.specs.Kept.{IsIndexed, half};
+    ghost use Rattle.turn_client_grants.specs.Kept.{IsIndexed, index_room};
     ghost use Rattle.turn_client_grants.specs.Table.{Table};
 
     ghost Value = { Table };
@@ -70,11 +68,12 @@ impl Model for GrantTable {
     ghost view = { λ t. record {
       grants = t.grants.items;
       listed = t.listed.items;
-      grant_room = min (vec_capacity t.grants - vec_len t.grants) (half (spare t.found));
+      grant_room = min (vec_capacity t.grants - vec_len t.grants) (index_room t.index.is_made (vec_len t.grants) (spare t.index.found));
       listing_room = t.listed.room;
     } };
 
-    ghost invariant = { λ t. IsIndexed t.grants.items t.listed.items (hash.get ⟦<Key as PartialEq>⟧.eq t.found) t.summary };
+    ghost invariant = { λ t.
+        IsIndexed t.grants.items t.listed.items t.index.is_made (hash.get ⟦<Key as PartialEq>⟧.eq t.index.found) t.summary };
 }
 
 impl GrantTable {
@@ -86,7 +85,7 @@ impl GrantTable {
         GrantTable {
             grants: Vec::new(alloc),
             listed: Listings::new(alloc),
-            found: HashMap::new(alloc),
+            index: Index::new(alloc),
             summary: summary_of(&[], &[]),
         }
     }
@@ -104,12 +103,9 @@ impl GrantTable {
         ensures grants_left { self.old.grant_room ≤ self.new.grant_room }
         ensures listings_left { self.old.listing_room ≤ self.new.listing_room }
     {
-        let Some(keys) = grants.checked_mul(2) else {
-            return Err(AllocError);
-        };
         room::reserve(&mut self.grants, grants)?;
         self.listed.reserve(listings)?;
-        key::reserve(&mut self.found, keys)
+        self.index.reserve(self.grants.as_slice(), grants)
     }
 
     /// Adds a grant, which must be new (`has_no_double`), after all others.
@@ -123,7 +119,7 @@ impl GrantTable {
         ensures listing_room { self.new.listing_room ≡ self.old.listing_room }
     {
         changes::add(&mut self.grants, grant);
-        key::add(&mut self.found, grant);
+        self.index.add(grant);
         self.summary = summary_with(
             &self.summary,
             self.grants.as_slice(),
@@ -143,7 +139,7 @@ impl GrantTable {
         ensures listing_room { self.new.listing_room ≡ self.old.listing_room }
     {
         changes::add_all(&mut self.grants, more);
-        key::add_all(&mut self.found, more);
+        self.index.add_all(more);
         self.summary = summary_with(
             &self.summary,
             self.grants.as_slice(),
@@ -224,7 +220,7 @@ impl GrantTable {
         }
         self.listed.unlist(self.grants.as_slice(), which);
         changes::remove(&mut self.grants, which);
-        key::remove(&mut self.found, which);
+        self.index.remove(which);
         self.summary = summary_of(self.grants.as_slice(), self.listed.as_slice());
     }
 
@@ -263,7 +259,9 @@ impl GrantTable {
         ensures fewer { length self.new.grants ≤ length self.old.grants }
         ensures listing_room { self.old.listing_room ≤ self.new.listing_room }
     {
-        let old = self.found[key];
+        let Some(old) = self.index.find(self.grants.as_slice(), key) else {
+            return;
+        };
         self.listed.unlist_one(&old);
         changes::remove_found(&mut self.grants, key);
         let summary = kept_unless(
@@ -279,7 +277,7 @@ impl GrantTable {
             self.listed.as_slice(),
             &[*grant],
         );
-        key::replace(&mut self.found, &old, grant);
+        self.index.replace(&old, grant);
     }
 
     /// The active ones of these grants expire at this time, and no request is listed for them any more.
@@ -307,15 +305,13 @@ impl GrantTable {
         ensures grant_room { self.old.grant_room ≤ self.new.grant_room }
         ensures listing_room { self.old.listing_room ≤ self.new.listing_room }
     {
-        let is_there = self.found.contains_key(key);
-        if !is_there {
+        let Some(old) = self.index.find(self.grants.as_slice(), key) else {
             return;
-        }
-        let old = self.found[key];
+        };
         let grant = change.applied(&old);
         self.listed.unlist_one(&old);
         changes::apply_to(&mut self.grants, key, change);
-        key::set_keys(&mut self.found, &grant);
+        self.index.set_keys(&grant);
         self.summary = summary_of(self.grants.as_slice(), self.listed.as_slice());
     }
 
@@ -327,7 +323,7 @@ impl GrantTable {
         ensures listing_room { self.new.listing_room ≡ self.old.listing_room }
     {
         changes::apply(&mut self.grants, change);
-        key::change(&mut self.found, change);
+        self.index.change(change);
         self.summary = summary_of(self.grants.as_slice(), self.listed.as_slice());
     }
 }

@@ -52,8 +52,8 @@ impl GrantTable {
     fn is_refreshed_by(&self, key: &Key) -> bool
         ensures { result ≡ list_any (λ g. is_refreshed g && is_found_by key.now g) self.now.grants }
     {
-        match self.found.get(key) {
-            Some(grant) => is_refreshed(grant),
+        match self.index.find(self.grants.as_slice(), key) {
+            Some(grant) => is_refreshed(&grant),
             None => false,
         }
     }

@@ -23,6 +23,7 @@ ghost use Rattle.turn_client_grants.specs.Table.{is_numbered, with_table};
 ghost use Rattle.turn_client_grants.specs.GrantFilter.{purposes_in};
 
 use crate::due::{after_pause, least};
+use crate::index::FEW;
 use crate::key::Key;
 use crate::kind::{is_of, is_of_family};
 use crate::past_expiry::is_expired_channel;
@@ -39,9 +40,6 @@ use turn_client_api::{
 use turn_stun::instant::Instant;
 use turn_stun::transaction::TransactionId;
 use turn_types::AddressFamily;
-
-/// A table of so few grants is scanned: hashing an address takes as long as scanning ten of them.
-const FEW: usize = 8;
 
 impl GrantTable {
     /// The grants in their order.
@@ -137,7 +135,7 @@ impl GrantTable {
             return reads::permission_state(self.grants.as_slice(), ip);
         }
         let key = Key::Ip(ip);
-        match self.found.get(&key) {
+        match self.index.found.get(&key) {
             Some(grant) => permission_in(ip, grant),
             None => None,
         }
@@ -161,8 +159,8 @@ impl GrantTable {
         ensures numbered { IfSome result (λ peer. is_numbered (Channel number peer (Pending true)) ≡ true) }
     {
         let key = Key::Number(number);
-        match self.found.get(&key) {
-            Some(grant) => owner_in(number, grant),
+        match self.index.find(self.grants.as_slice(), &key) {
+            Some(grant) => owner_in(number, &grant),
             None => None,
         }
     }
@@ -172,8 +170,8 @@ impl GrantTable {
         ensures { result ≡ option_map (λ found. found.1) (first_among (channel_at number) self.now.grants) }
     {
         let key = Key::Number(number);
-        match self.found.get(&key) {
-            Some(grant) => progress_in(number, grant),
+        match self.index.find(self.grants.as_slice(), &key) {
+            Some(grant) => progress_in(number, &grant),
             None => None,
         }
     }
@@ -187,7 +185,7 @@ impl GrantTable {
             return reads::channel_peer(self.grants.as_slice(), number);
         }
         let key = Key::Number(number);
-        match self.found.get(&key) {
+        match self.index.found.get(&key) {
             Some(grant) => peer_in(number, grant),
             None => None,
         }
@@ -204,7 +202,7 @@ impl GrantTable {
             return reads::active_channel(self.grants.as_slice(), peer);
         }
         let key = Key::Peer(peer);
-        match self.found.get(&key) {
+        match self.index.found.get(&key) {
             Some(grant) => active_in(peer, grant),
             None => None,
         }
@@ -218,7 +216,7 @@ impl GrantTable {
             return reads::has_channel(self.grants.as_slice(), peer);
         }
         let key = Key::Peer(peer);
-        self.found.contains_key(&key)
+        self.index.found.contains_key(&key)
     }
 
     /// Until when a reserved channel keeps the peer from being bound, if that is now or later. Of several
