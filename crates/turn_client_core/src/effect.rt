@@ -58,11 +58,11 @@ pub(crate) fn answer_all(
     is_granted: bool,
     now: Instant,
 ) -> Effect
-    requires grant_room { 6 ≤ ledger.old.grant_room }
+    requires grant_room { 2 ≤ ledger.old.grant_room }
     requires event_room { 18 ≤ ledger.old.event_room }
     requires close_room { 2 ≤ ledger.old.close_room }
     ensures state { AnswersPurposes (purposes_in purposes.now) is_granted message.now now ledger.old ledger.new result }
-    ensures room { LessRoom 6 0 18 2 ledger.old ledger.new }
+    ensures room { LessRoom 2 0 18 2 ledger.old ledger.new }
 {
     let first = answer_one(ledger, &purposes.first, message, is_granted, now);
     let second = answer_one(ledger, &purposes.second, message, is_granted, now);
@@ -77,11 +77,11 @@ fn answer_one(
     is_granted: bool,
     now: Instant,
 ) -> Effect
-    requires grant_room { 3 ≤ ledger.old.grant_room }
+    requires grant_room { 1 ≤ ledger.old.grant_room }
     requires event_room { 9 ≤ ledger.old.event_room }
     requires close_room { 1 ≤ ledger.old.close_room }
     ensures state { AnswersPurposes (option_to_list purpose.now) is_granted message.now now ledger.old ledger.new result }
-    ensures room { LessRoom 3 0 9 1 ledger.old ledger.new }
+    ensures room { LessRoom 1 0 9 1 ledger.old ledger.new }
 {
     match purpose {
         Some(purpose) => answer(ledger, purpose, message, is_granted, now),
@@ -97,12 +97,12 @@ fn answer(
     is_granted: bool,
     now: Instant,
 ) -> Effect
-    requires grant_room { 3 ≤ ledger.old.grant_room }
+    requires grant_room { 1 ≤ ledger.old.grant_room }
     requires event_room { 9 ≤ ledger.old.event_room }
     requires close_room { 1 ≤ ledger.old.close_room }
     ensures state { (s : State) → after result (with_ledger ledger.new s)
         ≡ effect (id_of message.now) is_granted message.now now (with_ledger ledger.old s) purpose.now }
-    ensures room { LessRoom 3 0 9 1 ledger.old ledger.new }
+    ensures room { LessRoom 1 0 9 1 ledger.old ledger.new }
 {
     match purpose {
         Purpose::ForAllocation => Effect::Nothing,

@@ -54,11 +54,12 @@ impl TurnClientProtocol {
             self.outbox.end(message.transaction_id());
             return Ok(reported_of(message, &purposes));
         }
-        // Keeps the room for the failure events of families that are still requested.
-        let Some(events) = self.families.len().checked_add(6) else {
+        // Each of two purposes may add a grant, and nine events. Keeps the room for the failure events of families
+        // that are still requested.
+        let Some(events) = self.families.len().checked_add(14) else {
             return Err(AllocError);
         };
-        self.ledger.reserve(6, 0, events)?;
+        self.ledger.reserve(2, 0, events)?;
         self.outbox.end(id);
         let effect = answer_all(&mut self.ledger, &purposes, message, is_granted, now);
         self.apply_effect(effect);
