@@ -1,11 +1,16 @@
 -- Results, and values that may be there.
-use Rattle.std.specs.Prelude.{◌≤◌, Result, Ok, Err, OnErr, IsOk, is_none, is_some}
+use Rattle.std.specs.Prelude.{◌≤◌, Result, Ok, Err, OnErr, OnOk, IsOk, is_none, is_some}
 use Rattle.std.proofs.Common.{◌≡◌, true, false, List, [], ◌∷◌, length, Option, Some, None, refl, rules}
 
 -- what holds in any case holds on an error
 pub on-err : {T E P : Type 0} (r : Result T E) → P → OnErr r P
 on-err (Ok x) p = tt
 on-err (Err e) p = p
+
+-- what follows on a value
+pub on-ok-map : {T E P Q : Type 0} (r : Result T E) → (P → Q) → OnOk r P → OnOk r Q
+on-ok-map (Ok x) f p = f p
+on-ok-map (Err e) f p = tt
 
 -- what follows on an error
 pub on-err-map : {T E P Q : Type 0} (r : Result T E) → (P → Q) → OnErr r P → OnErr r Q

@@ -16,4 +16,5 @@ pub mod Replies
 pub mod Sending
 pub mod Sent
 pub mod Unread
+pub mod Usable
 pub mod Wanted

@@ -85,20 +85,6 @@ impl Outbox {
         }
     }
 
-    /// The transport of the packets.
-    pub(crate) fn transport(&self) -> TransportType
-        ensures { result ≡ self.now.transport }
-    {
-        self.agent.transport()
-    }
-
-    /// The client's address on the control connection.
-    pub(crate) fn local_addr(&self) -> SocketAddr
-        ensures { result ≡ self.now.local }
-    {
-        self.agent.local_addr()
-    }
-
     /// The server's address.
     pub(crate) fn remote_addr(&self) -> SocketAddr
         ensures { result ≡ self.now.remote }
@@ -106,16 +92,10 @@ impl Outbox {
         self.remote
     }
 
-    /// Whether a request with this ID is outstanding.
-    pub(crate) fn is_outstanding(&self, id: TransactionId) -> bool
-        ensures { result ≡ is_outstanding id self.now.transactions }
-    {
-        self.agent.is_outstanding(id)
-    }
-
-    /// The outstanding requests, for reading.
+    /// The control connection and the outstanding requests, for reading.
     pub(crate) fn agent(&self) -> &StunAgent
         ensures transport { result.now.transport ≡ self.now.transport }
+        ensures local { result.now.local ≡ self.now.local }
         ensures timers { result.now.timers ≡ self.now.timers }
         ensures transactions { result.now.transactions ≡ self.now.transactions }
     {
@@ -238,7 +218,12 @@ impl Outbox {
     pub(crate) fn packet(&self, text: Data) -> Transmit<Data>
         ensures { result ≡ packet_of self.now self.now.local text }
     {
-        Transmit::new(text, self.transport(), self.local_addr(), self.remote)
+        Transmit::new(
+            text,
+            self.agent.transport(),
+            self.agent.local_addr(),
+            self.remote,
+        )
     }
 }
 

@@ -1,16 +1,21 @@
 -- Requests that a client makes.
-use Rattle.std.proofs.Common.{◌≡◌, ◌∙◌, ℕ, List, true, ap, refl}
+use Rattle.std.proofs.Common.{◌≡◌, ◌∙◌, ℕ, List, [], ◌∷◌, None, false, true, ap, refl}
+use Rattle.std.specs.List.{list_any}
+use Rattle.std.specs.Net.Socket.{socket_ip}
 use Rattle.std.specs.declared.net.socket_addr.SocketAddr.{SocketAddr}
-use Rattle.turn_client_api.specs.Calls.{delete_text, deleted}
-use Rattle.turn_client_api.specs.Grants.{with_more_grants}
+use Rattle.turn_client_api.specs.Calls.{channels_to, delete_text, deleted, is_in_progress, is_number_taken}
+use Rattle.turn_client_api.specs.Grants.{permission_state, with_more_grants}
 use Rattle.turn_client_api.specs.Requests.{request_started, fresh_id, queued, request_for, sent_from}
 use Rattle.turn_client_api.specs.State.{State}
 use Rattle.turn_client_api.specs.declared.grant.Grant.{Grant}
+use Rattle.turn_client_api.specs.declared.grant.Grant.TheVariants.{Channel, Permission}
+use Rattle.turn_client_api.specs.declared.grant.Progress.TheVariants.{Pending}
 use Rattle.turn_client_api.specs.declared.grant.Purpose.{Purpose}
 use Rattle.turn_client_core.specs.Asked.{asks}
 use Rattle.turn_client_core.specs.Outgoing.{Outgoing}
 use Rattle.turn_client_grants.specs.Asked.{Asks, all_back, expired_now}
 use Rattle.turn_client_grants.specs.Ledger.{Ledger, with_ledger}
+use Rattle.turn_client_grants.specs.Table.{are_new}
 
 -- the client with this outbox
 abbrev pub with_outbox : Outgoing → State → State
@@ -38,3 +43,8 @@ asks-is s id from text purpose purposes grants now is sent next = rw (is, sent, 
 pub deletes-is : (s : State) (id : ℕ) (from : SocketAddr) (text : List ℕ) (now : ℕ) → text ≡ delete_text s → from ≡ s.local → id ≡ fresh_id s
     → queued true from text (request_started id text (all_back s) now (expired_now now s)) ≡ deleted now s
 deletes-is s id from text now is sent next = rw (is, sent, next) refl
+
+-- a channel and a permission that are asked for together
+pub pair-new : (number : ℕ) (peer : SocketAddr) (s : State) → is_number_taken number s ≡ false → list_any is_in_progress (channels_to peer s) ≡ false → permission_state (socket_ip peer) s ≡ None
+    → are_new s.grants (Channel number peer (Pending true) ∷ Permission (socket_ip peer) (Pending true) ∷ []) ≡ true
+pair-new number peer s free new none = rw (free, new, none) refl

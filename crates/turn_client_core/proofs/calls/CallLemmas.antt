@@ -1,19 +1,37 @@
 -- Calls that are refused.
-use Rattle.std.proofs.Common.{◌≡◌, ℕ, true, Err, Some, refl}
+use Rattle.std.proofs.Common.{◌≡◌, ℕ, Bool, false, not, true, Err, Some, None, refl}
 use Rattle.std.specs.Net.Socket.{socket_ip}
-use Rattle.std.specs.Prelude.{◌||◌, Option, Result, nat_le}
+use Rattle.std.specs.Prelude.{◌||◌, Option, Result}
 use Rattle.std.specs.declared.net.ip_addr.IpAddr.{IpAddr}
 use Rattle.std.specs.declared.net.socket_addr.SocketAddr.{SocketAddr}
 use Rattle.turn_client_api.specs.Calls.{connect_step, in_allocation, is_allocated}
 use Rattle.turn_client_api.specs.Connections.{is_connected, is_connecting}
-use Rattle.turn_client_api.specs.Grants.{family_of_ip, has_active_permission, with_expired}
+use Rattle.turn_client_api.specs.Grants.{has_active_permission, is_past}
 use Rattle.turn_client_api.specs.State.{State}
 use Rattle.turn_client_api.specs.declared.error.TcpConnectError.TheVariants as Join
 use Rattle.turn_client_api.specs.declared.grant.Relay.{Relay}
+use Rattle.turn_client_core.specs.Usable.{is_usable, with_past_expired}
 
-pub past-is : {E : Type 0} (found : Option Relay) (relay : Relay) (ip : IpAddr) (now : ℕ) (refusal : E) (s : State) (otherwise : Result Unit E × State) → found ≡ Some relay
-    → nat_le relay.expiry now ≡ true → in_allocation found ip now refusal s otherwise ≡ (Err refusal, with_expired (family_of_ip ip) s)
-past-is found relay ip now refusal s otherwise is past = rw (is, past) refl
+-- without a usable allocation a call is refused, and at most marks one as expired
+pub unusable-is : {E : Type 0} (found : Option Relay) (ip : IpAddr) (now : ℕ) (refusal : E) (s : State) (otherwise : Result Unit E × State) → is_usable now found ≡ false
+    → in_allocation found ip now refusal s otherwise ≡ (Err refusal, with_past_expired found ip now s)
+unusable-is None ip now refusal s otherwise e = refl
+unusable-is (Some a) ip now refusal s otherwise e = by (is_past now a) refl e
+  where
+    by : (past : Bool) → is_past now a ≡ past → not past ≡ false → in_allocation (Some a) ip now refusal s otherwise ≡ (Err refusal, with_past_expired (Some a) ip now s)
+    by true is e = rw is refl
+    by false is e = cc
+
+-- in a usable one it is not, and nothing changes yet
+pub usable-is : {E : Type 0} (found : Option Relay) (ip : IpAddr) (now : ℕ) (refusal : E) (s : State) (otherwise : Result Unit E × State) → is_usable now found ≡ true
+    → (in_allocation found ip now refusal s otherwise ≡ otherwise) × (with_past_expired found ip now s ≡ s)
+usable-is None ip now refusal s otherwise e = cc
+usable-is (Some a) ip now refusal s otherwise e = by (is_past now a) refl e
+  where
+    by : (past : Bool) → is_past now a ≡ past → not past ≡ true
+        → (in_allocation (Some a) ip now refusal s otherwise ≡ otherwise) × (with_past_expired (Some a) ip now s ≡ s)
+    by true is e = cc
+    by false is e = (rw is refl, rw is refl)
 
 pub connected-is : (peer : SocketAddr) (now : ℕ) (s : State) → is_allocated s.phase ≡ true → has_active_permission (socket_ip peer) s ≡ true → (is_connected peer s || is_connecting peer s) ≡ true
     → connect_step peer now s ≡ (Err Join.AlreadyExists, s)

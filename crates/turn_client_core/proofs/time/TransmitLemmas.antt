@@ -1,13 +1,14 @@
 -- What `poll_transmit` sends, step by step.
-use Rattle.std.proofs.Common.{◌≡◌, ◌∙◌, ℕ, List, [], ◌∷◌, Option, Some, None, append-nil, refl, ap}
+use Rattle.std.proofs.Common.{◌≡◌, ◌∙◌, ℕ, Bool, true, false, List, [], ◌∷◌, Option, Some, None, append-nil, refl, ap}
 use Rattle.std.proofs.lemmas.Bool.{false≢true}
-use Rattle.std.specs.Prelude.{IsSome, filter_map, find, slice_get}
+use Rattle.std.specs.Prelude.{IsSome, if◌then◌else◌, filter_map, find, slice_get}
 use Rattle.turn_stun.specs.declared.transport.Transmit.{Transmit}
 use Rattle.turn_stun.specs.declared.transport.TransportType.{TransportType}
 use Rattle.turn_types.specs.declared.family.AddressFamily.{AddressFamily}
 use Rattle.turn_agent.specs.Agent.{due, is_due}
 use Rattle.turn_agent.specs.declared.transaction.Transaction.{Transaction}
 use Rattle.turn_client_api.specs.Config.{timers_of}
+use Rattle.turn_client_api.specs.Due.{is_paused}
 use Rattle.turn_client_api.specs.Grants.{allocations, with_more_grants}
 use Rattle.turn_client_api.specs.Requests.{request_started, first_allocate, fresh_id, request_for, to_server}
 use Rattle.turn_client_api.specs.State.{State, agent_of}
@@ -16,7 +17,7 @@ use Rattle.turn_client_api.specs.declared.grant.Grant.{Grant}
 use Rattle.turn_client_api.specs.declared.grant.Purpose.{Purpose}
 use Rattle.turn_client_api.specs.declared.state.Queued.{Queued}
 use Rattle.turn_client_core.specs.Outgoing.{Outgoing, packet_of}
-use Rattle.turn_client_core.specs.Sending.{front_step, resend_step, waiting_step}
+use Rattle.turn_client_core.specs.Sending.{first_reply_step, front_step, resend_step, waiting_step}
 use Rattle.turn_client_grants.specs.Asked.{Asks}
 use Rattle.turn_client_grants.specs.Ledger.{Ledger, with_ledger}
 use Rattle.turn_client_grants.specs.Refresh.{first_refresh}
@@ -46,12 +47,23 @@ resends-first now s o times = by (find (is_due o.timers o.transport now) o.trans
     by (Some t) e = rw (← times, e) refl
 
 -- then the first queued packet
-pub front-first : (now : ℕ) (s : State) (o : Outgoing) → sent_or (idle_step s.phase now) s (front_step now o) ≡ queue_step now (with_outbox o s)
+front-first : (now : ℕ) (s : State) (o : Outgoing) → sent_or (idle_step s.phase now) s (front_step now o) ≡ queue_step now (with_outbox o s)
 front-first now s o = by (slice_get o.queue 0) refl
   where
     by : (found : Option Queued) → slice_get o.queue 0 ≡ found → sent_or (idle_step s.phase now) s (front_step now o) ≡ queue_step now (with_outbox o s)
     by None e = rw e refl
     by (Some q) e = rw e refl
+
+-- what is taken of the queue is sent next, within the pause or not
+pub queued-some : (paused : Bool) (now : ℕ) (s : State) (o p : Outgoing) (packet : Transmit (List ℕ)) → is_paused now (with_outbox o s) ≡ paused
+    → ◌≡◌ {A = Sent} (Some packet, p) (if paused then first_reply_step o else front_step now o) → ◌≡◌ {A = Packet × State} (Some packet, with_outbox p s) (waiting_step now (with_outbox o s))
+queued-some true now s o p packet is step = rw is (ap (λ (r : Sent). (r.0, with_outbox r.1 s)) step)
+queued-some false now s o p packet is step = rw is (ap (sent_or (idle_step s.phase now) s) step ∙ front-first now s o)
+
+-- with nothing queued, and outside the pause, what the client has to request
+pub queued-none : (now : ℕ) (s : State) (o p : Outgoing) → is_paused now (with_outbox o s) ≡ false → ◌≡◌ {A = Sent} (None, p) (front_step now o)
+    → idle_step s.phase now (with_outbox p s) ≡ waiting_step now (with_outbox o s)
+queued-none now s o p is step = rw is (ap (sent_or (idle_step s.phase now) s) step ∙ front-first now s o)
 
 -- ---- a request that is sent at once
 
@@ -105,6 +117,14 @@ resend-none now o after is = by (find (is_due o.timers o.transport now) o.transa
     by : (found : Option Transaction) → find (is_due o.timers o.transport now) o.transactions ≡ found → ◌≡◌ {A = Sent} (None, after) (resend_step now o) → after ≡ o
     by None e is = ap (λ (r : Sent). r.1) (rw e at is)
     by (Some t) e is = let clash : None ≡ Some (record (packet_of o o.local t.request) { to = t.to }) = ap (λ (r : Sent). r.0) (rw e at is) in cc
+
+-- if no packet is queued, nothing changes
+pub front-same : (now : ℕ) (o after : Outgoing) → ◌≡◌ {A = Sent} (None, after) (front_step now o) → after ≡ o
+front-same now o after is = by (slice_get o.queue 0) refl is
+  where
+    by : (found : Option Queued) → slice_get o.queue 0 ≡ found → ◌≡◌ {A = Sent} (None, after) (front_step now o) → after ≡ o
+    by None e is = ap (λ (r : Sent). r.1) (rw e at is)
+    by (Some q) e is = let clash : None ≡ Some q.packet = ap (λ (r : Sent). r.0) (rw e at is) in cc
 
 -- no packet is queued
 pub front-none : (now : ℕ) (o after : Outgoing) → ◌≡◌ {A = Sent} (None, after) (front_step now o) → o.queue ≡ []

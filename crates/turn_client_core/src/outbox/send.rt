@@ -1,6 +1,6 @@
 //! What is sent next (RFC 8489, section 6.2).
 
-ghost use Rattle.std.specs.Prelude.{◌≡◌, IfOk, IsSome, OnErr};
+ghost use Rattle.std.specs.Prelude.{◌≡◌, if◌then◌else◌, IfOk, IsSome, OnErr};
 ghost use Rattle.turn_client_core.specs.Outgoing.{with_room};
 ghost use Rattle.turn_client_core.specs.Sending.{first_reply_step, front_step, resend_step};
 
@@ -31,18 +31,14 @@ impl Outbox {
         }
     }
 
-    /// Removes and returns the first queued reply. It does not extend the pause, which applies to
-    /// requests (our choice).
-    pub(crate) fn take_reply(&mut self) -> Option<Transmit<Data>>
-        ensures { (result, with_room self.old.room self.new) ≡ first_reply_step self.old }
+    /// Removes and returns the first queued packet, or within the pause the first reply, which does not
+    /// extend it: the pause applies to requests (our choice).
+    pub(crate) fn take_queued(&mut self, is_paused: bool, now: Instant) -> Option<Transmit<Data>>
+        ensures { (result, with_room self.old.room self.new) ≡ (if is_paused then first_reply_step self.old else front_step now self.old) }
     {
-        self.queue.take_reply()
-    }
-
-    /// Removes and returns the first queued packet.
-    pub(crate) fn take_front(&mut self, now: Instant) -> Option<Transmit<Data>>
-        ensures { (result, with_room self.old.room self.new) ≡ front_step now self.old }
-    {
+        if is_paused {
+            return self.queue.take_reply();
+        }
         let queued = self.queue.pop_front()?;
         self.last_send = Some(now);
         Some(queued.packet)

@@ -1,27 +1,34 @@
 //! The allocation in which a call requests something.
 
 ghost use Rattle.std.specs.Prelude.{◌≡◌};
-ghost use Rattle.turn_client_api.specs.Grants.{find_allocation_to, family_of_ip, with_expired};
+ghost use Rattle.turn_client_api.specs.Grants.{find_allocation_to};
+ghost use Rattle.turn_client_core.specs.Usable.{is_usable, with_past_expired};
 
 use crate::protocol::TurnClientProtocol;
 use std::net::IpAddr;
-use turn_client_api::Relay;
 use turn_client_grants::family_of_ip;
+use turn_stun::instant::Instant;
 use turn_stun::transport::TransportType;
 
 impl TurnClientProtocol {
-    /// The allocation that relays over this transport to this IP address, expired or not.
-    pub(crate) fn find_allocation_to(&self, transport: TransportType, ip: IpAddr) -> Option<Relay>
-        ensures { result ≡ find_allocation_to transport ip self.now }
+    /// Whether an allocation relays over this transport to this IP address, and its expiry has not passed.
+    /// If it has, the allocation is marked as expired, so that it is no longer used for sending.
+    pub(crate) fn has_usable_allocation(
+        &mut self,
+        transport: TransportType,
+        ip: IpAddr,
+        now: Instant,
+    ) -> bool
+        ensures usable { result ≡ is_usable now (find_allocation_to transport ip self.old) }
+        ensures after { self.new ≡ with_past_expired (find_allocation_to transport ip self.old) ip now self.old }
     {
-        self.ledger.find_allocation_to(transport, ip)
-    }
-
-    /// Marks the allocation that relays to this IP address as expired, so that it is no longer used for
-    /// sending: a call found that its expiry has passed.
-    pub(crate) fn expire(&mut self, ip: IpAddr)
-        ensures { self.new ≡ with_expired (family_of_ip ip) self.old }
-    {
-        self.ledger.expire(family_of_ip(ip));
+        let Some(relay) = self.ledger.find_allocation_to(transport, ip) else {
+            return false;
+        };
+        if relay.expiry <= now {
+            self.ledger.expire(family_of_ip(ip));
+            return false;
+        }
+        true
     }
 }

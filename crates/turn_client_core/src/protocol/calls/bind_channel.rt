@@ -32,12 +32,7 @@ impl TurnClientProtocol {
     ) -> Result<(), BindChannelError>
         ensures step { BindsChannel result self.old self.new (bind_channel_step transport peer_addr now self.old) }
     {
-        let ip = peer_addr.ip();
-        let Some(relay) = self.find_allocation_to(transport, ip) else {
-            return Err(BindChannelError::NoAllocation);
-        };
-        if relay.expiry <= now {
-            self.expire(ip);
+        if !self.has_usable_allocation(transport, peer_addr.ip(), now) {
             return Err(BindChannelError::NoAllocation);
         }
         self.ask_channel(peer_addr, now)
@@ -47,16 +42,16 @@ impl TurnClientProtocol {
     fn ask_channel(&mut self, peer: SocketAddr, now: Instant) -> Result<(), BindChannelError>
         ensures step { BindsChannel result self.old self.new (channel_step peer now self.old) }
     {
-        if self.table().has_channel(peer) {
+        if self.ledger.table().has_channel(peer) {
             return Err(BindChannelError::AlreadyExists);
         }
-        if let Some(until) = self.table().reserved_until(peer, now) {
+        if let Some(until) = self.ledger.table().reserved_until(peer, now) {
             return Err(BindChannelError::ExpiredChannelExists(until));
         }
         if !self.is_allocated() {
             return Err(BindChannelError::NoAllocation);
         }
-        let Some(number) = self.table().free_number() else {
+        let Some(number) = self.ledger.table().free_number() else {
             return Err(BindChannelError::AlreadyExists);
         };
         match self.ask_number(number, peer, now) {
@@ -80,7 +75,7 @@ impl TurnClientProtocol {
     {
         let channel = Purpose::ForChannel(number, peer);
         let grant = Grant::Channel(number, peer, Progress::Pending(true));
-        if self.table().permission_state(peer.ip()).is_some() {
+        if self.ledger.table().permission_state(peer.ip()).is_some() {
             return self.ask(&channel, &Purposes::one(channel), &[grant], now);
         }
         let permission = Grant::Permission(peer.ip(), Progress::Pending(true));

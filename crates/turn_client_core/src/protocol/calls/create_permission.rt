@@ -28,11 +28,7 @@ impl TurnClientProtocol {
     ) -> Result<(), CreatePermissionError>
         ensures step { CreatesPermission result self.old self.new (create_permission_step transport peer_addr now self.old) }
     {
-        let Some(relay) = self.find_allocation_to(transport, peer_addr) else {
-            return Err(CreatePermissionError::NoAllocation);
-        };
-        if relay.expiry <= now {
-            self.expire(peer_addr);
+        if !self.has_usable_allocation(transport, peer_addr, now) {
             return Err(CreatePermissionError::NoAllocation);
         }
         self.ask_permission(peer_addr, now)
@@ -42,7 +38,7 @@ impl TurnClientProtocol {
     fn ask_permission(&mut self, ip: IpAddr, now: Instant) -> Result<(), CreatePermissionError>
         ensures step { CreatesPermission result self.old self.new (permission_step ip now self.old) }
     {
-        if self.table().permission_state(ip).is_some() {
+        if self.ledger.table().permission_state(ip).is_some() {
             return Err(CreatePermissionError::AlreadyExists);
         }
         if !self.is_allocated() {

@@ -20,7 +20,6 @@ use turn_client_api::{Origin, Purpose, Socket5Tuple, TcpAllocateError};
 use turn_client_requests::{AttemptRefusal, accepted_reply, refused_reply};
 use turn_stun::data::Data;
 use turn_stun::instant::Instant;
-use turn_stun::transaction::TransactionId;
 use turn_stun::transport::TransportType;
 
 impl TurnClientProtocol {
@@ -49,7 +48,7 @@ impl TurnClientProtocol {
         if !self.takes_sockets(&five_tuple) {
             return Err(TcpAllocateError::NoAllocation);
         }
-        let Some(origin) = self.table().offer_origin(id, peer_addr) else {
+        let Some(origin) = self.ledger.table().offer_origin(id, peer_addr) else {
             return Err(TcpAllocateError::NoAllocation);
         };
         match local_addr {
@@ -70,7 +69,9 @@ impl TurnClientProtocol {
     ) -> Option<SocketAddr>
         ensures { result ≡ opens_at id five_tuple.now peer_addr local_addr self.now }
     {
-        if !self.takes_sockets(five_tuple) || self.table().offer_origin(id, peer_addr).is_none() {
+        if !self.takes_sockets(five_tuple)
+            || self.ledger.table().offer_origin(id, peer_addr).is_none()
+        {
             return None;
         }
         let local = local_addr?;
@@ -108,7 +109,7 @@ impl TurnClientProtocol {
     fn is_local_taken(&self, local: SocketAddr) -> bool
         ensures { result ≡ is_local_taken local self.now }
     {
-        local == self.local_addr() || self.table().connection_at(local).is_some()
+        local == self.local_addr() || self.ledger.table().connection_at(local).is_some()
     }
 
     /// The caller opened the connection of an offer.
@@ -224,7 +225,9 @@ impl TurnClientProtocol {
         ensures { IfOk result (λ reply. reply ≡ answer_to (accepted_reply self.now) origin.now) }
     {
         match origin {
-            Origin::ServerRequest(request) => Ok(Some(self.accepted(*request)?)),
+            Origin::ServerRequest(request) => {
+                Ok(Some(accepted_reply(self.alloc, &self.auth, *request)?))
+            }
             Origin::OwnConnect => Ok(None),
             Origin::ServerIndication => Ok(None),
         }
@@ -239,28 +242,14 @@ impl TurnClientProtocol {
         requires { IsSome self.now.held }
         ensures { IfOk result (λ reply. reply ≡ answer_to (refused_reply connection_timed_out (codes "Connection Timeout or Failure") self.now) origin.now) }
     {
+        let refusal = AttemptRefusal::ConnectionTimeoutOrFailure;
         match origin {
-            Origin::ServerRequest(request) => Ok(Some(self.refused(*request)?)),
+            Origin::ServerRequest(request) => {
+                Ok(Some(refused_reply(self.alloc, &self.auth, refusal, *request)?))
+            }
             Origin::OwnConnect => Ok(None),
             Origin::ServerIndication => Ok(None),
         }
-    }
-
-    /// The success response to the server's request with this ID.
-    fn accepted(&self, request: TransactionId) -> Result<Data, AllocError>
-        requires { IsSome self.now.held }
-        ensures { IfOk result (λ text. text ≡ accepted_reply self.now request) }
-    {
-        accepted_reply(self.alloc, &self.auth, request)
-    }
-
-    /// The error response to the server's request with this ID: the connection could not be opened.
-    fn refused(&self, request: TransactionId) -> Result<Data, AllocError>
-        requires { IsSome self.now.held }
-        ensures { IfOk result (λ text. text ≡ refused_reply connection_timed_out (codes "Connection Timeout or Failure") self.now request) }
-    {
-        let refusal = AttemptRefusal::ConnectionTimeoutOrFailure;
-        refused_reply(self.alloc, &self.auth, refusal, request)
     }
 }
 

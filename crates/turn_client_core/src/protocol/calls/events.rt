@@ -53,16 +53,9 @@ impl TurnClientProtocol {
         ensures err { OnErr result (self.new ≡ closed self.old) }
         ensures free { self.old.families ≡ [] → IsOk result }
     {
-        match self.fail_all() {
-            Ok(()) => {
-                self.close();
-                Ok(())
-            }
-            Err(error) => {
-                self.close();
-                Err(error)
-            }
-        }
+        let failed = self.fail_all();
+        self.close();
+        failed
     }
 
     /// Queues a failure event for each family that is still requested, and requests none any more.

@@ -1,5 +1,6 @@
 //! What can be read from a client.
 
+ghost use Rattle.std.specs.Net.Socket.{socket_ip};
 ghost use Rattle.std.specs.Prelude.{◌≡◌, ◌||◌, option_copied};
 ghost use Rattle.turn_client_api.specs.Addresses.{permitted_left, relayed_left};
 ghost use Rattle.turn_client_api.specs.Calls.{can_send_to, permissions_of, relayed_addresses_of};
@@ -9,7 +10,6 @@ ghost use Rattle.turn_client_api.specs.Grants.{channel_peer, first_in, has_activ
 use crate::protocol::TurnClientProtocol;
 use std::net::{IpAddr, SocketAddr};
 use turn_client_api::{PermissionAddressesIter, RelayedAddressesIter};
-use turn_client_grants::GrantTable;
 use turn_stun::transport::TransportType;
 
 impl TurnClientProtocol {
@@ -17,14 +17,14 @@ impl TurnClientProtocol {
     pub fn transport(&self) -> TransportType
         ensures { result ≡ self.now.transport }
     {
-        self.outbox.transport()
+        self.outbox.agent().transport()
     }
 
     /// The client's address on the control connection.
     pub fn local_addr(&self) -> SocketAddr
         ensures { result ≡ self.now.local }
     {
-        self.outbox.local_addr()
+        self.outbox.agent().local_addr()
     }
 
     /// The server's address.
@@ -80,25 +80,17 @@ impl TurnClientProtocol {
 }
 
 impl TurnClientProtocol {
-    /// The grants, and what the requests that await their responses were made for.
-    pub(crate) fn table(&self) -> &GrantTable
-        ensures grants { result.now.grants ≡ self.now.grants }
-        ensures listed { result.now.listed ≡ self.now.listed }
+    /// Whether the IP address of the peer has an active permission.
+    pub(crate) fn is_permitted(&self, peer: SocketAddr) -> bool
+        ensures { result ≡ has_active_permission (socket_ip peer) self.now }
     {
-        self.ledger.table()
-    }
-
-    /// Whether this IP address has an active permission.
-    pub(crate) fn has_active_permission(&self, ip: IpAddr) -> bool
-        ensures { result ≡ has_active_permission ip self.now }
-    {
-        self.ledger.table().has_active_permission(ip)
+        self.ledger.table().has_active_permission(peer.ip())
     }
 
     /// Whether a data connection to the peer exists, is offered to the caller, or is pending.
     pub(crate) fn has_connection(&self, peer: SocketAddr) -> bool
         ensures { result ≡ (is_connected peer self.now || is_connecting peer self.now) }
     {
-        self.table().is_connected(peer) || self.table().is_connecting(peer)
+        self.ledger.table().is_connected(peer) || self.ledger.table().is_connecting(peer)
     }
 }

@@ -34,7 +34,7 @@ impl TurnClientProtocol {
     fn is_taken(&self, id: TransactionId) -> bool
         ensures { result ≡ is_taken id self.now }
     {
-        self.outbox.is_outstanding(id) || self.table().is_listed(id)
+        self.outbox.agent().is_outstanding(id) || self.ledger.table().is_listed(id)
     }
 
     /// The first of so many IDs, counted up from this one modulo 2^96, that is not taken.
@@ -76,7 +76,7 @@ impl TurnClientProtocol {
     {
         match purpose {
             Purpose::ForBind(local, _, _) => *local,
-            _ => self.outbox.local_addr(),
+            _ => self.local_addr(),
         }
     }
 

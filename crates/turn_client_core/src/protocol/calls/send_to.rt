@@ -131,7 +131,7 @@ impl TurnClientProtocol {
         ensures named { IfErr result IsNoWay }
         ensures answer { IsSent result (on_connection (find (bound_to to) (filter_map as_connection self.now.grants)) (T.items «data») self.now).0 }
     {
-        match self.table().bound_connection(to) {
+        match self.ledger.table().bound_connection(to) {
             Some(connection) => Ok(Some(TransmitBuild::new(
                 DelayedMessageOrChannelSend::Data(data),
                 TransportType::Tcp,
@@ -148,7 +148,7 @@ impl TurnClientProtocol {
         ensures found { result ≡ number_by (slice_get (filter_map (active_channel peer) self.now.grants) 0) now }
         ensures numbered { IfSome result (λ number. (nat_le 0x4000 number && nat_lt number 0x5000) ≡ true) }
     {
-        let Some(found) = self.table().active_channel(peer) else {
+        let Some(found) = self.ledger.table().active_channel(peer) else {
             return None;
         };
         if now <= found.1 {

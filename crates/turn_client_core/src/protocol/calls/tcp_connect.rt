@@ -26,12 +26,7 @@ impl TurnClientProtocol {
     ) -> Result<(), TcpConnectError>
         ensures step { Connects result self.old self.new (tcp_connect_step peer_addr now self.old) }
     {
-        let ip = peer_addr.ip();
-        let Some(relay) = self.find_allocation_to(TransportType::Tcp, ip) else {
-            return Err(TcpConnectError::NoAllocation);
-        };
-        if relay.expiry <= now {
-            self.expire(ip);
+        if !self.has_usable_allocation(TransportType::Tcp, peer_addr.ip(), now) {
             return Err(TcpConnectError::NoAllocation);
         }
         self.ask_connection(peer_addr, now)
@@ -44,7 +39,7 @@ impl TurnClientProtocol {
         if !self.is_allocated() {
             return Err(TcpConnectError::NoAllocation);
         }
-        if !self.has_active_permission(peer.ip()) {
+        if !self.is_permitted(peer) {
             return Err(TcpConnectError::NoPermission);
         }
         if self.has_connection(peer) {

@@ -124,7 +124,7 @@ impl TurnClientProtocol {
             purpose,
             fresh,
         )?;
-        let from = self.outbox.local_addr();
+        let from = self.local_addr();
         let challenge = queue_again(&mut self.ledger, &mut self.outbox, fresh, signed, from, now)?;
         self.outbox.end(id);
         self.ledger.ask_again(id, fresh);

@@ -1,13 +1,16 @@
 //! The server reports a peer that connected to the relayed address (RFC 6062, section 4.4).
 
-ghost use Rattle.std.specs.Prelude.{◌≡◌, IfOk, IsSome, OnErr, OnOk};
+ghost use Rattle.std.specs.Net.Socket.{socket_ip};
+ghost use Rattle.std.specs.Prelude.{◌≡◌, is_some, IfOk, IsSome, OnErr, OnOk};
 ghost use Rattle.turn_client_api.specs.Connections.{attempt_indicated, attempt_requested, accepts_attempt};
 ghost use Rattle.turn_client_api.specs.Effect.{with_offer};
+ghost use Rattle.turn_client_api.specs.Grants.{find_allocation_to};
 ghost use Rattle.turn_client_api.specs.Requests.{refused_reply, replied};
 ghost use Rattle.turn_client_core.specs.Attempts.{CanSign, attempt_step};
 ghost use Rattle.turn_client_core.specs.ProtocolRecv.{IsPart, outcome_in};
 ghost use Rattle.turn_client_requests.specs.Refused.{code_of, reason_of};
 ghost use Rattle.turn_stun.specs.Message.{id_of};
+ghost use Rattle.turn_stun.specs.declared.transport.TransportType.TheVariants.{Tcp};
 
 use crate::protocol::TurnClientProtocol;
 use crate::protocol_recv::TurnProtocolRecv;
@@ -43,11 +46,10 @@ impl TurnClientProtocol {
         let Some(peer) = peer_in(message) else {
             return self.refuse_attempt(AttemptRefusal::BadRequest, id);
         };
-        let relay = self.find_allocation_to(TransportType::Tcp, peer.ip());
-        if relay.is_none() {
+        if !self.relays_to(peer) {
             return self.refuse_attempt(AttemptRefusal::BadRequest, id);
         }
-        if self.table().is_connected(peer) {
+        if self.ledger.table().is_connected(peer) {
             return self.refuse_attempt(AttemptRefusal::ConnectionAlreadyExists, id);
         }
         self.offer(connection_id, peer, Origin::ServerRequest(id))
@@ -88,22 +90,28 @@ impl TurnClientProtocol {
     fn accepts_attempt(&self, peer: SocketAddr) -> bool
         ensures { result ≡ accepts_attempt peer self.now }
     {
-        if self
-            .find_allocation_to(TransportType::Tcp, peer.ip())
-            .is_none()
-        {
+        if !self.relays_to(peer) {
             return false;
         }
-        if !self.has_active_permission(peer.ip()) {
+        if !self.is_permitted(peer) {
             return false;
         }
-        if self.table().is_connected(peer) {
+        if self.ledger.table().is_connected(peer) {
             return false;
         }
-        if self.table().is_connecting(peer) {
+        if self.ledger.table().is_connecting(peer) {
             return false;
         }
         self.ledger.table().indicated_count() < MAX_INDICATED
+    }
+
+    /// Whether an allocation relays over TCP to the IP address of the peer.
+    fn relays_to(&self, peer: SocketAddr) -> bool
+        ensures { result ≡ is_some (find_allocation_to Tcp (socket_ip peer) self.now) }
+    {
+        self.ledger
+            .find_allocation_to(TransportType::Tcp, peer.ip())
+            .is_some()
     }
 
     /// Offers the caller a data connection to the peer, with the server's ID of it.

@@ -48,7 +48,7 @@ impl TurnClientProtocol {
         if !self.is_allocated() {
             return Ok(None);
         }
-        let Some(connection) = self.table().connection_at(local) else {
+        let Some(connection) = self.ledger.table().connection_at(local) else {
             return Ok(None);
         };
         if message.method() != CONNECTION_BIND {
@@ -146,7 +146,7 @@ impl TurnClientProtocol {
         ensures ok { OnOk result (self.new ≡ bind_again connection.now id challenge.now now self.old) }
         ensures err { OnErr result (self.new ≡ self.old) }
     {
-        let Some(purpose) = self.table().bind_purpose(id, connection.local) else {
+        let Some(purpose) = self.ledger.table().bind_purpose(id, connection.local) else {
             return Ok(());
         };
         self.ask_bind(connection, challenge, &purpose, now)

@@ -1,11 +1,8 @@
 //! What a message of the server is to a client (RFC 8489, sections 6.3 and 9.2.5; RFC 8656, section 11).
 
 ghost use Rattle.std.specs.Prelude.{◌≡◌};
-ghost use Rattle.turn_auth.specs.Validation.{validation_of};
-ghost use Rattle.turn_auth.specs.Verdict.{challenge_read, validation_in};
 ghost use Rattle.turn_client_api.specs.Judgement.{allocated_judgement, answers_allocate, answers_one, authenticating_judgement, challenge_in, challenged_or};
 ghost use Rattle.turn_client_api.specs.Judgement.{indication_judgement, judgement_of, requesting_judgement};
-ghost use Rattle.turn_client_api.specs.State.{auth_of};
 ghost use Rattle.turn_client_core.specs.Judged.{judgement_in, signed_judgement};
 ghost use Rattle.turn_stun.specs.Message.{type_of};
 ghost use Rattle.turn_stun.specs.MessageType.{class_of};
@@ -67,13 +64,14 @@ impl TurnClientProtocol {
     }
 
     /// What the message is to a client whose signed ALLOCATE is outstanding.
+    #[tactic(auto, using(crate::proofs::AuthLemmas::signs_as))]
     fn judge_authenticating<'a>(&self, message: &Message<'a>) -> Judged<'a>
         ensures { judgement_in result ≡ authenticating_judgement self.now message.now }
     {
         if !self.answers_allocate(message) {
             return Judged::Unrelated;
         }
-        match self.verdict(message) {
+        match self.auth.judge(message) {
             Verdict::Signed(_) => self.signed_or(message, Judged::LateResponse),
             Verdict::Challenge(challenge) => Judged::Challenged(challenge),
             Verdict::Refused { integrity } => {
@@ -87,12 +85,13 @@ impl TurnClientProtocol {
     }
 
     /// What the message is to a client with an allocation.
+    #[tactic(auto, using(crate::proofs::AuthLemmas::signs_as))]
     fn judge_allocated<'a>(&self, message: &Message<'a>) -> Judged<'a>
         ensures { judgement_in result ≡ allocated_judgement self.now message.now }
     {
         match message.class() {
             MessageClass::Indication => indication(message),
-            MessageClass::Request => match self.verdict(message) {
+            MessageClass::Request => match self.auth.judge(message) {
                 Verdict::Signed(_) => Judged::SignedRequest,
                 Verdict::Challenge(_) => Judged::Unrelated,
                 Verdict::Refused { .. } => Judged::Unrelated,
@@ -103,14 +102,15 @@ impl TurnClientProtocol {
     }
 
     /// What a success response is to a client with an allocation.
+    #[tactic(auto, using(crate::proofs::AuthLemmas::signs_as))]
     fn judge_success<'a>(&self, message: &Message<'a>) -> Judged<'a>
         requires { class_of (type_of message.now) ≡ MessageClass.Success }
         ensures { judgement_in result ≡ allocated_judgement self.now message.now }
     {
-        if !self.outbox.is_outstanding(message.transaction_id()) {
+        if !self.outbox.agent().is_outstanding(message.transaction_id()) {
             return Judged::Unrelated;
         }
-        match self.verdict(message) {
+        match self.auth.judge(message) {
             Verdict::Signed(_) => Judged::SignedSuccess,
             Verdict::Challenge(_) => Judged::Unrelated,
             Verdict::Refused { .. } => Judged::Unrelated,
@@ -118,14 +118,15 @@ impl TurnClientProtocol {
     }
 
     /// What an error response is to a client with an allocation.
+    #[tactic(auto, using(crate::proofs::AuthLemmas::signs_as))]
     fn judge_error<'a>(&self, message: &Message<'a>) -> Judged<'a>
         requires { class_of (type_of message.now) ≡ MessageClass.Error }
         ensures { judgement_in result ≡ allocated_judgement self.now message.now }
     {
-        if !self.outbox.is_outstanding(message.transaction_id()) {
+        if !self.outbox.agent().is_outstanding(message.transaction_id()) {
             return self.challenged_or(message, Judged::Unrelated);
         }
-        match self.verdict(message) {
+        match self.auth.judge(message) {
             Verdict::Signed(_) => Judged::SignedError,
             Verdict::Challenge(challenge) => Judged::Challenged(challenge),
             Verdict::Refused { .. } => Judged::Unrelated,
@@ -136,7 +137,7 @@ impl TurnClientProtocol {
     pub(crate) fn signed_or<'a>(&self, message: &Message<'_>, otherwise: Judged<'a>) -> Judged<'a>
         ensures { judgement_in result ≡ signed_judgement message.now self.now (judgement_in otherwise.entry) }
     {
-        if !self.outbox.is_outstanding(message.transaction_id()) {
+        if !self.outbox.agent().is_outstanding(message.transaction_id()) {
             return otherwise;
         }
         match message.class() {
@@ -151,7 +152,7 @@ impl TurnClientProtocol {
     fn answers_one(&self, message: &Message<'_>) -> bool
         ensures { result ≡ answers_one self.now message.now }
     {
-        message.is_response() && self.outbox.is_outstanding(message.transaction_id())
+        message.is_response() && self.outbox.agent().is_outstanding(message.transaction_id())
     }
 
     /// Whether the message is a response to an ALLOCATE.
@@ -164,14 +165,6 @@ impl TurnClientProtocol {
                 .table()
                 .purposes_of(message.transaction_id())
                 .is_for_allocation()
-    }
-
-    /// What the message is by its signature, or the challenge in it.
-    pub(crate) fn verdict<'a>(&self, message: &Message<'a>) -> Verdict<'a>
-        ensures exact { validation_in result ≡ validation_of (auth_of self.now) message.now }
-        ensures challenge { challenge_read result ≡ challenge_in self.now message.now }
-    {
-        self.auth.judge(message)
     }
 
     /// The challenge in the message, or else `otherwise`. Computes no digest.

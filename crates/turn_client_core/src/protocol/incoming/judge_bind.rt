@@ -18,13 +18,14 @@ impl TurnClientProtocol {
     /// What the message is to the data connection from this local address, which waits to be bound:
     /// only a signed success response to its CONNECTION_BIND binds it. Allocates no memory, and
     /// computes no digest for a message that answers no such request.
+    #[tactic(auto, using(crate::proofs::AuthLemmas::signs_as))]
     pub(crate) fn judge_bind<'a>(&self, local: SocketAddr, message: &Message<'a>) -> Judged<'a>
         ensures { judgement_in result ≡ bind_judgement self.now local message.now }
     {
         if !self.answers_bind(local, message) {
             return Judged::Fatal;
         }
-        match self.verdict(message) {
+        match self.auth.judge(message) {
             Verdict::Signed(_) => self.signed_or(message, Judged::Fatal),
             Verdict::Challenge(challenge) => Judged::Challenged(challenge),
             Verdict::Refused { .. } => Judged::Fatal,
@@ -38,6 +39,7 @@ impl TurnClientProtocol {
     {
         message.is_response()
             && self
+                .ledger
                 .table()
                 .bind_purpose(message.transaction_id(), local)
                 .is_some()

@@ -130,12 +130,6 @@ impl TurnClientProtocol {
     fn is_authenticating(&self) -> bool
         ensures { result ≡ is_authenticating self.now.phase }
     {
-        match self.phase {
-            Phase::New => false,
-            Phase::Requesting => false,
-            Phase::Authenticating => true,
-            Phase::Allocated => false,
-            Phase::Closed => false,
-        }
+        self.phase == Phase::Authenticating
     }
 }

@@ -103,7 +103,7 @@ impl TurnClientProtocol {
     fn if_permitted(&self, peer: SocketAddr, outcome: TurnProtocolRecv) -> TurnProtocolRecv
         ensures { result ≡ if_permitted (has_active_permission (socket_ip peer) self.now) outcome }
     {
-        if self.has_active_permission(peer.ip()) {
+        if self.is_permitted(peer) {
             return outcome;
         }
         TurnProtocolRecv::Ignored

@@ -123,8 +123,8 @@ impl TurnClientProtocol {
             &Purpose::ForAllocation,
             fresh,
         )?;
+        let from = self.local_addr();
         self.ledger.reserve(0, 2, 1)?;
-        let from = self.outbox.local_addr();
         self.outbox.ask(fresh, text, from, now)?;
         self.outbox.end(message.transaction_id());
         let families = only_ipv6(self.alloc);

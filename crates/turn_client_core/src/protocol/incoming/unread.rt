@@ -33,9 +33,11 @@ impl TurnClientProtocol {
         match kind.class {
             MessageClass::Request => kind.method != CONNECTION_ATTEMPT,
             MessageClass::Indication => kind.method != DATA && kind.method != CONNECTION_ATTEMPT,
-            MessageClass::Success => !self.outbox.is_outstanding(id),
+            MessageClass::Success => !self.outbox.agent().is_outstanding(id),
             MessageClass::Error => {
-                !self.outbox.is_outstanding(id) && !self.asks_again(id) && self.answers_challenges()
+                !self.outbox.agent().is_outstanding(id)
+                    && !self.asks_again(id)
+                    && self.answers_challenges()
             }
         }
     }

@@ -59,9 +59,9 @@ impl TurnClientProtocol {
         TurnPollRet::AllocateTcpSocket {
             id: offer.connection_id,
             socket: Socket5Tuple {
-                transport: self.outbox.transport(),
-                from: self.outbox.local_addr(),
-                to: self.outbox.remote_addr(),
+                transport: self.transport(),
+                from: self.local_addr(),
+                to: self.remote_addr(),
             },
             peer_addr: offer.peer,
         }

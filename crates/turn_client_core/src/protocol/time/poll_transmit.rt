@@ -6,7 +6,7 @@ ghost use Rattle.turn_agent.specs.Agent.{is_outstanding};
 ghost use Rattle.turn_client_api.specs.Due.{is_paused, keepalive_times};
 ghost use Rattle.turn_client_api.specs.Effect.{closed};
 ghost use Rattle.turn_client_api.specs.Requests.{fresh_id};
-ghost use Rattle.turn_client_api.specs.Transmit.{idle_step, keepalive_step, next_transmit, queue_step, refresh_step, sent_at_once, transmit_step};
+ghost use Rattle.turn_client_api.specs.Transmit.{idle_step, keepalive_step, next_transmit, refresh_step, sent_at_once, transmit_step};
 ghost use Rattle.turn_client_core.specs.Sending.{waiting_step};
 ghost use Rattle.turn_client_core.specs.Wanted.{SendWantsMemory};
 
@@ -58,7 +58,8 @@ impl TurnClientProtocol {
         }
     }
 
-    /// If no retransmission is due: within the pause a reply alone, and else the next packet.
+    /// If no retransmission is due: within the pause a reply alone, and else the first queued packet, or
+    /// the next request that the client has to make.
     fn send_waiting(&mut self, now: Instant) -> Result<Option<Transmit<Data>>, AllocError>
         ensures step { IfOk result (λ packet. (packet, self.new) ≡ waiting_step now self.old) }
         ensures err { OnErr result (self.new ≡ self.old) }
@@ -66,23 +67,14 @@ impl TurnClientProtocol {
         ensures running { OnErr result (is_paused now self.old ≡ false) }
         ensures wanted { OnErr result (self.old.queue ≡ []) }
     {
-        if self.is_paused(now) {
-            return Ok(self.outbox.take_reply());
+        let is_paused = self.is_paused(now);
+        if let Some(packet) = self.outbox.take_queued(is_paused, now) {
+            return Ok(Some(packet));
         }
-        self.send_next(now)
-    }
-
-    /// The first queued packet, or the next request that the client has to make.
-    fn send_next(&mut self, now: Instant) -> Result<Option<Transmit<Data>>, AllocError>
-        ensures step { IfOk result (λ packet. (packet, self.new) ≡ queue_step now self.old) }
-        ensures err { OnErr result (self.new ≡ self.old) }
-        ensures free { OnErr result (IsSome (queue_step now self.old).0) }
-        ensures wanted { OnErr result (self.old.queue ≡ []) }
-    {
-        match self.outbox.take_front(now) {
-            Some(packet) => Ok(Some(packet)),
-            None => self.send_asked(now),
+        if is_paused {
+            return Ok(None);
         }
+        self.send_asked(now)
     }
 
     /// The next request that the client has to make: a new client sends the first ALLOCATE, and one
@@ -114,7 +106,7 @@ impl TurnClientProtocol {
             self.families.as_slice(),
             id,
         )?;
-        let from = self.outbox.local_addr();
+        let from = self.local_addr();
         // Room for its failure events too (our choice): a stray packet ends no client that is short of memory.
         self.ledger.reserve(0, 2, self.families.len())?;
         let packet = self.outbox.begin(id, text, from, now)?;
@@ -189,7 +181,7 @@ impl TurnClientProtocol {
         ensures step { IfOk result (λ packet. (Some packet, self.new) ≡ sent_at_once text purpose.now now self.old) }
         ensures err { OnErr result (self.new ≡ self.old) }
     {
-        let from = self.outbox.local_addr();
+        let from = self.local_addr();
         self.ledger.reserve(0, 2, 0)?;
         let packet = self.outbox.begin(id, text, from, now)?;
         self.outbox.draw();

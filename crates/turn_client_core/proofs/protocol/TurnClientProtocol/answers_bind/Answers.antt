@@ -4,6 +4,7 @@ use Rattle.turn_agent.specs.Agent.{is_response}
 use Rattle.turn_client_api.specs.Grants.{purposes_of}
 use Rattle.turn_client_api.specs.Judgement.{class_in, is_bind_of}
 use Rattle.turn_stun.specs.Message.{id_of}
+use Rattle.turn_client_api.specs.State.{State}
 use Rattle.turn_client_core.proofs.incoming.BindLemmas.{found_any}
 use Rattle.turn_client_core.proofs.protocol.TurnClientProtocol.answers_bind.Goals as goal
 
@@ -13,7 +14,7 @@ returns-then-is_response c =
     let asked = is_bind_of c.args.local in
     let response : is_response (class_in c.args.message.now) ≡ true = search rules in
     let read : c.bind_purpose.result ≡ find asked (purposes_of c.transaction_id.result s) =
-    rw c.table.ensures.listed at c.bind_purpose.ensures in
+    rw (c.table.ensures.listed ∙ ap (λ (t : State). t.listed) c.self.view_is) at c.bind_purpose.ensures in
     rw response
     (c.is_some.ensures
     ∙ (ap is_some (read ∙ ap (λ id. find asked (purposes_of id s)) c.transaction_id.ensures)

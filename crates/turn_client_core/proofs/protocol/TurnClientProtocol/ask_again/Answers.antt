@@ -54,5 +54,5 @@ returns-clause-ok c =
     (c.end.ensures ∙ ap (λ (o : Outgoing). record o { transactions = without_transaction id o.transactions }) c.in_ok-challenge.ensures.ok)
     ∙ (ap (λ ts. queued true from text (with_ledger c.ask_again.new.self (record (id_used t) { transactions = ts }))) (without-other id new s.transactions other)
     ∙ (ap (queued true from text) (c.ask_again.ensures.state t text now ∙ ap (λ u. request_started fresh text (purposes_of id u) now u) (c.queue_again.ensures.same t))
-    ∙ (again-is s id fresh from text purpose given now written c.local_addr-from.ensures (c.fresh_id-fresh.ensures.id ∙ ap fresh_id (sym c.self.view_is))
+    ∙ (again-is s id fresh from text purpose given now written (c.local_addr-from.ensures ∙ ap (λ t. t.local) (sym c.self.view_is)) (c.fresh_id-fresh.ensures.id ∙ ap fresh_id (sym c.self.view_is))
     ∙ ap (λ u. state_after_retry u id purpose given now) c.self.view_is))))

@@ -61,7 +61,7 @@ returns-clause-ok c =
     (ap (λ o. with_ledger c.ask-2.new.self (with_outbox o v)) (c.end.ensures ∙ ap (λ (o : Outgoing). record o { transactions = without_transaction id o.transactions }) c.in_ok-ask.ensures.ok)
     ∙ (ap (λ ts. queued true from text (with_ledger c.ask-2.new.self (record (id_used v) { transactions = ts }))) (without-other id new s.transactions other)
     ∙ (ap (queued true from text) ((rw c.one.ensures at (c.ask-2.ensures.state v text now)) ∙ ap (λ w. request_started fresh text (ForAllocation ∷ []) now w) more)
-    ∙ (first-is u fresh from text now written c.local_addr-from.ensures
+    ∙ (first-is u fresh from text now written (c.local_addr-from.ensures ∙ ap (λ t. t.local) (sym c.self.view_is))
     ∙ (ap (λ i. asks_ipv6 i now (transaction_ended id s)) (c.fresh_id-fresh.ensures.id)
     ∙ (ap (λ i. asks_ipv6 (fresh_id c.args.self.now) now (transaction_ended i s)) c.transaction_id.ensures
     ∙ ap (λ w. asks_ipv6 (fresh_id c.args.self.now) now (transaction_ended (id_of c.args.message.now) w)) c.self.view_is))))))

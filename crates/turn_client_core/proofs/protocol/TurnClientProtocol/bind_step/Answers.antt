@@ -1,4 +1,4 @@
-use Rattle.std.proofs.Common.{◌≡◌, ◌∙◌, rules, sym, true}
+use Rattle.std.proofs.Common.{◌≡◌, ◌∙◌, rules, sym, true, ap}
 use Rattle.std.specs.Prelude.{◌==◌, Some, filter_map}
 use Rattle.turn_client_api.specs.Connections.{connection_at}
 use Rattle.turn_client_api.specs.Grants.{as_connection}
@@ -6,29 +6,30 @@ use Rattle.turn_client_api.specs.Judgement.{method_in}
 use Rattle.turn_client_api.specs.Requests.{connection_bind_method}
 use Rattle.turn_client_api.specs.declared.state.Phase.TheVariants.{Allocated}
 use Rattle.turn_client_grants.proofs.ThereLemmas.{own-end}
+use Rattle.turn_client_api.specs.State.{State}
 use Rattle.turn_client_core.proofs.protocol.TurnClientProtocol.bind_step.Goals as goal
 
 pub bind_answered-requires : goal.bind_answered-requires
 bind_answered-requires c =
-    let read = rw c.table.ensures.grants at c.connection_at.ensures in
+    let read = rw (c.table.ensures.grants ∙ ap (λ (t : State). t.grants) c.self.view_is) at c.connection_at.ensures in
     record { there = own-end c.args.local (filter_map as_connection c.args.self.now.grants) c.in-Some.connection (sym read ∙ c.in-Some.is) }
 
 pub returns-clause-ok : goal.returns-clause-ok
 returns-clause-ok c =
     let allocated : c.args.self.now.phase ≡ Allocated = c.is_allocated.ensures.phase.0 c.if-not-is_allocated.false in
-    let there : connection_at c.args.local c.args.self.now ≡ Some c.in-Some.connection = sym (rw c.table.ensures.grants at c.connection_at.ensures) ∙ c.in-Some.is in
+    let there : connection_at c.args.local c.args.self.now ≡ Some c.in-Some.connection = sym (rw (c.table.ensures.grants ∙ ap (λ (t : State). t.grants) c.self.view_is) at c.connection_at.ensures) ∙ c.in-Some.is in
     let method : (method_in c.args.message.now == connection_bind_method) ≡ true = search rules in
     rw (allocated, there, method) c.bind_answered.ensures.ok
 
 pub returns-clause-peer : goal.returns-clause-peer
 returns-clause-peer c =
     let allocated : c.args.self.now.phase ≡ Allocated = c.is_allocated.ensures.phase.0 c.if-not-is_allocated.false in
-    let there : connection_at c.args.local c.args.self.now ≡ Some c.in-Some.connection = sym (rw c.table.ensures.grants at c.connection_at.ensures) ∙ c.in-Some.is in
+    let there : connection_at c.args.local c.args.self.now ≡ Some c.in-Some.connection = sym (rw (c.table.ensures.grants ∙ ap (λ (t : State). t.grants) c.self.view_is) at c.connection_at.ensures) ∙ c.in-Some.is in
     let method : (method_in c.args.message.now == connection_bind_method) ≡ true = search rules in
     rw (allocated, there, method) c.bind_answered.ensures.peer
 
 pub returns-clause-wanted : goal.returns-clause-wanted
 returns-clause-wanted c =
-    let there : connection_at c.args.local c.args.self.now ≡ Some c.in-Some.connection = sym (rw c.table.ensures.grants at c.connection_at.ensures) ∙ c.in-Some.is in
+    let there : connection_at c.args.local c.args.self.now ≡ Some c.in-Some.connection = sym (rw (c.table.ensures.grants ∙ ap (λ (t : State). t.grants) c.self.view_is) at c.connection_at.ensures) ∙ c.in-Some.is in
     let method : (method_in c.args.message.now == connection_bind_method) ≡ true = search rules in
     rw (there, method) c.bind_answered.ensures.wanted

@@ -25,5 +25,5 @@ returns-then-not-is_outstanding c =
     let s = c.args.self.now in
     let m = c.args.message.now in
     let unsent : is_outstanding (id_of m) s.transactions ≡ false =
-    rw (← c.self.view_is) (rw c.transaction_id.ensures at (sym c.is_outstanding.ensures ∙ c.if-not-is_outstanding.true)) in
+    rw (← c.self.view_is) (rw (c.transaction_id.ensures, c.agent.ensures.transactions) at (sym c.is_outstanding.ensures ∙ c.if-not-is_outstanding.true)) in
     c.challenged_or.ensures ∙ sym (unsent-is s m c.requires unsent)

@@ -1,19 +1,37 @@
-use Rattle.std.proofs.Common.{◌≡◌, ◌∙◌, rules, true, Some, ap, sym}
+use Rattle.std.proofs.Common.{◌≡◌, ◌∙◌, ap, false, rules, subst, sym, true}
+use Rattle.std.specs.Prelude.{Result}
 use Rattle.std.specs.Net.Socket.{socket_ip}
-use Rattle.std.specs.Prelude.{nat_le}
 use Rattle.turn_stun.specs.declared.transport.TransportType.TheVariants.{Tcp}
+use Rattle.turn_client_api.specs.Answers.{Connects}
 use Rattle.turn_client_api.specs.Calls.{connect_step}
-use Rattle.turn_client_api.specs.Grants.{find_allocation_to, with_expired, family_of_ip}
+use Rattle.turn_client_api.specs.Grants.{find_allocation_to}
+use Rattle.turn_client_api.specs.State.{State}
+use Rattle.turn_client_api.specs.declared.error.TcpConnectError.{TcpConnectError}
 use Rattle.turn_client_api.specs.declared.error.TcpConnectError.TheVariants as Refusal
-use Rattle.turn_client_core.proofs.calls.CallLemmas.{past-is}
+use Rattle.turn_client_core.specs.Usable.{is_usable, with_past_expired}
+use Rattle.turn_client_core.proofs.calls.CallLemmas.{unusable-is, usable-is}
 use Rattle.turn_client_core.proofs.protocol.TurnClientProtocol.tcp_connect.Goals as goal
 
-pub returns-then-le : goal.returns-then-le
-returns-then-le c =
+pub returns-then-not-has_usable_allocation : goal.returns-then-not-has_usable_allocation
+returns-then-not-has_usable_allocation c =
     let s = c.args.self.now in
-    let peer = c.args.peer_addr in
-    let found : find_allocation_to Tcp (socket_ip peer) s ≡ Some c.in-Some.relay = search rules in
-    let past : nat_le c.in-Some.relay.expiry c.args.now ≡ true = search rules in
-    let expired : c.expire.new.self ≡ with_expired (family_of_ip (socket_ip peer)) s = search rules in
-    let said = past-is (find_allocation_to Tcp (socket_ip peer) s) c.in-Some.relay (socket_ip peer) c.args.now Refusal.NoAllocation s (connect_step peer c.args.now s) found past in
-    record { step = (ap (λ p. p.0) (sym said), expired ∙ ap (λ p. p.1) (sym said)) }
+    let found = find_allocation_to Tcp (socket_ip c.args.peer_addr) s in
+    let unusable : is_usable c.args.now found ≡ false = search rules in
+    let after : c.has_usable_allocation.new.self ≡ with_past_expired found (socket_ip c.args.peer_addr) c.args.now s = search rules in
+    let said = unusable-is found (socket_ip c.args.peer_addr) c.args.now Refusal.NoAllocation s (connect_step c.args.peer_addr c.args.now s) unusable in
+    record { step = (ap (λ p. p.0) (sym said), after ∙ ap (λ p. p.1) (sym said)) }
+
+pub returns : goal.returns
+returns c =
+    let s = c.args.self.now in
+    let found = find_allocation_to Tcp (socket_ip c.args.peer_addr) s in
+    let usable : is_usable c.args.now found ≡ true = search rules in
+    let after : c.has_usable_allocation.new.self ≡ with_past_expired found (socket_ip c.args.peer_addr) c.args.now s = search rules in
+    let said = usable-is found (socket_ip c.args.peer_addr) c.args.now Refusal.NoAllocation s (connect_step c.args.peer_addr c.args.now s) usable in
+    let same : c.has_usable_allocation.new.self ≡ s = after ∙ said.1 in
+    let r = c.ask_connection.result in
+    record {
+      step =
+          subst (λ (to : Result Unit TcpConnectError × State). Connects r s c.ask_connection.new.self to) (sym said.0)
+          (subst (λ (t : State). Connects r t c.ask_connection.new.self (connect_step c.args.peer_addr c.args.now t)) same c.ask_connection.ensures.step);
+    }
