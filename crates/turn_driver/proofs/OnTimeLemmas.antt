@@ -1,6 +1,6 @@
 -- A loop is on time.
 use Rattle.turn_client_laws.proofs.Common.{◌≡◌, ◌∙◌, ltb, ℕ, ◌^◌, ◌≤◌, Bool, true, false, cond, List, [], ◌∷◌, ◌++◌, Option, Some, None, ap, arith, inl, inr, refl, subst, sym, slice_get, IfOk, Ok}
-use Rattle.turn_client_laws.proofs.Common.{Err, Result, filter, filter_map, flat_map, nat_le, AllByRecursion, list_any, cases_Bool, ltb-false, ltb-true}
+use Rattle.turn_client_laws.proofs.Common.{Err, Result, filter_map, flat_map, nat_le, AllByRecursion, list_any, cases_Bool, ltb-false, ltb-true}
 use Rattle.turn_client_laws.proofs.Machine.{Transmit, due, Transaction, State, agent_of, Phase, New, Requesting, Authenticating, Allocated, Closed, Queued, Call, Recv, PollEvent, TurnEvent, Grant}
 use Rattle.turn_client_laws.proofs.Machine.{Allocation, Permission, Channel, Connect, Offer, Connection, Purpose, Relay, allocations, family_of, AddressFamily, is_paused, keepalive_times}
 use Rattle.turn_client_laws.proofs.Machine.{refresh_time, state_after, state_after_all, idle_step, is_due_in, is_refresh_due, keepalive_step, next_refresh, next_transmit, queue_step, refresh_purpose}

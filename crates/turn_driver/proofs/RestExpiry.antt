@@ -1,11 +1,11 @@
 -- What time changes in a client, apart from what timed out: there are fewer grants, or all stays but what is reported.
-use Rattle.turn_client_laws.proofs.Common.{◌≡◌, ◌∙◌, ℕ, ◌+◌, ◌<◌, Bool, true, false, cond, not, ◌&&◌, ◌||◌, List, [], ◌∷◌, Option, Some, ◌⊎◌, ap, arith, filter, inl, inr, length, refl, find, fold}
-use Rattle.turn_client_laws.proofs.Common.{reverse, eq-eqb, append-nil, SocketAddr, list_any, and_right}
-use Rattle.turn_client_laws.proofs.Machine.{AddressFamily, closed, reserved_time, allocations, family_of, is_channel_of, is_of, without_grants, channel_expired, failed, is_expired_channel, expired_at}
-use Rattle.turn_client_laws.proofs.Machine.{allocation_expires, expired_allocation, expired_in, timed_out_purposes, unbound, State, later_by, Grant, Channel, Active, Reserved, Purpose, Relay, Has}
-use Rattle.turn_client_laws.proofs.Machine.{has-found, has-unreversed, expired_in-does, is_for, is_for_any, refreshes_timed_out, TurnEvent, Listing}
+use Rattle.turn_client_laws.proofs.Common.{◌≡◌, ◌∙◌, ℕ, ◌+◌, ◌<◌, Bool, true, false, cond, not, ◌&&◌, ◌||◌, List, [], ◌∷◌, Option, Some, ◌⊎◌, ap, arith, filter, inl, inr, length, refl, find, reverse}
+use Rattle.turn_client_laws.proofs.Common.{eq-eqb, append-nil, SocketAddr, list_any, and_right}
+use Rattle.turn_client_laws.proofs.Machine.{AddressFamily, reserved_time, allocations, is_channel_of, is_of, without_grants, channel_expired, failed, is_expired_channel, expired_at, expired_in}
+use Rattle.turn_client_laws.proofs.Machine.{timed_out_purposes, unbound, State, later_by, Grant, Channel, Active, Reserved, Purpose, Has, has-found, has-unreversed, expired_in-does, is_for}
+use Rattle.turn_client_laws.proofs.Machine.{is_for_any, refreshes_timed_out, TurnEvent, Listing}
 use Rattle.turn_client_laws.proofs.Laws.{all-expire}
-use Rattle.turn_driver.proofs.RestWeights.{IsParted, fewer, load, load-append, parted, removed-load}
+use Rattle.turn_driver.proofs.RestWeights.{IsParted, load, load-append, parted, removed-load}
 
 -- ---- what stays
 
