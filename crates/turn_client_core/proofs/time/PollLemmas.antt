@@ -1,19 +1,20 @@
 -- What `poll` does, step by step.
 use Rattle.std.proofs.Common.{◌≡◌, ◌∙◌, ℕ, true, false, List, [], ◌∷◌, ◌++◌, Option, Some, None, map, drop, fold, length, min, refl, suc, sym, ap, arith}
-use Rattle.std.specs.Prelude.{◌&&◌, find, flat_map, if◌then◌else◌, is_none, is_some, slice_get}
+use Rattle.std.specs.Prelude.{◌&&◌, ◌||◌, find, flat_map, if◌then◌else◌, is_none, is_some, slice_get}
 use Rattle.std.proofs.lemmas.List.Sums.{fold-append}
 use Rattle.std.specs.declared.net.socket_addr.SocketAddr.{SocketAddr}
 use Rattle.turn_agent.specs.Agent.{is_timed_out, transaction_timeout}
 use Rattle.turn_agent.specs.declared.transaction.Transaction.{Transaction}
 use Rattle.turn_client_api.specs.Calls.{is_allocated}
 use Rattle.turn_client_api.specs.Config.{timers_of}
-use Rattle.turn_client_api.specs.Due.{has_queued_request, keepalive_times, least_due, max_wait, next_wakeup, pause_end}
+use Rattle.turn_client_api.specs.Due.{has_event, has_queued_request, has_reply, keepalive_times, least_due, max_wait, next_wakeup, pause_end}
 use Rattle.turn_client_api.specs.Grants.{allocations}
-use Rattle.turn_client_api.specs.Poll.{answer_by, answer_step, timed_out_step, silent_step, timed_step}
+use Rattle.turn_client_api.specs.Poll.{answer_by, answer_step, next_offer, offer_step, poll_step, timed_out_step, timed_step}
 use Rattle.turn_client_api.specs.State.{State, max_time, later_by}
+use Rattle.turn_client_api.specs.declared.grant.DataOffer.{DataOffer}
 use Rattle.turn_client_api.specs.declared.grant.Relay.{Relay}
 use Rattle.turn_client_api.specs.declared.state.Phase.{Phase}
-use Rattle.turn_client_api.specs.declared.state.Phase.TheVariants.{Requesting, Allocated}
+use Rattle.turn_client_api.specs.declared.state.Phase.TheVariants.{Allocated}
 use Rattle.turn_client_api.specs.declared.poll.TurnPollRet.{TurnPollRet}
 use Rattle.turn_client_api.specs.declared.poll.TurnPollRet.TheVariants as Do
 use Rattle.turn_client_grants.specs.Due.{times_of}
@@ -24,6 +25,17 @@ use Rattle.turn_client_core.proofs.calls.AskLemmas.{with_outbox}
 
 abbrev Answer : Type 0
 Answer = TurnPollRet × State
+
+-- ---- what comes first: what is pending, an offer, what is timed
+
+pub pending-is : (now : ℕ) (s : State) → (has_event s || has_reply s) ≡ true → ◌≡◌ {A = Answer} (Do.WaitUntil now, s) (poll_step now s)
+pending-is now s pending = rw pending refl
+
+pub offers-is : (now : ℕ) (s : State) (offer : DataOffer) → (has_event s || has_reply s) ≡ false → next_offer s ≡ Some offer → offer_step offer s ≡ poll_step now s
+offers-is now s offer pending found = rw (pending, found) refl
+
+pub times-is : (now : ℕ) (s : State) → (has_event s || has_reply s) ≡ false → next_offer s ≡ None → timed_out_step now s ≡ poll_step now s
+times-is now s pending found = rw (pending, found) refl
 
 -- ---- the next wake-up time
 
@@ -42,7 +54,7 @@ least_due-is now s =
 abbrev Given : Type 0
 Given = Option ℕ × Outgoing
 
-pub given_up-is : (now : ℕ) (s : State) (o p : Outgoing) (given : Option ℕ) → o.timers ≡ timers_of s.config → (given, p) ≡ give_up_step now o
+given_up-is : (now : ℕ) (s : State) (o p : Outgoing) (given : Option ℕ) → o.timers ≡ timers_of s.config → (given, p) ≡ give_up_step now o
     → timed_out_step now (with_outbox o s) ≡ timed_step s.phase given now (with_outbox p s)
 given_up-is now s o p given times step = by (find (is_timed_out o.timers o.transport now) o.transactions) refl step
   where
@@ -51,16 +63,11 @@ given_up-is now s o p given times step = by (find (is_timed_out o.timers o.trans
     by None e step = rw (← times, e) (ap (λ (r : Given). timed_step s.phase r.0 now (with_outbox r.1 s)) (sym (rw e at step)))
     by (Some t) e step = rw (← times, e) (ap (λ (r : Given). timed_step s.phase r.0 now (with_outbox r.1 s)) (sym (rw e at step)))
 
--- while the first ALLOCATE awaits its response
-pub requesting-waits : (now : ℕ) (s : State) (o p : Outgoing) → s.phase ≡ Requesting → o.timers ≡ timers_of s.config → (None, p) ≡ give_up_step now o
-    → answer_step None now (with_outbox p s) ≡ timed_out_step now (with_outbox o s)
-requesting-waits now s o p requesting times step =
-    ap (λ (phase : Phase). timed_step phase None now (with_outbox p s)) (sym requesting) ∙ sym (given_up-is now s o p None times step)
-
-pub requesting-ends : (now : ℕ) (s : State) (o p : Outgoing) (id : ℕ) → s.phase ≡ Requesting → o.timers ≡ timers_of s.config → (Some id, p) ≡ give_up_step now o
-    → silent_step (with_outbox p s) ≡ timed_out_step now (with_outbox o s)
-requesting-ends now s o p id requesting times step =
-    ap (λ (phase : Phase). timed_step phase (Some id) now (with_outbox p s)) (sym requesting) ∙ sym (given_up-is now s o p (Some id) times step)
+-- the client in this phase
+pub timed-is : (now : ℕ) (s : State) (o p : Outgoing) (given : Option ℕ) (phase : Phase) → o.timers ≡ timers_of s.config → s.phase ≡ phase → (given, p) ≡ give_up_step now o
+    → timed_step phase given now (with_outbox p s) ≡ timed_out_step now (with_outbox o s)
+timed-is now s o p given phase times is step =
+    ap (λ (phase : Phase). timed_step phase given now (with_outbox p s)) (sym is) ∙ sym (given_up-is now s o p given times step)
 
 -- ---- what the caller is to do
 

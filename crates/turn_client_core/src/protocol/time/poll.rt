@@ -1,14 +1,13 @@
 //! What a client does as time passes (RFC 8656, sections 8 to 12; RFC 6062, section 4.3).
 
-ghost use Rattle.std.specs.Prelude.{◌≡◌, ◌≤◌, ◌^◌, ◌++◌, drop, option_to_list, Some};
+ghost use Rattle.std.specs.Prelude.{◌≡◌, ◌≤◌, ◌^◌};
 ghost use Rattle.turn_client_api.specs.Alarm.{IsTimely};
 ghost use Rattle.turn_client_laws.specs.LawsGrantAllocations.{GrantsHaveAllocations};
 ghost use Rattle.turn_client_laws.specs.LawsOrder.{FitsPhase};
-ghost use Rattle.turn_client_api.specs.Poll.{answer_step, timed_out_step, expired_at, next_offer, is_listed_for_allocation, offer_step, poll_step, timed_step};
+ghost use Rattle.turn_client_api.specs.Poll.{answer_step, timed_out_step, next_offer, is_listed_for_allocation, offer_step, poll_step, timed_step};
 ghost use Rattle.turn_client_core.specs.Polled.{is_without_allocation, unallocated};
 
 use crate::protocol::TurnClientProtocol;
-use std::net::SocketAddr;
 use turn_client_api::{DataOffer, Phase, Socket5Tuple, TurnPollRet};
 use turn_stun::instant::Instant;
 use turn_stun::transaction::TransactionId;
@@ -22,13 +21,7 @@ impl TurnClientProtocol {
         ensures after { self.new ≡ (poll_step now self.old).1 }
         ensures alarm { FitsPhase self.old → GrantsHaveAllocations self.old → IsTimely result now self.old self.new }
     {
-        self.poll_next(now)
-    }
-
-    /// First pending events and replies, then an offer, then expired timers.
-    fn poll_next(&mut self, now: Instant) -> TurnPollRet
-        ensures { (result, self.new) ≡ poll_step now self.old }
-    {
+        // First pending events and replies, then an offer, then expired timers.
         if self.has_pending() {
             return TurnPollRet::WaitUntil(now);
         }
@@ -71,29 +64,24 @@ impl TurnClientProtocol {
     fn poll_time(&mut self, now: Instant) -> TurnPollRet
         ensures { (result, self.new) ≡ timed_out_step now self.old }
     {
+        let given = self.outbox.give_up(now);
         match self.phase {
-            Phase::New => {
-                let _given = self.give_up(now);
-                TurnPollRet::WaitUntil(now)
-            }
-            Phase::Requesting => self.poll_requesting(now),
-            Phase::Authenticating => self.poll_authenticating(now),
-            Phase::Allocated => self.poll_allocated(now),
-            Phase::Closed => {
-                let _given = self.give_up(now);
-                TurnPollRet::Closed
-            }
+            Phase::New => TurnPollRet::WaitUntil(now),
+            Phase::Requesting => self.poll_requesting(&given, now),
+            Phase::Authenticating => self.poll_authenticating(&given, now),
+            Phase::Allocated => self.poll_allocated(&given, now),
+            Phase::Closed => TurnPollRet::Closed,
         }
     }
 
-    /// While the first ALLOCATE awaits its response: if it times out, the client ends, and what it
+    /// While the first ALLOCATE awaits its response: if it timed out, the client ends, and what it
     /// requests has failed. The room to report that was made with the request.
-    fn poll_requesting(&mut self, now: Instant) -> TurnPollRet
+    fn poll_requesting(&mut self, given: &Option<TransactionId>, now: Instant) -> TurnPollRet
         requires { self.old.phase ≡ Phase.Requesting }
-        ensures { (result, self.new) ≡ timed_out_step now self.old }
+        ensures { (result, self.new) ≡ timed_step Phase.Requesting given.now now self.old }
     {
-        match self.outbox.give_up(now) {
-            None => self.answer(&None, now),
+        match given {
+            None => self.answer(given, now),
             Some(_id) => {
                 self.ledger.fail_families_first(self.families.as_slice());
                 self.families.clear();
@@ -103,51 +91,31 @@ impl TurnClientProtocol {
         }
     }
 
-    /// While a signed ALLOCATE awaits its response: if it times out, the client ends, without an event.
-    fn poll_authenticating(&mut self, now: Instant) -> TurnPollRet
-        requires { self.old.phase ≡ Phase.Authenticating }
-        ensures { (result, self.new) ≡ timed_out_step now self.old }
+    /// While a signed ALLOCATE awaits its response: if it timed out, the client ends, without an event.
+    fn poll_authenticating(&mut self, given: &Option<TransactionId>, now: Instant) -> TurnPollRet
+        ensures { (result, self.new) ≡ timed_step Phase.Authenticating given.now now self.old }
     {
-        let given = self.give_up(now);
-        self.end_unallocated(&given);
-        self.answer(&given, now)
+        self.end_unallocated(given);
+        self.answer(given, now)
     }
 
-    /// After the server has granted an allocation: handles expiries.
-    fn poll_allocated(&mut self, now: Instant) -> TurnPollRet
-        requires { self.old.phase ≡ Phase.Allocated }
-        ensures { (result, self.new) ≡ timed_out_step now self.old }
+    /// After the server has granted an allocation: handles all expiries at this time or earlier, and the
+    /// request that timed out, if there is one.
+    fn poll_allocated(&mut self, given: &Option<TransactionId>, now: Instant) -> TurnPollRet
+        ensures { (result, self.new) ≡ timed_step Phase.Allocated given.now now self.old }
     {
-        let given = self.give_up(now);
-        self.expire_grants(&given, now);
-        self.answer(&given, now)
-    }
-
-    /// Times out the oldest request whose last wait has ended, if there is one. It is no longer
-    /// outstanding.
-    fn give_up(&mut self, now: Instant) -> Option<TransactionId>
-        ensures step { timed_out_step now self.old ≡ timed_step self.old.phase result now self.new }
-        ensures phase { self.new.phase ≡ self.old.phase }
-    {
-        self.outbox.give_up(now)
+        self.ledger.expire_grants(*given, now);
+        self.answer(given, now)
     }
 
     /// Ends the client if the request that timed out is an ALLOCATE.
     fn end_unallocated(&mut self, given: &Option<TransactionId>)
         ensures { self.new ≡ unallocated given.now self.old }
     {
-        match given {
-            Some(id) => self.end_if_asking(id),
-            None => {}
-        }
-    }
-
-    /// Ends the client if the request with this ID is an ALLOCATE.
-    fn end_if_asking(&mut self, id: &TransactionId)
-        ensures { self.new ≡ unallocated (Some id.now) self.old }
-    {
-        if self.is_for_allocation(id) {
-            self.close();
+        if let Some(id) = given {
+            if self.is_for_allocation(id) {
+                self.close();
+            }
         }
     }
 
@@ -158,18 +126,11 @@ impl TurnClientProtocol {
         self.ledger.table().purposes_of(*id).is_for_allocation()
     }
 
-    /// Handles all expiries at this time or earlier, and the request that timed out, if there is one.
-    fn expire_grants(&mut self, given: &Option<TransactionId>, now: Instant)
-        ensures { self.new ≡ expired_at given.now now self.old }
-    {
-        self.ledger.expire_grants(*given, now);
-    }
-
     /// What the caller is to do: close a connection, nothing more, or wait.
     fn answer(&mut self, given: &Option<TransactionId>, now: Instant) -> TurnPollRet
         ensures { (result, self.new) ≡ answer_step given.now now self.old }
     {
-        if let Some(local_addr) = self.next_close() {
+        if let Some(local_addr) = self.ledger.next_close() {
             return TurnPollRet::TcpClose {
                 local_addr,
                 remote_addr: self.outbox.remote_addr(),
@@ -179,14 +140,6 @@ impl TurnClientProtocol {
             return TurnPollRet::Closed;
         }
         TurnPollRet::WaitUntil(self.next_wakeup(given.is_some(), now))
-    }
-
-    /// Removes and returns the local address of the first connection that the caller is to close.
-    fn next_close(&mut self) -> Option<SocketAddr>
-        ensures first { self.old.closes ≡ option_to_list result ++ self.new.closes }
-        ensures state { self.new ≡ record self.old { closes = drop 1 self.old.closes } }
-    {
-        self.ledger.next_close()
     }
 
     /// Whether the client was granted allocations, and has none left.

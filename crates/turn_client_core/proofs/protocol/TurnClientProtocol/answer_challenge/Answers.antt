@@ -1,4 +1,4 @@
-use Rattle.std.proofs.Common.{◌≡◌, ◌∙◌, ap, refl, subst, sym}
+use Rattle.std.proofs.Common.{◌≡◌, ◌∙◌, ap, refl, sym}
 use Rattle.std.specs.Prelude.{IsSome}
 use Rattle.turn_auth.proofs.ChallengeLemmas.{challenge_of-MayTake}
 use Rattle.turn_stun.specs.Message.{id_of}

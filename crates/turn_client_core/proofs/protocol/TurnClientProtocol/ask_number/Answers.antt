@@ -1,6 +1,5 @@
 use Rattle.std.proofs.Common.{◌≡◌, ◌∙◌, None, ap, sym}
 use Rattle.std.specs.Net.Socket.{socket_ip}
-use Rattle.std.specs.Prelude.{is_some}
 use Rattle.turn_client_api.specs.Grants.{permission_progress, permission_state}
 use Rattle.turn_client_api.specs.State.{State}
 use Rattle.turn_client_grants.specs.Lists.{first_among}

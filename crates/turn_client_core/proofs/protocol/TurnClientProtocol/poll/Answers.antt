@@ -1,13 +1,33 @@
-use Rattle.std.proofs.Common.{subst, sym}
+use Rattle.std.proofs.Common.{◌≡◌, ◌∙◌, ℕ, ◌≤◌, ◌^◌, subst, sym}
 use Rattle.turn_client_api.specs.Alarm.{IsTimely}
+use Rattle.turn_client_api.specs.Poll.{poll_step}
 use Rattle.turn_client_api.specs.State.{State}
 use Rattle.turn_client_api.specs.declared.poll.TurnPollRet.{TurnPollRet}
 use Rattle.turn_client_laws.proofs.SendOrderLemmas.{steady-FitsPhaseForPoll}
 use Rattle.turn_client_laws.proofs.TimelyLemmas.{poll-timely}
+use Rattle.turn_client_laws.specs.LawsGrantAllocations.{GrantsHaveAllocations}
+use Rattle.turn_client_laws.specs.LawsOrder.{FitsPhase}
+use Rattle.turn_client_core.proofs.time.PollLemmas.{offers-is, pending-is, times-is}
 use Rattle.turn_client_core.proofs.protocol.TurnClientProtocol.poll.Goals as goal
 
-pub returns-clause-alarm : goal.returns-clause-alarm
-returns-clause-alarm c = λ steady in_allocations.
-    let s = c.args.self.now in
-    subst (λ (r : TurnPollRet × State). IsTimely r.0 c.args.now s r.1) (sym c.poll_next.ensures)
-    (poll-timely c.args.now s (steady-FitsPhaseForPoll s steady) in_allocations.0 c.requires.now_in_range)
+timely : (now : ℕ) (s : State) (r : TurnPollRet × State) → now ≤ 2 ^ 62 → r ≡ poll_step now s → FitsPhase s → GrantsHaveAllocations s → IsTimely r.0 now s r.1
+timely now s r range is steady in_allocations =
+    subst (λ (r : TurnPollRet × State). IsTimely r.0 now s r.1) (sym is)
+    (poll-timely now s (steady-FitsPhaseForPoll s steady) in_allocations.0 range)
+
+pub returns-then-has_pending-clause-alarm : goal.returns-then-has_pending-clause-alarm
+returns-then-has_pending-clause-alarm c =
+    timely c.args.now c.args.self.now _ c.requires.now_in_range
+    (pending-is c.args.now c.args.self.now (sym c.has_pending.ensures ∙ c.if-has_pending.true))
+
+pub returns-in-Some-clause-alarm : goal.returns-in-Some-clause-alarm
+returns-in-Some-clause-alarm c =
+    timely c.args.now c.args.self.now _ c.requires.now_in_range
+    (c.report_offer.ensures
+    ∙ offers-is c.args.now c.args.self.now c.in-Some.offer (sym c.has_pending.ensures ∙ c.if-has_pending.false) (sym c.next_offer.ensures ∙ c.in-Some.is))
+
+pub returns-in-None-clause-alarm : goal.returns-in-None-clause-alarm
+returns-in-None-clause-alarm c =
+    timely c.args.now c.args.self.now _ c.requires.now_in_range
+    (c.poll_time.ensures
+    ∙ times-is c.args.now c.args.self.now (sym c.has_pending.ensures ∙ c.if-has_pending.false) (sym c.next_offer.ensures ∙ c.in-None.is))

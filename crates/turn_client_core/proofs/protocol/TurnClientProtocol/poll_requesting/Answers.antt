@@ -1,10 +1,8 @@
-use Rattle.std.proofs.Common.{◌∙◌, ap}
+use Rattle.std.proofs.Common.{ap}
 use Rattle.turn_client_api.specs.Effect.{closed, without_families}
 use Rattle.turn_client_api.specs.State.{State}
 use Rattle.turn_client_api.specs.declared.poll.TurnPollRet.TheVariants as Do
 use Rattle.turn_client_core.specs.contracts.protocol.TurnClientProtocol.{the_view}
-use Rattle.turn_client_core.proofs.time.PollLemmas.{requesting-ends, requesting-waits}
-use Rattle.turn_client_core.proofs.calls.AskLemmas.{with_outbox}
 use Rattle.turn_client_core.proofs.protocol.TurnClientProtocol.poll_requesting.Goals as goal
 
 pub fail_families_first-requires : goal.fail_families_first-requires
@@ -13,23 +11,8 @@ fail_families_first-requires c =
     let room = c.self.invariant.reportable requesting in
     rw c.as_slice.ensures room
 
-pub returns-in-None : goal.returns-in-None
-returns-in-None c =
-    let s = the_view c.self.inside in
-    let o = c.self.inside.outbox in
-    let p = c.give_up.new.self in
-    let requesting = rw (← c.self.view_is) at c.requires in
-    rw (← c.self.view_is)
-    (c.answer.ensures ∙ requesting-waits c.args.now s o p requesting c.self.invariant.times c.in-None.ensures)
-
 pub returns-in-Some : goal.returns-in-Some
 returns-in-Some c =
-    let s = the_view c.self.inside in
-    let o = c.self.inside.outbox in
-    let p = c.give_up.new.self in
-    let u = without_families (with_outbox p s) in
-    let requesting = rw (← c.self.view_is) at c.requires in
+    let u = without_families (the_view c.self.inside) in
     let failed = rw c.as_slice.ensures at c.fail_families_first.ensures.state u in
-    rw (c.close.ensures, c.clear.ensures.items, ← c.self.view_is)
-    (ap (λ (t : State). (Do.Closed, closed t)) failed
-    ∙ requesting-ends c.args.now s o p c.in-Some._id requesting c.self.invariant.times c.in-Some.ensures)
+    rw (c.in-Some.is, c.close.ensures, c.clear.ensures.items, ← c.self.view_is) (ap (λ (t : State). (Do.Closed, closed t)) failed)
