@@ -10,7 +10,7 @@ use std::net::{Ipv4Addr, SocketAddr, SocketAddrV4};
 use std::process::Abort;
 use std::test::Fail;
 use turn_client_api::{Mode, Transmit};
-use turn_client_streams::{BufferedStream, Streams};
+use turn_client_streams::{BufferedStream, FrameKind, Front, Streams};
 use turn_stun::transport::TransportType;
 use turn_types::tcp::IncomingTcp;
 
@@ -44,22 +44,35 @@ fn feed(streams: &mut Streams, local: SocketAddr, piece: &[u8]) -> Result<(), Al
     Ok(())
 }
 
+/// The first frame of the stream is this one, and is dropped.
+fn drops(
+    rt: &impl Abort,
+    stream: &mut BufferedStream,
+    kind: FrameKind,
+    want: &[u8],
+) -> Result<(), Fail> {
+    let Front::Frame(found, frame) = stream.front() else {
+        return Err(Fail::from("no frame in front"));
+    };
+    same(rt, found, kind);
+    same_bytes(rt, frame, want);
+    let len = frame.len();
+    stream.pass(len);
+    Ok(())
+}
+
 /// The stream that is ready is this one, its first frame is this one, and it is put back without
 /// it.
 fn passes(
     rt: &impl Abort,
     streams: &mut Streams,
     local: SocketAddr,
+    kind: FrameKind,
     want: &[u8],
 ) -> Result<(), Fail> {
     let mut stream = ready(streams)?;
     same(rt, stream.local(), local);
-    check(rt, !stream.is_stuck());
-    let Some(frame) = stream.front() else {
-        return Err(Fail::from("no frame in front"));
-    };
-    same_bytes(rt, frame, want);
-    stream.pass();
+    drops(rt, &mut stream, kind, want)?;
     streams.put(stream);
     Ok(())
 }
@@ -69,12 +82,12 @@ fn gives_frames(rt: &impl Abort, streams: &mut Streams) -> Result<(), Fail> {
     streams.open(end(1001));
     feed(streams, end(1001), &MESSAGE)?;
     feed(streams, end(1000), &CHANNEL_FRAME[..3])?;
-    passes(rt, streams, end(1001), &MESSAGE)?;
+    passes(rt, streams, end(1001), FrameKind::Message, &MESSAGE)?;
     check(rt, streams.take_ready().is_none());
     feed(streams, end(1000), &CHANNEL_FRAME[3..])?;
     feed(streams, end(1000), &MESSAGE)?;
-    passes(rt, streams, end(1000), &CHANNEL_FRAME)?;
-    passes(rt, streams, end(1000), &MESSAGE)?;
+    passes(rt, streams, end(1000), FrameKind::Channel, &CHANNEL_FRAME)?;
+    passes(rt, streams, end(1000), FrameKind::Message, &MESSAGE)?;
     check(rt, streams.take_ready().is_none());
     Ok(())
 }
@@ -91,8 +104,7 @@ fn gives_data(rt: &impl Abort, streams: &mut Streams) -> Result<(), Fail> {
     feed(streams, end(1001), &MESSAGE)?;
     feed(streams, end(1001), &[0xff, 0x00])?;
     let mut stream = ready(streams)?;
-    check(rt, !stream.is_stuck());
-    stream.pass();
+    drops(rt, &mut stream, FrameKind::Message, &MESSAGE)?;
     streams.set_mode(end(1001), Mode::Bound(end(9000)));
     streams.put(stream);
     let stream = ready(streams)?;
@@ -111,7 +123,7 @@ fn bytes_behind_a_bind_reply_are_the_peers(rt: HostRuntime) -> Result<(), Fail> 
 fn breaks(rt: &impl Abort, streams: &mut Streams) -> Result<(), Fail> {
     feed(streams, end(1000), &[0x80])?;
     let stream = ready(streams)?;
-    check(rt, stream.is_stuck());
+    check(rt, matches!(stream.front(), Front::Stuck));
     streams.break_at(end(1000));
     check(rt, streams.take_ready().is_none());
     same(

@@ -19,6 +19,11 @@ abbrev pub is_control_mode : Mode → Bool
 is_control_mode Control = true
 is_control_mode _ = false
 
+-- nothing more is read from it
+abbrev pub is_broken_mode : Mode → Bool
+is_broken_mode Broken = true
+is_broken_mode _ = false
+
 -- nothing more is read from it, and the buffered bytes are dropped
 abbrev pub broken : Stream → Stream
 broken stream = record stream { mode = Broken; bytes = [] }

@@ -1,12 +1,14 @@
 //! One stream, and the buffer of its bytes.
 
-ghost use Rattle.std.specs.Prelude.{◌≡◌, ◌<◌, ◌↔◌, ◌++◌, [], false, length, IsNone, IsTrue, OnOk, OnErr, Some, option_copied};
-ghost use Rattle.turn_types.specs.Frames.{begins_no_frame, frame_len};
+ghost use Rattle.std.specs.Prelude.{◌≡◌, ◌↔◌, ◌++◌, [], false, length, IsTrue, OnOk, OnErr, Some};
+ghost use Rattle.turn_types.specs.Frames.{frame_len};
 ghost use Rattle.turn_client_api.specs.Streams.{HoldsLittle, is_ready};
-ghost use Rattle.turn_client_streams.specs.Buffered.{broken, front_frame, is_control_mode, with_content, meant, passed};
+ghost use Rattle.turn_client_streams.specs.Buffered.{broken, is_broken_mode, is_control_mode, with_content, meant, passed};
+ghost use Rattle.turn_client_streams.specs.Front.{HasFront};
 
 mod incoming;
 
+use crate::front::{FrameKind, Front};
 use std::alloc::{AllocError, Global};
 use std::marker::Model;
 use std::mem;
@@ -78,6 +80,13 @@ impl BufferedStream {
         self.buffer.is_empty()
     }
 
+    /// Whether nothing more is read from it.
+    pub fn is_broken(&self) -> bool
+        ensures { result ≡ is_broken_mode self.now.mode }
+    {
+        matches!(self.mode, Mode::Broken)
+    }
+
     /// Whether it can be processed: it begins with a whole frame, with bytes that no frame begins with,
     /// or with data of its peer.
     pub fn is_ready(&self) -> bool
@@ -85,39 +94,33 @@ impl BufferedStream {
         ensures little { result ≡ false → HoldsLittle self.now }
     {
         match self.mode {
-            Mode::Control | Mode::Waiting => self.is_stuck() || self.front().is_some(),
+            Mode::Control | Mode::Waiting => match self.front() {
+                Front::Frame(_, _) | Front::Stuck => true,
+                Front::Partial => false,
+            },
             Mode::Bound(_) => !self.buffer.is_empty(),
             Mode::Broken => false,
         }
     }
 
-    /// Whether the buffered bytes begin with the bits 10 or 11, as no frame does (RFC 8656, section 12).
-    /// A stream of frames breaks when it is processed then.
-    pub fn is_stuck(&self) -> bool
-        ensures { result ≡ begins_no_frame self.now.bytes }
+    /// What the buffered bytes begin with, if they are frames.
+    pub fn front(&self) -> Front<'_>
+        ensures { HasFront self.now result }
     {
-        self.buffer.is_stuck()
+        match self.buffer.front() {
+            Some(frame) => Front::Frame(FrameKind::of(frame), frame),
+            None => {
+                if self.buffer.is_stuck() {
+                    Front::Stuck
+                } else {
+                    Front::Partial
+                }
+            }
+        }
     }
 
-    /// The first frame, borrowed from the buffer, or `None` while it is not whole.
-    pub fn front(&self) -> Option<&[u8]>
-        ensures exact { option_copied result ≡ front_frame self.now }
-        ensures little { IsNone result → begins_no_frame self.now.bytes ≡ false → length self.now.bytes < 65556 }
-    {
-        self.buffer.front()
-    }
-
-    /// Drops the first frame. Allocates no memory. Without a whole first frame nothing changes.
-    pub fn pass(&mut self)
-        requires { begins_no_frame self.old.bytes ≡ false }
-        ensures { self.new ≡ passed self.old }
-    {
-        self.buffer.pass();
-    }
-
-    /// Drops the first frame, which is whole and has so many bytes, without reading its header. Allocates no
-    /// memory.
-    pub(crate) fn pass_front(&mut self, len: usize)
+    /// Drops the first frame, which is whole and has so many bytes, as the one in front. Allocates no memory.
+    pub fn pass(&mut self, len: usize)
         requires { frame_len self.old.bytes ≡ Some len }
         ensures { self.new ≡ passed self.old }
     {

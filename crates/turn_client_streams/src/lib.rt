@@ -12,9 +12,10 @@
 //!
 //! ```rust
 //! if let Some(mut stream) = streams.take_at(local) {
-//!     if let Some(frame) = stream.front() {
-//!         handle(frame);
-//!         stream.pass();
+//!     if let Front::Frame(kind, frame) = stream.front() {
+//!         handle(kind, frame);
+//!         let len = frame.len();
+//!         stream.pass(len);
 //!     }
 //!     streams.put(stream);
 //! }
@@ -24,7 +25,9 @@
 #![tactic(auto)]
 
 mod buffered;
+mod front;
 mod streams;
 
 pub use buffered::BufferedStream;
+pub use front::{FrameKind, Front};
 pub use streams::Streams;

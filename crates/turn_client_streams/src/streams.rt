@@ -105,7 +105,7 @@ impl Streams {
         requires { option_map (λ stream. frame_len stream.bytes) (control_stream self.old.list) ≡ Some (Some len) }
         ensures { (s : State) → with_streams self.new.list s ≡ control_passed (with_streams self.old.list s) }
     {
-        self.list[0].pass_front(len);
+        self.list[0].pass(len);
     }
 
     /// Takes out the first stream that can be processed.

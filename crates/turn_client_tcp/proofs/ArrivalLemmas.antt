@@ -17,7 +17,8 @@ use Rattle.turn_client_api.specs.declared.state.Mode.TheVariants.{Control, Broke
 use Rattle.turn_client_api.specs.declared.state.Stream.{Stream}
 use Rattle.turn_client_api.proofs.AddressLemmas.{same_address-true}
 use Rattle.turn_client_laws.proofs.MemoryLemmas.{behind}
-use Rattle.turn_client_tcp.specs.StreamSteps.{EndsBehind, PieceEnds, broken_piece_step, fed_frame_step, is_broken, others_from, piece_at, whole_piece_step}
+use Rattle.turn_client_streams.specs.Buffered.{is_broken_mode}
+use Rattle.turn_client_tcp.specs.StreamSteps.{EndsBehind, PieceEnds, broken_piece_step, fed_frame_step, others_from, piece_at, whole_piece_step}
 use Rattle.turn_client_tcp.proofs.TurnLemmas.{emptied-broken}
 
 -- the stream that is found has this local address
@@ -26,13 +27,13 @@ stream_at-local local s stream e = same_address-true stream.local local (find-pa
 
 -- ---- a piece of a stream that is not broken
 
-detached-mode : (mode : Mode) (stream : Stream) (piece : List ℕ) (now : ℕ) (s : State) → is_broken mode ≡ false
+detached-mode : (mode : Mode) (stream : Stream) (piece : List ℕ) (now : ℕ) (s : State) → is_broken_mode mode ≡ false
     → piece_step (record stream { mode = mode }) piece now s ≡ whole_piece_step (record stream { mode = mode }) piece now (with_bytes stream.local [] s)
 detached-mode Broken stream piece now s whole = cc
 detached-mode mode stream piece now s whole = refl
 
 pub piece-step : (to : SocketAddr) (stream : Stream) (piece : List ℕ) (now : ℕ) (s t : State) → stream_at to s ≡ Some stream → 0 < length piece
-    → option_map_or (λ (x : Stream). is_broken x.mode) (stream_at to s) false ≡ false → t ≡ with_bytes stream.local [] s
+    → option_map_or (λ (x : Stream). is_broken_mode x.mode) (stream_at to s) false ≡ false → t ≡ with_bytes stream.local [] s
     → whole_piece_step stream piece now t ≡ piece_at to piece now s
 piece-step to stream [] now s t e some whole out = absurd (omega (arith, some))
 piece-step to stream (b ∷ bs) now s t e some whole out = rw (out, e) (sym (detached-mode stream.mode stream (b ∷ bs) now s (rw e at whole)))
@@ -69,32 +70,32 @@ piece-ends to stream piece now was s over e some (inr (control, ends)) =
 
 -- ---- a piece of a broken stream
 
-broken-mode : (mode : Mode) (to : SocketAddr) (stream : Stream) (piece : List ℕ) (now : ℕ) (s : State) → is_broken mode ≡ true → stream.local ≡ to
+broken-mode : (mode : Mode) (to : SocketAddr) (stream : Stream) (piece : List ℕ) (now : ℕ) (s : State) → is_broken_mode mode ≡ true → stream.local ≡ to
     → piece_step (record stream { mode = mode }) piece now s ≡ broken_piece_step to now s
 broken-mode Broken to stream piece now s broken e = rw e refl
 broken-mode mode to stream piece now s broken e = cc
 
 -- it is dropped, or all other streams are processed
-pub piece-broken : (to : SocketAddr) (piece : List ℕ) (now : ℕ) (s : State) → option_map_or (λ (x : Stream). is_broken x.mode) (stream_at to s) false ≡ true → 0 < length piece
+pub piece-broken : (to : SocketAddr) (piece : List ℕ) (now : ℕ) (s : State) → option_map_or (λ (x : Stream). is_broken_mode x.mode) (stream_at to s) false ≡ true → 0 < length piece
     → piece_at to piece now s ≡ broken_piece_step to now s
 piece-broken to [] now s e some = absurd (omega (arith, some))
 piece-broken to (b ∷ bs) now s e some = by (stream_at to s) refl e
   where
-    by : (o : Option Stream) → stream_at to s ≡ o → option_map_or (λ (x : Stream). is_broken x.mode) o false ≡ true → piece_at to (b ∷ bs) now s ≡ broken_piece_step to now s
+    by : (o : Option Stream) → stream_at to s ≡ o → option_map_or (λ (x : Stream). is_broken_mode x.mode) o false ≡ true → piece_at to (b ∷ bs) now s ≡ broken_piece_step to now s
     by None f g = cc
     by (Some stream) f g = rw f (broken-mode stream.mode to stream (b ∷ bs) now s g (stream_at-local to s stream f))
 
-others-broken : (to : SocketAddr) (mode : Mode) (stream : Stream) (piece : List ℕ) (now : ℕ) (was s : State) → stream_at to was ≡ Some (record stream { mode = mode }) → is_broken mode ≡ true
+others-broken : (to : SocketAddr) (mode : Mode) (stream : Stream) (piece : List ℕ) (now : ℕ) (was s : State) → stream_at to was ≡ Some (record stream { mode = mode }) → is_broken_mode mode ≡ true
     → stream.local ≡ to → same_address to was.local ≡ true → EndsAfterSteps now was s → IsSomeAnd (before_others to piece now was) (λ t. EndsAfterSteps now t s)
 others-broken to Broken stream piece now was s e broken local here ends = rw (e, local, here) ends
 others-broken to mode stream piece now was s e broken local here ends = cc
 
-pub broken-ends : (to : SocketAddr) (piece : List ℕ) (now : ℕ) (was s : State) → was.transport ≡ Tcp → option_map_or (λ (x : Stream). is_broken x.mode) (stream_at to was) false ≡ true
+pub broken-ends : (to : SocketAddr) (piece : List ℕ) (now : ℕ) (was s : State) → was.transport ≡ Tcp → option_map_or (λ (x : Stream). is_broken_mode x.mode) (stream_at to was) false ≡ true
     → 0 < length piece
     → (same_address to was.local ≡ true) × EndsAfterSteps now was s → RecvEnds to piece now was s
 broken-ends to piece now was s over e some (here, ends) = by (stream_at to was) refl e
   where
-    by : (o : Option Stream) → stream_at to was ≡ o → option_map_or (λ (x : Stream). is_broken x.mode) o false ≡ true → RecvEnds to piece now was s
+    by : (o : Option Stream) → stream_at to was ≡ o → option_map_or (λ (x : Stream). is_broken_mode x.mode) o false ≡ true → RecvEnds to piece now was s
     by None f g = cc
     by (Some stream) f g = inr (over, some-piece piece some, others-broken to stream.mode stream piece now was s f g (stream_at-local to was stream f) here ends)
 

@@ -1,5 +1,5 @@
 -- What a call of the control machine says, it says of the client with its streams.
-use Rattle.std.proofs.Common.{◌≡◌, ℕ, ◌∙◌, Bool, true, false, ◌&&◌, List, Option, Some, None, ap, inl, inr, refl}
+use Rattle.std.proofs.Common.{◌≡◌, ℕ, ◌∙◌, Bool, true, false, ◌&&◌, List, Option, Some, None, ap, inl, inr, refl, sym}
 use Rattle.std.specs.Prelude.{Result, Ok, Err, is_some}
 use Rattle.std.specs.declared.net.socket_addr.SocketAddr.{SocketAddr}
 use Rattle.turn_client_api.proofs.HasLemmas.{cases_Option}
@@ -8,8 +8,10 @@ use Rattle.turn_client_api.specs.Calls.{allocated_tcp_socket_step, is_allocated,
 use Rattle.turn_client_api.specs.Connections.{accepts_attempt, attempt_indicated, connection_at}
 use Rattle.turn_client_api.specs.Judgement as J
 use Rattle.turn_client_api.specs.Judgement.{Judgement, connection_id_in, judgement_of, peer_in}
-use Rattle.turn_client_api.specs.Memory.{bind_takes_memory, message_takes_memory}
+use Rattle.turn_client_api.specs.Memory.{bind_takes_memory, message_takes_memory, packet_takes_memory}
+use Rattle.turn_client_api.specs.Payloads.{is_message, message_step}
 use Rattle.turn_client_api.specs.State.{State}
+use Rattle.turn_client_api.specs.Streams.{control_frame_step}
 use Rattle.turn_client_api.specs.declared.error.BindChannelError.{BindChannelError}
 use Rattle.turn_client_api.specs.declared.error.BindChannelError.TheVariants as Bind
 use Rattle.turn_client_api.specs.declared.error.CreatePermissionError.{CreatePermissionError}
@@ -29,9 +31,10 @@ use Rattle.turn_client_core.specs.ProtocolRecv.{IsPart}
 use Rattle.turn_client_core.specs.declared.protocol_recv.TurnProtocolRecv.{TurnProtocolRecv}
 use Rattle.turn_client_core.specs.declared.protocol_recv.TurnProtocolRecv.TheVariants as T
 use Rattle.turn_client_laws.proofs.AnyStreamsEffects.{opened_in}
-use Rattle.turn_client_laws.proofs.AnyStreamsLemmas.{both_with, with_streams}
+use Rattle.turn_client_laws.proofs.AnyStreamsLemmas.{both_with, message-alike, with_streams}
 use Rattle.turn_client_laws.specs.StreamEffects.{opens_at, opens_for, with_stream_at}
 use Rattle.turn_stun.specs.declared.transport.TransportType.TheVariants.{Tcp}
+use Rattle.turn_types.specs.Frames.{begins_message}
 
 module _ (x : List Stream) (was s : State) where
   pub deletes-with : (r : Result Unit DeleteError) (said : Result Unit DeleteError × State) → Deletes r was s said → Deletes r (with_streams x was) (with_streams x s) (both_with x said)
@@ -123,3 +126,16 @@ module _ (x : List Stream) where
 
   pub bind_memory-alike : (local : SocketAddr) (message : List ℕ) (s : State) → bind_takes_memory local message (with_streams x s) ≡ bind_takes_memory local message s
   bind_memory-alike local message s = elim (cases_Option (connection_at local s)) [ inl e ↦ rw e refl | inr (c, e) ↦ rw e refl ]
+
+  -- ---- a frame that is a message
+
+  -- what the control machine does by it, with the streams beside it
+  pub message-frame : (m frame : List ℕ) (now : ℕ) (was s : State) → m ≡ frame → is_message frame ≡ true → begins_message frame ≡ true → with_streams x was ≡ s
+      → both_with x (message_step m now was) ≡ control_frame_step frame now s
+  message-frame m frame now was s e is begins v =
+      ap (λ bytes. both_with x (message_step bytes now was)) e ∙ (sym (message-alike x frame now was) ∙ (ap (message_step frame now) v ∙ rw (begins, is) refl))
+
+  pub message-memory : (m frame : List ℕ) (was s : State) → m ≡ frame → is_message frame ≡ true → with_streams x was ≡ s → message_takes_memory m was ≡ true
+      → packet_takes_memory frame s ≡ true
+  message-memory m frame was s e is v takes =
+      rw is (sym (ap (message_takes_memory frame) v) ∙ (memory-alike frame was ∙ (sym (ap (λ bytes. message_takes_memory bytes was) e) ∙ takes)))

@@ -1,13 +1,17 @@
 -- Whole frames of a stream.
-use Rattle.std.proofs.Common.{◌≡◌, ◌+◌, ◌∙◌, ℕ, true, false, List, Some, None, arith, length, sym}
-use Rattle.std.proofs.lemmas.Bool.{le-ltb, leb-false, ltb-false, true_from_ne_false}
-use Rattle.turn_stun.specs.Message.{padded_len}
+use Rattle.std.proofs.Common.{◌≡◌, ◌+◌, ℕ, true, false, List, Some, ap, arith, drop, length, refl}
+use Rattle.std.specs.Prelude.{IsOk, IsOkAnd, Result, Ok, Err, is_none}
+use Rattle.std.proofs.lemmas.Bool.{le-ltb, leb-false, lt-ltb, ltb-false}
+use Rattle.turn_stun.specs.Message.{Attribute, IsMessage, padded_len}
 use Rattle.turn_stun.specs.Number.{u16_at}
-use Rattle.turn_stun.proofs.GrammarLemmas.{padded_len-ge}
-use Rattle.turn_types.specs.Channel.{IsChannel, channel_fault_of}
-use Rattle.turn_types.specs.Frames.{begins_message, frame_len}
-use Rattle.turn_types.specs.declared.error.ChannelParseError.{ChannelParseError}
-use Rattle.turn_types.proofs.ChannelLemmas.{IsChannel-ReadsChannel, PassesTests, PassesTests-no_fault}
+use Rattle.turn_stun.proofs.FaultLemmas.{IsMessage-no_fault}
+use Rattle.turn_stun.proofs.GrammarLemmas.{padded_len-ge, u16_at-append}
+use Rattle.turn_types.specs.Channel.{IsChannel, channel_data_at}
+use Rattle.turn_types.specs.Frames.{IsChannelFrame, IsMessageFrame, begins_message, frame_len}
+use Rattle.turn_client_api.specs.Payloads.{is_message}
+use Rattle.turn_client_streams.specs.Front.{IsOfKind}
+use Rattle.turn_client_streams.specs.declared.front.FrameKind.TheVariants.{Channel, Message}
+use Rattle.turn_types.proofs.ChannelLemmas.{IsChannel-ReadsChannel, PassesTests, PassesTests-IsChannel}
 use Rattle.turn_types.proofs.FrameLemmas.{frame_len-IsWhole}
 
 -- a whole frame that does not begin like a STUN message is a ChannelData message
@@ -22,11 +26,28 @@ whole-channel frame whole e =
       whole = omega (arith, size, within);
     }
 
--- a whole frame that is no ChannelData message begins like a STUN message
-pub message-begins : (frame : List ℕ) (fault : ChannelParseError) → frame_len frame ≡ Some (length frame) → channel_fault_of frame ≡ Some fault → begins_message frame ≡ true
-message-begins frame fault whole refused =
-    true_from_ne_false _ (λ e. let no : None ≡ Some fault = sym (PassesTests-no_fault frame (whole-channel frame whole e)) ∙ refused in cc)
+-- the ChannelData message at its start
+pub whole-IsChannel : (frame : List ℕ) → frame_len frame ≡ Some (length frame) → begins_message frame ≡ false
+    → IsChannel frame (channel_data_at frame).id (channel_data_at frame).payload (drop (4 + length (channel_data_at frame).payload) frame)
+whole-IsChannel frame whole e = PassesTests-IsChannel frame (whole-channel frame whole e)
 
 -- a ChannelData message begins otherwise
 pub channel-begins : (frame : List ℕ) (id : ℕ) (payload rest : List ℕ) → IsChannel frame id payload rest → begins_message frame ≡ false
 channel-begins frame id payload rest is = le-ltb _ _ (IsChannel-ReadsChannel frame id payload rest is).tests.least
+
+-- what the buffer calls a ChannelData message begins so, and what it calls a message does not
+pub channel-kind : (frame : List ℕ) → IsChannelFrame frame → IsOfKind Channel frame
+channel-kind frame is = channel-begins frame is.id is.payload is.padding is.channel
+
+pub message-kind : (frame : List ℕ) → IsMessageFrame frame → IsOfKind Message frame
+message-kind frame is =
+    let number : u16_at frame 0 ≡ u16_at is.header 0 = rw is.spelled (u16_at-append is.header is.body 0 (omega (arith, is.header_length))) in
+    lt-ltb _ _ (rw number is.first_two_bits)
+
+-- a message is parsed
+pub message-is : (frame : List ℕ) (type id : ℕ) (attributes : List Attribute) → IsMessage frame type id attributes → is_message frame ≡ true
+message-is frame type id attributes is = ap is_none (IsMessage-no_fault frame type id attributes is)
+
+pub ok-and : {A E : Type 0} (r : Result A E) (P : A → Type 0) → IsOkAnd r P → IsOk r
+ok-and (Ok x) P h = refl
+ok-and (Err e) P h = absurd h

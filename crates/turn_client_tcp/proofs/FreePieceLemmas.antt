@@ -24,9 +24,11 @@ use Rattle.turn_client_api.specs.declared.state.Mode.{Mode}
 use Rattle.turn_client_api.specs.declared.state.Mode.TheVariants.{Control, Broken}
 use Rattle.turn_client_api.specs.declared.state.Stream.{Stream}
 use Rattle.turn_client_laws.proofs.StreamDrainLemmas.{ready-waits}
-use Rattle.turn_client_streams.specs.Buffered.{broken, front_frame, passed, without_front}
-use Rattle.turn_client_tcp.specs.StreamSteps.{EndsBehind, fed_frame_step, is_broken, piece_takes_none}
-use Rattle.turn_client_tcp.proofs.PieceLemmas.{front-begins, passed-local, passed-mode}
+use Rattle.turn_client_streams.specs.Buffered.{front_frame, is_broken_mode, passed}
+use Rattle.turn_client_tcp.specs.Carriers.{IsCarriedBy, carried_takes_memory}
+use Rattle.turn_client_tcp.specs.declared.protocol.frame.Carrier.{Carrier}
+use Rattle.turn_client_tcp.specs.StreamSteps.{EndsBehind, fed_frame_step, piece_takes_none}
+use Rattle.turn_client_tcp.proofs.CarrierLemmas.{carried-memory}
 use Rattle.turn_client_core.proofs.ResultLemmas.{none-is, none-some_not}
 use Rattle.turn_client_tcp.proofs.TurnLemmas.{framed-some, steps-none}
 
@@ -51,7 +53,7 @@ free-bound piece stream free = (and_parts _ _ (and_parts _ _ free).0).0
 pub free-waits : (piece : List ℕ) (stream : Stream) → is_free_piece piece stream ≡ true → stream.bytes ≡ []
 free-waits piece stream free = waits-none stream.bytes (and_parts _ _ free).1
 
-broken-unbound : (m : Mode) → is_broken m ≡ true → is_bound m ≡ true → ⊥
+broken-unbound : (m : Mode) → is_broken_mode m ≡ true → is_bound m ≡ true → ⊥
 broken-unbound Broken broken bound = cc
 broken-unbound m broken bound = cc
 
@@ -195,21 +197,14 @@ front-piece stream piece frame waits whole front =
     let same : frame ≡ take (length piece) piece = cc in
     same ∙ take-length piece
 
-takes-by : (s u : Stream) (frame : List ℕ) (t : State) → u.mode ≡ s.mode → u.local ≡ s.local → frame_takes_memory u frame t ≡ frame_takes_memory s frame t
-takes-by s u frame t mode local = rw (mode, local) refl
-
 -- the first frame requires no memory
-pub free-front : (stream : Stream) (piece frame : List ℕ) (t : State) → is_free_frame piece t stream ≡ true → Some frame ≡ front_frame (stream_with_piece stream piece)
-    → frame_takes_memory (without_front (stream_with_piece stream piece)) frame t ≡ true → ⊥
-free-front stream piece frame t free front takes =
-    let all = stream_with_piece stream piece in
+pub free-front : (stream : Stream) (carrier : Carrier) (piece frame : List ℕ) (t : State) → IsCarriedBy carrier stream → is_free_frame piece t stream ≡ true
+    → Some frame ≡ front_frame (stream_with_piece stream piece) → carried_takes_memory carrier frame t ≡ true → ⊥
+free-front stream carrier piece frame t carried free front takes =
     let is = free-is piece t stream free in
-    let left : without_front all ≡ passed all = ap (λ b. cond b (broken all) (passed all)) (front-begins all frame front) in
     let same : frame ≡ piece = front-piece stream piece frame is.waits is.whole front in
     let no : true ≡ false =
-    sym takes ∙ (ap (λ (u : Stream). frame_takes_memory u frame t) left
-    ∙ (takes-by stream (passed all) frame t (passed-mode all) (passed-local all)
-    ∙ (ap (λ bytes. frame_takes_memory stream bytes t) same ∙ is.takes))) in
+    sym takes ∙ (sym (carried-memory carrier stream frame t carried) ∙ (ap (λ bytes. frame_takes_memory stream bytes t) same ∙ is.takes)) in
     cc
 
 -- then no stream is ready
@@ -239,14 +234,14 @@ free-rests stream piece now t control free = let is = free-is piece t stream fre
 -- ---- a broken stream
 
 -- its bytes allocate no memory if no stream is ready
-pub free-broken : (to : SocketAddr) (piece : List ℕ) (s : State) → option_map_or (λ (x : Stream). is_broken x.mode) (stream_at to s) false ≡ true → piece_takes_none to piece s ≡ true
+pub free-broken : (to : SocketAddr) (piece : List ℕ) (s : State) → option_map_or (λ (x : Stream). is_broken_mode x.mode) (stream_at to s) false ≡ true → piece_takes_none to piece s ≡ true
     → find is_ready s.streams ≡ None
 free-broken to piece s broken free = by (stream_at to s) refl broken
   where
-    of : (stream : Stream) → is_broken stream.mode ≡ true → (is_free_piece piece stream ≡ true) ⊎ (is_free_frame piece s stream ≡ true) → find is_ready s.streams ≡ None
+    of : (stream : Stream) → is_broken_mode stream.mode ≡ true → (is_free_piece piece stream ≡ true) ⊎ (is_free_frame piece s stream ≡ true) → find is_ready s.streams ≡ None
     of stream is (inl bound) = absurd (broken-unbound stream.mode is (free-bound piece stream bound))
     of stream is (inr frame) = (free-is piece s stream frame).rest
 
-    by : (o : Option Stream) → stream_at to s ≡ o → option_map_or (λ (x : Stream). is_broken x.mode) o false ≡ true → find is_ready s.streams ≡ None
+    by : (o : Option Stream) → stream_at to s ≡ o → option_map_or (λ (x : Stream). is_broken_mode x.mode) o false ≡ true → find is_ready s.streams ≡ None
     by None e is = let no : false ≡ true = is in cc
     by (Some stream) e is = of stream is (free-either to piece s stream e free)

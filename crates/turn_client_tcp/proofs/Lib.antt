@@ -1,5 +1,6 @@
 pub mod ArrivalLemmas
 pub mod CallLemmas
+pub mod CarrierLemmas
 pub mod ControlDataLemmas
 pub mod FrameLemmas
 pub mod FreePieceLemmas

@@ -1,5 +1,5 @@
 -- Pieces of streams that are taken out.
-use Rattle.std.proofs.Common.{◌≡◌, ℕ, ◌≤◌, ◌+◌, ◌-◌, ◌⊎◌, Bool, true, false, cond, List, [], ◌∷◌, drop, length, take, Option, Some, None, inl, inr, refl, sym, subst, ap, ◌∙◌, arith}
+use Rattle.std.proofs.Common.{◌≡◌, ℕ, ◌≤◌, ◌+◌, ◌-◌, Bool, true, false, cond, List, [], ◌∷◌, drop, length, take, Option, Some, None, refl, sym, subst, ap, ◌∙◌, arith}
 use Rattle.std.specs.Prelude.{slice_range}
 use Rattle.std.specs.Option.{option_map, option_map_or}
 use Rattle.std.proofs.lemmas.List.{drop-take, length-take, take-take}
@@ -13,14 +13,17 @@ use Rattle.turn_types.proofs.FrameLemmas.{frame_len-IsWhole}
 use Rattle.turn_client_api.specs.Payloads.{Outcome, Handled, PeerData}
 use Rattle.turn_client_api.specs.Receive.{place_kept}
 use Rattle.turn_client_api.specs.State.{State}
-use Rattle.turn_client_api.specs.Streams.{frame_step, framed_stream_step, with_bytes}
-use Rattle.turn_client_api.specs.declared.state.Mode.TheVariants.{Control, Waiting}
+use Rattle.turn_client_api.specs.Streams.{framed_stream_step, with_bytes}
 use Rattle.turn_client_api.specs.declared.state.Stream.{Stream}
 use Rattle.turn_client_streams.specs.Buffered.{broken, front_frame, passed, without_front}
 use Rattle.turn_client_core.specs.ProtocolRecv.{IsPart, IsRangeWithin, outcome_in}
 use Rattle.turn_client_core.specs.declared.protocol_recv.TurnProtocolRecv.{TurnProtocolRecv}
 use Rattle.turn_client_core.specs.declared.protocol_recv.TurnProtocolRecv.TheVariants as T
 use Rattle.turn_client_tcp.specs.StreamSteps.{IsFront, came_with, given_as, left_by, bytes_in_range, put_or_broken}
+use Rattle.turn_client_tcp.specs.Carriers.{IsCarriedBy, carried_step}
+use Rattle.turn_client_tcp.specs.declared.protocol.frame.Carrier.{Carrier}
+use Rattle.turn_client_tcp.specs.declared.protocol.frame.Carrier.TheVariants as C
+use Rattle.turn_client_tcp.proofs.CarrierLemmas.{carried-step}
 use Rattle.turn_client_tcp.proofs.TurnLemmas.{framed-none, framed-some}
 
 -- ---- a part of a part
@@ -98,37 +101,33 @@ passed-mode s = by (frame_len s.bytes)
     by None = refl
     by (Some len) = refl
 
--- a frame is processed by the mode and the local address
-frame-by : (s u : Stream) (frame : List ℕ) (now : ℕ) (t : State) → u.mode ≡ s.mode → u.local ≡ s.local → frame_step u frame now t ≡ frame_step s frame now t
-frame-by s u frame now t mode local = rw (mode, local) refl
-
-pub fed-some : (s : Stream) (frame : List ℕ) (now : ℕ) (t : State) → Some frame ≡ front_frame s
-    → framed_stream_step s now t ≡ ((frame_step (without_front s) frame now t).0, left_by (without_front s) (frame_step (without_front s) frame now t).1)
-fed-some s frame now t e =
+pub fed-some : (s : Stream) (carrier : Carrier) (frame : List ℕ) (now : ℕ) (t : State) → IsCarriedBy carrier s → Some frame ≡ front_frame s
+    → framed_stream_step s now t ≡ ((carried_step carrier frame now t).0, left_by (without_front s) (carried_step carrier frame now t).1)
+fed-some s carrier frame now t is e =
     let begins = front-begins s frame e in
     let same : without_front s ≡ passed s = ap (λ b. cond b (broken s) (passed s)) begins in
     framed-some s frame now t begins e
-    ∙ (ap (λ p. (p.0, with_bytes (passed s).local (passed s).bytes p.1)) (sym (frame-by s (passed s) frame now t (passed-mode s) (passed-local s)))
-    ∙ ap (λ (u : Stream). ((frame_step u frame now t).0, left_by u (frame_step u frame now t).1)) (sym same))
+    ∙ (ap (λ p. (p.0, with_bytes (passed s).local (passed s).bytes p.1)) (carried-step carrier s frame now t is)
+    ∙ ap (λ (u : Stream). ((carried_step carrier frame now t).0, left_by u (carried_step carrier frame now t).1)) (sym same))
 
 pub handled-kept : (waited : List ℕ) → place_kept waited Handled ≡ Handled
 handled-kept [] = refl
 handled-kept (b ∷ waited) = refl
 
 -- a stream of frames without a whole first frame waits for the rest, or is broken
-pub fed-none : (s : Stream) (now : ℕ) (t : State) → (s.mode ≡ Control) ⊎ (s.mode ≡ Waiting) → None ≡ front_frame s → framed_stream_step s now t ≡ (Handled, put_or_broken (without_front s) t)
-fed-none s now t framed e = by (begins_no_frame s.bytes) refl
+pub fed-none : (s : Stream) (carrier : Carrier) (now : ℕ) (t : State) → IsCarriedBy carrier s → None ≡ front_frame s → framed_stream_step s now t ≡ (Handled, put_or_broken (without_front s) t)
+fed-none s carrier now t is e = by (begins_no_frame s.bytes) refl
   where
     unpassed : (o : Option ℕ) → None ≡ option_map (λ len. take len s.bytes) o → option_map_or (λ len. record s { bytes = drop len s.bytes }) o s ≡ s
     unpassed None f = refl
     unpassed (Some len) f = cc
 
-    put : (s.mode ≡ Control) ⊎ (s.mode ≡ Waiting) → put_or_broken s t ≡ left_by s t
-    put (inl control) = rw control refl
-    put (inr waiting) = rw waiting refl
+    put : (carrier : Carrier) → IsCarriedBy carrier s → put_or_broken s t ≡ left_by s t
+    put C.Control is = rw is refl
+    put (C.Waiting local) is = rw is.0 refl
 
     by : (b : Bool) → begins_no_frame s.bytes ≡ b → framed_stream_step s now t ≡ (Handled, put_or_broken (without_front s) t)
     by true f = rw f refl
     by false f =
         let same : without_front s ≡ s = ap (λ b. cond b (broken s) (passed s)) f ∙ unpassed (frame_len s.bytes) e in
-        framed-none s now t f e ∙ ap (λ (x : State). (Handled, x)) (sym (ap (λ (u : Stream). put_or_broken u t) same ∙ put framed))
+        framed-none s now t f e ∙ ap (λ (x : State). (Handled, x)) (sym (ap (λ (u : Stream). put_or_broken u t) same ∙ put carrier is))

@@ -70,6 +70,10 @@ framed-none s now t stuck e =
     by None e = refl
     by (Some len) e = cc
 
+-- bytes that begin no frame break it
+pub framed-stuck : (s : Stream) (now : ℕ) (t : State) → begins_no_frame s.bytes ≡ true → framed_stream_step s now t ≡ (Handled, broken_at s.local t)
+framed-stuck s now t stuck = rw stuck refl
+
 -- ---- steps in sequence
 
 given-none : (next : State → Option Payload × State) (p : Outcome × State) → owned_payload p.0 ≡ None → go_on next p ≡ next p.1

@@ -1,3 +1,4 @@
+pub mod Carriers
 pub mod ControlData
 pub mod Lent
 pub mod StreamSteps

@@ -1,5 +1,5 @@
 -- The next frames of streams that are taken out, and the data that they give.
-use Rattle.std.specs.Prelude.{◌≡◌, ◌⊎◌, ◌≤◌, ◌++◌, ℕ, List, length, slice_range, Option, Some, None, IsSomeAnd, Bool, true, false, if◌then◌else◌, ⊤}
+use Rattle.std.specs.Prelude.{◌≡◌, ◌⊎◌, ◌≤◌, ◌++◌, ℕ, List, length, slice_range, Option, Some, None, IsSomeAnd, Bool, true, if◌then◌else◌, ⊤}
 use Rattle.std.specs.Option.{option_map_or}
 use Rattle.std.specs.declared.ops.Range.{Range}
 use Rattle.std.specs.declared.net.socket_addr.SocketAddr.{SocketAddr}
@@ -16,6 +16,7 @@ use Rattle.turn_client_api.specs.State.{State}
 use Rattle.turn_client_api.specs.declared.state.Mode.{Mode}
 use Rattle.turn_client_api.specs.declared.state.Mode.TheVariants.{Control, Waiting, Bound, Broken}
 use Rattle.turn_client_api.specs.declared.state.Stream.{Stream}
+use Rattle.turn_client_streams.specs.Buffered.{is_broken_mode}
 use Rattle.turn_client_tcp.specs.declared.received.Received.{Received}
 
 -- what was buffered in a stream is returned owned
@@ -63,13 +64,7 @@ bound_sent peer waited piece = sent_by peer (waited ++ piece) (whole_piece waite
 
 -- a stream without a whole first frame waits for more bytes, or is broken
 abbrev pub put_or_broken : Stream → State → State
-put_or_broken stream t = by stream.mode
-  where
-    by : Mode → State
-    by Control = left_by stream t
-    by Waiting = left_by stream t
-    by (Bound peer) = left_by stream t
-    by Broken = broken_at stream.local t
+put_or_broken stream t = if is_broken_mode stream.mode then broken_at stream.local t else left_by stream t
 
 -- the first frame of a stream of frames, which is taken out, after the piece was appended
 abbrev pub fed_frame_step : Stream → List ℕ → ℕ → State → Outcome × State
@@ -105,12 +100,6 @@ PieceEnds stream piece now t s =
 -- a piece for this local address
 abbrev pub piece_at : SocketAddr → List ℕ → ℕ → State → Outcome × State
 piece_at to piece now s = option_map_or (λ stream. stream_step stream piece now s) (stream_at to s) (Ignored, s)
-
-abbrev pub is_broken : Mode → Bool
-is_broken Control = false
-is_broken Waiting = false
-is_broken (Bound peer) = false
-is_broken Broken = true
 
 -- bytes of a broken stream at this local address: all other streams are processed if it is the control stream
 abbrev pub broken_piece_step : SocketAddr → ℕ → State → Outcome × State

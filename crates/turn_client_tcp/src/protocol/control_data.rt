@@ -1,15 +1,16 @@
 //! ChannelData messages of the control connection, read where they are buffered (RFC 8656, sections 12.5 and
 //! 12.6).
 
-ghost use Rattle.std.specs.Prelude.{◌≡◌, IfOk, IfSome, IsSome, OnErr, OnOk, Some, option_map};
-ghost use Rattle.turn_client_tcp.specs.ControlData.{IsControlFront, control_data, control_ended, data_passed, data_from};
+ghost use Rattle.std.specs.Prelude.{◌≡◌, false, length, IfOk, IfSome, IsSome, OnErr, OnOk, Some, option_map};
+ghost use Rattle.turn_client_tcp.specs.ControlData.{IsControlFront, channel_data, control_data, control_ended, data_passed, data_from};
 ghost use Rattle.turn_client_tcp.specs.StreamSteps.{received_payload};
-ghost use Rattle.turn_client_streams.specs.Held.{control_passed};
+ghost use Rattle.turn_types.specs.Frames.{begins_message, frame_len};
 
 use crate::protocol::TurnClientTcpProtocol;
 use crate::received::Received;
 use std::alloc::AllocError;
 use std::net::SocketAddr;
+use turn_client_streams::{FrameKind, Front};
 use turn_types::channel::ChannelData;
 
 /// A ChannelData message of an active channel, at the front of the control stream.
@@ -45,7 +46,7 @@ impl TurnClientTcpProtocol {
         let transport = self.control.allocation_transport();
         match Vec::from_slice(self.alloc, payload) {
             Ok(bytes) => {
-                self.pass_control(len);
+                self.streams.pass_control(len);
                 Ok(Some(Received {
                     transport,
                     peer,
@@ -67,12 +68,20 @@ impl TurnClientTcpProtocol {
         let Some(stream) = self.streams.control() else {
             return None;
         };
-        let Some(frame) = stream.front() else {
-            return None;
-        };
-        let Ok(channel) = ChannelData::parse(frame) else {
-            return None;
-        };
+        match stream.front() {
+            Front::Frame(FrameKind::Channel, frame) => self.channel_in(frame),
+            Front::Frame(FrameKind::Message, _) | Front::Partial | Front::Stuck => None,
+        }
+    }
+
+    /// The data in this whole ChannelData message, if its channel is active.
+    fn channel_in<'a>(&'a self, frame: &'a [u8]) -> Option<ChannelFrame<'a>>
+        requires whole { frame_len frame.now ≡ Some (length frame.now) }
+        requires channel { begins_message frame.now ≡ false }
+        ensures payload { option_map (λ found. data_from self.now found.peer.now found.payload.now) result ≡ channel_data self.now frame.now }
+        ensures len { IfSome result (λ found. found.len ≡ length frame.now) }
+    {
+        let channel = ChannelData::parse(frame).unwrap();
         let Some(peer) = self.control.channel_peer(channel.id()) else {
             return None;
         };
@@ -81,14 +90,6 @@ impl TurnClientTcpProtocol {
             payload: channel.data(),
             len: frame.len(),
         })
-    }
-
-    /// Drops the first frame of the control stream, which is whole and has so many bytes.
-    pub(super) fn pass_control(&mut self, len: usize)
-        requires { IsControlFront len self.old }
-        ensures { self.new ≡ control_passed self.old }
-    {
-        self.streams.pass_control(len);
     }
 
     /// Breaks the control stream and ends the client: memory allocation for the stream failed.

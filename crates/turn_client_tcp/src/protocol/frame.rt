@@ -1,13 +1,14 @@
 //! Whole frames of a client's streams (RFC 8656, section 12.5; RFC 6062, section 4.3).
 
-ghost use Rattle.std.specs.Prelude.{◌≡◌, [], IfOk, IsOk, OnErr, OnOk, Some, length, true};
-ghost use Rattle.turn_client_api.specs.Answers.{datagram_takes_none, is_data_indication};
-ghost use Rattle.turn_client_api.specs.Memory.{bind_takes_memory, message_takes_memory, packet_takes_memory, waiting_takes_memory};
+ghost use Rattle.std.specs.Prelude.{◌≡◌, [], false, IfOk, OnErr, OnOk, Some, length, true};
+ghost use Rattle.turn_client_api.specs.Memory.{bind_takes_memory, packet_takes_memory, waiting_takes_memory};
 ghost use Rattle.turn_client_api.specs.Connections.{bind_step};
-ghost use Rattle.turn_client_api.specs.Payloads.{message_step};
+ghost use Rattle.turn_client_api.specs.Payloads.{channel_sent};
 ghost use Rattle.turn_client_api.specs.Streams.{control_frame_step, waiting_frame_step};
 ghost use Rattle.turn_client_core.specs.ProtocolRecv.{IsPart, outcome_in};
 ghost use Rattle.turn_client_laws.specs.StreamEffects.{with_stream_bound};
+ghost use Rattle.turn_client_streams.specs.Front.{IsOfKind};
+ghost use Rattle.turn_client_tcp.specs.Carriers.{carried_step, carried_takes_memory};
 ghost use Rattle.turn_types.specs.Frames.{begins_message, frame_len};
 
 use crate::protocol::TurnClientTcpProtocol;
@@ -15,45 +16,73 @@ use std::alloc::AllocError;
 use std::net::SocketAddr;
 use turn_client_api::{Mode, Phase};
 use turn_client_core::TurnProtocolRecv;
+use turn_client_streams::FrameKind;
 use turn_stun::instant::Instant;
 use turn_stun::message::Message;
 use turn_types::channel::ChannelData;
 
+/// The connection that a frame came over.
+#[derive(Clone, Copy)]
+pub(crate) enum Carrier {
+    /// The control connection.
+    Control,
+    /// The data connection from this local address, which waits to be bound.
+    Waiting(SocketAddr),
+}
+
 impl TurnClientTcpProtocol {
-    /// Processes a whole frame of the control connection: a STUN message, or a ChannelData message,
-    /// which is data of its channel's peer. A frame that begins like a STUN message but is none is
-    /// dropped.
+    /// Processes a whole frame: a STUN message, or a ChannelData message, which is data of its channel's peer. A
+    /// data connection that waits to be bound has only messages to process (RFC 6062, section 4.3).
     ///
     /// # Errors
     ///
     /// If memory allocation fails for an action that a message requires. Nothing changes then. A
-    /// ChannelData message and a Data indication allocate no memory, nor does a message that requires
-    /// no action.
-    pub(crate) fn control_frame(
+    /// ChannelData message allocates no memory, nor does a message that requires no action, or on a data
+    /// connection one that does not keep it.
+    pub(crate) fn frame(
         &mut self,
+        carrier: Carrier,
+        kind: FrameKind,
         frame: &[u8],
         now: Instant,
     ) -> Result<TurnProtocolRecv, AllocError>
         requires whole { frame_len frame.now ≡ Some (length frame.now) }
+        requires kind { IsOfKind kind frame.now }
         requires before { self.old.phase ≡ Phase.Authenticating → self.old.grants ≡ [] }
-        ensures answer { IfOk result (λ reported. outcome_in frame.now reported ≡ (control_frame_step frame.now now self.old).0) }
+        ensures answer { IfOk result (λ reported. outcome_in frame.now reported ≡ (carried_step carrier frame.now now self.old).0) }
         ensures part { IfOk result (IsPart frame.now self.old self.new) }
-        ensures after { OnOk result (self.new ≡ (control_frame_step frame.now now self.old).1) }
+        ensures after { OnOk result (self.new ≡ (carried_step carrier frame.now now self.old).1) }
         ensures err { OnErr result (self.new ≡ self.old) }
-        ensures free { datagram_takes_none frame.now ≡ true → IsOk result }
-        ensures wanted { OnErr result (packet_takes_memory frame.now self.old ≡ true) }
+        ensures wanted { OnErr result (carried_takes_memory carrier frame.now self.old ≡ true) }
     {
-        match ChannelData::parse(frame) {
-            Ok(channel) => Ok(self.control.channel_sent(frame, &channel)),
-            Err(_) => self.control_message(frame, now),
+        match carrier {
+            Carrier::Control => match kind {
+                FrameKind::Message => self.control_message(frame, now),
+                FrameKind::Channel => Ok(self.channel_data(frame)),
+            },
+            Carrier::Waiting(local) => match kind {
+                FrameKind::Message => self.waiting_message(local, frame, now),
+                FrameKind::Channel => Ok(TurnProtocolRecv::Ignored),
+            },
         }
     }
 
-    /// Processes a frame of the control connection that begins like a STUN message.
+    /// The result of a whole ChannelData message of the control connection: data of its channel's peer.
+    fn channel_data(&self, frame: &[u8]) -> TurnProtocolRecv
+        requires whole { frame_len frame.now ≡ Some (length frame.now) }
+        requires channel { begins_message frame.now ≡ false }
+        ensures answer { outcome_in frame.now result ≡ channel_sent self.now frame.now }
+        ensures part { IsPart frame.now self.now self.now result }
+    {
+        let channel = ChannelData::parse(frame).unwrap();
+        self.control.channel_sent(frame, &channel)
+    }
+
+    /// Processes a frame of the control connection that begins like a STUN message. One that is none is dropped.
     ///
     /// # Errors
     ///
-    /// If memory allocation fails. Nothing changes then. A Data indication allocates none.
+    /// If memory allocation fails. Nothing changes then.
     fn control_message(
         &mut self,
         frame: &[u8],
@@ -65,42 +94,15 @@ impl TurnClientTcpProtocol {
         ensures part { IfOk result (IsPart frame.now self.old self.new) }
         ensures after { OnOk result (self.new ≡ (control_frame_step frame.now now self.old).1) }
         ensures err { OnErr result (self.new ≡ self.old) }
-        ensures free { datagram_takes_none frame.now ≡ true → IsOk result }
         ensures wanted { OnErr result (packet_takes_memory frame.now self.old ≡ true) }
     {
         match Message::from_bytes(frame) {
-            Ok(message) => self.message(&message, now),
+            Ok(message) => self.control.message_unless_ignored(&message, now),
             Err(_) => Ok(TurnProtocolRecv::Handled),
         }
     }
 
-    /// Processes a whole frame of the data connection from this local address, which waits to be bound:
-    /// only STUN messages are processed there (RFC 6062, section 4.3).
-    ///
-    /// # Errors
-    ///
-    /// If memory allocation fails for an action that a message requires. Nothing changes then. Only a
-    /// message that keeps the connection allocates memory.
-    pub(crate) fn waiting_frame(
-        &mut self,
-        local: SocketAddr,
-        frame: &[u8],
-        now: Instant,
-    ) -> Result<TurnProtocolRecv, AllocError>
-        requires { frame_len frame.now ≡ Some (length frame.now) }
-        ensures answer { IfOk result (λ reported. outcome_in frame.now reported ≡ (waiting_frame_step local frame.now now self.old).0) }
-        ensures part { IfOk result (IsPart frame.now self.old self.new) }
-        ensures after { OnOk result (self.new ≡ (waiting_frame_step local frame.now now self.old).1) }
-        ensures err { OnErr result (self.new ≡ self.old) }
-        ensures wanted { OnErr result (waiting_takes_memory local frame.now self.old ≡ true) }
-    {
-        match ChannelData::parse(frame) {
-            Ok(_) => Ok(TurnProtocolRecv::Ignored),
-            Err(_) => self.waiting_message(local, frame, now),
-        }
-    }
-
-    /// Processes a frame of such a data connection that begins like a STUN message.
+    /// Processes a frame of the data connection from this local address that begins like a STUN message.
     ///
     /// # Errors
     ///
@@ -147,27 +149,6 @@ impl TurnClientTcpProtocol {
         let peer = self.control.bind_step(local, message, now)?;
         self.bind_stream(local, &peer);
         Ok(())
-    }
-
-    /// Processes a message of the control connection, which changes no stream.
-    ///
-    /// # Errors
-    ///
-    /// If memory allocation fails. Nothing changes then.
-    fn message(
-        &mut self,
-        message: &Message<'_>,
-        now: Instant,
-    ) -> Result<TurnProtocolRecv, AllocError>
-        requires before { self.old.phase ≡ Phase.Authenticating → self.old.grants ≡ [] }
-        ensures answer { IfOk result (λ reported. outcome_in message.now reported ≡ (message_step message.now now self.old).0) }
-        ensures part { IfOk result (IsPart message.now self.old self.new) }
-        ensures after { OnOk result (self.new ≡ (message_step message.now now self.old).1) }
-        ensures err { OnErr result (self.new ≡ self.old) }
-        ensures free { is_data_indication message.now ≡ true → IsOk result }
-        ensures wanted { OnErr result (message_takes_memory message.now self.old ≡ true) }
-    {
-        self.control.message_unless_ignored(message, now)
     }
 
     /// If this peer was bound, the bytes of the stream at this local address are its data from now on, also

@@ -1,29 +1,32 @@
 //! Pieces of a client's streams (RFC 8656, section 12.5; RFC 6062, section 4.3).
 
-ghost use Rattle.std.specs.Prelude.{◌≡◌, ◌≤◌, ◌<◌, ◌⊎◌, [], length, true, IfOk, IsOk, OnErr, OnOk, Some};
+ghost use Rattle.std.specs.Prelude.{◌≡◌, ◌≤◌, ◌<◌, [], length, true, IfOk, IsOk, OnErr, OnOk, Some};
 ghost use Rattle.std.specs.Option.{option_map_or};
 ghost use Rattle.turn_client_api.specs.Answers.{EndsAfterSteps, HandsBack, IsPartOf, given_payload, outcome_of};
 ghost use Rattle.turn_client_api.specs.Effect.{closed};
 ghost use Rattle.turn_client_laws.specs.LawsOrder.{IsUngranted};
-ghost use Rattle.turn_client_api.specs.Memory.{frame_takes_memory, is_free_frame};
+ghost use Rattle.turn_client_api.specs.Memory.{is_free_frame};
 ghost use Rattle.turn_client_api.specs.PeerBytes.{held_in};
 ghost use Rattle.turn_client_api.specs.Payloads.{PeerData};
 ghost use Rattle.turn_client_api.specs.Receive.{then_all};
-ghost use Rattle.turn_client_api.specs.Streams.{broken_at, frame_step, is_bound, owned, poll_recv_step};
-ghost use Rattle.turn_client_api.specs.declared.state.Mode.TheVariants.{Control, Waiting};
+ghost use Rattle.turn_client_api.specs.Streams.{broken_at, is_bound, owned, poll_recv_step};
+ghost use Rattle.turn_client_api.specs.declared.state.Mode.TheVariants.{Control};
+ghost use Rattle.turn_client_streams.specs.Front.{IsOfKind};
+ghost use Rattle.turn_client_tcp.specs.Carriers.{IsCarriedBy, carried_step, carried_takes_memory};
 ghost use Rattle.turn_client_tcp.specs.StreamSteps.{EndsBehind, IsFront, PieceEnds, bound_sent, came_with, fed_frame_step};
 ghost use Rattle.turn_client_tcp.specs.StreamSteps.{given_as, left_by, bytes_in_range, whole_piece_step, put_or_broken};
 ghost use Rattle.turn_types.specs.Frames.{frame_len};
-ghost use Rattle.turn_types.specs.Incoming.{incoming_bytes};
+ghost use Rattle.turn_types.specs.Incoming.{IsNamedIncoming, incoming_bytes};
 
 use crate::protocol::TurnClientTcpProtocol;
+use crate::protocol::frame::Carrier;
 use std::alloc::AllocError;
 use std::convert::AsSlice;
 use std::fmt::Debug;
 use std::net::SocketAddr;
 use std::ops::Range;
 use turn_client_api::{DataRange, DataRangeOrOwned, Mode, Phase, TurnPeerData, TurnRecvRet};
-use turn_client_streams::BufferedStream;
+use turn_client_streams::{BufferedStream, FrameKind};
 use turn_stun::instant::Instant;
 use turn_stun::transport::{Transmit, TransportType};
 use turn_types::tcp::IncomingTcp;
@@ -53,7 +56,10 @@ impl TurnClientTcpProtocol {
     {
         match stream.mode() {
             Mode::Control => self.control_piece(stream, transmit, now),
-            Mode::Waiting => self.framed_piece(stream, transmit, now),
+            Mode::Waiting => {
+                let carrier = Carrier::Waiting(stream.local());
+                self.framed_piece(stream, carrier, transmit, now)
+            }
             Mode::Bound(peer) => self.bound_piece(stream, peer, transmit),
             Mode::Broken => Ok(TurnRecvRet::Handled),
         }
@@ -80,7 +86,7 @@ impl TurnClientTcpProtocol {
         ensures no_memory { OnErr result (PieceEnds stream (T.items transmit.payload) now self.old self.new) }
         ensures free { is_free_frame (T.items transmit.payload) self.old stream ≡ true → IsOk result }
     {
-        let first = self.framed_piece(stream, transmit, now)?;
+        let first = self.framed_piece(stream, Carrier::Control, transmit, now)?;
         self.then_all(first, now)
     }
 
@@ -153,11 +159,12 @@ impl TurnClientTcpProtocol {
     fn framed_piece<T: AsSlice<u8> + Debug + Drop>(
         &mut self,
         stream: BufferedStream,
+        carrier: Carrier,
         transmit: Transmit<T>,
         now: Instant,
     ) -> Result<TurnRecvRet<T>, AllocError>
         requires some { 0 < length (T.items transmit.payload) }
-        requires framed { (stream.mode ≡ Control) ⊎ (stream.mode ≡ Waiting) }
+        requires carrier { IsCarriedBy carrier stream }
         requires before { self.old.phase ≡ Phase.Authenticating → self.old.grants ≡ [] }
         ensures answer { IfOk result (λ given. outcome_of given ≡ (fed_frame_step stream (T.items transmit.payload) now self.old).0) }
         ensures hands_back { IfOk result (HandsBack transmit) }
@@ -166,7 +173,7 @@ impl TurnClientTcpProtocol {
         ensures free { is_free_frame (T.items transmit.payload) self.old stream ≡ true → IsOk result }
     {
         let local = stream.local();
-        match self.first_frame_step(stream, transmit, now) {
+        match self.first_frame_step(stream, carrier, transmit, now) {
             Ok(first) => Ok(first),
             Err(refusal) => {
                 self.end_at(local);
@@ -180,14 +187,7 @@ impl TurnClientTcpProtocol {
     pub(crate) fn end_at(&mut self, local: SocketAddr)
         ensures { self.new ≡ closed (broken_at local self.old) }
     {
-        self.break_at(local);
-        self.close();
-    }
-
-    /// The client has ended. Its streams stay.
-    pub(crate) fn close(&mut self)
-        ensures { self.new ≡ closed self.old }
-    {
+        self.streams.break_at(local);
         self.control.close();
     }
 
@@ -199,11 +199,12 @@ impl TurnClientTcpProtocol {
     fn first_frame_step<T: AsSlice<u8> + Debug + Drop>(
         &mut self,
         mut stream: BufferedStream,
+        carrier: Carrier,
         transmit: Transmit<T>,
         now: Instant,
     ) -> Result<TurnRecvRet<T>, AllocError>
         requires some { 0 < length (T.items transmit.payload) }
-        requires framed { (stream.mode ≡ Control) ⊎ (stream.mode ≡ Waiting) }
+        requires carrier { IsCarriedBy carrier stream }
         requires before { self.old.phase ≡ Phase.Authenticating → self.old.grants ≡ [] }
         ensures answer { IfOk result (λ given. outcome_of given ≡ (fed_frame_step stream (T.items transmit.payload) now self.old).0) }
         ensures hands_back { IfOk result (HandsBack transmit) }
@@ -216,7 +217,7 @@ impl TurnClientTcpProtocol {
             self.put_or_break(stream);
             return Ok(TurnRecvRet::Handled);
         };
-        self.first_frame(stream, front, now)
+        self.first_frame(stream, carrier, front, now)
     }
 
     /// Puts the stream back, to receive the rest of its frame, or breaks it if no frame begins with the
@@ -224,11 +225,10 @@ impl TurnClientTcpProtocol {
     fn put_or_break(&mut self, stream: BufferedStream)
         ensures { self.new ≡ put_or_broken stream self.old }
     {
-        match stream.mode() {
-            Mode::Control => self.put(stream),
-            Mode::Waiting => self.put(stream),
-            Mode::Bound(_) => self.put(stream),
-            Mode::Broken => self.break_at(stream.local()),
+        if stream.is_broken() {
+            self.streams.break_at(stream.local());
+        } else {
+            self.streams.put(stream);
         }
     }
 
@@ -240,30 +240,32 @@ impl TurnClientTcpProtocol {
     fn first_frame<T: AsSlice<u8> + Debug + Drop>(
         &mut self,
         stream: BufferedStream,
+        carrier: Carrier,
         front: IncomingTcp<T>,
         now: Instant,
     ) -> Result<TurnRecvRet<T>, AllocError>
         requires whole { let frame = incoming_bytes T.items front in frame_len frame ≡ Some (length frame) }
         requires front { IsFront T.items front }
+        requires kind { IsNamedIncoming T.items front }
         requires before { self.old.phase ≡ Phase.Authenticating → self.old.grants ≡ [] }
-        ensures answer { IfOk result (λ given. outcome_of given ≡ given_as front (frame_step stream (incoming_bytes T.items front) now self.old).0) }
+        ensures answer { IfOk result (λ given. outcome_of given ≡ given_as front (carried_step carrier (incoming_bytes T.items front) now self.old).0) }
         ensures hands_back { IfOk result (HandsBack (came_with front)) }
-        ensures after { OnOk result (self.new ≡ left_by stream (frame_step stream (incoming_bytes T.items front) now self.old).1) }
+        ensures after { OnOk result (self.new ≡ left_by stream (carried_step carrier (incoming_bytes T.items front) now self.old).1) }
         ensures err { OnErr result (self.new ≡ self.old) }
-        ensures wanted { OnErr result (frame_takes_memory stream (incoming_bytes T.items front) self.old ≡ true) }
+        ensures wanted { OnErr result (carried_takes_memory carrier (incoming_bytes T.items front) self.old ≡ true) }
     {
         match front {
             IncomingTcp::CompleteMessage(transmit, place) => {
-                self.lent_frame(stream, transmit, place, now)
+                self.lent_frame(stream, carrier, FrameKind::Message, transmit, place, now)
             }
             IncomingTcp::CompleteChannel(transmit, place) => {
-                self.lent_frame(stream, transmit, place, now)
+                self.lent_frame(stream, carrier, FrameKind::Channel, transmit, place, now)
             }
             IncomingTcp::StoredMessage(frame, transmit) => {
-                self.stored_frame(stream, frame, transmit, now)
+                self.stored_frame(stream, carrier, FrameKind::Message, frame, transmit, now)
             }
             IncomingTcp::StoredChannel(frame, transmit) => {
-                self.stored_frame(stream, frame, transmit, now)
+                self.stored_frame(stream, carrier, FrameKind::Channel, frame, transmit, now)
             }
         }
     }
@@ -276,6 +278,8 @@ impl TurnClientTcpProtocol {
     fn lent_frame<T: AsSlice<u8> + Debug + Drop>(
         &mut self,
         stream: BufferedStream,
+        carrier: Carrier,
+        kind: FrameKind,
         transmit: Transmit<T>,
         place: Range<usize>,
         now: Instant,
@@ -283,16 +287,17 @@ impl TurnClientTcpProtocol {
         requires front { place.start ≡ 0 }
         requires inside { place.end ≤ length (T.items transmit.payload) }
         requires whole { let frame = bytes_in_range (T.items transmit.payload) place in frame_len frame ≡ Some (length frame) }
+        requires kind { IsOfKind kind (bytes_in_range (T.items transmit.payload) place) }
         requires before { self.old.phase ≡ Phase.Authenticating → self.old.grants ≡ [] }
-        ensures answer { IfOk result (λ given. outcome_of given ≡ (frame_step stream (bytes_in_range (T.items transmit.payload) place) now self.old).0) }
+        ensures answer { IfOk result (λ given. outcome_of given ≡ (carried_step carrier (bytes_in_range (T.items transmit.payload) place) now self.old).0) }
         ensures hands_back { IfOk result (HandsBack transmit) }
-        ensures after { OnOk result (self.new ≡ left_by stream (frame_step stream (bytes_in_range (T.items transmit.payload) place) now self.old).1) }
+        ensures after { OnOk result (self.new ≡ left_by stream (carried_step carrier (bytes_in_range (T.items transmit.payload) place) now self.old).1) }
         ensures err { OnErr result (self.new ≡ self.old) }
-        ensures wanted { OnErr result (frame_takes_memory stream (bytes_in_range (T.items transmit.payload) place) self.old ≡ true) }
+        ensures wanted { OnErr result (carried_takes_memory carrier (bytes_in_range (T.items transmit.payload) place) self.old ≡ true) }
     {
         let frame = &transmit.payload.as_slice()[place.start..place.end];
-        let reported = self.frame(&stream, frame, now)?;
-        self.put(stream);
+        let reported = self.frame(carrier, kind, frame, now)?;
+        self.streams.put(stream);
         Ok(reported.lent(transmit))
     }
 
@@ -304,20 +309,23 @@ impl TurnClientTcpProtocol {
     fn stored_frame<T: AsSlice<u8> + Debug + Drop>(
         &mut self,
         stream: BufferedStream,
+        carrier: Carrier,
+        kind: FrameKind,
         frame: Vec<u8>,
         transmit: Transmit<T>,
         now: Instant,
     ) -> Result<TurnRecvRet<T>, AllocError>
         requires whole { frame_len frame.items ≡ Some (length frame.items) }
+        requires kind { IsOfKind kind frame.items }
         requires before { self.old.phase ≡ Phase.Authenticating → self.old.grants ≡ [] }
-        ensures answer { IfOk result (λ given. outcome_of given ≡ owned (frame_step stream frame.items now self.old).0) }
+        ensures answer { IfOk result (λ given. outcome_of given ≡ owned (carried_step carrier frame.items now self.old).0) }
         ensures hands_back { IfOk result (HandsBack transmit) }
-        ensures after { OnOk result (self.new ≡ left_by stream (frame_step stream frame.items now self.old).1) }
+        ensures after { OnOk result (self.new ≡ left_by stream (carried_step carrier frame.items now self.old).1) }
         ensures err { OnErr result (self.new ≡ self.old) }
-        ensures wanted { OnErr result (frame_takes_memory stream frame.items self.old ≡ true) }
+        ensures wanted { OnErr result (carried_takes_memory carrier frame.items self.old ≡ true) }
     {
-        let reported = self.frame(&stream, frame.as_slice(), now)?;
-        self.put(stream);
+        let reported = self.frame(carrier, kind, frame.as_slice(), now)?;
+        self.streams.put(stream);
         Ok(reported.owned(frame, transmit))
     }
 

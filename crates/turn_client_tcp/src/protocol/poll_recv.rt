@@ -1,25 +1,23 @@
 //! The next frames of a client's streams (RFC 8656, section 12.5; RFC 6062, section 4.3).
 
-ghost use Rattle.std.specs.Prelude.{◌≡◌, All, [], find, length, option_map, true, IfOk, IsNone, IsOk, None, OnErr, OnOk, Some};
+ghost use Rattle.std.specs.Prelude.{◌≡◌, All, [], option_map, true, IfOk, IsNone, IsOk, None, OnErr, OnOk};
 ghost use Rattle.turn_client_api.specs.Answers.{EndsAfterSteps, given_payload};
 ghost use Rattle.turn_client_laws.specs.LawsOrder.{IsUngranted};
-ghost use Rattle.turn_client_api.specs.Memory.{frame_takes_memory};
-ghost use Rattle.turn_client_api.specs.Streams.{HoldsLittle, broken_at, frame_step, framed_stream_step, is_bound, is_ready};
-ghost use Rattle.turn_client_api.specs.Streams.{detached_frame_step, poll_recv_step, with_bytes};
+ghost use Rattle.turn_client_api.specs.Streams.{HoldsLittle, framed_stream_step, is_bound};
+ghost use Rattle.turn_client_api.specs.Streams.{detached_frame_step, poll_recv_step};
+ghost use Rattle.turn_client_tcp.specs.Carriers.{IsCarriedBy};
 ghost use Rattle.turn_client_tcp.specs.Lent.{IsBoundFirst};
 ghost use Rattle.turn_client_core.specs.ProtocolRecv.{IsPart, outcome_in};
 ghost use Rattle.turn_client_tcp.specs.StreamSteps.{received_payload, owned_payload};
 ghost use Rattle.turn_client_tcp.specs.Wanted.{EndsInNeed, FrontWantsMemory, StepWantsMemory};
-ghost use Rattle.turn_client_streams.specs.Held.{taken_out};
-ghost use Rattle.turn_types.specs.Frames.{frame_len};
 
 use crate::protocol::TurnClientTcpProtocol;
+use crate::protocol::frame::Carrier;
 use crate::received::Received;
 use std::alloc::AllocError;
-use std::net::SocketAddr;
 use turn_client_api::{Mode, Phase, TurnPeerData};
 use turn_client_core::TurnProtocolRecv;
-use turn_client_streams::BufferedStream;
+use turn_client_streams::{BufferedStream, Front};
 use turn_stun::instant::Instant;
 use turn_stun::transport::TransportType;
 
@@ -67,43 +65,18 @@ impl TurnClientTcpProtocol {
         ensures wanted { OnErr result (EndsInNeed now self.old self.new) }
         ensures free { IsBoundFirst self.old → IsOk result }
     {
-        while let Some(stream) = self.take_ready() {
+        while let Some(stream) = self.streams.take_ready() {
             let local = stream.local();
             match self.process_detached(stream, now) {
                 Ok(None) => {}
                 Ok(Some(given)) => return Ok(Some(given)),
                 Err(refusal) => {
-                    self.break_at(local);
-                    self.close();
+                    self.end_at(local);
                     return Err(refusal);
                 }
             }
         }
         Ok(None)
-    }
-
-    /// Takes out the first stream that is ready.
-    fn take_ready(&mut self) -> Option<BufferedStream>
-        ensures stream { result ≡ find is_ready self.old.streams }
-        ensures little { IsNone result → All HoldsLittle self.new.streams }
-        ensures after { self.new ≡ taken_out result self.old }
-    {
-        self.streams.take_ready()
-    }
-
-    /// Breaks the stream at this local address: it delivers nothing more.
-    pub(crate) fn break_at(&mut self, local: SocketAddr)
-        ensures { self.new ≡ broken_at local self.old }
-    {
-        self.streams.break_at(local);
-    }
-
-    /// Puts the bytes of this stream, which was taken out, back into the stream at the same local
-    /// address.
-    pub(crate) fn put(&mut self, stream: BufferedStream)
-        ensures { self.new ≡ with_bytes stream.local stream.bytes self.old }
-    {
-        self.streams.put(stream);
     }
 
     /// Processes the next frame of a stream that is taken out, or the data of a bound one.
@@ -125,8 +98,11 @@ impl TurnClientTcpProtocol {
         ensures free { is_bound stream.mode ≡ true → IsOk result }
     {
         match stream.mode() {
-            Mode::Control => self.framed_stream_step(stream, now),
-            Mode::Waiting => self.framed_stream_step(stream, now),
+            Mode::Control => self.framed_stream_step(stream, Carrier::Control, now),
+            Mode::Waiting => {
+                let carrier = Carrier::Waiting(stream.local());
+                self.framed_stream_step(stream, carrier, now)
+            }
             Mode::Bound(peer) => Ok(Some(Received {
                 transport: TransportType::Tcp,
                 peer,
@@ -145,57 +121,33 @@ impl TurnClientTcpProtocol {
     fn framed_stream_step(
         &mut self,
         mut stream: BufferedStream,
+        carrier: Carrier,
         now: Instant,
     ) -> Result<Option<Received>, AllocError>
+        requires carrier { IsCarriedBy carrier stream }
         requires before { self.old.phase ≡ Phase.Authenticating → self.old.grants ≡ [] }
         ensures answer { IfOk result (λ given. option_map received_payload given ≡ owned_payload (framed_stream_step stream now self.old).0) }
         ensures after { OnOk result (self.new ≡ (framed_stream_step stream now self.old).1) }
         ensures err { OnErr result (self.new ≡ self.old) }
         ensures wanted { OnErr result (FrontWantsMemory stream now self.old) }
     {
-        if stream.is_stuck() {
-            self.break_at(stream.local());
-            return Ok(None);
-        }
-        let Some(frame) = stream.front() else {
-            self.put(stream);
-            return Ok(None);
-        };
-        let reported = self.frame(&stream, frame, now)?;
-        let given = self.owned(frame, reported)?;
-        stream.pass();
-        self.put(stream);
-        Ok(given)
-    }
-
-    /// Processes a whole frame of a stream, or bytes of a bound one.
-    ///
-    /// # Errors
-    ///
-    /// If memory allocation fails. Nothing changes then.
-    pub(crate) fn frame(
-        &mut self,
-        stream: &BufferedStream,
-        frame: &[u8],
-        now: Instant,
-    ) -> Result<TurnProtocolRecv, AllocError>
-        requires whole { frame_len frame.now ≡ Some (length frame.now) }
-        requires before { self.old.phase ≡ Phase.Authenticating → self.old.grants ≡ [] }
-        ensures answer { IfOk result (λ reported. outcome_in frame.now reported ≡ (frame_step stream.now frame.now now self.old).0) }
-        ensures part { IfOk result (IsPart frame.now self.old self.new) }
-        ensures after { OnOk result (self.new ≡ (frame_step stream.now frame.now now self.old).1) }
-        ensures err { OnErr result (self.new ≡ self.old) }
-        ensures wanted { OnErr result (frame_takes_memory stream.now frame.now self.old ≡ true) }
-    {
-        match stream.mode() {
-            Mode::Control => self.control_frame(frame, now),
-            Mode::Waiting => self.waiting_frame(stream.local(), frame, now),
-            Mode::Bound(peer) => Ok(TurnProtocolRecv::PeerData(
-                TransportType::Tcp,
-                peer,
-                0..frame.len(),
-            )),
-            Mode::Broken => Ok(TurnProtocolRecv::Handled),
+        match stream.front() {
+            Front::Frame(kind, frame) => {
+                let reported = self.frame(carrier, kind, frame, now)?;
+                let given = self.owned(frame, reported)?;
+                let len = frame.len();
+                stream.pass(len);
+                self.streams.put(stream);
+                Ok(given)
+            }
+            Front::Partial => {
+                self.streams.put(stream);
+                Ok(None)
+            }
+            Front::Stuck => {
+                self.streams.break_at(stream.local());
+                Ok(None)
+            }
         }
     }
 

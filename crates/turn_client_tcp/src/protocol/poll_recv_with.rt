@@ -41,7 +41,7 @@ impl TurnClientTcpProtocol {
         };
         let ChannelFrame { peer, payload, len } = frame;
         let given = read(self.control.allocation_transport(), *peer, payload);
-        self.pass_control(len);
+        self.streams.pass_control(len);
         Ok(Some(given))
     }
 

@@ -6,18 +6,16 @@ ghost use Rattle.turn_agent.specs.Agent.{same_address};
 ghost use Rattle.turn_stun.specs.declared.transport.TransportType.TheVariants.{Tcp};
 ghost use Rattle.turn_client_api.specs.Answers.{EndsAfterSteps, HandsBack, RecvEnds, outcome_of};
 ghost use Rattle.turn_client_laws.specs.LawsOrder.{IsUngranted};
-ghost use Rattle.turn_client_api.specs.Receive.{connection_gone};
-ghost use Rattle.turn_client_api.specs.Streams.{stream_at, without_stream};
-ghost use Rattle.turn_client_tcp.specs.StreamSteps.{broken_piece_step, is_broken, piece_at, piece_takes_none};
-ghost use Rattle.turn_client_streams.specs.Held.{taken_out};
+ghost use Rattle.turn_client_api.specs.Streams.{stream_at};
+ghost use Rattle.turn_client_tcp.specs.StreamSteps.{broken_piece_step, piece_at, piece_takes_none};
+ghost use Rattle.turn_client_streams.specs.Buffered.{is_broken_mode};
 
 use crate::protocol::TurnClientTcpProtocol;
 use std::alloc::AllocError;
 use std::convert::AsSlice;
 use std::fmt::Debug;
 use std::net::SocketAddr;
-use turn_client_api::{Mode, TurnRecvRet};
-use turn_client_streams::BufferedStream;
+use turn_client_api::TurnRecvRet;
 use turn_stun::instant::Instant;
 use turn_stun::transport::Transmit;
 
@@ -65,8 +63,9 @@ impl TurnClientTcpProtocol {
         let Some(local) = self.stream_local(transmit.to) else {
             return TurnRecvRet::Ignored(transmit);
         };
-        self.connection_gone(local);
-        self.remove(local);
+        // The caller is to close its end of the connection before all others that it is to close.
+        self.control.connection_gone(local);
+        self.streams.remove(local);
         TurnRecvRet::Handled
     }
 
@@ -78,21 +77,6 @@ impl TurnClientTcpProtocol {
             Some(stream) => Some(stream.local()),
             None => None,
         }
-    }
-
-    /// Drops the stream at this local address.
-    fn remove(&mut self, local: SocketAddr)
-        ensures { self.new ≡ without_stream local self.old }
-    {
-        self.streams.remove(local);
-    }
-
-    /// Removes the connection from this local address, if there is one: the caller is to close its end
-    /// before all others that it is to close. Its stream stays.
-    fn connection_gone(&mut self, local: SocketAddr)
-        ensures { self.new ≡ connection_gone local self.old }
-    {
-        self.control.connection_gone(local);
     }
 
     /// Processes the next bytes of the stream at their local address.
@@ -122,10 +106,10 @@ impl TurnClientTcpProtocol {
 
     /// Whether the stream at this local address is broken.
     fn is_broken_at(&self, local: SocketAddr) -> bool
-        ensures { result ≡ option_map_or (λ stream. is_broken stream.mode) (stream_at local self.now) false }
+        ensures { result ≡ option_map_or (λ stream. is_broken_mode stream.mode) (stream_at local self.now) false }
     {
         match self.streams.get(local) {
-            Some(stream) => is_broken(stream.mode()),
+            Some(stream) => stream.is_broken(),
             None => false,
         }
     }
@@ -166,7 +150,7 @@ impl TurnClientTcpProtocol {
         now: Instant,
     ) -> Result<TurnRecvRet<T>, AllocError>
         requires some { 0 < length (T.items transmit.payload) }
-        requires whole { option_map_or (λ stream. is_broken stream.mode) (stream_at transmit.to self.old) false ≡ false }
+        requires whole { option_map_or (λ stream. is_broken_mode stream.mode) (stream_at transmit.to self.old) false ≡ false }
         requires before { IsUngranted self.old.phase → self.old.grants ≡ [] }
         ensures answer { IfOk result (λ given. outcome_of given ≡ (piece_at transmit.to (T.items transmit.payload) now self.old).0) }
         ensures hands_back { IfOk result (HandsBack transmit) }
@@ -174,29 +158,9 @@ impl TurnClientTcpProtocol {
         ensures no_memory { self.old.transport ≡ Tcp → OnErr result (RecvEnds transmit.to (T.items transmit.payload) now self.old self.new) }
         ensures free { piece_takes_none transmit.to (T.items transmit.payload) self.old ≡ true → IsOk result }
     {
-        let Some(stream) = self.take_at(transmit.to) else {
+        let Some(stream) = self.streams.take_at(transmit.to) else {
             return Ok(TurnRecvRet::Ignored(transmit));
         };
         self.process_piece(stream, transmit, now)
-    }
-
-    /// Takes out the stream at this local address.
-    fn take_at(&mut self, local: SocketAddr) -> Option<BufferedStream>
-        ensures stream { result ≡ stream_at local self.old }
-        ensures after { self.new ≡ taken_out result self.old }
-    {
-        self.streams.take_at(local)
-    }
-}
-
-/// Whether a stream in this mode delivers nothing more.
-fn is_broken(mode: Mode) -> bool
-    ensures { result ≡ is_broken mode }
-{
-    match mode {
-        Mode::Control => false,
-        Mode::Waiting => false,
-        Mode::Bound(_) => false,
-        Mode::Broken => true,
     }
 }

@@ -1,41 +1,50 @@
-use Rattle.std.proofs.Common.{inl, inr, refl, subst, sym, ap, ◌∙◌}
-use Rattle.std.proofs.lemmas.Bool.{false≢true}
-use Rattle.std.specs.Prelude.{IsSome}
-use Rattle.turn_client_api.specs.Payloads.{Outcome}
-use Rattle.turn_client_core.specs.ProtocolRecv.{outcome_in}
-use Rattle.turn_client_tcp.specs.StreamSteps.{owned_payload}
-use Rattle.turn_client_core.proofs.ResultLemmas.{on-err, some-is}
-use Rattle.turn_client_tcp.proofs.TurnLemmas.{framed-none, framed-some, front-wants, front-whole}
+use Rattle.std.proofs.Common.{◌≡◌, ◌∙◌, ap, sym}
+use Rattle.turn_client_api.specs.Streams.{broken_at, framed_stream_step, put_back}
+use Rattle.turn_client_api.specs.declared.state.Stream.{Stream}
+use Rattle.turn_client_streams.specs.Buffered.{passed}
+use Rattle.turn_client_tcp.specs.Carriers.{carried_step}
+use Rattle.turn_client_tcp.specs.StreamSteps.{left_by, owned_payload}
+use Rattle.turn_client_tcp.specs.contracts.protocol.TurnClientTcpProtocol.{the_view}
+use Rattle.turn_client_tcp.proofs.CarrierLemmas.{carried-step}
+use Rattle.turn_client_tcp.proofs.PieceLemmas.{front-begins}
+use Rattle.turn_client_tcp.proofs.TurnLemmas.{framed-none, framed-some, framed-stuck}
 use Rattle.turn_client_tcp.proofs.protocol.TurnClientTcpProtocol.framed_stream_step.Goals as goal
 
-pub frame-requires-clause-whole : goal.frame-requires-clause-whole
-frame-requires-clause-whole c = front-whole c.args.stream c.in-Some.frame.now (rw c.in-Some.is at c.front.ensures.exact)
+pub returns-in_ok-given-in-Frame-clause-answer : goal.returns-in_ok-given-in-Frame-clause-answer
+returns-in_ok-given-in-Frame-clause-answer c =
+    let stream = c.args.stream in
+    let frame = c.in-Frame.frame.now in
+    let now = c.args.now in
+    let t = c.args.self.now in
+    let front = c.in-Frame.ensures.0 in
+    let step : framed_stream_step stream now t ≡ put_back (passed stream).local (passed stream).bytes (carried_step c.args.carrier frame now t) =
+    framed-some stream frame now t (front-begins stream frame front) front
+    ∙ ap (put_back (passed stream).local (passed stream).bytes) (carried-step c.args.carrier stream frame now t c.requires.carrier) in
+    c.in_ok-given-in-Frame.ensures.answer ∙ (ap owned_payload c.in_ok-reported-in-Frame.ensures.answer ∙ sym (ap (λ p. owned_payload p.0) step))
 
-pub returns-in_default-clause-after : goal.returns-in_default-clause-after
-returns-in_default-clause-after c =
-    c.put.ensures
-    ∙ sym (ap (λ p. p.1) (framed-none c.args.stream c.args.now c.args.self.now (sym c.is_stuck.ensures ∙ c.if-is_stuck.false) (rw c.in_default.is at c.front.ensures.exact)))
+pub returns-in_ok-given-in-Frame-clause-after : goal.returns-in_ok-given-in-Frame-clause-after
+returns-in_ok-given-in-Frame-clause-after c =
+    let stream = c.args.stream in
+    let frame = c.in-Frame.frame.now in
+    let now = c.args.now in
+    let t = c.args.self.now in
+    let front = c.in-Frame.ensures.0 in
+    let step : framed_stream_step stream now t ≡ put_back (passed stream).local (passed stream).bytes (carried_step c.args.carrier frame now t) =
+    framed-some stream frame now t (front-begins stream frame front) front
+    ∙ ap (put_back (passed stream).local (passed stream).bytes) (carried-step c.args.carrier stream frame now t c.requires.carrier) in
+    c.put.ensures (the_view c.self.inside)
+    ∙ (ap (λ (u : Stream). left_by u (the_view c.self.inside)) c.pass.ensures
+    ∙ (ap (left_by (passed stream)) (c.self.view_is ∙ c.in_ok-reported-in-Frame.ensures.after) ∙ sym (ap (λ p. p.1) step)))
 
-pub returns-clause-after : goal.returns-clause-after
-returns-clause-after c =
-    rw (
-      c.put-2.ensures,
-      c.pass.ensures,
-      framed-some c.args.stream c.in-Some.frame.now c.args.now c.args.self.now (sym c.is_stuck.ensures ∙ c.if-is_stuck.false)
-          (rw c.in-Some.is at c.front.ensures.exact),
-      ← c.in_ok-reported.ensures.after,
-    )
-    refl
+pub returns-in-Partial-clause-after : goal.returns-in-Partial-clause-after
+returns-in-Partial-clause-after c =
+    c.put-in-Partial.ensures (the_view c.self-in-Partial.inside)
+    ∙ (ap (left_by c.args.stream) c.self-in-Partial.view_is
+    ∙ sym (ap (λ p. p.1) (framed-none c.args.stream c.args.now c.args.self.now c.in-Partial.ensures.1 c.in-Partial.ensures.0)))
 
-pub returns-in_err-reported-clause-wanted : goal.returns-in_err-reported-clause-wanted
-returns-in_err-reported-clause-wanted c =
-    on-err _
-    (front-wants c.args.stream c.in-Some.frame.now c.args.now c.args.self.now (sym c.is_stuck.ensures ∙ c.if-is_stuck.false) (rw c.in-Some.is at c.front.ensures.exact)
-    (inl c.in_err-reported.ensures.wanted))
-
-pub returns-in_err-given-clause-wanted : goal.returns-in_err-given-clause-wanted
-returns-in_err-given-clause-wanted c =
-    let reported = some-is (owned_payload (outcome_in c.in-Some.frame.now c.in_ok-reported.reported)) (λ none. false≢true (c.in_err-given.ensures.memory none)) in
-    on-err _
-    (front-wants c.args.stream c.in-Some.frame.now c.args.now c.args.self.now (sym c.is_stuck.ensures ∙ c.if-is_stuck.false) (rw c.in-Some.is at c.front.ensures.exact)
-    (inr (subst (λ (o : Outcome). IsSome (owned_payload o)) c.in_ok-reported.ensures.answer reported)))
+pub returns-in-Stuck-clause-after : goal.returns-in-Stuck-clause-after
+returns-in-Stuck-clause-after c =
+    c.break_at.ensures (the_view c.self-in-Stuck.inside)
+    ∙ (ap (λ a. broken_at a (the_view c.self-in-Stuck.inside)) c.local.ensures
+    ∙ (ap (broken_at c.args.stream.local) c.self-in-Stuck.view_is
+    ∙ sym (ap (λ p. p.1) (framed-stuck c.args.stream c.args.now c.args.self.now c.in-Stuck.ensures))))

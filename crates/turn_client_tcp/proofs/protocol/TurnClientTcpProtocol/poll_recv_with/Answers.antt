@@ -2,6 +2,8 @@ use Rattle.std.proofs.Common.{◌≡◌, ◌∙◌, Option, ap, refl, subst, sym
 use Rattle.turn_stun.specs.declared.transport.TransportType.{TransportType}
 use Rattle.turn_client_api.specs.Payloads.{Payload}
 use Rattle.turn_client_api.specs.State.{State}
+use Rattle.turn_client_streams.specs.Held.{control_passed}
+use Rattle.turn_client_tcp.specs.contracts.protocol.TurnClientTcpProtocol.{the_view}
 use Rattle.turn_client_tcp.proofs.ControlDataLemmas.{data-given}
 use Rattle.turn_client_tcp.proofs.protocol.TurnClientTcpProtocol.poll_recv_with.Goals as goal
 
@@ -15,4 +17,5 @@ returns-clause-answer g c =
 
 pub returns-clause-after : goal.returns-clause-after
 returns-clause-after g c =
-    c.pass_control.ensures ∙ sym (ap (λ (p : Option Payload × State). p.1) (data-given c.args.now c.args.self.now _ (sym c.in-Some.ensures.payload)))
+    c.pass_control.ensures (the_view c.self.inside)
+    ∙ (ap control_passed c.self.view_is ∙ sym (ap (λ (p : Option Payload × State). p.1) (data-given c.args.now c.args.self.now _ (sym c.in-Some.ensures.payload))))

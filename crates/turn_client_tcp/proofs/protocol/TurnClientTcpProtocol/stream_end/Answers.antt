@@ -1,5 +1,8 @@
 use Rattle.std.proofs.Common.{◌∙◌, ap, sym}
+use Rattle.turn_client_api.specs.Receive.{connection_gone}
 use Rattle.turn_client_api.specs.Streams.{without_stream}
+use Rattle.turn_client_laws.proofs.AnyStreamsCalls.{gone-alike}
+use Rattle.turn_client_laws.proofs.AnyStreamsLemmas.{with_streams}
 use Rattle.turn_client_tcp.proofs.ArrivalLemmas.{end-at, end-none}
 use Rattle.turn_client_tcp.proofs.protocol.TurnClientTcpProtocol.stream_end.Goals as goal
 
@@ -17,5 +20,8 @@ returns-clause-answer g c = λ now.
 
 pub returns-clause-after : goal.returns-clause-after
 returns-clause-after g c = λ now.
-    c.remove.ensures
-    ∙ (ap (without_stream c.in-Some.local) c.connection_gone.ensures ∙ sym (ap (λ p. p.1) (end-at c.args.transmit.to c.in-Some.local now c.args.self.now (sym c.in-Some.is ∙ c.stream_local.ensures))))
+    let x = c.self.inside.streams.list in
+    let local = c.in-Some.local in
+    let gone = ap (with_streams x) c.connection_gone.ensures ∙ (sym (gone-alike x local c.self.inside.control) ∙ ap (connection_gone local) c.self.view_is) in
+    c.remove.ensures c.connection_gone.new.self
+    ∙ (ap (without_stream local) gone ∙ sym (ap (λ p. p.1) (end-at c.args.transmit.to local now c.args.self.now (sym c.in-Some.is ∙ c.stream_local.ensures))))

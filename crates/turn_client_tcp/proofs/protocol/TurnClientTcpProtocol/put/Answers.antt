@@ -1,5 +1,0 @@
-use Rattle.turn_client_tcp.specs.contracts.protocol.TurnClientTcpProtocol.{the_view}
-use Rattle.turn_client_tcp.proofs.protocol.TurnClientTcpProtocol.put.Goals as goal
-
-pub returns : goal.returns
-returns c = rw (← c.self.view_is) (c.put.ensures (the_view c.self.inside))
