@@ -84,6 +84,7 @@ impl TurnClientTcpProtocol {
     /// # Errors
     ///
     /// If memory allocation fails. The stream being processed is broken then, and the client has ended.
+    /// Bytes of a bound stream with no buffered bytes allocate none.
     fn next_piece<T: AsSlice<u8> + Debug + Drop>(
         &mut self,
         transmit: Transmit<T>,
@@ -101,7 +102,10 @@ impl TurnClientTcpProtocol {
             // The other streams go on all the same (our choice): the caller need not know that this one broke.
             return self.broken_piece(transmit.to, now);
         }
-        self.whole_piece(transmit, now)
+        let Some(stream) = self.streams.take_at(transmit.to) else {
+            return Ok(TurnRecvRet::Ignored(transmit));
+        };
+        self.process_piece(stream, transmit, now)
     }
 
     /// Whether the stream at this local address is broken.
@@ -136,31 +140,5 @@ impl TurnClientTcpProtocol {
             return self.others(TurnRecvRet::Handled, now);
         }
         Ok(TurnRecvRet::Handled)
-    }
-
-    /// Processes bytes of the stream at their local address, which is not broken.
-    ///
-    /// # Errors
-    ///
-    /// If memory allocation fails. The stream being processed is broken then, and the client has ended.
-    /// Bytes of a bound stream with no buffered bytes allocate none.
-    fn whole_piece<T: AsSlice<u8> + Debug + Drop>(
-        &mut self,
-        transmit: Transmit<T>,
-        now: Instant,
-    ) -> Result<TurnRecvRet<T>, AllocError>
-        requires some { 0 < length (T.items transmit.payload) }
-        requires whole { option_map_or (λ stream. is_broken_mode stream.mode) (stream_at transmit.to self.old) false ≡ false }
-        requires before { IsUngranted self.old.phase → self.old.grants ≡ [] }
-        ensures answer { IfOk result (λ given. outcome_of given ≡ (piece_at transmit.to (T.items transmit.payload) now self.old).0) }
-        ensures hands_back { IfOk result (HandsBack transmit) }
-        ensures after { OnOk result (self.new ≡ (piece_at transmit.to (T.items transmit.payload) now self.old).1) }
-        ensures no_memory { self.old.transport ≡ Tcp → OnErr result (RecvEnds transmit.to (T.items transmit.payload) now self.old self.new) }
-        ensures free { piece_takes_none transmit.to (T.items transmit.payload) self.old ≡ true → IsOk result }
-    {
-        let Some(stream) = self.streams.take_at(transmit.to) else {
-            return Ok(TurnRecvRet::Ignored(transmit));
-        };
-        self.process_piece(stream, transmit, now)
     }
 }
