@@ -1,9 +1,9 @@
--- What a call of the control machine says, it says of the client with its streams.
+-- What a message and a data connection change in the control machine, they change in the client with its streams.
 use Rattle.std.proofs.Common.{◌≡◌, ℕ, ◌∙◌, Bool, true, false, ◌&&◌, List, Option, Some, None, ap, inl, inr, refl, sym}
 use Rattle.std.specs.Prelude.{Result, Ok, Err, is_some}
 use Rattle.std.specs.declared.net.socket_addr.SocketAddr.{SocketAddr}
 use Rattle.turn_client_api.proofs.HasLemmas.{cases_Option}
-use Rattle.turn_client_api.specs.Answers.{BindsChannel, Connects, CreatesPermission, Deletes, TakesSocket}
+use Rattle.turn_client_api.specs.Answers.{TakesSocket}
 use Rattle.turn_client_api.specs.Calls.{allocated_tcp_socket_step, is_allocated, is_control, is_local_taken, offer_origin, socket_step}
 use Rattle.turn_client_api.specs.Connections.{accepts_attempt, attempt_indicated, connection_at}
 use Rattle.turn_client_api.specs.Judgement as J
@@ -12,16 +12,8 @@ use Rattle.turn_client_api.specs.Memory.{bind_takes_memory, message_takes_memory
 use Rattle.turn_client_api.specs.Payloads.{is_message, message_step}
 use Rattle.turn_client_api.specs.State.{State}
 use Rattle.turn_client_api.specs.Streams.{control_frame_step}
-use Rattle.turn_client_api.specs.declared.error.BindChannelError.{BindChannelError}
-use Rattle.turn_client_api.specs.declared.error.BindChannelError.TheVariants as Bind
-use Rattle.turn_client_api.specs.declared.error.CreatePermissionError.{CreatePermissionError}
-use Rattle.turn_client_api.specs.declared.error.CreatePermissionError.TheVariants as Create
-use Rattle.turn_client_api.specs.declared.error.DeleteError.{DeleteError}
-use Rattle.turn_client_api.specs.declared.error.DeleteError.TheVariants as Delete
 use Rattle.turn_client_api.specs.declared.error.TcpAllocateError.{TcpAllocateError}
 use Rattle.turn_client_api.specs.declared.error.TcpAllocateError.TheVariants as Socket
-use Rattle.turn_client_api.specs.declared.error.TcpConnectError.{TcpConnectError}
-use Rattle.turn_client_api.specs.declared.error.TcpConnectError.TheVariants as Join
 use Rattle.turn_client_api.specs.declared.grant.Origin.{Origin}
 use Rattle.turn_client_api.specs.declared.poll.Socket5Tuple.{Socket5Tuple}
 use Rattle.turn_client_api.specs.declared.state.Stream.{Stream}
@@ -37,23 +29,6 @@ use Rattle.turn_stun.specs.declared.transport.TransportType.TheVariants.{Tcp}
 use Rattle.turn_types.specs.Frames.{begins_message}
 
 module _ (x : List Stream) (was s : State) where
-  pub deletes-with : (r : Result Unit DeleteError) (said : Result Unit DeleteError × State) → Deletes r was s said → Deletes r (with_streams x was) (with_streams x s) (both_with x said)
-  deletes-with (Err Delete.OutOfMemory) said (e, f) = (e, ap (with_streams x) f)
-  deletes-with r said (e, f) = (e, ap (with_streams x) f)
-
-  pub permits-with : (r : Result Unit CreatePermissionError) (said : Result Unit CreatePermissionError × State) → CreatesPermission r was s said
-      → CreatesPermission r (with_streams x was) (with_streams x s) (both_with x said)
-  permits-with (Err Create.OutOfMemory) said (e, f) = (e, ap (with_streams x) f)
-  permits-with r said (e, f) = (e, ap (with_streams x) f)
-
-  pub binds-with : (r : Result Unit BindChannelError) (said : Result Unit BindChannelError × State) → BindsChannel r was s said → BindsChannel r (with_streams x was) (with_streams x s) (both_with x said)
-  binds-with (Err Bind.OutOfMemory) said (e, f) = (e, ap (with_streams x) f)
-  binds-with r said (e, f) = (e, ap (with_streams x) f)
-
-  pub connects-with : (r : Result Unit TcpConnectError) (said : Result Unit TcpConnectError × State) → Connects r was s said → Connects r (with_streams x was) (with_streams x s) (both_with x said)
-  connects-with (Err Join.OutOfMemory) said (e, f) = (e, ap (with_streams x) f)
-  connects-with r said (e, f) = (e, ap (with_streams x) f)
-
   -- ---- what a message told: data changes nothing of both parts
 
   pub part-with : (m : List ℕ) (reported : TurnProtocolRecv) → IsPart m was s reported → IsPart m (with_streams x was) (with_streams x s) reported

@@ -1,4 +1,5 @@
 pub mod Carriers
+pub mod Control
 pub mod ControlData
 pub mod Lent
 pub mod StreamSteps

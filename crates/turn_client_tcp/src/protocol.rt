@@ -2,9 +2,9 @@
 //!
 //! A piece of a stream arrives in `recv`, and `piece` takes its first frame; `poll_recv` takes those that are
 //! buffered. What a frame does stands in `frame`, and the data of a channel that is read where it is buffered
-//! in `control_data`. `calls` passes on what concerns no stream, and `data_socket` opens one.
+//! in `control_data`. `data_socket` opens a stream. What concerns none is asked of the `control` machine itself.
 
-mod calls;
+mod control;
 mod control_data;
 mod data_socket;
 mod frame;

@@ -136,7 +136,7 @@ impl TurnClientTcpProtocol {
         ensures after { OnOk result (self.new ≡ (broken_piece_step local now self.old).1) }
         ensures no_memory { OnErr result ((same_address local self.old.local ≡ true) × EndsAfterSteps now self.old self.new) }
     {
-        if local == self.local_addr() {
+        if local == self.control.local_addr() {
             return self.others(TurnRecvRet::Handled, now);
         }
         Ok(TurnRecvRet::Handled)
