@@ -1,14 +1,16 @@
 -- By its clauses each call of a client leaves a state that the call may leave: what holds after every call
 -- holds after it.
-use Rattle.std.proofs.Common.{◌≡◌, ℕ, Bool, List, Option, Result, Ok, Err, OnErr, OnOk, ap, inl, inr}
+use Rattle.std.proofs.Common.{◌≡◌, ℕ, Bool, true, List, Option, Result, Ok, Err, IsOk, OnErr, OnOk, ap, inl, inr}
+use Rattle.std.proofs.lemmas.Bool.{false_from_ne_true, false≢true}
 use Rattle.std.specs.declared.net.ip_addr.IpAddr.{IpAddr}
 use Rattle.std.specs.declared.net.socket_addr.SocketAddr.{SocketAddr}
+use Rattle.turn_stun.specs.declared.transport.Transmit.{Transmit}
 use Rattle.turn_stun.specs.declared.transport.TransportType.{TransportType}
-use Rattle.turn_client_api.specs.Answers.{BindsChannel, Connects, CreatesPermission, Deletes, TakesSocket, event_step, EndsAfterSteps}
+use Rattle.turn_client_api.specs.Answers.{BindsChannel, Connects, CreatesPermission, Deletes, RecvEnds, TakesSocket, event_step, takes_no_memory, EndsAfterSteps}
 use Rattle.turn_client_api.specs.Calls.{allocated_tcp_socket_step, bind_channel_step, create_permission_step, delete_step, protocol_error_step, send_to_step, tcp_connect_step}
 use Rattle.turn_client_api.specs.Effect.{closed}
 use Rattle.turn_client_api.specs.Poll.{poll_step}
-use Rattle.turn_client_api.specs.Receive.{tcp_closed_step}
+use Rattle.turn_client_api.specs.Receive.{recv_step, tcp_closed_step}
 use Rattle.turn_client_api.specs.State.{State}
 use Rattle.turn_client_api.specs.Steps.{Leaves}
 use Rattle.turn_client_api.specs.Transmit.{transmit_step}
@@ -100,3 +102,9 @@ module _ {Kept : State → Type 0} (keeps : (call : Call) (s t : State) → Leav
     pub drain-keeps : (result : Result A E) (now : ℕ) → OnOk result (t ≡ (poll_recv_step now s).1) → OnErr result (EndsAfterSteps now s t) → Kept s → Kept t
     drain-keeps (Ok x) now e ends = keeps (Call.PollRecv now) s t (inl e)
     drain-keeps (Err x) now e ends = keeps (Call.PollRecv now) s t (inr ends)
+
+    pub recv-keeps : (result : Result A E) (packet : Transmit (List ℕ)) (now : ℕ)
+        → OnOk result (t ≡ (recv_step packet.transport packet.from packet.to packet.payload now s).1) → OnErr result (RecvEnds packet.to packet.payload now s t)
+        → (takes_no_memory packet.transport packet.from packet.to packet.payload s ≡ true → IsOk result) → Kept s → Kept t
+    recv-keeps (Ok x) packet now e ends free = keeps (Call.Recv packet now) s t (inl e)
+    recv-keeps (Err x) packet now e ends free = keeps (Call.Recv packet now) s t (inr (false_from_ne_true _ (λ takes. false≢true (free takes)), ends))

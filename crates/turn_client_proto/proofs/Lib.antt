@@ -1,7 +1,8 @@
 pub mod CallLemmas
 pub mod CarrierLemmas
+pub mod ControlLemmas
 pub mod DeliveredLemmas
 pub mod NoStreamLemmas
+pub mod OverLemmas
 pub mod RunLemmas
-pub mod TcpClientLemmas
-pub mod UdpClientLemmas
+pub mod UdpLemmas

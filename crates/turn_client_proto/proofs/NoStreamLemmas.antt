@@ -1,6 +1,5 @@
 -- A client over UDP gets no streams, and without them nothing is read.
-use Rattle.std.proofs.Common.{◌≡◌, ◌∙◌, ◌&&◌, ℕ, zero, suc, Bool, true, false, cond, List, [], ◌∷◌, Option, None, ap, inl, inr, refl, subst, sym}
-use Rattle.std.proofs.lemmas.Bool.{and_parts}
+use Rattle.std.proofs.Common.{◌≡◌, ◌∙◌, ℕ, zero, suc, Bool, true, false, cond, List, [], ◌∷◌, Option, None, ap, inl, inr, refl, subst, sym}
 use Rattle.std.specs.declared.net.socket_addr.SocketAddr.{SocketAddr}
 use Rattle.turn_agent.specs.Agent.{same_address}
 use Rattle.turn_stun.specs.declared.transport.TransportType.{TransportType}
@@ -41,21 +40,12 @@ never-ends now s t none (u, (n, led), broken) =
     rw empty at broken
 
 -- no stream exists that could be broken
-pub broken-none : (to : SocketAddr) (s : State) → s.streams ≡ [] → broken_at to s ≡ s
+broken-none : (to : SocketAddr) (s : State) → s.streams ≡ [] → broken_at to s ≡ s
 broken-none to s none = by s.streams none
   where
     by : (streams : List Stream) → streams ≡ [] → broken_at to (record s { streams = streams }) ≡ record s { streams = streams }
     by [] e = refl
     by (x ∷ xs) e = cc
-
--- ---- a datagram
-
--- it comes from the server to the client's own address
-pub own-datagram : (transport : TransportType) (from to : SocketAddr) (bytes : List ℕ) (now : ℕ) (s : State) → s.transport ≡ Udp → (is_from_server transport from s && same_address to s.local) ≡ true
-    → recv_step transport from to bytes now s ≡ datagram_step bytes now s
-own-datagram transport from to bytes now s udp own =
-    let (first, second) = and_parts (is_from_server transport from s) (same_address to s.local) own in
-    rw (first, udp, second) refl
 
 -- ---- no stream is added
 

@@ -1,4 +1,3 @@
 pub mod Client
 pub mod Delivered
-pub mod OverTcp
-pub mod OverUdp
+pub mod Over
