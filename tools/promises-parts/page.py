@@ -123,11 +123,13 @@ def kept_rows(crate):
 
 
 def meetings(crate):
-    """Which types meet the contracts of which traits."""
+    """Which types meet the contracts of which traits: those of the crate, and those of other crates that it imports."""
     types = {it.name: it.path for it in crate.types() if id(it) in crate.paths}
     found = {}
-    for it in [it for module in crate.modules for it in module.meetings if it.name in types]:
-        found.setdefault(it.trait, []).append(code(types[it.name]))
+    for module in crate.modules:
+        imported = set(re.findall(r"\w+", " ".join(re.findall(r"^use (?!crate|std)[^;]+;", module.text, re.M))))
+        for it in [it for it in module.meetings if it.name in types or (it.trait in types and it.name in imported)]:
+            found.setdefault(it.trait, []).append(code(types.get(it.name, it.name)))
     return [f"- {code(trait)}: {', '.join(dict.fromkeys(names))}" for trait, names in sorted(found.items())]
 
 

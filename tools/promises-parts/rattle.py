@@ -3,7 +3,7 @@ import re
 from dataclasses import dataclass, field
 
 FUNCTION = re.compile(r'^( *)(pub(?:\([^)]*\))? )?(?:const |unsafe |extern "C" )*fn (\w+)')
-TYPE = re.compile(r"^pub (?:struct|enum|trait) (\w+)")
+TYPE = re.compile(r"^pub (?:struct|enum|trait|type) (\w+)")
 BLOCK = re.compile(r"^(?:pub )?(?:unsafe )?(impl|trait)\b(?:<(?:[^<>]|<[^<>]*>)*>)? (?:(\S.*) for )?(?:\w+::)*(\w+)")
 USE = re.compile(r"^pub use ([^;]+);", re.M)
 MODULE = re.compile(r"^(pub(?:\([^)]*\))? )?mod (\w+);", re.M)
