@@ -1,9 +1,10 @@
 //! The table of grants.
 //!
 //! The grants are a list, in their order, which is scanned while they are few. Of more, a channel and a
-//! permission are found by a hash map, which leads from a channel's number, from the peer of a channel
-//! that is pending or active, and from the IP address of a permission to a copy of the grant. What is read from all grants at once, such as the next expiry and the next
-//! refresh, is a summary. It is computed anew only by a change after which it may be another one.
+//! permission are found by a hash map, which leads from a channel's number, from the peer of a channel that
+//! is pending or active, and from the IP address of a permission to a copy of the grant. What is read from
+//! all grants at once, such as the next expiry and the next refresh, is a summary. It is computed anew only
+//! by a change after which it may be another one.
 
 ghost use Rattle.std.specs.Prelude.{◌≡◌, ◌≤◌, ◌<◌, ◌+◌, ◌++◌, ◌∷◌, ◌==◌, ◌&&◌, [], false, true, None, filter, length, map, not, OnOk};
 ghost use Rattle.std.specs.List.{list_all, list_any};
