@@ -14,12 +14,12 @@ use crate::grant_filter::GrantFilter;
 use crate::kind::{is_channel_of, is_permission_of};
 use std::alloc::AllocError;
 use std::collections::HashMap;
-use std::hash::Hash;
+use std::hash::{Hash, Hasher};
 use std::net::{IpAddr, SocketAddr};
 use turn_client_api::{Grant, Progress};
 
 /// A key by which a grant is found.
-#[derive(Clone, Copy, Debug, PartialEq, Eq, Hash)]
+#[derive(Clone, Copy, Debug, PartialEq, Eq)]
 pub enum Key {
     /// The number of a channel.
     Number(u16),
@@ -27,6 +27,39 @@ pub enum Key {
     Peer(SocketAddr),
     /// The IP address of a permission.
     Ip(IpAddr),
+}
+
+// An IPv4 address is written at once with its port and what kind of key it is, since each write costs a
+// multiplication, and a derived `hash` makes one for each octet.
+//
+// The client chooses the numbers of channels, but peers choose their addresses, and the hasher has no secret
+// seed: strangers can find addresses that collide. That is safe, since no packet adds a key. The map has only
+// peers that the caller permitted or bound, whose number the caller bounds (docs/SECURITY.md, "The caller"),
+// and a look-up compares each of them at most once.
+impl Hash for Key {
+    ghost use Rattle.std.proofs.Common.{rules};
+    ghost use Rattle.std.specs.Cmp.Rules.{hashing};
+    ghost use Rattle.turn_client_grants.specs.KeyHash.{key_writes};
+
+    ghost hash_input = { key_writes };
+
+    ghost respects_eq = { Prim.search (hashing, rules) };
+
+    fn hash<H: Hasher>(&self, state: &mut H) {
+        match self {
+            Key::Number(number) => state.write_u64(u64::from(*number)),
+            Key::Peer(SocketAddr::V4(peer)) => {
+                let ip = u64::from(peer.ip().to_bits());
+                state.write_u64(1 << 48 | ip << 16 | u64::from(peer.port()));
+            }
+            Key::Peer(SocketAddr::V6(peer)) => {
+                state.write_u128(peer.ip().to_bits());
+                state.write_u64(1 << 16 | u64::from(peer.port()));
+            }
+            Key::Ip(IpAddr::V4(ip)) => state.write_u64(2 << 48 | u64::from(ip.to_bits())),
+            Key::Ip(IpAddr::V6(ip)) => state.write_u128(ip.to_bits()),
+        }
+    }
 }
 
 impl Key {
