@@ -280,3 +280,9 @@ pub first-mapped : {X : Type 0} (f : Grant → Option X) (map : Key → Option G
     → made ≡ true → ((g : Grant) → is_found_by k g ≡ false → f g ≡ None) → first_among f rows ≡ option_and_then f (map k)
 first-mapped f map rows k made is on other =
     first-found f (leads is_found_by made map rows) rows k is other ∙ ap (option_and_then f) (leads-made is_found_by made map rows k on)
+
+-- such a map leads to a grant that its key finds
+pub mapped-passes : (map : Key → Option Grant) (rows : List Grant) (k : Key) (made : Bool) (g : Grant) → IsIndex is_found_by (leads is_found_by made map rows) rows → made ≡ true
+    → map k ≡ Some g → is_found_by k g ≡ true
+mapped-passes map rows k made g is on at =
+    first-passes (is_found_by k) rows g (index-found is_found_by (leads is_found_by made map rows) rows k g is (leads-made is_found_by made map rows k on ∙ at))

@@ -1,14 +1,14 @@
 //! What is read from a table.
 
-ghost use Rattle.std.specs.Prelude.{◌≡◌, ◌==◌, ◌<◌, ◌&&◌, ◌||◌, All, map, filter, filter_map, find, fold, length, min, nat_le, nat_lt, not, option_map};
+ghost use Rattle.std.specs.Prelude.{◌≡◌, ℕ, ◌==◌, ◌<◌, ◌&&◌, ◌||◌, All, map, filter, filter_map, find, fold, length, min, nat_le, nat_lt, not, option_map};
 ghost use Rattle.std.specs.Prelude.{option_copied, option_to_list, reverse, slice_get, false, true, IfSome};
 ghost use Rattle.std.specs.Duration.{as_nanos};
 ghost use Rattle.std.specs.List.{list_all, list_any};
 ghost use Rattle.turn_agent.specs.Agent.{same_address};
 ghost use Rattle.turn_client_api.specs.Addresses.{permitted_left, permitted_in_use};
-ghost use Rattle.turn_client_api.specs.Calls.{active_channel, is_in_progress, progress_to, reserved_from};
+ghost use Rattle.turn_client_api.specs.Calls.{active_channel, is_in_progress, is_open_to, progress_to, reserved_from};
 ghost use Rattle.turn_client_api.specs.Grants.{find_allocation, allocations, channel_at, channel_peer, as_allocation, first_in};
-ghost use Rattle.turn_client_api.specs.Grants.{is_of, is_of_family, is_of_request, has_active_permission, permission_progress};
+ghost use Rattle.turn_client_api.specs.Grants.{is_channel_of, is_of, is_of_family, is_of_request, is_permission_of, has_active_permission, permission_progress};
 ghost use Rattle.turn_client_api.specs.Judgement.{is_bind_of};
 ghost use Rattle.turn_client_api.specs.Poll.{is_expired_channel, next_offer};
 ghost use Rattle.turn_client_api.specs.State.{State};
@@ -136,7 +136,7 @@ impl GrantTable {
         }
         let key = Key::Ip(ip);
         match self.index.found.get(&key) {
-            Some(grant) => permission_in(ip, grant),
+            Some(grant) => progress_of(grant),
             None => None,
         }
     }
@@ -186,7 +186,7 @@ impl GrantTable {
         }
         let key = Key::Number(number);
         match self.index.found.get(&key) {
-            Some(grant) => peer_in(number, grant),
+            Some(grant) => active_peer_of(grant),
             None => None,
         }
     }
@@ -203,7 +203,7 @@ impl GrantTable {
         }
         let key = Key::Peer(peer);
         match self.index.found.get(&key) {
-            Some(grant) => active_in(peer, grant),
+            Some(grant) => active_number_of(grant),
             None => None,
         }
     }
@@ -315,13 +315,13 @@ impl GrantTable {
     }
 }
 
-/// The progress of the permission, if the grant is the one for this IP address.
+/// The progress of the grant, if it is a permission.
 #[inline(always)]
-fn permission_in(ip: IpAddr, grant: &Grant) -> Option<Progress>
-    ensures { result ≡ permission_progress ip grant.now }
+fn progress_of(grant: &Grant) -> Option<Progress>
+    ensures { (ip : IpAddr) → is_permission_of ip grant.now ≡ true → result ≡ permission_progress ip grant.now }
 {
     match grant {
-        Grant::Permission(other, progress) if *other == ip => Some(*progress),
+        Grant::Permission(_, progress) => Some(*progress),
         _ => None,
     }
 }
@@ -346,26 +346,24 @@ fn progress_in(number: u16, grant: &Grant) -> Option<Progress>
     }
 }
 
-/// The peer of the grant, if it is the active channel with this number.
+/// The peer of the grant, if it is an active channel.
 #[inline(always)]
-fn peer_in(number: u16, grant: &Grant) -> Option<&SocketAddr>
-    ensures { option_copied result ≡ channel_peer number grant.now }
+fn active_peer_of(grant: &Grant) -> Option<&SocketAddr>
+    ensures { (number : ℕ) → is_channel_of number grant.now ≡ true → option_copied result ≡ channel_peer number grant.now }
 {
     match grant {
-        Grant::Channel(other, peer, Progress::Active(_)) if *other == number => Some(peer),
+        Grant::Channel(_, peer, Progress::Active(_)) => Some(peer),
         _ => None,
     }
 }
 
-/// The number and the expiry of the grant, if it is an active channel to the peer.
+/// The number and the expiry of the grant, if it is an active channel.
 #[inline(always)]
-fn active_in(peer: SocketAddr, grant: &Grant) -> Option<(u16, Instant)>
-    ensures { result ≡ active_channel peer grant.now }
+fn active_number_of(grant: &Grant) -> Option<(u16, Instant)>
+    ensures { (peer : SocketAddr) → is_open_to peer grant.now ≡ true → result ≡ active_channel peer grant.now }
 {
     match grant {
-        Grant::Channel(number, other, Progress::Active(lease)) if *other == peer => {
-            Some((*number, lease.expiry))
-        }
+        Grant::Channel(number, _, Progress::Active(lease)) => Some((*number, lease.expiry)),
         _ => None,
     }
 }

@@ -6,14 +6,16 @@ use Rattle.turn_client_grants.proofs.NumberLemmas.{active-numbered}
 use Rattle.turn_client_grants.specs.Lists.{first_among}
 use Rattle.turn_client_grants.specs.Table.{Table}
 use Rattle.turn_client_grants.specs.declared.key.Key.TheVariants as By
-use Rattle.turn_client_grants.proofs.KeyLemmas.{first-mapped, other-active}
+use Rattle.turn_client_grants.proofs.KeyLemmas.{first-mapped, mapped-passes, other-active}
 use Rattle.turn_client_grants.proofs.HalfLemmas.{many-made}
 use Rattle.turn_client_grants.proofs.SameKeys.{key_eq}
 use Rattle.turn_client_grants.proofs.table.GrantTable.active_channel.Goals as goal
 
 pub returns-in-Some-clause-found : goal.returns-in-Some-clause-found
 returns-in-Some-clause-found c =
-    c.active_in.ensures ∙ (sym (first-mapped (active_channel c.args.peer) (hash.get key_eq c.self.inside.index.found) c.self.inside.grants.items (By.Peer c.args.peer) c.self.inside.index.is_made c.self.invariant.found (many-made c.self.inside.index.is_made (length c.self.inside.grants.items) c.self.invariant.few (omega (arith, c.if-len-le-FEW.false)))
+    c.active_number_of.ensures c.args.peer
+    (mapped-passes (hash.get key_eq c.self.inside.index.found) c.self.inside.grants.items (By.Peer c.args.peer) c.self.inside.index.is_made _ c.self.invariant.found (many-made c.self.inside.index.is_made (length c.self.inside.grants.items) c.self.invariant.few (omega (arith, c.if-len-le-FEW.false))) (sym c.in-Some.ensures.value))
+    ∙ (sym (first-mapped (active_channel c.args.peer) (hash.get key_eq c.self.inside.index.found) c.self.inside.grants.items (By.Peer c.args.peer) c.self.inside.index.is_made c.self.invariant.found (many-made c.self.inside.index.is_made (length c.self.inside.grants.items) c.self.invariant.few (omega (arith, c.if-len-le-FEW.false)))
     (other-active c.args.peer) ∙ ap (option_and_then (active_channel c.args.peer)) (sym c.in-Some.ensures.value))
     ∙ ap (λ (t : Table). first_among (active_channel c.args.peer) t.grants) c.self.view_is)
 
@@ -24,7 +26,9 @@ returns-in-None-clause-found c =
 
 pub returns-in-Some-clause-numbered : goal.returns-in-Some-clause-numbered
 returns-in-Some-clause-numbered c =
-    rw (c.active_in.ensures ∙ sym (first-mapped (active_channel c.args.peer) (hash.get key_eq c.self.inside.index.found) c.self.inside.grants.items (By.Peer c.args.peer) c.self.inside.index.is_made c.self.invariant.found (many-made c.self.inside.index.is_made (length c.self.inside.grants.items) c.self.invariant.few (omega (arith, c.if-len-le-FEW.false)))
+    rw (c.active_number_of.ensures c.args.peer
+    (mapped-passes (hash.get key_eq c.self.inside.index.found) c.self.inside.grants.items (By.Peer c.args.peer) c.self.inside.index.is_made _ c.self.invariant.found (many-made c.self.inside.index.is_made (length c.self.inside.grants.items) c.self.invariant.few (omega (arith, c.if-len-le-FEW.false))) (sym c.in-Some.ensures.value))
+    ∙ sym (first-mapped (active_channel c.args.peer) (hash.get key_eq c.self.inside.index.found) c.self.inside.grants.items (By.Peer c.args.peer) c.self.inside.index.is_made c.self.invariant.found (many-made c.self.inside.index.is_made (length c.self.inside.grants.items) c.self.invariant.few (omega (arith, c.if-len-le-FEW.false)))
     (other-active c.args.peer) ∙ ap (option_and_then (active_channel c.args.peer)) (sym c.in-Some.ensures.value)))
     (active-numbered c.args.peer c.self.inside.grants.items c.self.invariant.table.numbers)
 
