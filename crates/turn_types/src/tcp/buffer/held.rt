@@ -1,7 +1,7 @@
 //! What a buffer holds, and how it changes.
 
 ghost use Rattle.std.specs.Prelude.{◌≡◌, ◌+◌, ◌-◌, ◌≤◌, false, [], length, take, drop, OnOk, OnErr, IsOk, IfOk};
-ghost use Rattle.turn_types.specs.Buffers.{UpdatesCounts, IsKept, broken_off, stored, cut_off, left_of, with_taken};
+ghost use Rattle.turn_types.specs.Buffers.{UpdatesCounts, IsKept, broken_off, stored, cut_off, left_of};
 ghost use Rattle.turn_types.specs.Streams.{broken_stream, framed};
 
 use crate::tcp::buffer::TurnTcpBuffer;
@@ -53,9 +53,11 @@ impl TurnTcpBuffer {
         self.bytes.extend_from_slice(piece)
     }
 
-    /// Advances past a frame of so many bytes. The rest moves to the front if it is shorter than all that
-    /// was taken before it, so that no more is moved than taken (our choice).
-    pub(super) fn advance(&mut self, len: usize)
+    /// Drops the next frame, which has so many bytes, as the one that `front` returned. Allocates no memory.
+    ///
+    /// It does the same as `pass`, and does not read the header of the frame again. The rest moves to the front
+    /// if it is shorter than all that was taken before it, so that no more is moved than taken (our choice).
+    pub fn pass_front(&mut self, len: usize)
         requires { len ≤ length self.old.stream.bytes }
         ensures after { self.new ≡ cut_off len self.old }
         ensures kept { IsKept self.new }
@@ -70,14 +72,6 @@ impl TurnTcpBuffer {
         }
     }
 
-    /// Counts a frame that is returned without having been buffered.
-    fn pass_by(&mut self, len: usize)
-        ensures after { self.new ≡ record { stream = self.old.stream; start = self.old.start; counts = with_taken len self.old.counts } }
-        ensures kept { IsKept self.new }
-    {
-        self.counts.add_taken(len);
-    }
-
     /// Returns a copy of the first frame, of so many bytes. An allocation failure breaks the stream.
     pub(super) fn take_front(&mut self, len: usize) -> Result<Vec<u8>, AllocError>
         requires { len ≤ length self.old.stream.bytes }
@@ -90,7 +84,7 @@ impl TurnTcpBuffer {
         let alloc = *self.bytes.allocator();
         match Vec::from_slice(alloc, &self.rest()[..len]) {
             Ok(frame) => {
-                self.advance(len);
+                self.pass_front(len);
                 Ok(frame)
             }
             Err(error) => {
@@ -114,7 +108,8 @@ impl TurnTcpBuffer {
     {
         match self.store(&piece[len..]) {
             Ok(()) => {
-                self.pass_by(len);
+                // A frame that is returned was never buffered.
+                self.counts.add_taken(len);
                 Ok(())
             }
             Err(error) => {

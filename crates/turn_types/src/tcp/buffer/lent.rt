@@ -1,9 +1,9 @@
 //! Frames that are read where they are buffered.
 
-ghost use Rattle.std.specs.Prelude.{◌≡◌, ◌+◌, ◌<◌, true, length, None, Some, OnOk, OnErr, IsOk, IsNone, IfSome};
+ghost use Rattle.std.specs.Prelude.{◌≡◌, ◌+◌, ◌<◌, true, length, None, OnOk, OnErr, IsOk, IsNone, IfSome};
 ghost use Rattle.std.specs.Option.{option_copied};
 ghost use Rattle.turn_types.specs.Buffers.{UpdatesCounts, IsKept, left_of};
-ghost use Rattle.turn_types.specs.Frames.{IsFrame, begins_no_frame, frame_len};
+ghost use Rattle.turn_types.specs.Frames.{IsFrame, begins_no_frame};
 ghost use Rattle.turn_types.specs.Streams.{next_frame_after, broken_stream, with_piece};
 ghost use Rattle.turn_types.specs.Streams.Call.{Feed, Poll};
 
@@ -69,22 +69,8 @@ impl TurnTcpBuffer {
         match head_of(self.rest()) {
             Head::Partial => {}
             Head::NoFrame => self.break_off(0),
-            Head::Message(len) | Head::Channel(len) => self.advance(len),
+            Head::Message(len) | Head::Channel(len) => self.pass_front(len),
         }
-    }
-
-    /// Drops the next frame, which is whole and has so many bytes, as the one that `front` returned. Allocates no memory.
-    ///
-    /// It does the same as `pass`, and does not read the header of the frame again.
-    pub fn pass_front(&mut self, len: usize)
-        requires { frame_len self.old.stream.bytes ≡ Some len }
-        ensures after { self.new.stream ≡ (next_frame_after self.old.stream Poll).after }
-
-        // The bytes that are held, and those that were moved.
-        ensures kept { IsKept self.new }
-        ensures counted { let left = left_of self.old.stream.bytes self.new in UpdatesCounts self.old self.new left (self.old.start + left) }
-    {
-        self.advance(len);
     }
 
     /// Whether the buffered bytes begin with the bits 10 or 11, as no frame does (RFC 8656, section 12).
