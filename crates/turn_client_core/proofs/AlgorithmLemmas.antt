@@ -1,6 +1,6 @@
 -- The algorithms that a client is configured with.
-use Rattle.std.proofs.Common.{◌≡◌, ◌≢◌, [], ◌∷◌, refl}
-use Rattle.turn_auth.specs.LongTerm.{with_algorithm}
+use Rattle.turn_client_laws.proofs.Common.{◌≡◌, ◌≢◌, [], ◌∷◌, refl}
+use Rattle.turn_client_laws.proofs.Machine.{with_algorithm}
 use Rattle.turn_auth.specs.declared.integrity.IntegrityAlgorithm.{IntegrityAlgorithm}
 use Rattle.turn_auth.specs.declared.integrity.IntegrityAlgorithm.TheVariants.{Sha1, Sha256}
 

@@ -1,7 +1,6 @@
 -- The signer of a client.
-use Rattle.std.proofs.Common.{◌≡◌, Some, refl, sym}
-use Rattle.turn_auth.specs.LongTerm.{ClientAuth}
-use Rattle.turn_client_api.specs.State.{State, auth_of}
+use Rattle.turn_client_laws.proofs.Common.{◌≡◌, Some, refl, sym}
+use Rattle.turn_client_laws.proofs.Machine.{ClientAuth, State, auth_of}
 use Rattle.turn_client_core.specs.Kept.{IsWhole}
 use Rattle.turn_client_core.specs.contracts.protocol.TurnClientProtocol.{the_view}
 use Rattle.turn_client_core.specs.declared.protocol.TurnClientProtocol.TheInside.{Inside}

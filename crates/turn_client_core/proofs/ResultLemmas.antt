@@ -1,6 +1,6 @@
 -- Results, and values that may be there.
-use Rattle.std.specs.Prelude.{◌≤◌, Result, Ok, Err, OnErr, OnOk, IsOk, is_none, is_some}
-use Rattle.std.proofs.Common.{◌≡◌, true, false, List, [], ◌∷◌, length, Option, Some, None, refl, rules}
+use Rattle.turn_client_laws.proofs.Common.{Result, Ok, Err, OnErr, OnOk, IsOk, is_none, is_some, ◌≡◌, true, false, List, [], ◌∷◌, length, Option, Some, None, refl, rules}
+use Rattle.std.specs.Prelude.{◌≤◌}
 
 -- what holds in any case holds on an error
 pub on-err : {T E P : Type 0} (r : Result T E) → P → OnErr r P

@@ -1,13 +1,8 @@
 -- Properties of a list of calls.
-use Rattle.std.proofs.Common.{◌≡◌, ◌∙◌, Bool, true, false, List, [], ◌∷◌, ◌++◌, Option, Some, None, ap, filter_map, option_map, refl}
-use Rattle.std.specs.List.{cons_option}
-use Rattle.std.specs.declared.net.socket_addr.SocketAddr.{SocketAddr}
-use Rattle.turn_stun.specs.declared.transport.TransportType.{TransportType}
-use Rattle.turn_client_api.specs.State.{State}
-use Rattle.turn_client_api.specs.Payloads.{Outcome, Payload}
+use Rattle.turn_client_laws.proofs.Common.{◌≡◌, ◌∙◌, Bool, true, false, List, [], ◌∷◌, ◌++◌, Option, Some, None, ap, filter_map, option_map, refl, cons_option, SocketAddr}
+use Rattle.turn_client_laws.proofs.Machine.{TransportType, State, Outcome, Payload, payload_in, poll_recv_step, packet_step}
+use Rattle.turn_client_laws.proofs.Laws.{call-configured}
 use Rattle.turn_client_api.specs.Payloads as O
-use Rattle.turn_client_api.specs.Streams.{payload_in, poll_recv_step}
-use Rattle.turn_client_api.specs.Steps.{packet_step}
 use Rattle.turn_client_api.specs.declared.call.Call.TheVariants as Calls
 use Rattle.turn_client_calls.specs.declared.reply.PeerData.{PeerData}
 use Rattle.turn_gather.specs.Gathering.{Gathering, is_checked_in}
@@ -16,7 +11,6 @@ use Rattle.turn_gather.specs.Drive.{after, all_replies, checked_payloads, client
 use Rattle.turn_gather.specs.declared.calls.call.GatherCall.{GatherCall}
 use Rattle.turn_gather.specs.declared.calls.call.GatherCall.TheVariants.{Candidates, IsChecked, Check, Recv, PollRecv, CreatePermission, SendTo, Poll, PollTransmit, PollEvent}
 use Rattle.turn_gather.specs.declared.calls.reply.GatherReply.{GatherReply}
-use Rattle.turn_client_laws.proofs.ConfiguredLemmas.{call-configured}
 
 -- no call changes what the client's allocations relay over
 client_after-config : (call : GatherCall) (s : State) → (client_after call s).config ≡ s.config

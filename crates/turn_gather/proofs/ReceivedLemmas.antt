@@ -1,8 +1,7 @@
 -- The payload passed up is the one that the client delivered.
-use Rattle.std.proofs.Common.{◌≡◌, ℕ, subst, sym}
+use Rattle.turn_client_laws.proofs.Common.{◌≡◌, ℕ, subst, sym}
+use Rattle.turn_client_laws.proofs.Machine.{Transmit, HandsBack, IsPartOf}
 use Rattle.std.specs.declared.convert.AsSlice.{Ghosts}
-use Rattle.turn_stun.specs.declared.transport.Transmit.{Transmit}
-use Rattle.turn_client_api.specs.Answers.{HandsBack, IsPartOf}
 use Rattle.turn_client_api.specs.PeerBytes.{held_in}
 use Rattle.turn_client_api.specs.declared.receive.TurnPeerData.{TurnPeerData}
 use Rattle.turn_client_api.specs.declared.receive.TurnRecvRet.{TurnRecvRet}

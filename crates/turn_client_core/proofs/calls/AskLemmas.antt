@@ -1,16 +1,7 @@
 -- Requests that a client makes.
-use Rattle.std.proofs.Common.{◌≡◌, ◌∙◌, ℕ, List, [], ◌∷◌, None, false, true, ap, refl}
-use Rattle.std.specs.List.{list_any}
-use Rattle.std.specs.Net.Socket.{socket_ip}
-use Rattle.std.specs.declared.net.socket_addr.SocketAddr.{SocketAddr}
-use Rattle.turn_client_api.specs.Calls.{channels_to, delete_text, deleted, is_in_progress, is_number_taken}
-use Rattle.turn_client_api.specs.Grants.{permission_state, with_more_grants}
-use Rattle.turn_client_api.specs.Requests.{request_started, fresh_id, queued, request_for, sent_from}
-use Rattle.turn_client_api.specs.State.{State}
-use Rattle.turn_client_api.specs.declared.grant.Grant.{Grant}
-use Rattle.turn_client_api.specs.declared.grant.Grant.TheVariants.{Channel, Permission}
-use Rattle.turn_client_api.specs.declared.grant.Progress.TheVariants.{Pending}
-use Rattle.turn_client_api.specs.declared.grant.Purpose.{Purpose}
+use Rattle.turn_client_laws.proofs.Common.{◌≡◌, ◌∙◌, ℕ, List, [], ◌∷◌, None, false, true, ap, refl, list_any, socket_ip, SocketAddr}
+use Rattle.turn_client_laws.proofs.Machine.{channels_to, delete_text, deleted, is_in_progress, is_number_taken, permission_state, with_more_grants, request_started, fresh_id, queued, request_for}
+use Rattle.turn_client_laws.proofs.Machine.{sent_from, State, Grant, Channel, Permission, Pending, Purpose}
 use Rattle.turn_client_core.specs.Asked.{asks}
 use Rattle.turn_client_core.specs.Outgoing.{Outgoing}
 use Rattle.turn_client_grants.specs.Asked.{Asks, all_back, expired_now}

@@ -1,15 +1,8 @@
 -- Calls that are refused.
-use Rattle.std.proofs.Common.{◌≡◌, ℕ, Bool, false, not, true, Err, Some, None, refl}
-use Rattle.std.specs.Net.Socket.{socket_ip}
-use Rattle.std.specs.Prelude.{◌||◌, Option, Result}
-use Rattle.std.specs.declared.net.ip_addr.IpAddr.{IpAddr}
-use Rattle.std.specs.declared.net.socket_addr.SocketAddr.{SocketAddr}
-use Rattle.turn_client_api.specs.Calls.{connect_step, in_allocation, is_allocated}
-use Rattle.turn_client_api.specs.Connections.{is_connected, is_connecting}
-use Rattle.turn_client_api.specs.Grants.{has_active_permission, is_past}
-use Rattle.turn_client_api.specs.State.{State}
+use Rattle.turn_client_laws.proofs.Common.{◌≡◌, ℕ, Bool, false, not, true, Err, Some, None, refl, socket_ip, Option, Result, IpAddr, SocketAddr}
+use Rattle.turn_client_laws.proofs.Machine.{connect_step, in_allocation, is_allocated, is_connected, is_connecting, has_active_permission, is_past, State, Relay}
+use Rattle.std.specs.Prelude.{◌||◌}
 use Rattle.turn_client_api.specs.declared.error.TcpConnectError.TheVariants as Join
-use Rattle.turn_client_api.specs.declared.grant.Relay.{Relay}
 use Rattle.turn_client_core.specs.Usable.{is_usable, with_past_expired}
 
 -- without a usable allocation a call is refused, and at most marks one as expired

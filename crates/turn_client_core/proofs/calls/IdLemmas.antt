@@ -1,14 +1,9 @@
 -- IDs that are tried one after the other.
-use Rattle.std.proofs.Common.{◌≡◌, ℕ, zero, ◌+◌, ◌-◌, ◌%◌, ◌<◌, ◌≤◌, ◌^◌, Bool, false, not, suc, List, map, refl, sym, ap, arith}
-use Rattle.std.proofs.lemmas.Bool.{or_parts}
-use Rattle.std.specs.List.{list_any, range_with_len}
-use Rattle.std.specs.Prelude.{◌==◌, find, Some, unwrap_or, if◌then◌else◌}
-use Rattle.turn_agent.specs.Agent.{is_outstanding}
-use Rattle.turn_agent.specs.TransactionIds.{next_id}
-use Rattle.turn_client_laws.proofs.NewIdLemmas.{counted-small, fresh-free}
-use Rattle.turn_client_api.specs.Grants.{is_listed, is_of_request}
-use Rattle.turn_client_api.specs.Requests.{counted_up, fresh_id, is_taken, max_ids_taken}
-use Rattle.turn_client_api.specs.State.{State}
+use Rattle.turn_client_laws.proofs.Common.{◌≡◌, ℕ, zero, ◌+◌, ◌-◌, ◌%◌, ◌<◌, ◌≤◌, ◌^◌, Bool, false, not, suc, List, map, refl, sym, ap, arith, or_parts, list_any, range_with_len, find, Some}
+use Rattle.turn_client_laws.proofs.Common.{if◌then◌else◌}
+use Rattle.turn_client_laws.proofs.Machine.{is_outstanding, next_id, is_listed, is_of_request, counted_up, fresh_id, is_taken, max_ids_taken, State}
+use Rattle.turn_client_laws.proofs.Laws.{counted-small, fresh-free}
+use Rattle.std.specs.Prelude.{◌==◌, unwrap_or}
 
 pub find-counted : (p : ℕ → Bool) (f : ℕ → ℕ) (a b : ℕ) → a < b → find p (map f (range_with_len a (b - a))) ≡ (if p (f a) then Some (f a) else find p (map f (range_with_len (a + 1) (b - (a + 1)))))
 find-counted p f a b less =

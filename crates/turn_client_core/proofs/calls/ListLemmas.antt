@@ -1,6 +1,5 @@
 -- The first of a list.
-use Rattle.std.proofs.Common.{◌≡◌, List, [], ◌∷◌, ◌++◌, Some, None, suc, drop, length, refl, ap, arith}
-use Rattle.std.specs.Prelude.{Option, option_to_list, slice_get}
+use Rattle.turn_client_laws.proofs.Common.{◌≡◌, List, [], ◌∷◌, ◌++◌, Some, None, suc, drop, length, refl, ap, arith, Option, option_to_list, slice_get}
 
 -- what comes before all but the first is the first
 pub first_of : {X : Type 0} (xs : List X) (first : Option X) → xs ≡ option_to_list first ++ drop 1 xs → slice_get xs 0 ≡ first

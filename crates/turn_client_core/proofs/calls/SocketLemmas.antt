@@ -1,14 +1,7 @@
 -- Data connections that the caller opens.
-use Rattle.std.proofs.Common.{◌≡◌, ◌∙◌, ℕ, true, List, [], ◌∷◌, ap, refl}
-use Rattle.std.proofs.lemmas.List.{append-nil}
-use Rattle.std.specs.Prelude.{Option}
-use Rattle.std.specs.declared.net.socket_addr.SocketAddr.{SocketAddr}
-use Rattle.turn_client_api.specs.Calls.{answered_with, socket_opened}
-use Rattle.turn_client_api.specs.Requests.{accepted_reply, request_started, fresh_id, queued, request_for}
-use Rattle.turn_client_api.specs.State.{State}
-use Rattle.turn_client_api.specs.declared.grant.Origin.{Origin}
-use Rattle.turn_client_api.specs.declared.grant.Origin.TheVariants.{OwnConnect, ServerIndication, ServerRequest}
-use Rattle.turn_client_api.specs.declared.grant.Purpose.TheVariants.{ForBind}
+use Rattle.turn_client_laws.proofs.Common.{◌≡◌, ◌∙◌, ℕ, true, List, [], ◌∷◌, ap, refl, append-nil, Option, SocketAddr}
+use Rattle.turn_client_laws.proofs.Machine.{answered_with, socket_opened, accepted_reply, request_started, fresh_id, queued, request_for, State, Origin, OwnConnect, ServerIndication, ServerRequest}
+use Rattle.turn_client_laws.proofs.Machine.{ForBind}
 use Rattle.turn_client_grants.specs.Asked.{Asks, with_opened}
 use Rattle.turn_client_grants.specs.Ledger.{Ledger, with_ledger}
 use Rattle.turn_client_core.specs.Apart.{with_streams_of}

@@ -1,16 +1,9 @@
 -- The addresses that are taken, one after the other.
-use Rattle.std.proofs.Common.{◌≡◌, ℕ, Bool, true, false, cond, if◌then◌else◌, not, map, ◌&&◌, ◌||◌, List, [], ◌∷◌, ◌++◌, filter, refl, sym, ap, ◌∙◌, append_assoc}
-use Rattle.std.proofs.lemmas.List.Folds.{list_any-append}
-use Rattle.std.specs.List.{list_all, list_any}
-use Rattle.std.specs.declared.net.socket_addr.SocketAddr.{SocketAddr}
-use Rattle.turn_types.specs.declared.family.AddressFamily.{AddressFamily}
-use Rattle.turn_types.specs.declared.family.AddressFamily.TheVariants.{IPV4, IPV6}
-use Rattle.turn_client_api.specs.Config.{same_family}
-use Rattle.turn_client_api.specs.Effect.{new_allocation, taken_addresses}
-use Rattle.turn_client_api.specs.declared.grant.Grant.{Grant}
-use Rattle.turn_client_laws.proofs.NumberLemmas.{none-filter}
+use Rattle.turn_client_laws.proofs.Common.{◌≡◌, ℕ, Bool, true, false, cond, if◌then◌else◌, not, map, ◌&&◌, ◌||◌, List, [], ◌∷◌, ◌++◌, filter, refl, sym, ap, ◌∙◌, append_assoc, list_any-append}
+use Rattle.turn_client_laws.proofs.Common.{list_all, list_any, SocketAddr}
+use Rattle.turn_client_laws.proofs.Machine.{AddressFamily, IPV4, IPV6, same_family, new_allocation, taken_addresses, Grant, family_of, is_of_family}
+use Rattle.turn_client_laws.proofs.Laws.{none-filter}
 use Rattle.turn_client_grants.specs.Table.{are_apart, are_new, has_no_double}
-use Rattle.turn_client_api.specs.Grants.{family_of, is_of_family}
 use Rattle.turn_client_core.specs.Allocated.{IsRead, missing}
 use Rattle.turn_client_core.proofs.incoming.RetryLemmas.{none-filtered}
 

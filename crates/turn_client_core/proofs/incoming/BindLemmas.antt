@@ -1,20 +1,9 @@
 -- Data connections that are bound, or whose binding fails (RFC 6062, section 4.3).
-use Rattle.std.proofs.Common.{◌≡◌, ℕ, Bool, true, false, List, [], ◌∷◌, Some, None, refl, inl, inr}
-use Rattle.std.specs.List.{list_any}
-use Rattle.std.specs.Prelude.{find, is_some}
-use Rattle.std.specs.declared.net.socket_addr.SocketAddr.{SocketAddr}
-use Rattle.turn_auth.specs.LongTerm.{Challenge}
-use Rattle.turn_client_api.specs.Connections.{bind_again, bind_answered, not_bound}
-use Rattle.turn_client_api.specs.Grants.{purposes_of}
-use Rattle.turn_client_api.specs.Judgement.{Judgement, bind_judgement, is_bind_of}
-use Rattle.turn_client_api.specs.Requests.{request_started, fresh_id, queued, request_for, sent_from}
-use Rattle.turn_client_api.specs.Retry.{with_held}
-use Rattle.turn_client_api.specs.State.{State}
-use Rattle.turn_client_api.specs.declared.grant.DataConnection.{DataConnection}
-use Rattle.turn_client_api.specs.declared.grant.Purpose.{Purpose}
+use Rattle.turn_client_laws.proofs.Common.{◌≡◌, ℕ, Bool, true, false, List, [], ◌∷◌, Some, None, refl, inl, inr, list_any, find, is_some, SocketAddr}
+use Rattle.turn_client_laws.proofs.Machine.{Challenge, bind_again, bind_answered, not_bound, purposes_of, Judgement, bind_judgement, is_bind_of, request_started, fresh_id, queued, request_for}
+use Rattle.turn_client_laws.proofs.Machine.{sent_from, with_held, State, DataConnection, Purpose, cases_Option}
+use Rattle.turn_client_laws.proofs.Laws.{binds_if}
 use Rattle.turn_client_grants.specs.Asked.{bind_retried}
-use Rattle.turn_client_laws.specs.StreamEffects.{binds_if}
-use Rattle.turn_client_api.proofs.HasLemmas.{cases_Option}
 use Rattle.turn_client_core.specs.Apart.{with_streams_of}
 use Rattle.turn_client_core.specs.Judged.{judgement_in}
 use Rattle.turn_client_core.specs.declared.protocol.incoming.judge.Judged.{Judged}

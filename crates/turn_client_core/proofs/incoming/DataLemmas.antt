@@ -1,21 +1,13 @@
 -- The result of a Data indication, by what is found in it.
-use Rattle.std.proofs.Common.{◌≡◌, ℕ, ◌+◌, Bool, true, false, if◌then◌else◌, List, length, take, drop, Option, Some, None, IfSome, option_and_then, refl, subst, sym, ap, ◌∙◌, arith}
-use Rattle.std.proofs.lemmas.List.{take-append-drop, take_at}
+use Rattle.turn_client_laws.proofs.Common.{◌≡◌, ℕ, ◌+◌, Bool, true, false, if◌then◌else◌, List, length, take, drop, Option, Some, None, IfSome, option_and_then, refl, subst, sym, ap, ◌∙◌, arith}
+use Rattle.turn_client_laws.proofs.Common.{take-append-drop, take_at, option_map, option_map_or, socket_ip, SocketAddr}
+use Rattle.turn_client_laws.proofs.Machine.{Attribute, HoldsValue, id_of, u16_at, channel_data_at as channel_frame_at, data_kind, peer_kind, channel_peer, first_in, has_active_permission, has_unknown}
+use Rattle.turn_client_laws.proofs.Machine.{last_icmp_in, last_in, last_peer_in, Ignored, channel_sent, data_indicated, State}
 use Rattle.std.specs.List.{slice_range}
-use Rattle.std.specs.Option.{option_map, option_map_or}
-use Rattle.std.specs.Net.Socket.{socket_ip}
-use Rattle.std.specs.declared.net.socket_addr.SocketAddr.{SocketAddr}
 use Rattle.std.specs.declared.ops.Range.{Range}
-use Rattle.turn_stun.specs.Message.{Attribute, HoldsValue, id_of}
-use Rattle.turn_stun.specs.Number.{u16_at}
 use Rattle.turn_stun.specs.XorAddress.{xor_addr}
-use Rattle.turn_types.specs.Channel.{Channel, channel_data_at as channel_frame_at}
-use Rattle.turn_types.specs.Send.{data_kind, peer_kind}
+use Rattle.turn_types.specs.Channel.{Channel}
 use Rattle.turn_types.specs.declared.attribute.icmp_report.Icmp.{Icmp}
-use Rattle.turn_client_api.specs.Grants.{channel_peer, first_in, has_active_permission}
-use Rattle.turn_client_api.specs.Judgement.{has_unknown, last_icmp_in, last_in, last_peer_in}
-use Rattle.turn_client_api.specs.Payloads.{Ignored, channel_sent, data_indicated}
-use Rattle.turn_client_api.specs.State.{State}
 use Rattle.turn_client_core.specs.Indication.{if_permitted, value_place}
 use Rattle.turn_client_core.specs.ProtocolRecv.{outcome_in}
 use Rattle.turn_client_core.specs.declared.protocol_recv.TurnProtocolRecv.{TurnProtocolRecv}

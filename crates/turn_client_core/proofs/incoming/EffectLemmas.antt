@@ -1,12 +1,7 @@
 -- What a reply changes apart from the grants, and the grants.
-use Rattle.std.proofs.Common.{◌≡◌, ◌∙◌, List, [], append-nil, ap, length, refl, sym, true}
-use Rattle.std.proofs.lemmas.Bool.{eqb-true}
-use Rattle.std.proofs.lemmas.List.{nil_from_length}
+use Rattle.turn_client_laws.proofs.Common.{◌≡◌, ◌∙◌, List, [], append-nil, ap, length, refl, sym, true, eqb-true, nil_from_length}
+use Rattle.turn_client_laws.proofs.Machine.{fail_all, AddressFamily, State, TurnEvent}
 use Rattle.std.specs.Prelude.{◌==◌}
-use Rattle.turn_client_api.specs.Effect.{fail_all}
-use Rattle.turn_types.specs.declared.family.AddressFamily.{AddressFamily}
-use Rattle.turn_client_api.specs.State.{State}
-use Rattle.turn_client_api.specs.declared.event.TurnEvent.{TurnEvent}
 use Rattle.turn_client_core.specs.Effects.{after}
 use Rattle.turn_client_core.specs.declared.effect.Effect.{Effect}
 use Rattle.turn_client_core.specs.declared.effect.Effect.TheVariants.{Nothing}

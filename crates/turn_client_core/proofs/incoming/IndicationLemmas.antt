@@ -1,8 +1,6 @@
 -- What is true of each attribute is true of the last one of a type.
-use Rattle.std.proofs.Common.{ℕ, ◌==◌, Bool, true, false, cond, List, [], ◌∷◌, Option, Some, fold, IfSome}
-use Rattle.std.specs.List.{AllByRecursion}
-use Rattle.turn_stun.specs.Message.{Attribute}
-use Rattle.turn_client_api.specs.Judgement.{later_of}
+use Rattle.turn_client_laws.proofs.Common.{ℕ, ◌==◌, Bool, true, false, cond, List, [], ◌∷◌, Option, Some, fold, IfSome, AllByRecursion}
+use Rattle.turn_client_laws.proofs.Machine.{Attribute, later_of}
 
 module _ (P : Attribute → Type 0) (kind : ℕ) where
   later : (is : Bool) (before : Option Attribute) (a : Attribute) → P a → IfSome before P → IfSome (cond is (Some a) before) P

@@ -1,22 +1,10 @@
 -- The effect of a message, by its judgement.
-use Rattle.std.proofs.Common.{◌≡◌, ◌==◌, ℕ, Bool, true, false, List, Option, Some, None, cond, refl, subst}
-use Rattle.turn_auth.specs.LongTerm.{Challenge}
-use Rattle.turn_auth.specs.Validation.{validation_of}
-use Rattle.turn_auth.specs.declared.validation.Validation.{Validation}
-use Rattle.turn_auth.specs.declared.validation.Validation.TheVariants.{Validated, Refused}
-use Rattle.turn_agent.specs.Agent.{is_outstanding}
-use Rattle.turn_stun.specs.Message.{id_of}
-use Rattle.turn_stun.specs.declared.message.header.MessageClass.{MessageClass}
-use Rattle.turn_stun.specs.declared.message.header.MessageClass.TheVariants.{Indication}
+use Rattle.turn_client_laws.proofs.Common.{◌≡◌, ◌==◌, ℕ, Bool, true, false, List, Option, Some, None, cond, refl, subst}
+use Rattle.turn_client_laws.proofs.Machine.{Challenge, validation_of, Validation, Validated, Refused, is_outstanding, id_of, MessageClass, Indication, Judgement, answers_allocate, answers_one}
+use Rattle.turn_client_laws.proofs.Machine.{authenticating_judgement, by_class, challenge_in, challenged_or, class_in, judgement_of, method_in, is_data_indication, State, auth_of, Phase, New}
+use Rattle.turn_client_laws.proofs.Machine.{Requesting, Authenticating, Allocated, Closed, allocate_denied, allocate_granted, transaction_ended, Handled, response_step, signed_step, data_method}
+use Rattle.turn_client_laws.proofs.Machine.{fresh_id}
 use Rattle.turn_client_api.specs.Judgement as J
-use Rattle.turn_client_api.specs.Judgement.{Judgement, answers_allocate, answers_one, authenticating_judgement, by_class, challenge_in, challenged_or, class_in, judgement_of, method_in}
-use Rattle.turn_client_api.specs.Answers.{is_data_indication}
-use Rattle.turn_client_api.specs.State.{State, auth_of}
-use Rattle.turn_client_api.specs.declared.state.Phase.{Phase}
-use Rattle.turn_client_api.specs.declared.state.Phase.TheVariants.{New, Requesting, Authenticating, Allocated, Closed}
-use Rattle.turn_client_api.specs.Effect.{allocate_denied, allocate_granted, transaction_ended}
-use Rattle.turn_client_api.specs.Payloads.{Handled, response_step, signed_step}
-use Rattle.turn_client_api.specs.Requests.{data_method, fresh_id}
 use Rattle.turn_client_core.specs.Attempts.{CanSign}
 use Rattle.turn_client_core.specs.Replies.{is_authenticating}
 

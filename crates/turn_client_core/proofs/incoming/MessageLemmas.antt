@@ -1,16 +1,10 @@
 -- Which bytes with the header of a message are one.
-use Rattle.std.proofs.Common.{◌≡◌, ◌∙◌, ℕ, ◌+◌, ◌==◌, Bool, true, false, not, List, length, drop, None, Some, is_none, is_some, ap, refl, sym, arith, Option, IfSome, fold, nat_lt}
-use Rattle.std.proofs.lemmas.Bool.{eq-eqb, eqb-true, false_from_ne_true}
-use Rattle.std.specs.List.{list_any}
-use Rattle.turn_stun.proofs.FaultLemmas.{fault_of-none, guard_none}
+use Rattle.turn_client_laws.proofs.Common.{◌≡◌, ◌∙◌, ℕ, ◌+◌, ◌==◌, Bool, true, false, not, List, length, drop, None, Some, is_none, is_some, ap, refl, sym, arith, Option, IfSome, fold, nat_lt, eq-eqb}
+use Rattle.turn_client_laws.proofs.Common.{eqb-true, false_from_ne_true, list_any, IfNone}
+use Rattle.turn_client_laws.proofs.Machine.{fault_of-none, guard_none, seen_of, Attribute, HoldsValue, IsWithin, attributes_from, attributes_of, fault_of, header_fault_of, is_stun_header, length_of}
+use Rattle.turn_client_laws.proofs.Machine.{data_kind, has_unknown, is_unknown, last_in, later_of, is_message}
 use Rattle.turn_stun.proofs.PlaceLemmas.{seen_of-values, seen_of-within}
-use Rattle.turn_stun.specs.Attributes.{seen_of}
-use Rattle.turn_stun.specs.Message.{Attribute, HoldsValue, IsWithin, attributes_from, attributes_of, fault_of, header_fault_of, is_stun_header, length_of}
 use Rattle.turn_stun.specs.declared.error.ParseError.{ParseError}
-use Rattle.turn_types.specs.Send.{data_kind}
-use Rattle.std.specs.Prelude.{IfNone}
-use Rattle.turn_client_api.specs.Judgement.{has_unknown, is_unknown, last_in, later_of}
-use Rattle.turn_client_api.specs.Payloads.{is_message}
 use Rattle.turn_client_core.proofs.incoming.IndicationLemmas.{last-all}
 use Rattle.turn_client_core.proofs.ResultLemmas.{none-is}
 use Rattle.turn_client_core.proofs.incoming.SeenLemmas.{all-seen, unknown-seen}

@@ -1,9 +1,8 @@
 -- Attributes that are read while they are checked.
-use Rattle.std.proofs.Common.{◌≡◌, ℕ, ◌+◌, ◌<◌, ◌≤◌, ◌∙◌, ◌||◌, Bool, true, List, [], ◌∷◌, length, drop, fold, Option, Some, None, is_some, unwrap_or, ap, refl, sym, arith}
+use Rattle.turn_client_laws.proofs.Common.{◌≡◌, ℕ, ◌+◌, ◌<◌, ◌≤◌, ◌∙◌, ◌||◌, Bool, true, List, [], ◌∷◌, length, drop, fold, Option, Some, None, is_some, unwrap_or, ap, refl, sym, arith, list_any}
+use Rattle.turn_client_laws.proofs.Common.{option_map}
+use Rattle.turn_client_laws.proofs.Machine.{Attribute, attribute_at, attribute_size, attributes_from}
 use Rattle.std.proofs.Math.Bool.{or_assoc}
-use Rattle.std.specs.List.{list_any}
-use Rattle.std.specs.Option.{option_map}
-use Rattle.turn_stun.specs.Message.{Attribute, attribute_at, attribute_size, attributes_from}
 use Rattle.turn_stun.proofs.WalkLemmas.{step_cut, step_whole}
 
 folded : {A : Type 0} (f : A → Attribute → A) (before : A) (a : Attribute) (found : Option (List Attribute))

@@ -1,22 +1,9 @@
 -- Requests that are made in place of another one.
-use Rattle.std.proofs.Common.{◌≡◌, ◌∙◌, ℕ, Bool, true, false, List, [], ◌∷◌, ◌++◌, Some, None, ap, cond, refl, sym, map}
-use Rattle.std.proofs.lemmas.Bool.{eqb-true, false_from_ne_true, lt-ltb, or_parts}
-use Rattle.std.specs.List.{list_any}
-use Rattle.std.specs.Prelude.{◌==◌, ◌+◌, ◌<◌, filter}
-use Rattle.std.specs.declared.net.socket_addr.SocketAddr.{SocketAddr}
-use Rattle.turn_agent.specs.Agent.{is_outstanding, without_transaction}
-use Rattle.turn_agent.specs.declared.transaction.Transaction.{Transaction}
-use Rattle.turn_auth.specs.LongTerm.{Challenge}
-use Rattle.turn_client_api.specs.Effect.{transaction_ended}
-use Rattle.turn_client_api.specs.Grants.{purposes_of}
-use Rattle.turn_client_api.specs.Payloads.{Handled, Ignored, challenge_step}
-use Rattle.turn_client_api.specs.Requests.{request_started, fresh_id, queued, request_for, requested}
-use Rattle.turn_client_api.specs.Retry.{phase_after, retried, state_after_retry, with_held}
-use Rattle.turn_client_api.specs.State.{State}
-use Rattle.turn_client_api.specs.declared.grant.Listing.{Listing}
-use Rattle.turn_client_api.specs.declared.grant.Purpose.{Purpose}
-use Rattle.turn_client_api.specs.declared.grant.Purpose.TheVariants.{ForAllocation}
-use Rattle.turn_stun.specs.Message.{id_of}
+use Rattle.turn_client_laws.proofs.Common.{◌≡◌, ◌∙◌, ℕ, Bool, true, false, List, [], ◌∷◌, ◌++◌, Some, None, ap, cond, refl, sym, map, eqb-true, false_from_ne_true, lt-ltb, or_parts, list_any, filter}
+use Rattle.turn_client_laws.proofs.Common.{SocketAddr}
+use Rattle.turn_client_laws.proofs.Machine.{is_outstanding, without_transaction, Transaction, Challenge, transaction_ended, purposes_of, Handled, Ignored, challenge_step, request_started, fresh_id}
+use Rattle.turn_client_laws.proofs.Machine.{queued, request_for, requested, phase_after, retried, state_after_retry, with_held, State, Listing, Purpose, ForAllocation, id_of}
+use Rattle.std.specs.Prelude.{◌==◌, ◌+◌, ◌<◌}
 
 -- the old request is no longer outstanding, whether it ends before the new one is made or after it
 pub without-other : (id : ℕ) (t : Transaction) (transactions : List Transaction) → (t.id == id) ≡ false

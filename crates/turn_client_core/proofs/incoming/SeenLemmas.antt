@@ -1,10 +1,6 @@
 -- An integrity attribute is unknown in a Data indication, so what is seen up to the first unknown attribute is all.
-use Rattle.std.proofs.Common.{◌≡◌, ◌∙◌, Bool, true, false, ◌||◌, List, [], ◌∷◌, ap, refl}
-use Rattle.std.proofs.lemmas.Bool.{eqb-true, false_from_ne_true, or_parts}
-use Rattle.std.specs.List.{list_any}
-use Rattle.turn_stun.specs.Attributes.{is_sha1, is_sha256, seen_after}
-use Rattle.turn_stun.specs.Message.{Attribute}
-use Rattle.turn_client_api.specs.Judgement.{is_unknown}
+use Rattle.turn_client_laws.proofs.Common.{◌≡◌, ◌∙◌, Bool, true, false, ◌||◌, List, [], ◌∷◌, ap, refl, eqb-true, false_from_ne_true, or_parts, list_any}
+use Rattle.turn_client_laws.proofs.Machine.{is_sha1, is_sha256, seen_after, Attribute, is_unknown}
 
 no-sha1 : (a : Attribute) → is_unknown a ≡ false → is_sha1 a.kind ≡ false
 no-sha1 a known = false_from_ne_true _ (λ e. let same : a.kind ≡ 0x0008 = eqb-true a.kind 0x0008 e in let no : true ≡ false = rw same at known in cc)

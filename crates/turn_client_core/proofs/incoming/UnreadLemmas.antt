@@ -1,28 +1,13 @@
 -- Messages that are ignored whatever attributes they contain.
-use Rattle.std.proofs.Common.{◌≡◌, ◌∙◌, ◌==◌, ℕ, Bool, true, false, not, ◌&&◌, ◌||◌, List, length, Option, Some, None, is_some, is_none, ap, refl, subst, arith}
-use Rattle.std.proofs.lemmas.Bool.{and_parts, le-ltb, lt-leb, ltb-false, ltb-true, not-false, not-true, or_parts}
-use Rattle.std.specs.Prelude.{if◌then◌else◌, nat_lt, nat_le, ◌<◌}
-use Rattle.turn_auth.specs.LongTerm.{Challenge}
-use Rattle.turn_auth.specs.Validation.{judged, validation_of}
-use Rattle.turn_auth.specs.declared.validation.Validation.{Validation}
-use Rattle.turn_auth.specs.declared.validation.Validation.TheVariants.{Validated}
-use Rattle.turn_agent.specs.Agent.{is_outstanding}
-use Rattle.turn_stun.proofs.FaultLemmas.{IsMessage-no_fault, guard_none}
-use Rattle.turn_stun.specs.Message.{IsMessage, attributes_of, cookie_of, fault_of, header_fault_of, id_of, is_stun_header, type_of}
-use Rattle.turn_stun.specs.Number.{u16_at}
+use Rattle.turn_client_laws.proofs.Common.{◌≡◌, ◌∙◌, ◌==◌, ℕ, Bool, true, false, not, ◌&&◌, ◌||◌, List, length, Option, Some, None, is_some, is_none, ap, refl, subst, arith, and_parts, le-ltb, lt-leb}
+use Rattle.turn_client_laws.proofs.Common.{ltb-false, ltb-true, not-false, not-true, or_parts, if◌then◌else◌, nat_lt, nat_le}
+use Rattle.turn_client_laws.proofs.Machine.{Challenge, judged, validation_of, Validation, Validated, is_outstanding, IsMessage-no_fault, guard_none, IsMessage, attributes_of, cookie_of, fault_of}
+use Rattle.turn_client_laws.proofs.Machine.{header_fault_of, id_of, is_stun_header, type_of, u16_at, MessageClass, Request, Indication, Success, Error, channel_fault_of, purposes_of, challenge_in}
+use Rattle.turn_client_laws.proofs.Machine.{class_in, judgement_of, method_in, Ignored, channel_sent, data_indicated, datagram_step, is_channel_frame, is_message, message_step}
+use Rattle.turn_client_laws.proofs.Machine.{connection_attempt_method, data_method, retried, State, auth_of, Phase, Allocated}
+use Rattle.std.specs.Prelude.{◌<◌}
 use Rattle.turn_stun.specs.declared.error.ParseError.{ParseError}
-use Rattle.turn_stun.specs.declared.message.header.MessageClass.{MessageClass}
-use Rattle.turn_stun.specs.declared.message.header.MessageClass.TheVariants.{Request, Indication, Success, Error}
-use Rattle.turn_types.specs.Channel.{channel_fault_of}
-use Rattle.turn_client_api.specs.Grants.{purposes_of}
 use Rattle.turn_client_api.specs.Judgement as J
-use Rattle.turn_client_api.specs.Judgement.{challenge_in, class_in, judgement_of, method_in}
-use Rattle.turn_client_api.specs.Payloads.{Ignored, channel_sent, data_indicated, datagram_step, is_channel_frame, is_message, message_step}
-use Rattle.turn_client_api.specs.Requests.{connection_attempt_method, data_method}
-use Rattle.turn_client_api.specs.Retry.{retried}
-use Rattle.turn_client_api.specs.State.{State, auth_of}
-use Rattle.turn_client_api.specs.declared.state.Phase.{Phase}
-use Rattle.turn_client_api.specs.declared.state.Phase.TheVariants.{Allocated}
 use Rattle.turn_client_core.specs.Unread.{indicates_data, is_ignored_unread}
 use Rattle.turn_client_core.proofs.incoming.MessageLemmas.{unheaded}
 use Rattle.turn_client_core.proofs.ResultLemmas.{none-some_not}

@@ -1,13 +1,8 @@
 -- The queued packets.
-use Rattle.std.proofs.Common.{◌≡◌, ℕ, List, [], ◌∷◌, ◌++◌, false, None, refl}
+use Rattle.turn_client_laws.proofs.Common.{◌≡◌, ℕ, List, [], ◌∷◌, ◌++◌, false, None, refl, append-nil, filter-append, not, SocketAddr}
+use Rattle.turn_client_laws.proofs.Machine.{without-none, first_sent, is_outstanding, without_transaction, Transaction}
 use Rattle.std.proofs.lemmas.Cmp.{nat_eq_equiv}
-use Rattle.std.proofs.lemmas.List.{append-nil}
-use Rattle.std.proofs.lemmas.List.Elements.{filter-append}
-use Rattle.std.specs.Prelude.{◌==◌, not}
-use Rattle.std.specs.declared.net.socket_addr.SocketAddr.{SocketAddr}
-use Rattle.turn_agent.proofs.TransactionLemmas.{without-none}
-use Rattle.turn_agent.specs.Agent.{first_sent, is_outstanding, without_transaction}
-use Rattle.turn_agent.specs.declared.transaction.Transaction.{Transaction}
+use Rattle.std.specs.Prelude.{◌==◌}
 use Rattle.turn_client_core.specs.Outgoing.{Outgoing, answering}
 
 pub answering_none : (o : Outgoing) → answering None o ≡ o

@@ -1,11 +1,8 @@
 -- The number of queued replies.
-use Rattle.std.proofs.Common.{◌≡◌, ℕ, zero, suc, ◌+◌, ◌<◌, ◌≤◌, Bool, true, false, ltb, List, [], ◌∷◌, None, Some, length, get_or, ap, refl, sym, ◌∙◌, arith}
-use Rattle.std.proofs.lemmas.Bool.{lt-ltb, le-ltb, ltb-false, not-true}
+use Rattle.turn_client_laws.proofs.Common.{◌≡◌, ℕ, zero, suc, ◌+◌, ◌<◌, ◌≤◌, Bool, true, false, ltb, List, [], ◌∷◌, None, Some, length, get_or, ap, refl, sym, ◌∙◌, arith, lt-ltb, le-ltb, ltb-false}
+use Rattle.turn_client_laws.proofs.Common.{not-true, list_any, position, remove, filter, is_some, not}
+use Rattle.turn_client_laws.proofs.Machine.{find-passes, position-IsFirst, position-none, Queued}
 use Rattle.std.proofs.lemmas.List.Filters.{length-filter_both}
-use Rattle.std.specs.List.{list_any, position, remove}
-use Rattle.std.specs.Prelude.{filter, is_some, not}
-use Rattle.turn_agent.proofs.AgentLemmas.{find-passes, position-IsFirst, position-none}
-use Rattle.turn_client_api.specs.declared.state.Queued.{Queued}
 use Rattle.turn_client_core.specs.Queue.{reply_count}
 use Rattle.turn_client_core.proofs.incoming.BindLemmas.{found_any}
 use Rattle.turn_client_core.proofs.outbox.ReplyLemmas.{NoReply}

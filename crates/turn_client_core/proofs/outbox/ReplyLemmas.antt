@@ -1,11 +1,7 @@
 -- The first queued reply.
-use Rattle.std.proofs.Common.{◌≡◌, ◌∙◌, ℕ, ◌<◌, Bool, true, false, suc, ltb, List, [], ◌∷◌, None, Some, get_or, length, refl, ap, sym, arith}
-use Rattle.std.proofs.lemmas.Bool.{ltb-true}
-use Rattle.std.proofs.lemmas.Option.{cond_some}
-use Rattle.std.specs.List.{position, position_or_len, remove}
-use Rattle.std.specs.Prelude.{filter_map, not, slice_get}
-use Rattle.turn_client_api.specs.Transmit.{reply_in, without_first_reply}
-use Rattle.turn_client_api.specs.declared.state.Queued.{Queued}
+use Rattle.turn_client_laws.proofs.Common.{◌≡◌, ◌∙◌, ℕ, ◌<◌, Bool, true, false, suc, ltb, List, [], ◌∷◌, None, Some, get_or, length, refl, ap, sym, arith, ltb-true, cond_some, position}
+use Rattle.turn_client_laws.proofs.Common.{position_or_len, remove, filter_map, not, slice_get}
+use Rattle.turn_client_laws.proofs.Machine.{reply_in, without_first_reply, Queued}
 
 abbrev place_in : List Queued → ℕ
 place_in queue = position_or_len (λ q. not q.is_request) queue

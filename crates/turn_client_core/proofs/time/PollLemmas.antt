@@ -1,21 +1,10 @@
 -- What `poll` does, step by step.
-use Rattle.std.proofs.Common.{◌≡◌, ◌∙◌, ℕ, true, false, List, [], ◌∷◌, ◌++◌, Option, Some, None, map, drop, fold, length, min, refl, suc, sym, ap, arith}
-use Rattle.std.specs.Prelude.{◌&&◌, ◌||◌, find, flat_map, if◌then◌else◌, is_none, is_some, slice_get}
-use Rattle.std.proofs.lemmas.List.Sums.{fold-append}
-use Rattle.std.specs.declared.net.socket_addr.SocketAddr.{SocketAddr}
-use Rattle.turn_agent.specs.Agent.{is_timed_out, transaction_timeout}
-use Rattle.turn_agent.specs.declared.transaction.Transaction.{Transaction}
-use Rattle.turn_client_api.specs.Calls.{is_allocated}
-use Rattle.turn_client_api.specs.Config.{timers_of}
-use Rattle.turn_client_api.specs.Due.{has_event, has_queued_request, has_reply, keepalive_times, least_due, max_wait, next_wakeup, pause_end}
-use Rattle.turn_client_api.specs.Grants.{allocations}
-use Rattle.turn_client_api.specs.Poll.{answer_by, answer_step, next_offer, offer_step, poll_step, timed_out_step, timed_step}
-use Rattle.turn_client_api.specs.State.{State, max_time, later_by}
-use Rattle.turn_client_api.specs.declared.grant.DataOffer.{DataOffer}
-use Rattle.turn_client_api.specs.declared.grant.Relay.{Relay}
-use Rattle.turn_client_api.specs.declared.state.Phase.{Phase}
-use Rattle.turn_client_api.specs.declared.state.Phase.TheVariants.{Allocated}
-use Rattle.turn_client_api.specs.declared.poll.TurnPollRet.{TurnPollRet}
+use Rattle.turn_client_laws.proofs.Common.{◌≡◌, ◌∙◌, ℕ, true, false, List, [], ◌∷◌, ◌++◌, Option, Some, None, map, drop, fold, length, min, refl, suc, sym, ap, arith, find, flat_map, if◌then◌else◌}
+use Rattle.turn_client_laws.proofs.Common.{is_none, is_some, slice_get, fold-append, SocketAddr}
+use Rattle.turn_client_laws.proofs.Machine.{is_timed_out, transaction_timeout, Transaction, is_allocated, timers_of, has_event, has_queued_request, has_reply, keepalive_times, least_due, max_wait}
+use Rattle.turn_client_laws.proofs.Machine.{next_wakeup, pause_end, allocations, answer_by, answer_step, next_offer, offer_step, poll_step, timed_out_step, timed_step, State, max_time, later_by}
+use Rattle.turn_client_laws.proofs.Machine.{DataOffer, Relay, Phase, Allocated, TurnPollRet}
+use Rattle.std.specs.Prelude.{◌&&◌, ◌||◌}
 use Rattle.turn_client_api.specs.declared.poll.TurnPollRet.TheVariants as Do
 use Rattle.turn_client_grants.specs.Due.{times_of}
 use Rattle.turn_client_core.specs.Outgoing.{Outgoing}

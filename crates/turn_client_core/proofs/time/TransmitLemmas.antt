@@ -1,21 +1,8 @@
 -- What `poll_transmit` sends, step by step.
-use Rattle.std.proofs.Common.{◌≡◌, ◌∙◌, ℕ, Bool, true, false, List, [], ◌∷◌, Option, Some, None, append-nil, refl, ap}
-use Rattle.std.proofs.lemmas.Bool.{false≢true}
-use Rattle.std.specs.Prelude.{IsSome, if◌then◌else◌, filter_map, find, slice_get}
-use Rattle.turn_stun.specs.declared.transport.Transmit.{Transmit}
-use Rattle.turn_stun.specs.declared.transport.TransportType.{TransportType}
-use Rattle.turn_types.specs.declared.family.AddressFamily.{AddressFamily}
-use Rattle.turn_agent.specs.Agent.{due, is_due}
-use Rattle.turn_agent.specs.declared.transaction.Transaction.{Transaction}
-use Rattle.turn_client_api.specs.Config.{timers_of}
-use Rattle.turn_client_api.specs.Due.{is_paused}
-use Rattle.turn_client_api.specs.Grants.{allocations, with_more_grants}
-use Rattle.turn_client_api.specs.Requests.{request_started, first_allocate, fresh_id, request_for, to_server}
-use Rattle.turn_client_api.specs.State.{State, agent_of}
-use Rattle.turn_client_api.specs.Transmit.{idle_step, keepalive_step, queue_step, refresh_step, sent, sent_at_once, transmit_step}
-use Rattle.turn_client_api.specs.declared.grant.Grant.{Grant}
-use Rattle.turn_client_api.specs.declared.grant.Purpose.{Purpose}
-use Rattle.turn_client_api.specs.declared.state.Queued.{Queued}
+use Rattle.turn_client_laws.proofs.Common.{◌≡◌, ◌∙◌, ℕ, Bool, true, false, List, [], ◌∷◌, Option, Some, None, append-nil, refl, ap, false≢true, IsSome, if◌then◌else◌, filter_map, find, slice_get}
+use Rattle.turn_client_laws.proofs.Machine.{Transmit, TransportType, AddressFamily, due, is_due, Transaction, timers_of, is_paused, allocations, with_more_grants, request_started, first_allocate}
+use Rattle.turn_client_laws.proofs.Machine.{fresh_id, request_for, to_server, State, agent_of, idle_step, keepalive_step, queue_step, refresh_step, sent, sent_at_once, transmit_step, Grant, Purpose}
+use Rattle.turn_client_laws.proofs.Machine.{Queued}
 use Rattle.turn_client_core.specs.Outgoing.{Outgoing, packet_of}
 use Rattle.turn_client_core.specs.Sending.{first_reply_step, front_step, resend_step, waiting_step}
 use Rattle.turn_client_grants.specs.Asked.{Asks}

@@ -1,4 +1,4 @@
-use Rattle.std.proofs.Common.{rules}
+use Rattle.turn_client_laws.proofs.Common.{rules}
 use Rattle.turn_client_core.proofs.incoming.AllocatedLemmas.{missing-none}
 use Rattle.turn_client_core.proofs.allocated.taken_addresses.Goals as goal
 

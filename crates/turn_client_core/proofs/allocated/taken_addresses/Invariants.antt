@@ -1,7 +1,5 @@
-use Rattle.std.proofs.Common.{◌≡◌, ◌++◌}
-use Rattle.turn_stun.specs.Iterator.{attributes_left}
-use Rattle.turn_stun.specs.Message.{id_of}
-use Rattle.turn_client_api.specs.Effect.{relayed_among, relayed_in, taken_addresses}
+use Rattle.turn_client_laws.proofs.Common.{◌≡◌, ◌++◌}
+use Rattle.turn_client_laws.proofs.Machine.{attributes_left, id_of, relayed_among, relayed_in, taken_addresses}
 use Rattle.turn_client_core.specs.Allocated.{missing}
 use Rattle.turn_client_core.proofs.allocated.taken_addresses.Given as goal
 

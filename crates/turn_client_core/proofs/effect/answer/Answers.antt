@@ -1,5 +1,5 @@
-use Rattle.std.proofs.Common.{ap}
-use Rattle.turn_client_api.specs.Effect.{challenges_reset}
+use Rattle.turn_client_laws.proofs.Common.{ap}
+use Rattle.turn_client_laws.proofs.Machine.{challenges_reset}
 use Rattle.turn_client_core.proofs.effect.answer.Goals as goal
 
 pub returns-in-ForPermission-clause-state : goal.returns-in-ForPermission-clause-state

@@ -1,11 +1,8 @@
-use Rattle.std.proofs.Common.{◌∙◌, ap, fold, sym}
-use Rattle.std.specs.Prelude.{option_to_list}
-use Rattle.std.proofs.lemmas.List.Sums.{fold-append}
-use Rattle.turn_client_api.specs.Effect.{effect}
+use Rattle.turn_client_laws.proofs.Common.{◌∙◌, ap, fold, sym, option_to_list, fold-append}
+use Rattle.turn_client_laws.proofs.Machine.{effect, id_of}
 use Rattle.turn_client_core.specs.Effects.{after}
 use Rattle.turn_client_core.proofs.incoming.EffectLemmas.{after-on}
 use Rattle.turn_client_grants.specs.Ledger.{with_ledger}
-use Rattle.turn_stun.specs.Message.{id_of}
 use Rattle.turn_client_core.proofs.effect.answer_all.Goals as goal
 
 pub returns-clause-state : goal.returns-clause-state

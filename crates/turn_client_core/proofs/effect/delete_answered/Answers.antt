@@ -1,6 +1,5 @@
-use Rattle.std.proofs.Common.{◌∙◌, ap, sym}
-use Rattle.turn_client_api.specs.Effect.{challenges_reset, closed}
-use Rattle.turn_client_api.specs.declared.state.Phase.TheVariants.{Closed}
+use Rattle.turn_client_laws.proofs.Common.{◌∙◌, ap, sym}
+use Rattle.turn_client_laws.proofs.Machine.{challenges_reset, closed, Closed}
 use Rattle.turn_client_core.proofs.effect.delete_answered.Goals as goal
 
 pub returns-then-is_gone-clause-state : goal.returns-then-is_gone-clause-state

@@ -1,4 +1,4 @@
-use Rattle.std.proofs.Common.{◌∙◌, ap, filter_map}
+use Rattle.turn_client_laws.proofs.Common.{◌∙◌, ap, filter_map}
 use Rattle.turn_gather.specs.Drive.{passed_up}
 use Rattle.turn_gather.proofs.DriveLemmas.{all_replies-passed}
 use Rattle.turn_gather.proofs.calls.drive.Goals as goal

@@ -1,5 +1,4 @@
-use Rattle.std.proofs.Common.{arith, ◌∙◌}
-use Rattle.std.proofs.lemmas.Grind.{common_steps}
+use Rattle.turn_client_laws.proofs.Common.{arith, ◌∙◌, common_steps}
 use Rattle.turn_gather.proofs.DriveLemmas.{gather_step-relays}
 use Rattle.turn_gather.proofs.calls.replies_to.Goals as goal
 

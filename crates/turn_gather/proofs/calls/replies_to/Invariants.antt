@@ -1,4 +1,4 @@
-use Rattle.std.proofs.Common.{◌≡◌, ◌++◌, drop}
+use Rattle.turn_client_laws.proofs.Common.{◌≡◌, ◌++◌, drop}
 use Rattle.turn_gather.specs.Drive.{all_replies, after_all}
 use Rattle.turn_gather.proofs.calls.replies_to.Given as goal
 

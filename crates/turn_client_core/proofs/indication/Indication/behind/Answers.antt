@@ -1,4 +1,4 @@
-use Rattle.std.proofs.Common.{◌∙◌}
+use Rattle.turn_client_laws.proofs.Common.{◌∙◌}
 use Rattle.turn_client_core.proofs.incoming.MessageLemmas.{cut-if, other-length, whole-if}
 use Rattle.turn_client_core.proofs.indication.Indication.behind.Goals as goal
 

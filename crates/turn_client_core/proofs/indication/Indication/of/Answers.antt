@@ -1,7 +1,5 @@
-use Rattle.std.specs.Option.{option_map}
-use Rattle.turn_stun.specs.Iterator.{placed}
-use Rattle.turn_types.specs.Send.{data_kind, peer_kind}
-use Rattle.turn_client_api.specs.Requests.{icmp_kind}
+use Rattle.turn_client_laws.proofs.Common.{option_map}
+use Rattle.turn_client_laws.proofs.Machine.{placed, data_kind, peer_kind, icmp_kind}
 use Rattle.turn_client_core.proofs.incoming.MessageLemmas.{last-if, unheaded, unknown-if, value-if, within-if}
 use Rattle.turn_client_core.proofs.indication.Indication.of.Goals as goal
 

@@ -1,14 +1,6 @@
-use Rattle.std.proofs.Common.{◌≡◌, ◌+◌, ◌<◌, ◌∙◌, ◌||◌, length, length-drop, drop, fold, None, ap, arith, refl, sym}
+use Rattle.turn_client_laws.proofs.Common.{◌≡◌, ◌+◌, ◌<◌, ◌∙◌, ◌||◌, length, length-drop, drop, fold, None, ap, arith, refl, sym, eqb-false, eqb-true, take_rest, list_any, option_map}
+use Rattle.turn_client_laws.proofs.Machine.{placed, attribute_at, attribute_size, attributes_from, padded_len, data_kind, peer_kind, is_unknown, later_of, icmp_kind}
 use Rattle.std.proofs.Math.Bool.{or-false}
-use Rattle.std.proofs.lemmas.Bool.{eqb-false, eqb-true}
-use Rattle.std.proofs.lemmas.List.{take_rest}
-use Rattle.std.specs.List.{list_any}
-use Rattle.std.specs.Option.{option_map}
-use Rattle.turn_stun.specs.Iterator.{placed}
-use Rattle.turn_stun.specs.Message.{attribute_at, attribute_size, attributes_from, padded_len}
-use Rattle.turn_types.specs.Send.{data_kind, peer_kind}
-use Rattle.turn_client_api.specs.Judgement.{is_unknown, later_of}
-use Rattle.turn_client_api.specs.Requests.{icmp_kind}
 use Rattle.turn_client_core.proofs.incoming.ReadLemmas.{cut-all, cut-none, end-some, read-all, step-any, step-fold, walked-all}
 use Rattle.turn_client_core.proofs.indication.Indication.read_all.Goals as goal
 

@@ -1,11 +1,5 @@
-use Rattle.std.proofs.Common.{◌≡◌, ◌+◌, ◌||◌, length, drop, fold, None}
-use Rattle.std.specs.List.{list_any}
-use Rattle.std.specs.Option.{option_map}
-use Rattle.turn_stun.specs.Iterator.{placed}
-use Rattle.turn_stun.specs.Message.{attributes_from}
-use Rattle.turn_client_api.specs.Judgement.{is_unknown, later_of}
-use Rattle.turn_client_api.specs.Requests.{icmp_kind}
-use Rattle.turn_types.specs.Send.{data_kind, peer_kind}
+use Rattle.turn_client_laws.proofs.Common.{◌≡◌, ◌+◌, ◌||◌, length, drop, fold, None, list_any, option_map}
+use Rattle.turn_client_laws.proofs.Machine.{placed, attributes_from, is_unknown, later_of, icmp_kind, data_kind, peer_kind}
 use Rattle.turn_client_core.proofs.indication.Indication.read_all.Given as goal
 
 -- what is found, with what is still to be read

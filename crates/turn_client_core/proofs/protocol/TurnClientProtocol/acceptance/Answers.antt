@@ -1,4 +1,4 @@
-use Rattle.std.proofs.Common.{Some, ap, sym}
+use Rattle.turn_client_laws.proofs.Common.{Some, ap, sym}
 use Rattle.turn_client_core.proofs.AuthLemmas.{signs_as}
 use Rattle.turn_client_core.proofs.protocol.TurnClientProtocol.acceptance.Goals as goal
 

@@ -1,7 +1,5 @@
-use Rattle.std.proofs.Common.{◌≡◌, ◌∙◌, ap}
-use Rattle.turn_stun.specs.Message.{id_of}
-use Rattle.turn_client_api.specs.Effect.{allocated, transaction_ended, relayed_in, taken_addresses}
-use Rattle.turn_client_api.specs.State.{State}
+use Rattle.turn_client_laws.proofs.Common.{◌≡◌, ◌∙◌, ap}
+use Rattle.turn_client_laws.proofs.Machine.{id_of, allocated, transaction_ended, relayed_in, taken_addresses, State}
 use Rattle.turn_client_grants.specs.Ledger.{with_ledger}
 use Rattle.turn_client_core.specs.contracts.protocol.TurnClientProtocol.{the_view}
 use Rattle.turn_client_core.proofs.incoming.AllocatedLemmas.{taken-new}

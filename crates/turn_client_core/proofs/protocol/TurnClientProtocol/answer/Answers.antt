@@ -1,7 +1,5 @@
-use Rattle.std.proofs.Common.{◌∙◌, ap, sym}
-use Rattle.std.specs.Prelude.{is_some}
-use Rattle.turn_client_api.specs.Due.{next_wakeup}
-use Rattle.turn_client_api.specs.State.{State}
+use Rattle.turn_client_laws.proofs.Common.{◌∙◌, ap, sym, is_some}
+use Rattle.turn_client_laws.proofs.Machine.{next_wakeup, State}
 use Rattle.turn_client_api.specs.declared.poll.TurnPollRet.TheVariants as Do
 use Rattle.turn_client_grants.specs.Ledger.{with_ledger}
 use Rattle.turn_client_core.specs.Polled.{is_without_allocation}

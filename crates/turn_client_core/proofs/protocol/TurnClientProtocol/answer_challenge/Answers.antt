@@ -1,10 +1,5 @@
-use Rattle.std.proofs.Common.{◌≡◌, ◌∙◌, ap, refl, sym}
-use Rattle.std.specs.Prelude.{IsSome}
-use Rattle.turn_auth.proofs.ChallengeLemmas.{challenge_of-MayTake}
-use Rattle.turn_stun.specs.Message.{id_of}
-use Rattle.turn_client_api.specs.Grants.{purposes_of}
-use Rattle.turn_client_api.specs.Retry.{retried, state_after_retry}
-use Rattle.turn_client_api.specs.State.{auth_of}
+use Rattle.turn_client_laws.proofs.Common.{◌≡◌, ◌∙◌, ap, refl, sym, IsSome}
+use Rattle.turn_client_laws.proofs.Machine.{challenge_of-MayTake, id_of, purposes_of, retried, state_after_retry, auth_of}
 use Rattle.turn_client_grants.specs.GrantFilter.{purposes_in}
 use Rattle.turn_client_core.specs.contracts.protocol.TurnClientProtocol.{the_view}
 use Rattle.turn_client_core.proofs.ResultLemmas.{on-err}

@@ -1,10 +1,5 @@
-use Rattle.std.proofs.Common.{◌≡◌, ◌∙◌, ap, rules, true}
-use Rattle.std.specs.Prelude.{find, is_some}
-use Rattle.turn_agent.specs.Agent.{is_response}
-use Rattle.turn_client_api.specs.Grants.{purposes_of}
-use Rattle.turn_client_api.specs.Judgement.{class_in, is_bind_of}
-use Rattle.turn_stun.specs.Message.{id_of}
-use Rattle.turn_client_api.specs.State.{State}
+use Rattle.turn_client_laws.proofs.Common.{◌≡◌, ◌∙◌, ap, rules, true, find, is_some}
+use Rattle.turn_client_laws.proofs.Machine.{is_response, purposes_of, class_in, is_bind_of, id_of, State}
 use Rattle.turn_client_core.proofs.incoming.BindLemmas.{found_any}
 use Rattle.turn_client_core.proofs.protocol.TurnClientProtocol.answers_bind.Goals as goal
 

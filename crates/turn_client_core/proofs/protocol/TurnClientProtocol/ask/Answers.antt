@@ -1,6 +1,5 @@
-use Rattle.std.proofs.Common.{◌∙◌, ap, sym}
-use Rattle.turn_client_api.specs.Grants.{with_more_grants}
-use Rattle.turn_client_api.specs.Requests.{fresh_id, request_for, sent_from}
+use Rattle.turn_client_laws.proofs.Common.{◌∙◌, ap, sym}
+use Rattle.turn_client_laws.proofs.Machine.{with_more_grants, fresh_id, request_for, sent_from}
 use Rattle.turn_client_grants.specs.Ledger.{with_ledger}
 use Rattle.turn_client_grants.specs.GrantFilter.{purposes_in}
 use Rattle.turn_client_core.specs.Asked.{asks}

@@ -1,12 +1,7 @@
-use Rattle.std.proofs.Common.{◌≡◌, ◌∙◌, false, true, ap, refl, subst, sym}
+use Rattle.turn_client_laws.proofs.Common.{◌≡◌, ◌∙◌, false, true, ap, refl, subst, sym}
+use Rattle.turn_client_laws.proofs.Machine.{first_sent, without_transaction, MayTake, ClientAuth, with_challenge, purposes_of, request_started, id_used, fresh_id, queued, request_for}
+use Rattle.turn_client_laws.proofs.Machine.{state_after_retry, auth_of}
 use Rattle.std.specs.Prelude.{◌==◌}
-use Rattle.turn_agent.specs.Agent.{first_sent, without_transaction}
-use Rattle.turn_auth.specs.Challenge.{MayTake}
-use Rattle.turn_auth.specs.LongTerm.{ClientAuth, with_challenge}
-use Rattle.turn_client_api.specs.Grants.{purposes_of}
-use Rattle.turn_client_api.specs.Requests.{request_started, id_used, fresh_id, queued, request_for}
-use Rattle.turn_client_api.specs.Retry.{state_after_retry}
-use Rattle.turn_client_api.specs.State.{auth_of}
 use Rattle.turn_client_requests.specs.RequestAttributes.{with_asked_families}
 use Rattle.turn_client_grants.specs.Ledger.{with_ledger}
 use Rattle.turn_client_core.specs.Outgoing.{Outgoing}

@@ -1,13 +1,6 @@
-use Rattle.std.proofs.Common.{◌≡◌, ◌∙◌, ap, refl, subst, sym}
-use Rattle.std.specs.Prelude.{◌∷◌, [], Some, find, true}
-use Rattle.turn_auth.specs.Challenge.{MayTake}
-use Rattle.turn_auth.specs.LongTerm.{ClientAuth, with_challenge}
-use Rattle.turn_client_api.specs.Connections.{bind_again}
-use Rattle.turn_client_api.specs.Grants.{purposes_of}
-use Rattle.turn_client_api.specs.Judgement.{is_bind_of}
-use Rattle.turn_client_api.specs.Requests.{request_started, fresh_id, queued, request_for, sent_from}
-use Rattle.turn_client_api.specs.Retry.{with_held}
-use Rattle.turn_client_api.specs.State.{auth_of}
+use Rattle.turn_client_laws.proofs.Common.{◌≡◌, ◌∙◌, ap, refl, subst, sym, Some, find}
+use Rattle.turn_client_laws.proofs.Machine.{MayTake, ClientAuth, with_challenge, bind_again, purposes_of, is_bind_of, request_started, fresh_id, queued, request_for, sent_from, with_held, auth_of}
+use Rattle.std.specs.Prelude.{◌∷◌, [], true}
 use Rattle.turn_client_requests.specs.RequestAttributes.{with_asked_families}
 use Rattle.turn_client_grants.specs.Asked.{bind_retried}
 use Rattle.turn_client_grants.specs.Ledger.{with_ledger}

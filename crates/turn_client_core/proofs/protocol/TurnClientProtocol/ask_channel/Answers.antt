@@ -1,9 +1,5 @@
-use Rattle.std.proofs.Common.{◌≡◌, ◌∙◌, List, [], ◌∷◌, None, Some, false, refl, subst, sym, true, ap}
-use Rattle.std.proofs.lemmas.Bool.{false≢true}
-use Rattle.std.specs.List.{list_any, slice_get}
-use Rattle.std.specs.Prelude.{IsSome, filter_map}
-use Rattle.turn_client_api.specs.Calls.{channels_to, free_number, is_allocated, is_in_progress, reserved_from}
-use Rattle.turn_client_api.specs.State.{State}
+use Rattle.turn_client_laws.proofs.Common.{◌≡◌, ◌∙◌, List, [], ◌∷◌, None, Some, false, refl, subst, sym, true, ap, false≢true, list_any, slice_get, IsSome, filter_map}
+use Rattle.turn_client_laws.proofs.Machine.{channels_to, free_number, is_allocated, is_in_progress, reserved_from, State}
 use Rattle.turn_client_core.proofs.protocol.TurnClientProtocol.ask_channel.Goals as goal
 
 -- a list without a first element is empty

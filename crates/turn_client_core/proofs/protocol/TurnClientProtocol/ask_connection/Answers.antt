@@ -1,9 +1,6 @@
-use Rattle.std.proofs.Common.{◌≡◌, rules, true, ap, sym}
-use Rattle.std.specs.Net.Socket.{socket_ip}
+use Rattle.turn_client_laws.proofs.Common.{◌≡◌, rules, true, ap, sym, socket_ip}
+use Rattle.turn_client_laws.proofs.Machine.{is_allocated, is_connected, is_connecting, has_active_permission}
 use Rattle.std.specs.Prelude.{◌||◌}
-use Rattle.turn_client_api.specs.Calls.{is_allocated}
-use Rattle.turn_client_api.specs.Connections.{is_connected, is_connecting}
-use Rattle.turn_client_api.specs.Grants.{has_active_permission}
 use Rattle.turn_client_core.proofs.calls.CallLemmas.{connected-is}
 use Rattle.turn_client_core.proofs.protocol.TurnClientProtocol.ask_connection.Goals as goal
 

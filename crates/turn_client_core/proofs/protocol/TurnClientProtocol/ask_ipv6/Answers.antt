@@ -1,17 +1,9 @@
-use Rattle.std.proofs.Common.{◌≡◌, ◌∙◌, false, true, ap, refl, sym}
-use Rattle.std.specs.Prelude.{◌==◌, ◌∷◌, [], ◌++◌, not}
-use Rattle.std.specs.List.{list_any}
-use Rattle.std.proofs.lemmas.List.{append-nil}
-use Rattle.turn_agent.specs.Agent.{first_sent, without_transaction}
-use Rattle.turn_client_api.specs.Effect.{transaction_ended, in_phase}
-use Rattle.turn_client_api.specs.Grants.{is_for_allocation, wait}
-use Rattle.turn_client_api.specs.Requests.{request_started, id_used, fresh_id, queued, request_for}
-use Rattle.turn_client_api.specs.declared.event.TurnEvent.TheVariants.{AllocationCreateFailed}
-use Rattle.turn_client_api.specs.declared.grant.Purpose.TheVariants.{ForAllocation}
+use Rattle.turn_client_laws.proofs.Common.{◌≡◌, ◌∙◌, false, true, ap, refl, sym, not, list_any, append-nil}
+use Rattle.turn_client_laws.proofs.Machine.{first_sent, without_transaction, transaction_ended, in_phase, is_for_allocation, wait, request_started, id_used, fresh_id, queued, request_for}
+use Rattle.turn_client_laws.proofs.Machine.{AllocationCreateFailed, ForAllocation, id_of, IPV4, IPV6}
+use Rattle.std.specs.Prelude.{◌==◌, ◌∷◌, [], ◌++◌}
 use Rattle.turn_client_requests.specs.RequestAttributes.{with_asked_families}
 use Rattle.turn_client_grants.specs.Ledger.{with_ledger}
-use Rattle.turn_stun.specs.Message.{id_of}
-use Rattle.turn_types.specs.declared.family.AddressFamily.TheVariants.{IPV4, IPV6}
 use Rattle.turn_client_core.specs.Replies.{asks_ipv6}
 use Rattle.turn_client_core.specs.Outgoing.{Outgoing}
 use Rattle.turn_client_core.specs.contracts.protocol.TurnClientProtocol.{the_view}

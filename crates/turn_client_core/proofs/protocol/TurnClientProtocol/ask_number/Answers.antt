@@ -1,7 +1,5 @@
-use Rattle.std.proofs.Common.{◌≡◌, ◌∙◌, None, ap, sym}
-use Rattle.std.specs.Net.Socket.{socket_ip}
-use Rattle.turn_client_api.specs.Grants.{permission_progress, permission_state}
-use Rattle.turn_client_api.specs.State.{State}
+use Rattle.turn_client_laws.proofs.Common.{◌≡◌, ◌∙◌, None, ap, sym, socket_ip}
+use Rattle.turn_client_laws.proofs.Machine.{permission_progress, permission_state, State}
 use Rattle.turn_client_grants.specs.Lists.{first_among}
 use Rattle.turn_client_core.proofs.ResultLemmas.{none-some_not}
 use Rattle.turn_client_core.proofs.calls.AskLemmas.{pair-new}

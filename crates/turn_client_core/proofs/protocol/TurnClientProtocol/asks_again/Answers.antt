@@ -1,7 +1,5 @@
-use Rattle.std.proofs.Common.{◌∙◌, ◌==◌, ap, is_some, map}
-use Rattle.std.specs.Prelude.{filter}
-use Rattle.turn_client_api.specs.Grants.{purposes_of}
-use Rattle.turn_client_api.specs.Retry.{retried}
+use Rattle.turn_client_laws.proofs.Common.{◌∙◌, ◌==◌, ap, is_some, map, filter}
+use Rattle.turn_client_laws.proofs.Machine.{purposes_of, retried}
 use Rattle.turn_client_core.proofs.protocol.TurnClientProtocol.asks_again.Goals as goal
 
 pub returns : goal.returns

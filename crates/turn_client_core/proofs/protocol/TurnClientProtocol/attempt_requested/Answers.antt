@@ -1,4 +1,4 @@
-use Rattle.std.proofs.Common.{◌∙◌, sym}
+use Rattle.turn_client_laws.proofs.Common.{◌∙◌, sym}
 use Rattle.turn_client_core.proofs.protocol.TurnClientProtocol.attempt_requested.Goals as goal
 
 pub returns-in_default-clause-ok : goal.returns-in_default-clause-ok

@@ -1,8 +1,5 @@
-use Rattle.std.proofs.Common.{◌≡◌, ◌∙◌, refl, sym, ap}
-use Rattle.std.specs.Prelude.{find}
-use Rattle.turn_client_api.specs.Grants.{purposes_of}
-use Rattle.turn_client_api.specs.Judgement.{is_bind_of}
-use Rattle.turn_client_api.specs.State.{State}
+use Rattle.turn_client_laws.proofs.Common.{◌≡◌, ◌∙◌, refl, sym, ap, find}
+use Rattle.turn_client_laws.proofs.Machine.{purposes_of, is_bind_of, State}
 use Rattle.turn_client_core.proofs.protocol.TurnClientProtocol.bind_again.Goals as goal
 
 pub returns-in_default-clause-ok : goal.returns-in_default-clause-ok

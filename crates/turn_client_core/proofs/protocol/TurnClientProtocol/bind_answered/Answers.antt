@@ -1,12 +1,7 @@
-use Rattle.std.proofs.Common.{◌≡◌, ◌∙◌, ap, refl, sym, true}
-use Rattle.turn_auth.proofs.ChallengeLemmas.{challenge_of-MayTake}
-use Rattle.turn_client_laws.proofs.ChallengeJudgement.{bind-is}
-use Rattle.turn_client_api.specs.Connections.{bind_again, connection_at, not_bound}
+use Rattle.turn_client_laws.proofs.Common.{◌≡◌, ◌∙◌, ap, refl, sym, true}
+use Rattle.turn_client_laws.proofs.Machine.{challenge_of-MayTake, bind_again, connection_at, not_bound, bind_judgement, keeps_connection, auth_of, id_of}
+use Rattle.turn_client_laws.proofs.Laws.{bind-is}
 use Rattle.turn_client_api.specs.Judgement as J
-use Rattle.turn_client_api.specs.Judgement.{bind_judgement}
-use Rattle.turn_client_api.specs.Memory.{keeps_connection}
-use Rattle.turn_client_api.specs.State.{auth_of}
-use Rattle.turn_stun.specs.Message.{id_of}
 use Rattle.turn_client_core.specs.Apart.{with_streams_of}
 use Rattle.turn_client_core.specs.Judged.{judgement_in}
 use Rattle.turn_client_core.specs.contracts.protocol.TurnClientProtocol.{the_view}

@@ -1,11 +1,5 @@
-use Rattle.std.proofs.Common.{◌≡◌, ◌∙◌, ap, false, rules, subst, sym, true}
-use Rattle.std.specs.Prelude.{Result}
-use Rattle.std.specs.Net.Socket.{socket_ip}
-use Rattle.turn_client_api.specs.Answers.{BindsChannel}
-use Rattle.turn_client_api.specs.Calls.{channel_step}
-use Rattle.turn_client_api.specs.Grants.{find_allocation_to}
-use Rattle.turn_client_api.specs.State.{State}
-use Rattle.turn_client_api.specs.declared.error.BindChannelError.{BindChannelError}
+use Rattle.turn_client_laws.proofs.Common.{◌≡◌, ◌∙◌, ap, false, rules, subst, sym, true, Result, socket_ip}
+use Rattle.turn_client_laws.proofs.Machine.{BindsChannel, channel_step, find_allocation_to, State, BindChannelError}
 use Rattle.turn_client_api.specs.declared.error.BindChannelError.TheVariants as Refusal
 use Rattle.turn_client_core.specs.Usable.{is_usable, with_past_expired}
 use Rattle.turn_client_core.proofs.calls.CallLemmas.{unusable-is, usable-is}

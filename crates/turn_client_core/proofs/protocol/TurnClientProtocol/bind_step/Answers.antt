@@ -1,12 +1,7 @@
-use Rattle.std.proofs.Common.{◌≡◌, ◌∙◌, rules, sym, true, ap}
-use Rattle.std.specs.Prelude.{◌==◌, Some, filter_map}
-use Rattle.turn_client_api.specs.Connections.{connection_at}
-use Rattle.turn_client_api.specs.Grants.{as_connection}
-use Rattle.turn_client_api.specs.Judgement.{method_in}
-use Rattle.turn_client_api.specs.Requests.{connection_bind_method}
-use Rattle.turn_client_api.specs.declared.state.Phase.TheVariants.{Allocated}
+use Rattle.turn_client_laws.proofs.Common.{◌≡◌, ◌∙◌, rules, sym, true, ap, Some, filter_map}
+use Rattle.turn_client_laws.proofs.Machine.{connection_at, as_connection, method_in, connection_bind_method, Allocated, State}
+use Rattle.std.specs.Prelude.{◌==◌}
 use Rattle.turn_client_grants.proofs.ThereLemmas.{own-end}
-use Rattle.turn_client_api.specs.State.{State}
 use Rattle.turn_client_core.proofs.protocol.TurnClientProtocol.bind_step.Goals as goal
 
 pub bind_answered-requires : goal.bind_answered-requires

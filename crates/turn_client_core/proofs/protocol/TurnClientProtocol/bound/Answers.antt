@@ -1,8 +1,6 @@
-use Rattle.std.proofs.Common.{◌∙◌, ap}
-use Rattle.turn_client_api.specs.Connections.{bound}
-use Rattle.turn_client_api.specs.Effect.{transaction_ended}
+use Rattle.turn_client_laws.proofs.Common.{◌∙◌, ap}
+use Rattle.turn_client_laws.proofs.Machine.{bound, transaction_ended, id_of}
 use Rattle.turn_client_grants.specs.Ledger.{with_ledger}
-use Rattle.turn_stun.specs.Message.{id_of}
 use Rattle.turn_client_core.specs.Apart.{with_streams_of}
 use Rattle.turn_client_core.specs.contracts.protocol.TurnClientProtocol.{the_view}
 use Rattle.turn_client_core.proofs.calls.AskLemmas.{with_outbox}

@@ -1,8 +1,5 @@
-use Rattle.std.proofs.Common.{◌≡◌, ◌∙◌, ap, refl, sym}
-use Rattle.std.specs.Prelude.{None, Some}
-use Rattle.turn_auth.specs.Challenge.{challenge_of}
-use Rattle.turn_client_api.specs.Judgement.{challenge_in}
-use Rattle.turn_client_api.specs.State.{auth_of}
+use Rattle.turn_client_laws.proofs.Common.{◌≡◌, ◌∙◌, ap, refl, sym, None, Some}
+use Rattle.turn_client_laws.proofs.Machine.{challenge_of, challenge_in, auth_of}
 use Rattle.turn_client_core.specs.contracts.protocol.TurnClientProtocol.{the_view}
 use Rattle.turn_client_core.proofs.AuthLemmas.{auth-is}
 use Rattle.turn_client_core.proofs.protocol.TurnClientProtocol.challenged_or.Goals as goal

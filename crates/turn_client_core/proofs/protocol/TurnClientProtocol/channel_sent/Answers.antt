@@ -1,4 +1,4 @@
-use Rattle.std.proofs.Common.{sym}
+use Rattle.turn_client_laws.proofs.Common.{sym}
 use Rattle.turn_client_core.specs.contracts.protocol.TurnClientProtocol.{the_view}
 use Rattle.turn_client_core.proofs.incoming.DataLemmas.{channel-is, no_channel-is}
 use Rattle.turn_client_core.proofs.protocol.TurnClientProtocol.channel_sent.Goals as goal

@@ -1,7 +1,5 @@
-use Rattle.std.proofs.Common.{◌≡◌, false, true, refl, rules, ◌∙◌, ap}
-use Rattle.std.specs.Prelude.{filter_map, nat_le, slice_get}
-use Rattle.turn_client_api.specs.Calls.{active_channel}
-use Rattle.turn_client_api.specs.State.{State}
+use Rattle.turn_client_laws.proofs.Common.{◌≡◌, false, true, refl, rules, ◌∙◌, ap, filter_map, nat_le, slice_get}
+use Rattle.turn_client_laws.proofs.Machine.{active_channel, State}
 use Rattle.turn_client_core.proofs.protocol.TurnClientProtocol.channel_to.Goals as goal
 
 pub returns-in_default-clause-found : goal.returns-in_default-clause-found

@@ -1,4 +1,4 @@
-use Rattle.turn_client_api.specs.declared.state.Phase.TheVariants.{Closed}
+use Rattle.turn_client_laws.proofs.Machine.{Closed}
 use Rattle.turn_client_core.specs.contracts.protocol.TurnClientProtocol.{the_view}
 use Rattle.turn_client_core.proofs.protocol.TurnClientProtocol.close.Goals as goal
 

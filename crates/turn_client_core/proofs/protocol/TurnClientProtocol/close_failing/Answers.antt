@@ -1,5 +1,5 @@
-use Rattle.std.proofs.Common.{◌∙◌, ap}
-use Rattle.turn_client_api.specs.Effect.{closed}
+use Rattle.turn_client_laws.proofs.Common.{◌∙◌, ap}
+use Rattle.turn_client_laws.proofs.Machine.{closed}
 use Rattle.turn_client_core.proofs.ResultLemmas.{on-err-map, on-ok-map}
 use Rattle.turn_client_core.proofs.protocol.TurnClientProtocol.close_failing.Goals as goal
 

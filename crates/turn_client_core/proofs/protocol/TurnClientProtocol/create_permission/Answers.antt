@@ -1,10 +1,5 @@
-use Rattle.std.proofs.Common.{◌≡◌, ◌∙◌, ap, false, rules, subst, sym, true}
-use Rattle.std.specs.Prelude.{Result}
-use Rattle.turn_client_api.specs.Answers.{CreatesPermission}
-use Rattle.turn_client_api.specs.Calls.{permission_step}
-use Rattle.turn_client_api.specs.Grants.{find_allocation_to}
-use Rattle.turn_client_api.specs.State.{State}
-use Rattle.turn_client_api.specs.declared.error.CreatePermissionError.{CreatePermissionError}
+use Rattle.turn_client_laws.proofs.Common.{◌≡◌, ◌∙◌, ap, false, rules, subst, sym, true, Result}
+use Rattle.turn_client_laws.proofs.Machine.{CreatesPermission, permission_step, find_allocation_to, State, CreatePermissionError}
 use Rattle.turn_client_api.specs.declared.error.CreatePermissionError.TheVariants as Refusal
 use Rattle.turn_client_core.specs.Usable.{is_usable, with_past_expired}
 use Rattle.turn_client_core.proofs.calls.CallLemmas.{unusable-is, usable-is}

@@ -1,4 +1,4 @@
-use Rattle.std.proofs.Common.{refl}
+use Rattle.turn_client_laws.proofs.Common.{refl}
 use Rattle.turn_client_core.proofs.protocol.TurnClientProtocol.data_indicated.Goals as goal
 
 pub returns-in-Some-clause-outcome : goal.returns-in-Some-clause-outcome

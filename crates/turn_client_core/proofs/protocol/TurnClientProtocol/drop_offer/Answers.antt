@@ -1,7 +1,5 @@
-use Rattle.std.proofs.Common.{◌∙◌, ap}
-use Rattle.std.specs.Prelude.{codes}
-use Rattle.turn_client_api.specs.Calls.{offer_taken}
-use Rattle.turn_client_api.specs.Requests.{connection_timed_out, refused_reply}
+use Rattle.turn_client_laws.proofs.Common.{◌∙◌, ap, codes}
+use Rattle.turn_client_laws.proofs.Machine.{offer_taken, connection_timed_out, refused_reply}
 use Rattle.turn_client_grants.specs.Ledger.{with_ledger}
 use Rattle.turn_client_core.specs.Opened.{with_reply}
 use Rattle.turn_client_core.specs.contracts.protocol.TurnClientProtocol.{the_view}

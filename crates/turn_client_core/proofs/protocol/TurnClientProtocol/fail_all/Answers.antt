@@ -1,6 +1,5 @@
-use Rattle.std.proofs.Common.{◌≡◌, ◌∙◌, [], ap, sym}
-use Rattle.turn_client_api.specs.Effect.{fail_all}
-use Rattle.turn_client_api.specs.State.{State}
+use Rattle.turn_client_laws.proofs.Common.{◌≡◌, ◌∙◌, [], ap, sym}
+use Rattle.turn_client_laws.proofs.Machine.{fail_all, State}
 use Rattle.turn_client_core.specs.contracts.protocol.TurnClientProtocol.{the_view}
 use Rattle.turn_client_core.proofs.incoming.EffectLemmas.{fail-none, nil-from}
 use Rattle.turn_client_core.proofs.ResultLemmas.{on-err}

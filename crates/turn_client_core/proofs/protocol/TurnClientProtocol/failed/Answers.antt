@@ -1,7 +1,6 @@
-use Rattle.std.proofs.Common.{◌∙◌, ap, inl, inr, false, subst, sym}
-use Rattle.std.specs.Prelude.{◌≡◌, IfOk, OnOk}
-use Rattle.turn_client_api.specs.Payloads.{Outcome}
-use Rattle.turn_client_api.specs.State.{State}
+use Rattle.turn_client_laws.proofs.Common.{◌∙◌, ap, inl, inr, false, subst, sym, IfOk, OnOk}
+use Rattle.turn_client_laws.proofs.Machine.{Outcome, State}
+use Rattle.std.specs.Prelude.{◌≡◌}
 use Rattle.turn_client_core.specs.ProtocolRecv.{outcome_in}
 use Rattle.turn_client_core.proofs.incoming.JudgedLemmas.{authenticating-is, denied-step, other-step}
 use Rattle.turn_client_core.proofs.ResultLemmas.{on-err, on-err-map}

@@ -1,5 +1,5 @@
-use Rattle.std.proofs.Common.{◌+◌, ◌%◌, ◌^◌, not, refl}
-use Rattle.turn_client_api.specs.Requests.{is_taken}
+use Rattle.turn_client_laws.proofs.Common.{◌+◌, ◌%◌, ◌^◌, not, refl}
+use Rattle.turn_client_laws.proofs.Machine.{is_taken}
 use Rattle.turn_client_core.proofs.calls.IdLemmas.{counted-on, find-counted}
 use Rattle.turn_client_core.proofs.protocol.TurnClientProtocol.first_free.Goals as goal
 

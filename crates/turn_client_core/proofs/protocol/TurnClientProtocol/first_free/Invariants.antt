@@ -1,7 +1,5 @@
-use Rattle.std.proofs.Common.{◌≡◌, ◌+◌, ◌-◌, ◌%◌, ◌^◌, not, map}
-use Rattle.std.specs.List.{range_with_len}
-use Rattle.std.specs.Prelude.{find}
-use Rattle.turn_client_api.specs.Requests.{is_taken}
+use Rattle.turn_client_laws.proofs.Common.{◌≡◌, ◌+◌, ◌-◌, ◌%◌, ◌^◌, not, map, range_with_len, find}
+use Rattle.turn_client_laws.proofs.Machine.{is_taken}
 use Rattle.turn_client_core.proofs.protocol.TurnClientProtocol.first_free.Given as goal
 
 abbrev pub invariant-loop-round : goal.invariant-loop-round

@@ -1,9 +1,6 @@
-use Rattle.std.proofs.Common.{◌≡◌, ◌∙◌, IfSome, ap, false, length, option_and_then, subst, sym}
-use Rattle.std.specs.Option.{option_map}
-use Rattle.turn_stun.specs.Iterator.{placed}
-use Rattle.turn_stun.specs.Message.{IsWithin}
+use Rattle.turn_client_laws.proofs.Common.{◌≡◌, ◌∙◌, IfSome, ap, false, length, option_and_then, subst, sym, option_map}
+use Rattle.turn_client_laws.proofs.Machine.{placed, IsWithin, has_unknown}
 use Rattle.turn_types.specs.Icmp.{icmp_of}
-use Rattle.turn_client_api.specs.Judgement.{has_unknown}
 use Rattle.turn_client_core.specs.contracts.protocol.TurnClientProtocol.{the_view}
 use Rattle.turn_client_core.proofs.incoming.DataLemmas.{data-is, icmp-is, no_peer-is, peer-read, unknown-is}
 use Rattle.turn_client_core.proofs.protocol.TurnClientProtocol.found_indicated.Goals as goal

@@ -1,4 +1,4 @@
-use Rattle.std.proofs.Common.{drop, length, ◌+◌}
+use Rattle.turn_client_laws.proofs.Common.{drop, length, ◌+◌}
 use Rattle.turn_types.proofs.ChannelLemmas.{IsChannel-ReadsChannel, PassesTests-no_fault}
 use Rattle.turn_client_core.proofs.protocol.TurnClientProtocol.frame_sent.Goals as goal
 

@@ -1,8 +1,6 @@
-use Rattle.std.proofs.Common.{◌≡◌, ◌∙◌, ◌+◌, ◌%◌, ◌<◌, ◌^◌, arith, length, map, not, rules}
-use Rattle.std.specs.List.{range_with_len}
-use Rattle.std.specs.Prelude.{find, unwrap_or}
-use Rattle.turn_agent.specs.TransactionIds.{next_id}
-use Rattle.turn_client_api.specs.Requests.{fresh_id, is_taken, max_ids_taken}
+use Rattle.turn_client_laws.proofs.Common.{◌≡◌, ◌∙◌, ◌+◌, ◌%◌, ◌<◌, ◌^◌, arith, length, map, not, rules, range_with_len, find}
+use Rattle.turn_client_laws.proofs.Machine.{next_id, fresh_id, is_taken, max_ids_taken}
+use Rattle.std.specs.Prelude.{unwrap_or}
 use Rattle.turn_client_core.proofs.calls.IdLemmas.{fresh-is, fresh-unlisted, fresh-unsent}
 use Rattle.turn_client_core.proofs.protocol.TurnClientProtocol.fresh_id.Goals as goal
 

@@ -1,5 +1,5 @@
-use Rattle.std.proofs.Common.{◌≡◌, ◌∙◌, false, sym, true}
-use Rattle.turn_client_api.specs.Due.{has_event}
+use Rattle.turn_client_laws.proofs.Common.{◌≡◌, ◌∙◌, false, sym, true}
+use Rattle.turn_client_laws.proofs.Machine.{has_event}
 use Rattle.turn_client_core.specs.contracts.protocol.TurnClientProtocol.{the_view}
 use Rattle.turn_client_core.proofs.protocol.TurnClientProtocol.has_pending.Goals as goal
 

@@ -1,6 +1,5 @@
-use Rattle.std.proofs.Common.{◌≡◌, ◌∙◌, None, Some, refl, rules, sym, true, false}
-use Rattle.std.specs.Prelude.{nat_le}
-use Rattle.turn_client_api.specs.Grants.{find_allocation_to}
+use Rattle.turn_client_laws.proofs.Common.{◌≡◌, ◌∙◌, None, Some, refl, rules, sym, true, false, nat_le}
+use Rattle.turn_client_laws.proofs.Machine.{find_allocation_to}
 use Rattle.turn_client_core.specs.contracts.protocol.TurnClientProtocol.{the_view}
 use Rattle.turn_client_core.proofs.protocol.TurnClientProtocol.has_usable_allocation.Goals as goal
 

@@ -1,4 +1,4 @@
-use Rattle.std.proofs.Common.{◌∙◌, ap, sym}
+use Rattle.turn_client_laws.proofs.Common.{◌∙◌, ap, sym}
 use Rattle.turn_client_core.proofs.incoming.UnreadLemmas.{cut-datagram, data-datagram, ignored-headed}
 use Rattle.turn_client_core.proofs.protocol.TurnClientProtocol.headed.Goals as goal
 

@@ -1,4 +1,4 @@
-use Rattle.std.proofs.Common.{◌∙◌, ap, sym}
+use Rattle.turn_client_laws.proofs.Common.{◌∙◌, ap, sym}
 use Rattle.turn_client_core.specs.Indication.{if_permitted}
 use Rattle.turn_client_core.proofs.protocol.TurnClientProtocol.if_permitted.Goals as goal
 

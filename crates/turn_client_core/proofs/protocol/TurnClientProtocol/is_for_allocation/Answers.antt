@@ -1,4 +1,4 @@
-use Rattle.std.proofs.Common.{refl}
+use Rattle.turn_client_laws.proofs.Common.{refl}
 use Rattle.turn_client_core.proofs.protocol.TurnClientProtocol.is_for_allocation.Goals as goal
 
 pub returns : goal.returns

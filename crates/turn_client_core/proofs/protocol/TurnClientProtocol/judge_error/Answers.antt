@@ -1,13 +1,7 @@
-use Rattle.std.proofs.Common.{◌≡◌, ◌∙◌, List, ℕ, false, refl, sym}
-use Rattle.turn_agent.specs.Agent.{is_outstanding}
-use Rattle.turn_auth.specs.Validation.{validation_of}
-use Rattle.turn_auth.specs.declared.validation.Validation.{Validation}
-use Rattle.turn_auth.specs.declared.validation.Validation.TheVariants.{Refused, ResendRequest, Validated}
-use Rattle.turn_client_api.specs.Judgement.{allocated_judgement, challenge_in, challenged_or, class_in}
+use Rattle.turn_client_laws.proofs.Common.{◌≡◌, ◌∙◌, List, ℕ, false, refl, sym}
+use Rattle.turn_client_laws.proofs.Machine.{is_outstanding, validation_of, Validation, Refused, ResendRequest, Validated, allocated_judgement, challenge_in, challenged_or, class_in, State, auth_of}
+use Rattle.turn_client_laws.proofs.Machine.{id_of, Error}
 use Rattle.turn_client_api.specs.Judgement as J
-use Rattle.turn_client_api.specs.State.{State, auth_of}
-use Rattle.turn_stun.specs.Message.{id_of}
-use Rattle.turn_stun.specs.declared.message.header.MessageClass.TheVariants.{Error}
 use Rattle.turn_client_core.proofs.protocol.TurnClientProtocol.judge_error.Goals as goal
 
 -- without its request only a challenge counts

@@ -1,4 +1,4 @@
-use Rattle.std.proofs.Common.{◌∙◌}
+use Rattle.turn_client_laws.proofs.Common.{◌∙◌}
 use Rattle.turn_client_core.specs.contracts.protocol.TurnClientProtocol.{the_view}
 use Rattle.turn_client_core.proofs.time.PollLemmas.{least_due-is}
 use Rattle.turn_client_core.proofs.protocol.TurnClientProtocol.least_due.Goals as goal

@@ -1,8 +1,7 @@
-use Rattle.std.proofs.Common.{◌≡◌, ◌∙◌, ap, refl, subst, sym, true}
-use Rattle.turn_client_laws.proofs.ChallengeJudgement.{Challenged-is}
+use Rattle.turn_client_laws.proofs.Common.{◌≡◌, ◌∙◌, ap, refl, subst, sym, true}
+use Rattle.turn_client_laws.proofs.Machine.{judgement_of, message_takes_memory}
+use Rattle.turn_client_laws.proofs.Laws.{Challenged-is}
 use Rattle.turn_client_api.specs.Judgement as J
-use Rattle.turn_client_api.specs.Judgement.{judgement_of}
-use Rattle.turn_client_api.specs.Memory.{message_takes_memory}
 use Rattle.turn_client_core.specs.Judged.{judgement_in}
 use Rattle.turn_client_core.proofs.incoming.JudgedLemmas.{data-judged, error-answers, request-signs}
 use Rattle.turn_client_core.proofs.ResultLemmas.{on-err}

@@ -1,4 +1,4 @@
-use Rattle.std.proofs.Common.{◌∙◌, ap, sym}
+use Rattle.turn_client_laws.proofs.Common.{◌∙◌, ap, sym}
 use Rattle.turn_client_core.proofs.incoming.UnreadLemmas.{ignored-message}
 use Rattle.turn_client_core.proofs.protocol.TurnClientProtocol.message_unless_ignored.Goals as goal
 

@@ -1,5 +1,5 @@
-use Rattle.std.proofs.Common.{◌∙◌, ap}
-use Rattle.turn_client_api.specs.Effect.{with_offer}
+use Rattle.turn_client_laws.proofs.Common.{◌∙◌, ap}
+use Rattle.turn_client_laws.proofs.Machine.{with_offer}
 use Rattle.turn_client_core.proofs.ResultLemmas.{on-err}
 use Rattle.turn_client_core.specs.contracts.protocol.TurnClientProtocol.{the_view}
 use Rattle.turn_client_core.proofs.protocol.TurnClientProtocol.offer.Goals as goal

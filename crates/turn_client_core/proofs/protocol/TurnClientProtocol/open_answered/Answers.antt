@@ -1,9 +1,5 @@
-use Rattle.std.proofs.Common.{◌≡◌, ◌∙◌, None, ap, sym}
-use Rattle.std.proofs.lemmas.Bool.{or_parts}
-use Rattle.turn_agent.specs.Agent.{same_address}
-use Rattle.turn_client_api.specs.Connections.{connection_at}
-use Rattle.turn_client_api.specs.Requests.{fresh_id, request_for}
-use Rattle.turn_client_api.specs.declared.grant.Purpose.TheVariants.{ForBind}
+use Rattle.turn_client_laws.proofs.Common.{◌≡◌, ◌∙◌, None, ap, sym, or_parts}
+use Rattle.turn_client_laws.proofs.Machine.{same_address, connection_at, fresh_id, request_for, ForBind}
 use Rattle.turn_client_grants.specs.Ledger.{with_ledger}
 use Rattle.turn_client_core.specs.Apart.{with_streams_of}
 use Rattle.turn_client_core.specs.Opened.{opened_with}

@@ -1,4 +1,4 @@
-use Rattle.std.proofs.Common.{◌∙◌, ap}
+use Rattle.turn_client_laws.proofs.Common.{◌∙◌, ap}
 use Rattle.turn_client_core.specs.Apart.{with_streams_of}
 use Rattle.turn_client_core.specs.Opened.{opened_with}
 use Rattle.turn_client_core.proofs.calls.SocketLemmas.{opened-is}

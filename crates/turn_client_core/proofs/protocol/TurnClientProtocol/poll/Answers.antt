@@ -1,12 +1,6 @@
-use Rattle.std.proofs.Common.{◌≡◌, ◌∙◌, ℕ, ◌≤◌, ◌^◌, subst, sym}
-use Rattle.turn_client_api.specs.Alarm.{IsTimely}
-use Rattle.turn_client_api.specs.Poll.{poll_step}
-use Rattle.turn_client_api.specs.State.{State}
-use Rattle.turn_client_api.specs.declared.poll.TurnPollRet.{TurnPollRet}
-use Rattle.turn_client_laws.proofs.SendOrderLemmas.{steady-FitsPhaseForPoll}
-use Rattle.turn_client_laws.proofs.TimelyLemmas.{poll-timely}
-use Rattle.turn_client_laws.specs.LawsGrantAllocations.{GrantsHaveAllocations}
-use Rattle.turn_client_laws.specs.LawsOrder.{FitsPhase}
+use Rattle.turn_client_laws.proofs.Common.{◌≡◌, ◌∙◌, ℕ, ◌≤◌, ◌^◌, subst, sym}
+use Rattle.turn_client_laws.proofs.Machine.{IsTimely, poll_step, State, TurnPollRet}
+use Rattle.turn_client_laws.proofs.Laws.{steady-FitsPhaseForPoll, poll-timely, GrantsHaveAllocations, FitsPhase}
 use Rattle.turn_client_core.proofs.time.PollLemmas.{offers-is, pending-is, times-is}
 use Rattle.turn_client_core.proofs.protocol.TurnClientProtocol.poll.Goals as goal
 

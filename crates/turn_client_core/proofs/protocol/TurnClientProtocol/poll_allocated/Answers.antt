@@ -1,5 +1,5 @@
-use Rattle.std.proofs.Common.{◌∙◌, ap}
-use Rattle.turn_client_api.specs.Poll.{answer_step}
+use Rattle.turn_client_laws.proofs.Common.{◌∙◌, ap}
+use Rattle.turn_client_laws.proofs.Machine.{answer_step}
 use Rattle.turn_client_core.specs.contracts.protocol.TurnClientProtocol.{the_view}
 use Rattle.turn_client_core.proofs.protocol.TurnClientProtocol.poll_allocated.Goals as goal
 

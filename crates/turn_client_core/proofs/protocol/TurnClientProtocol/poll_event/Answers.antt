@@ -1,4 +1,4 @@
-use Rattle.std.proofs.Common.{◌≡◌, ap, drop, sym}
+use Rattle.turn_client_laws.proofs.Common.{◌≡◌, ap, drop, sym}
 use Rattle.turn_client_core.specs.contracts.protocol.TurnClientProtocol.{the_view}
 use Rattle.turn_client_core.proofs.calls.ListLemmas.{first_of}
 use Rattle.turn_client_core.proofs.protocol.TurnClientProtocol.poll_event.Goals as goal

@@ -1,4 +1,4 @@
-use Rattle.std.proofs.Common.{◌∙◌, sym}
+use Rattle.turn_client_laws.proofs.Common.{◌∙◌, sym}
 use Rattle.turn_client_core.proofs.ResultLemmas.{err-some, on-err-map}
 use Rattle.turn_client_core.proofs.protocol.TurnClientProtocol.protocol_error.Goals as goal
 

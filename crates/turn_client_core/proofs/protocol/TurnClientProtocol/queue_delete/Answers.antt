@@ -1,6 +1,5 @@
-use Rattle.std.proofs.Common.{◌∙◌, true, ap, refl, sym}
-use Rattle.turn_client_api.specs.Calls.{deleted}
-use Rattle.turn_client_api.specs.Requests.{request_started, fresh_id, queued}
+use Rattle.turn_client_laws.proofs.Common.{◌∙◌, true, ap, refl, sym}
+use Rattle.turn_client_laws.proofs.Machine.{deleted, request_started, fresh_id, queued}
 use Rattle.turn_client_grants.specs.Asked.{all_back, expired_now}
 use Rattle.turn_client_grants.specs.Ledger.{with_ledger}
 use Rattle.turn_client_core.specs.contracts.protocol.TurnClientProtocol.{the_view}

@@ -1,8 +1,5 @@
-use Rattle.std.proofs.Common.{◌≡◌, ◌∙◌, ap, List, refl, subst, sym, ℕ}
-use Rattle.std.specs.Prelude.{IfOk, IsSome, OnErr}
-use Rattle.turn_client_api.specs.Requests.{request_for}
-use Rattle.turn_client_api.specs.State.{State}
-use Rattle.turn_client_api.specs.Transmit.{refresh_step, sent_at_once}
+use Rattle.turn_client_laws.proofs.Common.{◌≡◌, ◌∙◌, ap, List, refl, subst, sym, ℕ, IfOk, IsSome, OnErr}
+use Rattle.turn_client_laws.proofs.Machine.{request_for, State, refresh_step, sent_at_once}
 use Rattle.turn_client_core.proofs.ResultLemmas.{on-err}
 use Rattle.turn_client_core.proofs.time.TransmitLemmas.{Packet, refresh-none, refresh-some}
 use Rattle.turn_client_core.proofs.protocol.TurnClientProtocol.refresh.Goals as goal

@@ -1,5 +1,5 @@
-use Rattle.std.proofs.Common.{subst, sym}
-use Rattle.turn_client_api.specs.State.{State}
+use Rattle.turn_client_laws.proofs.Common.{subst, sym}
+use Rattle.turn_client_laws.proofs.Machine.{State}
 use Rattle.turn_client_core.specs.Attempts.{CanSign}
 use Rattle.turn_client_core.proofs.incoming.SignLemmas.{can-sign}
 use Rattle.turn_client_core.proofs.protocol.TurnClientProtocol.refuse_attempt.Goals as goal

@@ -1,11 +1,8 @@
-use Rattle.std.proofs.Common.{◌≢◌, ◌∙◌, [], ap, filter, fold, sym}
-use Rattle.turn_client_api.specs.Effect.{effect, transaction_ended}
-use Rattle.turn_client_api.specs.Judgement.{method_in}
-use Rattle.turn_client_api.specs.Payloads.{answered_purposes, is_answered, outcome_for}
+use Rattle.turn_client_laws.proofs.Common.{◌≢◌, ◌∙◌, [], ap, filter, fold, sym}
+use Rattle.turn_client_laws.proofs.Machine.{effect, transaction_ended, method_in, answered_purposes, is_answered, outcome_for, id_of}
 use Rattle.turn_client_core.specs.Effects.{after}
 use Rattle.turn_client_grants.specs.Ledger.{with_ledger}
 use Rattle.turn_client_grants.specs.GrantFilter.{purposes_in}
-use Rattle.turn_stun.specs.Message.{id_of}
 use Rattle.turn_client_core.specs.contracts.protocol.TurnClientProtocol.{the_view}
 use Rattle.turn_client_core.proofs.calls.AskLemmas.{with_outbox}
 use Rattle.turn_client_core.proofs.ResultLemmas.{on-err}

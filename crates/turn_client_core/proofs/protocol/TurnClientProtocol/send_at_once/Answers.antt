@@ -1,5 +1,5 @@
-use Rattle.std.proofs.Common.{◌∙◌, ap, sym}
-use Rattle.turn_client_api.specs.Requests.{fresh_id}
+use Rattle.turn_client_laws.proofs.Common.{◌∙◌, ap, sym}
+use Rattle.turn_client_laws.proofs.Machine.{fresh_id}
 use Rattle.turn_client_core.specs.contracts.protocol.TurnClientProtocol.{the_view}
 use Rattle.turn_client_core.proofs.ResultLemmas.{on-err}
 use Rattle.turn_client_core.proofs.time.TransmitLemmas.{sends-is}

@@ -1,9 +1,5 @@
-use Rattle.std.proofs.Common.{◌∙◌, ap, rules, sym, List, ℕ}
-use Rattle.turn_client_api.specs.Requests.{fresh_id}
-use Rattle.turn_client_api.specs.State.{State}
-use Rattle.turn_client_api.specs.Transmit.{sent_at_once}
-use Rattle.turn_client_api.specs.declared.grant.Purpose.TheVariants.{ForAllocation}
-use Rattle.turn_client_api.specs.declared.state.Phase.TheVariants.{Requesting}
+use Rattle.turn_client_laws.proofs.Common.{◌∙◌, ap, rules, sym, List, ℕ}
+use Rattle.turn_client_laws.proofs.Machine.{fresh_id, State, sent_at_once, ForAllocation, Requesting}
 use Rattle.turn_client_core.specs.contracts.protocol.TurnClientProtocol.{the_view}
 use Rattle.turn_client_core.proofs.ResultLemmas.{on-err}
 use Rattle.turn_client_core.proofs.time.TransmitLemmas.{Packet, first-text-is, sends-is}

@@ -1,7 +1,5 @@
-use Rattle.std.proofs.Common.{◌≡◌, ◌∙◌, [], ap, false, subst, sym, true}
-use Rattle.std.specs.Prelude.{IfOk, IsSome, OnErr}
-use Rattle.turn_client_api.specs.Due.{is_paused}
-use Rattle.turn_client_api.specs.State.{State}
+use Rattle.turn_client_laws.proofs.Common.{◌≡◌, ◌∙◌, [], ap, false, subst, sym, true, IfOk, IsSome, OnErr}
+use Rattle.turn_client_laws.proofs.Machine.{is_paused, State}
 use Rattle.turn_client_core.specs.Outgoing.{Outgoing}
 use Rattle.turn_client_core.specs.contracts.protocol.TurnClientProtocol.{the_view}
 use Rattle.turn_client_core.proofs.calls.AskLemmas.{with_outbox}

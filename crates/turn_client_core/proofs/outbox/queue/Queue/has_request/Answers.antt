@@ -1,4 +1,4 @@
-use Rattle.std.proofs.Common.{sym}
+use Rattle.turn_client_laws.proofs.Common.{sym}
 use Rattle.turn_client_core.proofs.outbox.QueueLemmas.{request-counted}
 use Rattle.turn_client_core.proofs.outbox.queue.Queue.has_request.Goals as goal
 

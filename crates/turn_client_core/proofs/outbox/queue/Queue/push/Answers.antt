@@ -1,4 +1,4 @@
-use Rattle.std.proofs.Common.{arith}
+use Rattle.turn_client_laws.proofs.Common.{arith}
 use Rattle.turn_client_core.proofs.outbox.QueueLemmas.{reply_count-le}
 use Rattle.turn_client_core.proofs.outbox.queue.Queue.push.Goals as goal
 

@@ -1,4 +1,4 @@
-use Rattle.std.proofs.Common.{◌∙◌, arith, refl, sym}
+use Rattle.turn_client_laws.proofs.Common.{◌∙◌, arith, refl, sym}
 use Rattle.turn_client_core.proofs.outbox.QueueLemmas.{no_reply, none-counted, reply_count-taken}
 use Rattle.turn_client_core.proofs.outbox.ReplyLemmas.{reply-at}
 use Rattle.turn_client_core.proofs.outbox.queue.Queue.take_reply.Goals as goal
