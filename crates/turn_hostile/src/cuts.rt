@@ -12,7 +12,7 @@ use turn_client_calls::reply_to;
 use turn_hostile_net::draws::Draws;
 use turn_hostile_net::fault::{Fault, expect};
 use turn_hostile_net::world::{Kind, number_of};
-use turn_lines::client::new_client;
+use turn_line_client::client::new_client;
 use turn_stun::data::Data;
 use turn_stun::instant::Instant;
 use turn_stun::transport::Transmit;

@@ -15,7 +15,7 @@ use turn_client_calls::Reply;
 use turn_hostile_net::draws::Draws;
 use turn_hostile_net::fault::Fault;
 use turn_hostile_net::world::Kind;
-use turn_lines::client::new_client;
+use turn_line_client::client::new_client;
 use turn_lines::print::answers_text;
 use turn_stun::data::Data;
 use turn_stun::instant::Instant;

@@ -16,10 +16,11 @@ use turn_client_api::{Call, TurnClientApi};
 use turn_client_calls::{Reply, reply_to};
 use turn_hostile_net::fault::Fault;
 use turn_hostile_net::world::{Kind, local, server};
+use turn_line_client::run::replayed_text;
 use turn_lines::call::parse_call;
 use turn_lines::fault::ReadError;
 use turn_lines::head::{Ends, Head, Request};
-use turn_lines::print::{answers_text, replayed_text};
+use turn_lines::print::answers_text;
 use turn_types::TransportType;
 
 /// What was called and what was answered.

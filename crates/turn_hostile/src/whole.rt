@@ -8,7 +8,7 @@ use std::alloc::Global;
 use turn_client_api::TurnClientApi;
 use turn_hostile_net::fault::{Fault, expect};
 use turn_hostile_net::world::Kind;
-use turn_lines::client::new_client;
+use turn_line_client::client::new_client;
 use turn_types::TransportType;
 
 /// The least number of calls of a run.

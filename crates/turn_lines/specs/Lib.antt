@@ -1,8 +1,6 @@
 pub mod Address
-pub mod Answered
 pub mod Arguments
 pub mod Call
-pub mod Client
 pub mod Fault
 pub mod Field
 pub mod Head

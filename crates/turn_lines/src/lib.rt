@@ -23,7 +23,6 @@
 
 pub mod address;
 pub mod call;
-pub mod client;
 pub mod fault;
 pub mod field;
 pub mod head;

@@ -7,7 +7,7 @@ use Rattle.turn_client_api.specs.State.{State}
 use Rattle.turn_lines.specs.declared.fault.BadLine.{BadLine}
 use Rattle.turn_lines.specs.declared.head.Head.{Head}
 use Rattle.turn_live.specs.Line.{IsLine, IsLost, IsTaken, feed_at}
-use Rattle.turn_lines.specs.Client.{client_of}
+use Rattle.turn_line_client.specs.Client.{client_of}
 use Rattle.turn_live.specs.Lines.{after_line, after_lines, calls_said, line_call, line_head, line_said, session_of, session_with}
 use Rattle.turn_live.specs.Session.{ReadsLines, RunsLines, Steps, Talks, IsOfOneLine}
 use Rattle.turn_live.specs.declared.line.LineEnd.{LineEnd}

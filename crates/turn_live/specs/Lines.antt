@@ -9,7 +9,7 @@ use Rattle.turn_client_calls.specs.Checks.{needed}
 use Rattle.turn_client_calls.specs.Run.{reply_of}
 use Rattle.turn_client_calls.specs.declared.reply.Reply.{Reply}
 use Rattle.turn_lines.specs.Call.{call_of}
-use Rattle.turn_lines.specs.Client.{client_of}
+use Rattle.turn_line_client.specs.Client.{client_of}
 use Rattle.turn_lines.specs.Fault.{bad_line}
 use Rattle.turn_lines.specs.Head.{head_of}
 use Rattle.turn_lines.specs.Text.{kind_text, line_text, reply_fields}

@@ -6,7 +6,7 @@ use crate::seen::{Seen, Stop, report};
 use std::alloc::Global;
 use std::io::{ErrorKind, Read, Write};
 use std::process::ExitCode;
-use turn_lines::client::new_client;
+use turn_line_client::client::new_client;
 use turn_lines::parts::Parts;
 
 /// Reads a row, makes its calls, and writes one line that says what was seen.

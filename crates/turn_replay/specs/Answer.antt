@@ -2,7 +2,7 @@
 use Rattle.std.specs.Prelude.{◌≡◌, ℕ, ◌+◌, ◌≤◌, Bool, false, List, [], ◌++◌, length, take, codes, Option, IfSome, Result, Ok, Err}
 use Rattle.std.specs.Io.KnownBytes.{Consumes, IsAtEnd}
 use Rattle.turn_client_api.specs.declared.call.Call.{Call}
-use Rattle.turn_lines.specs.Answered.{answered_text}
+use Rattle.turn_line_client.specs.Answered.{answered_text}
 use Rattle.turn_lines.specs.Text.{bad_text}
 use Rattle.turn_lines.specs.Write.{PrintsText}
 use Rattle.turn_replay.specs.Trace.{trace_of}

@@ -2,13 +2,14 @@
 
 ghost use Rattle.std.specs.Prelude.{◌≡◌, All, IfOk, string_bytes};
 ghost use Rattle.turn_client_calls.specs.Run.{IsCallable};
-ghost use Rattle.turn_lines.specs.Answered.{answered_text};
+ghost use Rattle.turn_line_client.specs.Answered.{answered_text};
 ghost use Rattle.turn_replay.specs.Answer.{answer_to};
 
 use crate::trace::{Trace, parse_trace};
 use std::alloc::{AllocError, Global};
+use turn_line_client::run::replayed_text;
 use turn_lines::fault::ReadError;
-use turn_lines::print::{bad_text, replayed_text};
+use turn_lines::print::bad_text;
 use turn_lines::status::Status;
 use turn_types::TransportType;
 

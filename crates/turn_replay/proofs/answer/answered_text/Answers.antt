@@ -1,6 +1,6 @@
 use Rattle.std.proofs.Common.{◌≡◌, IfOk, List, subst, string_bytes}
 use Rattle.turn_client_api.specs.declared.call.Call.{Call}
-use Rattle.turn_lines.specs.Answered.{answered_text}
+use Rattle.turn_line_client.specs.Answered.{answered_text}
 use Rattle.turn_replay.proofs.answer.answered_text.Goals as goal
 
 pub returns : goal.returns

@@ -3,7 +3,7 @@ use Rattle.turn_client_calls.specs.Run.{run}
 use Rattle.turn_client_calls.specs.Settings.{config_with}
 use Rattle.turn_client_calls.specs.declared.reply.Reply.{Reply}
 use Rattle.turn_lines.specs.Text.{answers_text}
-use Rattle.turn_lines.proofs.print.replayed_text.Goals as goal
+use Rattle.turn_line_client.proofs.run.replayed_text.Goals as goal
 
 pub returns : goal.returns
 returns c =

@@ -2,12 +2,12 @@
 
 ghost use Rattle.std.specs.Prelude.{◌≡◌, IfOk};
 ghost use Rattle.turn_client_proto.specs.Client.{state_of};
-ghost use Rattle.turn_lines.specs.Client.{client_of};
+ghost use Rattle.turn_line_client.specs.Client.{client_of};
 
-use crate::head::Head;
 use std::alloc::{AllocError, Global};
 use turn_client_calls::settings::configuration;
 use turn_client_proto::client::TurnClient;
+use turn_lines::head::Head;
 use turn_types::TransportType;
 
 /// A new client, as the head describes it.
