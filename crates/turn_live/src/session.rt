@@ -35,15 +35,14 @@ pub fn hold_session<R: BufRead, W: Write>(
 {
     let (line, end) = take_line(alloc, reader)?;
     let head = read_head(alloc, line.as_slice())?;
-    let relays = head.request.allocation;
-    let client = new_client(alloc, head)?;
     match end {
-        LineEnd::Feed => answer_calls(alloc, client, relays, reader, writer),
-        LineEnd::Input => {
-            // a scope at whose end a client is dropped can take minutes to prove
-            drop(client);
-            Ok(())
+        LineEnd::Feed => {
+            let relays = head.request.allocation;
+            let client = new_client(alloc, head)?;
+            answer_calls(alloc, client, relays, reader, writer)
         }
+        // no call follows, so no client is made
+        LineEnd::Input => Ok(()),
     }
 }
 
