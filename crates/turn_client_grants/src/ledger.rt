@@ -8,11 +8,10 @@ ghost use Rattle.turn_client_api.specs.Poll.{failed};
 ghost use Rattle.turn_client_api.specs.State.{State, later_by, seconds};
 ghost use Rattle.turn_client_grants.specs.Keys.{is_found_by};
 ghost use Rattle.turn_client_grants.specs.declared.key.Key.{Key};
-ghost use Rattle.turn_client_grants.specs.Ledger.{IsApart, SameRoomBut, changed_by, with_ledger};
+ghost use Rattle.turn_client_grants.specs.Ledger.{IsApart, SameRoomBut, with_ledger};
 ghost use Rattle.turn_client_grants.specs.Table.{is_numbered};
 ghost use Rattle.turn_client_grants.specs.GrantFilter.{holds};
 
-use crate::changes::Change;
 use crate::grant_filter::GrantFilter;
 use crate::key::Key;
 use crate::kind::{family_of_ip, is_same_transport};
@@ -199,22 +198,6 @@ impl GrantLedger {
         self.table
             .failures_front(&mut self.events, self.transport, which);
         self.table.remove(which);
-    }
-
-    /// Changes grants that keep their places.
-    fn change(&mut self, change: &Change)
-        ensures state { (s : State) → with_ledger self.new s ≡ changed_by change.now (with_ledger self.old s) }
-        ensures room { SameRoomBut 0 0 self.old self.new }
-    {
-        self.table.change(change);
-    }
-
-    /// Removes the listings for these grants, so that they may be requested again.
-    fn unlist(&mut self, which: &GrantFilter)
-        ensures state { (s : State) → with_ledger self.new s ≡ unlisted (holds which.now) (with_ledger self.old s) }
-        ensures room { SameRoomBut 0 0 self.old self.new }
-    {
-        self.table.unlist(which);
     }
 
     /// The active ones of these grants last so many seconds from now on, and no request is listed for

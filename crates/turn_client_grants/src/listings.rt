@@ -80,20 +80,6 @@ impl Listings {
         self.items.iter().any(|listing| listing.id == id)
     }
 
-    /// The purposes of the request with this ID.
-    pub(crate) fn purposes_of(&self, id: TransactionId) -> Purposes
-        ensures { purposes_in result ≡ map (λ l. l.purpose) (filter (λ l. l.id == id) self.now.items) }
-    {
-        let mut purposes = Purposes::none();
-        let listings = self.items.as_slice();
-        for listing in listings {
-            if listing.id == id {
-                purposes = purposes.and(listing.purpose);
-            }
-        }
-        purposes
-    }
-
     /// Lists a new request, after all others, that is made for these purposes.
     pub(crate) fn list(&mut self, id: TransactionId, purposes: &Purposes)
         requires room { 2 ≤ self.old.room }

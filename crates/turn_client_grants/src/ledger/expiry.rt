@@ -4,7 +4,7 @@
 ghost use Rattle.std.specs.List.{list_any};
 ghost use Rattle.std.specs.Prelude.{◌≡◌, ◌≤◌, ◌<◌, ◌+◌, None, filter, fold, length, not, option_to_list, true};
 ghost use Rattle.turn_client_api.specs.Grants.{is_channel_of};
-ghost use Rattle.turn_client_api.specs.Poll.{timed_out_purposes, allocation_expires, expired_at, expired_allocation, expired_in, last_channel_expired, unbound};
+ghost use Rattle.turn_client_api.specs.Poll.{timed_out_purposes, allocation_expires, expired_at, expired_allocation, expired_in, last_channel_expired, refreshes_timed_out, set_free, unbound};
 ghost use Rattle.turn_client_api.specs.State.{State};
 ghost use Rattle.turn_client_grants.specs.Failures.{event_room_for};
 ghost use Rattle.turn_client_grants.specs.Expiry.{channel_ended, expired_each};
@@ -141,8 +141,18 @@ impl GrantLedger {
         self.fail_front(&GrantFilter::ConnectsIn(family, *purposes));
         self.unbind(&GrantFilter::UnboundIn(family, now, *purposes));
         self.fail_front(&GrantFilter::OffersIn(family, *timed_out));
-        self.unlist(&GrantFilter::AskedIn(family, *purposes));
-        self.remove(&GrantFilter::FreedChannels(family, now));
+        self.set_free(family, purposes, now);
+    }
+
+    /// Removes the listings of the refreshes that timed out in the allocation of this family, so that they may be requested
+    /// again, and the channels that are reserved no more.
+    fn set_free(&mut self, family: AddressFamily, purposes: &Purposes, now: Instant)
+        ensures state { (s : State) → with_ledger self.new s
+            ≡ set_free family now (refreshes_timed_out family (purposes_in purposes.now) (with_ledger self.old s)) }
+        ensures room { SameRoomBut 0 0 self.old self.new }
+    {
+        self.table.unlist(&GrantFilter::AskedIn(family, *purposes));
+        self.table.remove(&GrantFilter::FreedChannels(family, now));
     }
 
     /// Ends the last channel of this family that expires at this time or earlier, one in each call: its

@@ -4,7 +4,8 @@ ghost use Rattle.std.specs.Prelude.{◌≡◌};
 ghost use Rattle.turn_client_api.specs.Calls.{channel_kept_step, keep_step, permission_kept_step};
 ghost use Rattle.turn_client_api.specs.State.{State};
 ghost use Rattle.turn_client_grants.specs.GrantFilter.{holds};
-ghost use Rattle.turn_client_grants.specs.Ledger.{SameRoomBut, with_ledger};
+ghost use Rattle.turn_client_grants.specs.Ledger.{SameRoomBut, changed_by, with_ledger};
+ghost use Rattle.turn_client_grants.specs.declared.changes.Change.TheVariants.{Keep};
 
 use crate::changes::{Change, has_any};
 use crate::grant_filter::GrantFilter;
@@ -66,9 +67,17 @@ impl GrantLedger {
         let is_relayed = is_same_transport(transport, self.transport);
         let is_there = has_any(self.table.grants(), which);
         if is_relayed && is_there {
-            self.change(&Change::Keep(*which, is_kept));
+            self.mark_kept(which, is_kept);
             return Ok(());
         }
         Err(KeepError::NotGranted)
+    }
+
+    /// Marks these grants: whether they are refreshed from now on.
+    fn mark_kept(&mut self, which: &GrantFilter, is_kept: bool)
+        ensures state { (s : State) → with_ledger self.new s ≡ changed_by (Keep which.now is_kept) (with_ledger self.old s) }
+        ensures room { SameRoomBut 0 0 self.old self.new }
+    {
+        self.table.change(&Change::Keep(*which, is_kept));
     }
 }

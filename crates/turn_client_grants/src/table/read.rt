@@ -255,7 +255,14 @@ impl GrantTable {
     pub fn purposes_of(&self, id: TransactionId) -> Purposes
         ensures { purposes_in result ≡ map (λ l. l.purpose) (filter (λ l. l.id == id) self.now.listed) }
     {
-        self.listed.purposes_of(id)
+        let mut purposes = Purposes::none();
+        let listings = self.listed.as_slice();
+        for listing in listings {
+            if listing.id == id {
+                purposes = purposes.and(listing.purpose);
+            }
+        }
+        purposes
     }
 
     /// How many purposes are listed. With the outstanding requests and the grants they bound how many

@@ -10,12 +10,11 @@ returns-clause-state c = λ s.
     let family = c.args.family in
     let purposes = purposes_in c.args.purposes.now in
     let now = c.args.now in
-    c.remove.ensures.state s
-    ∙ ap (set_free family now) (c.unlist.ensures.state s
-    ∙ ap (refreshes_timed_out family purposes) (c.fail_front-5.ensures.state s
+    c.set_free.ensures.state s
+    ∙ ap (λ t. set_free family now (refreshes_timed_out family purposes t)) (c.fail_front-5.ensures.state s
     ∙ ap (offers_timed_out family c.args.timed_out.now) (c.unbind.ensures.state s
     ∙ ap (connections_unbound family purposes now) (c.fail_front-4.ensures.state s
     ∙ ap (failed_by_timeout family purposes is_connect) (c.fail_front-3.ensures.state s
     ∙ ap (permissions_expired family now) (c.expire_channel.ensures.state s
     ∙ ap (last_channel_expired family now) (c.fail_front-2.ensures.state s
-    ∙ ap (failed_by_timeout family purposes is_pending_permission) (c.fail_front.ensures.state s))))))))
+    ∙ ap (failed_by_timeout family purposes is_pending_permission) (c.fail_front.ensures.state s)))))))

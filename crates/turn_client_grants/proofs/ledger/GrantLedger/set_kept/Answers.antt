@@ -14,5 +14,5 @@ returns-then-is_there-clause-state c = λ s.
     let relayed : same_transport c.args.transport c.args.self.now.transport ≡ true = rw (← c.self.view_is) (sym c.if-is_relayed.ensures) in
     let there : list_any (holds c.args.which.now) c.args.self.now.grants ≡ true = rw (← c.self.view_is) (rw c.grants.ensures at (sym c.if-is_there.ensures)) in
     let kept : State → Result Unit KeepError × State = λ t. (Ok tt, t) in
-    ap kept (c.change.ensures.state s)
+    ap kept (c.mark_kept.ensures.state s)
     ∙ kept-is c.args.transport c.args.which.now c.args.is_kept (with_ledger c.args.self.now s) relayed there
