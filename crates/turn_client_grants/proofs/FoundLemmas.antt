@@ -1,9 +1,7 @@
 -- The grant that a key finds, as it changes in its place.
-use Rattle.std.proofs.Common.{◌≡◌, ◌∙◌, ◌<◌, ◌+◌, ap, arith, Bool, true, false, cond, drop, length, List, [], ◌∷◌, ◌++◌, map, not, refl, slice_index_or, slice_set, subst, sym, take, ℕ}
+use Rattle.std.proofs.Common.{◌≡◌, ◌∙◌, ap, arith, Bool, true, false, cond, List, [], ◌∷◌, map, not, refl, subst, sym, ℕ}
 use Rattle.std.specs.Prelude.{Option, Some, None, is_some, option_map}
 use Rattle.std.specs.List.{list_any}
-use Rattle.std.proofs.lemmas.List.{set-get_or}
-use Rattle.std.proofs.lemmas.List.Edits.{map_over_more}
 use Rattle.std.proofs.lemmas.Option.{same_Some}
 use Rattle.turn_client_api.specs.declared.grant.Grant.{Grant}
 use Rattle.turn_client_grants.specs.Found.{LeavesOthers, lookup_key}
@@ -34,11 +32,6 @@ unfolding changed
 renewal-leaves which key expiry is g other = rw (← key-finds which key is, other) refl
 
 -- ---- one grant changes
-
--- a loop that applies f to the elements of xs passes over x, which f leaves
-pub passed-over : {X : Type 0} (f : X → X) (xs ys : List X) (i : ℕ) (x : X) → i < length xs → ys ≡ map f (take i xs) ++ drop i xs → x ≡ slice_index_or ys i x → f x ≡ x
-    → ys ≡ map f (take (i + 1) xs) ++ drop (i + 1) xs
-passed-over f xs ys i x lt h is same = sym (ap (λ y. slice_set ys i y) (same ∙ is) ∙ set-get_or ys i x) ∙ map_over_more f xs ys i x lt h is
 
 -- no grant changes where the key finds none
 pub none-changed : (change : Change) (key : Key) → LeavesOthers key change → (rows : List Grant) → list_any (is_found_by key) rows ≡ false → rows ≡ map (changed change) rows

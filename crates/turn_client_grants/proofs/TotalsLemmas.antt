@@ -15,9 +15,6 @@ least-first f n g gs = by (f g) refl
     by None e = rw e refl
     by (Some x) e = rw e refl
 
-any-first : (test : Grant → Bool) (b : Bool) (g : Grant) (gs : List Grant) → ((b || list_any test (g ∷ [])) || list_any test gs) ≡ (b || list_any test (g ∷ gs))
-any-first test b g gs = grind arith
-
 least-on : (f : Grant → Option ℕ) (now was : ℕ) (g : Grant) (gs : List Grant) → now ≡ fold min was (filter_map f (g ∷ []))
     → fold min now (filter_map f gs) ≡ fold min was (filter_map f (g ∷ gs))
 least-on f now was g gs is = rw is (least-first f was g gs)
