@@ -33,7 +33,7 @@ pub(crate) struct Indication<'a> {
     /// The last ICMP, with its offset.
     icmp: Option<(usize, RawAttribute<'a>)>,
     /// A comprehension-required attribute was found that is neither XOR-PEER-ADDRESS nor DATA.
-    has_unknown: bool,
+    pub(crate) has_unknown: bool,
 }
 
 impl<'a> Indication<'a> {
@@ -106,13 +106,6 @@ impl<'a> Indication<'a> {
             rest = &rest[size..];
         }
         Some(found)
-    }
-
-    /// Whether a comprehension-required attribute was found that is neither XOR-PEER-ADDRESS nor DATA.
-    pub(crate) fn has_unknown(&self) -> bool
-        ensures { result ≡ self.now.has_unknown }
-    {
-        self.has_unknown
     }
 
     /// The peer address.

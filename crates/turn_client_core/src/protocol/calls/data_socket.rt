@@ -86,14 +86,9 @@ impl TurnClientProtocol {
         ensures value { result ≡ (same_transport self.now.config.allocation_transport Tcp && is_control tuple.now self.now && is_allocated self.now.phase) }
         ensures held { IsTrue result → IsSome self.now.held }
     {
-        self.relays_tcp() && self.is_control(tuple) && self.is_allocated()
-    }
-
-    /// Whether allocations relay over TCP.
-    fn relays_tcp(&self) -> bool
-        ensures { result ≡ same_transport self.now.config.allocation_transport Tcp }
-    {
         self.ledger.transport() == TransportType::Tcp
+            && self.is_control(tuple)
+            && self.is_allocated()
     }
 
     /// Whether this is the control connection.

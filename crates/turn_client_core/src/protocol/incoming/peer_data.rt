@@ -47,7 +47,7 @@ impl TurnClientProtocol {
         ensures outcome { outcome_in bytes.now result ≡ data_indicated self.now bytes.now }
         ensures part { IsPart bytes.now self.now self.now result }
     {
-        if found.has_unknown() {
+        if found.has_unknown {
             return TurnProtocolRecv::Ignored;
         }
         let Some(peer) = found.peer() else {

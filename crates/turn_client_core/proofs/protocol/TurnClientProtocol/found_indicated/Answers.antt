@@ -5,22 +5,22 @@ use Rattle.turn_client_core.specs.contracts.protocol.TurnClientProtocol.{the_vie
 use Rattle.turn_client_core.proofs.incoming.DataLemmas.{data-is, icmp-is, no_peer-is, peer-read, unknown-is}
 use Rattle.turn_client_core.proofs.protocol.TurnClientProtocol.found_indicated.Goals as goal
 
-pub returns-then-has_unknown-clause-outcome : goal.returns-then-has_unknown-clause-outcome
-returns-then-has_unknown-clause-outcome c = unknown-is c.args.self.now c.args.bytes.now (sym c.requires.unknown ∙ (sym c.has_unknown.ensures ∙ c.if-has_unknown.true))
+pub returns-then-found-clause-outcome : goal.returns-then-found-clause-outcome
+returns-then-found-clause-outcome c = unknown-is c.args.self.now c.args.bytes.now (sym c.requires.unknown ∙ c.if-found.true)
 
 pub returns-in_default-clause-outcome : goal.returns-in_default-clause-outcome
 returns-in_default-clause-outcome c =
-    let known : has_unknown c.args.bytes.now ≡ false = sym c.requires.unknown ∙ (sym c.has_unknown.ensures ∙ c.if-has_unknown.false) in
+    let known : has_unknown c.args.bytes.now ≡ false = sym c.requires.unknown ∙ c.if-found.false in
     no_peer-is c.args.self.now c.args.bytes.now known (peer-read c.args.bytes.now _ _ _ _ c.requires.id (c.requires.peer known) c.peer.ensures c.in_default.is)
 
 pub data_place-requires : goal.data_place-requires
 data_place-requires c =
-    let known : has_unknown c.args.bytes.now ≡ false = sym c.requires.unknown ∙ (sym c.has_unknown.ensures ∙ c.if-has_unknown.false) in
+    let known : has_unknown c.args.bytes.now ≡ false = sym c.requires.unknown ∙ c.if-found.false in
     subst (λ found. IfSome found (IsWithin 20 (length c.args.bytes.now))) (sym (c.requires.payload known)) c.requires.within
 
 pub returns-in-Some-data_place-clause-outcome : goal.returns-in-Some-data_place-clause-outcome
 returns-in-Some-data_place-clause-outcome c =
-    let known : has_unknown c.args.bytes.now ≡ false = sym c.requires.unknown ∙ (sym c.has_unknown.ensures ∙ c.if-has_unknown.false) in
+    let known : has_unknown c.args.bytes.now ≡ false = sym c.requires.unknown ∙ c.if-found.false in
     let peer = peer-read c.args.bytes.now _ _ _ _ c.requires.id (c.requires.peer known) c.peer.ensures c.in-Some.is in
     rw (c.if_permitted.ensures, c.transport.ensures, ← c.self.view_is) (data-is (the_view c.self.inside) c.args.bytes.now c.in-Some.peer known peer
     (option_map placed c.args.found.now.«data») c.in-Some-data_place.place (c.requires.payload known) c.requires.value
@@ -28,7 +28,7 @@ returns-in-Some-data_place-clause-outcome c =
 
 pub returns-in-None-clause-outcome : goal.returns-in-None-clause-outcome
 returns-in-None-clause-outcome c =
-    let known : has_unknown c.args.bytes.now ≡ false = sym c.requires.unknown ∙ (sym c.has_unknown.ensures ∙ c.if-has_unknown.false) in
+    let known : has_unknown c.args.bytes.now ≡ false = sym c.requires.unknown ∙ c.if-found.false in
     let peer = peer-read c.args.bytes.now _ _ _ _ c.requires.id (c.requires.peer known) c.peer.ensures c.in-Some.is in
     rw c.icmp_indicated.ensures (icmp-is c.args.self.now c.args.bytes.now c.in-Some.peer known peer
     c.icmp.result (option_map placed c.args.found.now.«data») (c.requires.payload known)
