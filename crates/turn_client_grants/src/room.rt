@@ -6,7 +6,8 @@ ghost use Rattle.std.specs.VecDeque.{deque_capacity, deque_len};
 use std::alloc::AllocError;
 use std::collections::VecDeque;
 
-/// Makes room for so many more items, and for no others at first: many clients never have them.
+/// Makes room for so many more items. Where that takes memory, there is at least a quarter more than before, so that items that
+/// are added one by one are seldom moved, and no more of it lies unused.
 ///
 /// # Errors
 ///
@@ -17,11 +18,11 @@ pub(crate) fn reserve<T>(items: &mut Vec<T>, additional: usize) -> Result<(), Al
     ensures ok { OnOk result (vec_len items.new + additional ≤ vec_capacity items.new) }
     ensures left { vec_capacity items.old ≤ vec_capacity items.new }
 {
-    if items.capacity() == 0 {
-        items.reserve_exact(additional)
-    } else {
-        items.reserve(additional)
+    let spare = items.capacity() - items.len();
+    if additional <= spare {
+        return Ok(());
     }
+    items.reserve_exact(additional.max(spare.saturating_add(items.capacity() / 4)))
 }
 
 /// The same, of a queue.
@@ -35,9 +36,9 @@ pub(crate) fn reserve_queue<T>(items: &mut VecDeque<T>, additional: usize) -> Re
     ensures ok { OnOk result (deque_len items.new + additional ≤ deque_capacity items.new) }
     ensures left { deque_capacity items.old ≤ deque_capacity items.new }
 {
-    if items.capacity() == 0 {
-        items.reserve_exact(additional)
-    } else {
-        items.reserve(additional)
+    let spare = items.capacity() - items.len();
+    if additional <= spare {
+        return Ok(());
     }
+    items.reserve_exact(additional.max(spare.saturating_add(items.capacity() / 4)))
 }
