@@ -60,9 +60,8 @@ pub(crate) fn answer_all(
 ) -> Effect
     requires grant_room { 2 ≤ ledger.old.grant_room }
     requires event_room { 18 ≤ ledger.old.event_room }
-    requires close_room { 2 ≤ ledger.old.close_room }
     ensures state { AnswersPurposes (purposes_in purposes.now) is_granted message.now now ledger.old ledger.new result }
-    ensures room { LessRoom 2 0 18 2 ledger.old ledger.new }
+    ensures room { LessRoom 2 0 18 0 ledger.old ledger.new }
 {
     let first = answer_one(ledger, &purposes.first, message, is_granted, now);
     let second = answer_one(ledger, &purposes.second, message, is_granted, now);
@@ -79,9 +78,8 @@ fn answer_one(
 ) -> Effect
     requires grant_room { 1 ≤ ledger.old.grant_room }
     requires event_room { 9 ≤ ledger.old.event_room }
-    requires close_room { 1 ≤ ledger.old.close_room }
     ensures state { AnswersPurposes (option_to_list purpose.now) is_granted message.now now ledger.old ledger.new result }
-    ensures room { LessRoom 1 0 9 1 ledger.old ledger.new }
+    ensures room { LessRoom 1 0 9 0 ledger.old ledger.new }
 {
     match purpose {
         Some(purpose) => answer(ledger, purpose, message, is_granted, now),
@@ -99,10 +97,9 @@ fn answer(
 ) -> Effect
     requires grant_room { 1 ≤ ledger.old.grant_room }
     requires event_room { 9 ≤ ledger.old.event_room }
-    requires close_room { 1 ≤ ledger.old.close_room }
     ensures state { (s : State) → after result (with_ledger ledger.new s)
         ≡ effect (id_of message.now) is_granted message.now now (with_ledger ledger.old s) purpose.now }
-    ensures room { LessRoom 1 0 9 1 ledger.old ledger.new }
+    ensures room { LessRoom 1 0 9 0 ledger.old ledger.new }
 {
     match purpose {
         Purpose::ForAllocation => Effect::Nothing,
@@ -187,10 +184,9 @@ fn connected(
     is_granted: bool,
 ) -> Effect
     requires grant_room { 1 ≤ ledger.old.grant_room }
-    requires event_room { 2 ≤ ledger.old.event_room }
-    requires close_room { 1 ≤ ledger.old.close_room }
+    requires event_room { 1 ≤ ledger.old.event_room }
     ensures state { (s : State) → after result (with_ledger ledger.new s) ≡ connect_replied peer is_granted message.now (with_ledger ledger.old s) }
-    ensures room { LessRoom 1 0 2 1 ledger.old ledger.new }
+    ensures room { LessRoom 1 0 1 0 ledger.old ledger.new }
 {
     let connection_id = if is_granted {
         connection_id_in(message)

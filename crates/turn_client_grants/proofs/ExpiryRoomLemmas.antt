@@ -90,7 +90,7 @@ pub ended-fewer : (number : ℕ) (peer : SocketAddr) (expiry : Lease) (grants : 
 ended-fewer number peer expiry grants has = has-fewer (is_channel_of number) (Channel number peer (Active expiry)) grants has (eq-eqb number number refl)
 
 pub ended-aside : (number : ℕ) (peer : SocketAddr) (expiry : Lease) (grants : List Grant) → Has (Channel number peer (Active expiry)) grants
-    → event_room_for (filter (λ g. not (is_channel_of number g)) grants) + 2 ≤ event_room_for grants
+    → event_room_for (filter (λ g. not (is_channel_of number g)) grants) + 1 ≤ event_room_for grants
 ended-aside number peer expiry [] has = absurd has
 ended-aside number peer expiry (g ∷ others) (inl same) =
     rw (← same, eq-eqb number number refl) (omega (arith, event_room_for-filtered (λ h. not (is_channel_of number h)) others))

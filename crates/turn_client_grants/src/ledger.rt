@@ -6,6 +6,7 @@ ghost use Rattle.turn_client_api.specs.Effect.{renewed};
 ghost use Rattle.turn_client_api.specs.Grants.{find_allocation_to, failures_among, jump, unlisted, wait, with_grant, without_grants};
 ghost use Rattle.turn_client_api.specs.Poll.{failed};
 ghost use Rattle.turn_client_api.specs.State.{State, later_by, seconds};
+ghost use Rattle.turn_client_grants.specs.Failures.{SparesReserved};
 ghost use Rattle.turn_client_grants.specs.Keys.{is_found_by};
 ghost use Rattle.turn_client_grants.specs.declared.key.Key.{Key};
 ghost use Rattle.turn_client_grants.specs.Ledger.{IsApart, SameRoomBut, with_ledger};
@@ -15,6 +16,7 @@ ghost use Rattle.turn_client_grants.specs.GrantFilter.{holds};
 use crate::grant_filter::GrantFilter;
 use crate::key::Key;
 use crate::kind::{family_of_ip, is_same_transport};
+use crate::reads::connection_count;
 use crate::room;
 use crate::table::GrantTable;
 use crate::time::later;
@@ -116,8 +118,8 @@ impl GrantLedger {
         &self.table
     }
 
-    /// Makes room for so many grants, for so many listings, and for so many events beside those that may
-    /// result from the grants.
+    /// Makes room for so many grants, for so many listings, for so many events beside those that may result from the grants,
+    /// and for so many closes: one for each data connection among the grants.
     ///
     /// # Errors
     ///
@@ -127,26 +129,27 @@ impl GrantLedger {
         grants: usize,
         listings: usize,
         events: usize,
+        closes: usize,
     ) -> Result<(), AllocError>
         ensures same { (s : State) → with_ledger self.new s ≡ with_ledger self.old s }
         ensures grant_room { OnOk result (grants ≤ self.new.grant_room) }
         ensures listing_room { OnOk result (listings ≤ self.new.listing_room) }
-        ensures event_room { OnOk result (grants + grants + events ≤ self.new.event_room) }
-        ensures close_room { OnOk result (grants ≤ self.new.close_room) }
+        ensures event_room { OnOk result (grants + events ≤ self.new.event_room) }
+        ensures close_room { OnOk result (closes ≤ self.new.close_room) }
         ensures room { SameRoomBut 0 0 self.old self.new }
     {
-        let Some(closes) = self.table.count().checked_add(grants) else {
+        let Some(all) = self.table.count().checked_add(grants) else {
             return Err(AllocError);
         };
-        let Some(twice) = closes.checked_mul(2) else {
+        let Some(all_events) = all.checked_add(events) else {
             return Err(AllocError);
         };
-        let Some(all) = twice.checked_add(events) else {
+        let Some(all_closes) = connection_count(self.table.grants()).checked_add(closes) else {
             return Err(AllocError);
         };
         self.table.reserve(grants, listings)?;
-        self.events.reserve(all)?;
-        room::reserve_queue(&mut self.closes, closes)?;
+        room::reserve_queue(&mut self.events, all_events)?;
+        room::reserve_queue(&mut self.closes, all_closes)?;
         Ok(())
     }
 }
@@ -181,6 +184,7 @@ impl GrantLedger {
 
     /// Removes these grants, and queues their failures after all events.
     fn fail_back(&mut self, which: &GrantFilter)
+        requires { SparesReserved which.now }
         ensures state { (s : State) → with_ledger self.new s
             ≡ wait (failures_among (holds which.now) (with_ledger self.old s)) (without_grants (holds which.now) (with_ledger self.old s)) }
         ensures room { SameRoomBut 0 0 self.old self.new }
@@ -192,6 +196,7 @@ impl GrantLedger {
 
     /// Removes these grants, and queues their failures before all events, each before the previous one.
     fn fail_front(&mut self, which: &GrantFilter)
+        requires { SparesReserved which.now }
         ensures state { (s : State) → with_ledger self.new s ≡ failed (holds which.now) (with_ledger self.old s) }
         ensures room { SameRoomBut 0 0 self.old self.new }
     {

@@ -11,7 +11,7 @@
 //! [`Purposes`] are what one request was made for.
 //!
 //! ```rust
-//! ledger.reserve(1, 2, 0)?;
+//! ledger.reserve(1, 2, 0, 0)?;
 //! ledger.ask(id, &[Grant::Permission(ip, Progress::Pending(true))], &Purposes::one(Purpose::ForPermission(ip)));
 //! // when the server has answered
 //! ledger.permission_answered(ip, true, now);
@@ -46,4 +46,5 @@ pub use grant_filter::GrantFilter;
 pub use kind::{family_of, family_of_ip, is_of_family};
 pub use ledger::GrantLedger;
 pub use purposes::Purposes;
+pub use reads::connection_count;
 pub use table::GrantTable;

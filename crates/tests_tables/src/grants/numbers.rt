@@ -15,7 +15,7 @@ use turn_stun::transport::TransportType;
 /// is free.
 fn take_number(ledger: &mut GrantLedger, port: u16) -> Result<Option<u16>, AllocError> {
     let request = TransactionId::from_bytes([7; 12]);
-    ledger.reserve(1, 2, 0)?;
+    ledger.reserve(1, 2, 0, 0)?;
     if is_asked(ledger, request) {
         return Ok(None);
     }

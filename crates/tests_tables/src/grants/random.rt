@@ -69,9 +69,10 @@ fn is_refused(rt: &impl Abort, ledger: &mut GrantLedger, draw: &Draw) {
     } else {
         usize::MAX / 64
     };
-    same(rt, ledger.reserve(too_many, 0, 0).is_err(), true);
-    same(rt, ledger.reserve(1, too_many, 0).is_err(), true);
-    same(rt, ledger.reserve(1, 1, too_many).is_err(), true);
+    same(rt, ledger.reserve(too_many, 0, 0, 0).is_err(), true);
+    same(rt, ledger.reserve(1, too_many, 0, 0).is_err(), true);
+    same(rt, ledger.reserve(1, 1, too_many, 0).is_err(), true);
+    same(rt, ledger.reserve(1, 1, 1, too_many).is_err(), true);
 }
 
 /// A permission or a channel is kept, or let go. Over the other transport there is none.
@@ -105,7 +106,7 @@ fn fails_families(
     plain: &mut Plain,
     draw: &Draw,
 ) -> Result<(), AllocError> {
-    ledger.reserve(0, 0, 1)?;
+    ledger.reserve(0, 0, 1, 0)?;
     let failure = TurnEvent::AllocationCreateFailed(AddressFamily::IPV4);
     if draw.m % 2 == 0 {
         ledger.fail_families(&[AddressFamily::IPV4]);

@@ -13,7 +13,7 @@ use std::process::Abort;
 use std::test::Fail;
 use std::time::Duration;
 use turn_client_api::{DataConnection, Grant, Lease, Progress, Purpose, Relay};
-use turn_client_grants::{GrantLedger, Purposes};
+use turn_client_grants::{GrantLedger, Purposes, connection_count};
 use turn_stun::instant::Instant;
 use turn_stun::transaction::TransactionId;
 use turn_stun::transport::TransportType;
@@ -76,7 +76,7 @@ fn holding(alloc: Global, grants: &[Grant], purposes: &Purposes) -> Result<Grant
     requires new { are_new [] grants.now ≡ true }
 {
     let mut ledger = GrantLedger::new(TransportType::Udp, alloc);
-    ledger.reserve(grants.len(), 2, 0)?;
+    ledger.reserve(grants.len(), 2, 0, connection_count(grants))?;
     ledger.ask(TransactionId::from_bytes([7; 12]), grants, purposes);
     Ok(ledger)
 }

@@ -6,7 +6,7 @@ ghost use Rattle.std.specs.Prelude.{◌≡◌, ◌≤◌, ◌<◌, ◌+◌, None
 ghost use Rattle.turn_client_api.specs.Grants.{is_channel_of};
 ghost use Rattle.turn_client_api.specs.Poll.{timed_out_purposes, allocation_expires, expired_at, expired_allocation, expired_in, last_channel_expired, refreshes_timed_out, set_free, unbound};
 ghost use Rattle.turn_client_api.specs.State.{State};
-ghost use Rattle.turn_client_grants.specs.Failures.{event_room_for};
+ghost use Rattle.turn_client_grants.specs.Failures.{SparesReserved, event_room_for};
 ghost use Rattle.turn_client_grants.specs.Expiry.{channel_ended, expired_each};
 ghost use Rattle.turn_client_grants.specs.Ledger.{SameRoomBut, with_ledger};
 ghost use Rattle.turn_client_grants.specs.Table.{is_numbered};
@@ -183,7 +183,7 @@ impl GrantLedger {
         requires numbered { is_numbered (Grant.Channel number peer (Progress.Pending true)) ≡ true }
         requires there { list_any (is_channel_of number) self.old.grants ≡ true }
         requires fewer { length (filter (λ g. not (is_channel_of number g)) self.old.grants) < length self.old.grants }
-        requires aside { event_room_for (filter (λ g. not (is_channel_of number g)) self.old.grants) + 2 ≤ event_room_for self.old.grants }
+        requires aside { event_room_for (filter (λ g. not (is_channel_of number g)) self.old.grants) + 1 ≤ event_room_for self.old.grants }
         ensures state { (s : State) → with_ledger self.new s ≡ channel_ended number peer expiry (with_ledger self.old s) }
         ensures room { SameRoomBut 0 0 self.old self.new }
     {
@@ -200,6 +200,7 @@ impl GrantLedger {
     /// Removes data connections that are not bound: their failures are queued before all events, and the
     /// caller is to close them after all others that it is to close.
     fn unbind(&mut self, which: &GrantFilter)
+        requires { SparesReserved which.now }
         ensures state { (s : State) → with_ledger self.new s ≡ unbound (holds which.now) (with_ledger self.old s) }
         ensures room { SameRoomBut 0 0 self.old self.new }
     {

@@ -19,7 +19,7 @@ pub(crate) fn allocation(
 ) -> Result<(), AllocError> {
     let relayed = address(draw.n % 8);
     let lifetime = u32::from(draw.m).saturating_mul(10);
-    ledger.reserve(1, 0, 3)?;
+    ledger.reserve(1, 0, 3, 0)?;
     if ledger.table().find_allocation(family_of(relayed)).is_some() {
         return Ok(());
     }
@@ -40,7 +40,7 @@ pub(crate) fn permission(
     draw: &Draw,
 ) -> Result<(), AllocError> {
     let ip = address(draw.n % 8).ip();
-    ledger.reserve(0, 0, 3)?;
+    ledger.reserve(0, 0, 3, 0)?;
     ledger.permission_answered(ip, is_granted(draw), at(draw.now));
     plain.permission_answered(draw.n % 8, is_granted(draw), draw.now)
 }
@@ -51,7 +51,7 @@ pub(crate) fn channel(
     draw: &Draw,
 ) -> Result<(), AllocError> {
     let number = 0x4000u16 | u16::from(draw.n % 8);
-    ledger.reserve(0, 0, 9)?;
+    ledger.reserve(0, 0, 9, 0)?;
     ledger.channel_answered(number, id(draw.m), is_granted(draw), at(draw.now));
     plain.channel_answered(number, draw.m, is_granted(draw), draw.now)
 }
@@ -61,7 +61,7 @@ pub(crate) fn connect(
     plain: &mut Plain,
     draw: &Draw,
 ) -> Result<(), AllocError> {
-    ledger.reserve(1, 0, 2)?;
+    ledger.reserve(1, 0, 2, 0)?;
     let number = if is_granted(draw) && plain.has_few_offers() {
         Some(u32::from(draw.m % 3))
     } else {

@@ -15,7 +15,7 @@ pub(crate) fn permission(
 ) -> Result<(), AllocError> {
     let ip = address(draw.n % 8).ip();
     let request = id(draw.m);
-    ledger.reserve(1, 2, 0)?;
+    ledger.reserve(1, 2, 0, 0)?;
     if ledger.table().permission_state(ip).is_some() {
         return Ok(());
     }
@@ -39,7 +39,7 @@ pub(crate) fn channel(
 ) -> Result<(), AllocError> {
     let peer = address(draw.n % 8);
     let request = id(draw.m);
-    ledger.reserve(1, 2, 0)?;
+    ledger.reserve(1, 2, 0, 0)?;
     if ledger.table().has_channel(peer) {
         return Ok(());
     }
@@ -67,7 +67,7 @@ pub(crate) fn channel_with_permission(
     let peer = address(draw.n % 8);
     let ip = peer.ip();
     let request = id(draw.m);
-    ledger.reserve(2, 2, 0)?;
+    ledger.reserve(2, 2, 0, 0)?;
     if ledger.table().has_channel(peer) {
         return Ok(());
     }
@@ -102,7 +102,7 @@ pub(crate) fn connect(
 ) -> Result<(), AllocError> {
     let peer = address(draw.n % 8);
     let request = id(draw.m);
-    ledger.reserve(1, 2, 0)?;
+    ledger.reserve(1, 2, 0, 0)?;
     if ledger.table().is_connecting(peer) {
         return Ok(());
     }
@@ -138,7 +138,7 @@ fn asks_only(
     purpose: Purpose,
 ) -> Result<(), AllocError> {
     let request = id(draw.m);
-    ledger.reserve(0, 2, 0)?;
+    ledger.reserve(0, 2, 0, 0)?;
     if is_asked(ledger, request) {
         return Ok(());
     }
@@ -174,7 +174,7 @@ pub(crate) fn again(
     plain: &mut Plain,
     draw: &Draw,
 ) -> Result<(), AllocError> {
-    ledger.reserve(0, 2, 0)?;
+    ledger.reserve(0, 2, 0, 0)?;
     let fresh = id(draw.n);
     if is_asked(ledger, fresh) {
         return Ok(());
@@ -190,7 +190,7 @@ pub(crate) fn gives_back(
     draw: &Draw,
 ) -> Result<(), AllocError> {
     let request = id(draw.m);
-    ledger.reserve(0, 2, 0)?;
+    ledger.reserve(0, 2, 0, 0)?;
     if draw.n % 16 != 0 || is_asked(ledger, request) {
         return Ok(());
     }

@@ -13,7 +13,7 @@ pub(crate) fn offered(
     plain: &mut Plain,
     draw: &Draw,
 ) -> Result<(), AllocError> {
-    ledger.reserve(1, 0, 0)?;
+    ledger.reserve(1, 0, 0, 0)?;
     if !plain.has_few_offers() {
         return Ok(());
     }
@@ -57,7 +57,7 @@ pub(crate) fn opened(
     let number = u32::from(draw.m % 3);
     let peer = address(draw.n % 8);
     let local = address(draw.m % 8);
-    ledger.reserve(1, 2, 0)?;
+    ledger.reserve(1, 2, 0, 1)?;
     if ledger.table().connection_at(local).is_some() {
         return Ok(());
     }
@@ -74,7 +74,7 @@ pub(crate) fn bound(
     plain: &mut Plain,
     draw: &Draw,
 ) -> Result<(), AllocError> {
-    ledger.reserve(0, 0, 1)?;
+    ledger.reserve(0, 0, 1, 0)?;
     let Some(connection) = ledger.table().connection_at(address(draw.n % 8)) else {
         return Ok(());
     };
@@ -103,7 +103,7 @@ pub(crate) fn bound_again(
 ) -> Result<(), AllocError> {
     let local = address(draw.n % 8);
     let fresh = id(draw.m);
-    ledger.reserve(0, 2, 0)?;
+    ledger.reserve(0, 2, 0, 0)?;
     let Some(request) = plain.binds_by(draw.n % 8) else {
         return Ok(());
     };

@@ -188,7 +188,7 @@ impl TurnClientProtocol {
         let request = self.fresh_id();
         let text = self.text_for(&Purpose::ForBind(local, peer, id), request)?;
         // Keeps the room for the failure events of families that are still requested.
-        self.ledger.reserve(1, 2, self.families.len())?;
+        self.ledger.reserve(1, 2, self.families.len(), 1)?;
         self.outbox.ask_over(reply, request, text, local, now)?;
         self.ledger.opened(id, peer, local, request, now);
         Ok(())

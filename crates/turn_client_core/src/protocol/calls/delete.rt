@@ -43,7 +43,7 @@ impl TurnClientProtocol {
         let id = self.fresh_id();
         let from = self.local_addr();
         let text = delete_request(self.alloc, &self.auth, id)?;
-        self.ledger.reserve(0, 2, 0)?;
+        self.ledger.reserve(0, 2, 0, 0)?;
         self.outbox.ask(id, text, from, now)?;
         self.ledger.queue_delete(id, now);
         Ok(())

@@ -72,7 +72,7 @@ impl TurnClientProtocol {
         if self.families.as_slice().is_empty() {
             return Ok(());
         }
-        self.ledger.reserve(0, 0, self.families.len())?;
+        self.ledger.reserve(0, 0, self.families.len(), 0)?;
         self.ledger.fail_families(self.families.as_slice());
         self.families.clear();
         Ok(())

@@ -13,7 +13,7 @@ use crate::protocol::TurnClientProtocol;
 use std::alloc::AllocError;
 use std::net::SocketAddr;
 use turn_client_api::{Grant, Phase, Purpose};
-use turn_client_grants::Purposes;
+use turn_client_grants::{Purposes, connection_count};
 use turn_client_requests::request_for;
 use turn_stun::data::Data;
 use turn_stun::instant::Instant;
@@ -123,7 +123,9 @@ impl TurnClientProtocol {
         let from = self.sent_from(purpose);
         let text = self.text_for(purpose, id)?;
         // Keeps the room for the failure events of families that are still requested.
-        self.ledger.reserve(grants.len(), 2, self.families.len())?;
+        let closes = connection_count(grants);
+        self.ledger
+            .reserve(grants.len(), 2, self.families.len(), closes)?;
         self.outbox.ask(id, text, from, now)?;
         self.ledger.ask(id, grants, purposes);
         Ok(())

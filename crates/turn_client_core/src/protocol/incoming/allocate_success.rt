@@ -56,7 +56,7 @@ impl TurnClientProtocol {
     {
         let families = self.families.as_slice();
         let addresses = taken_addresses(message, families, self.alloc)?;
-        self.ledger.reserve(addresses.len(), 0, families.len())?;
+        self.ledger.reserve(addresses.len(), 0, families.len(), 0)?;
         self.ledger
             .allocated(lifetime, addresses.as_slice(), families, now);
         self.outbox.end(message.transaction_id());

@@ -181,7 +181,7 @@ pub(crate) fn queue_again(
     ensures err { OnErr result (outbox.new ≡ with_room outbox.new.room outbox.old) }
 {
     let (challenge, text) = signed;
-    ledger.reserve(0, 2, 0)?;
+    ledger.reserve(0, 2, 0, 0)?;
     outbox.ask(id, text, from, now)?;
     Ok(challenge)
 }

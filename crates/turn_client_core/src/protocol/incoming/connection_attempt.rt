@@ -129,7 +129,7 @@ impl TurnClientProtocol {
         ensures err { OnErr result (self.new ≡ self.old) }
     {
         // Keeps the room for the failure events of families that are still requested.
-        self.ledger.reserve(1, 0, self.families.len())?;
+        self.ledger.reserve(1, 0, self.families.len(), 0)?;
         self.ledger.offer(connection_id, peer, origin);
         Ok(())
     }

@@ -112,7 +112,7 @@ impl TurnClientProtocol {
         let Some(events) = self.families.len().checked_add(1) else {
             return Err(AllocError);
         };
-        self.ledger.reserve(0, 0, events)?;
+        self.ledger.reserve(0, 0, events, 0)?;
         self.outbox.end(message.transaction_id());
         self.ledger.bound(connection);
         Ok(())

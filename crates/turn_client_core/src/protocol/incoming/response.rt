@@ -56,10 +56,10 @@ impl TurnClientProtocol {
         }
         // Each of two purposes may add a grant, and nine events. Keeps the room for the failure events of families
         // that are still requested.
-        let Some(events) = self.families.len().checked_add(14) else {
+        let Some(events) = self.families.len().checked_add(16) else {
             return Err(AllocError);
         };
-        self.ledger.reserve(2, 0, events)?;
+        self.ledger.reserve(2, 0, events, 0)?;
         self.outbox.end(id);
         let effect = answer_all(&mut self.ledger, &purposes, message, is_granted, now);
         self.apply_effect(effect);
@@ -124,7 +124,7 @@ impl TurnClientProtocol {
             fresh,
         )?;
         let from = self.local_addr();
-        self.ledger.reserve(0, 2, 1)?;
+        self.ledger.reserve(0, 2, 1, 0)?;
         self.outbox.ask(fresh, text, from, now)?;
         self.outbox.end(message.transaction_id());
         let families = only_ipv6(self.alloc);

@@ -108,7 +108,7 @@ impl TurnClientProtocol {
         )?;
         let from = self.local_addr();
         // Room for its failure events too (our choice): a stray packet ends no client that is short of memory.
-        self.ledger.reserve(0, 2, self.families.len())?;
+        self.ledger.reserve(0, 2, self.families.len(), 0)?;
         let packet = self.outbox.begin(id, text, from, now)?;
         // Drawn once the rest has succeeded (our choice): a refusal leaves the source of IDs too.
         self.outbox.draw();
@@ -182,7 +182,7 @@ impl TurnClientProtocol {
         ensures err { OnErr result (self.new ≡ self.old) }
     {
         let from = self.local_addr();
-        self.ledger.reserve(0, 2, 0)?;
+        self.ledger.reserve(0, 2, 0, 0)?;
         let packet = self.outbox.begin(id, text, from, now)?;
         self.outbox.draw();
         self.outbox.note_sent(now);

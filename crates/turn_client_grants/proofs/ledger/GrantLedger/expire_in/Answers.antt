@@ -2,7 +2,26 @@ use Rattle.std.proofs.Common.{◌∙◌, ap}
 use Rattle.turn_client_api.specs.Grants.{is_connect, is_pending_permission}
 use Rattle.turn_client_api.specs.Poll.{connections_unbound, failed_by_timeout, last_channel_expired, offers_timed_out, permissions_expired, refreshes_timed_out, set_free}
 use Rattle.turn_client_grants.specs.GrantFilter.{holds, purposes_in}
+use Rattle.turn_client_grants.proofs.SparedLemmas.{spares-connects, spares-expired_permissions, spares-offers, spares-pending_channels, spares-pending_permissions, spares-unbound}
 use Rattle.turn_client_grants.proofs.ledger.GrantLedger.expire_in.Goals as goal
+
+pub fail_front-requires : goal.fail_front-requires
+fail_front-requires c = spares-pending_channels c.args.family c.args.purposes.now
+
+pub fail_front-2-requires : goal.fail_front-2-requires
+fail_front-2-requires c = spares-pending_permissions c.args.family c.args.purposes.now
+
+pub fail_front-3-requires : goal.fail_front-3-requires
+fail_front-3-requires c = spares-expired_permissions c.args.family c.args.now
+
+pub fail_front-4-requires : goal.fail_front-4-requires
+fail_front-4-requires c = spares-connects c.args.family c.args.purposes.now
+
+pub unbind-requires : goal.unbind-requires
+unbind-requires c = spares-unbound c.args.family c.args.now c.args.purposes.now
+
+pub fail_front-5-requires : goal.fail_front-5-requires
+fail_front-5-requires c = spares-offers c.args.family c.args.timed_out.now
 
 pub returns-clause-state : goal.returns-clause-state
 unfolding holds
