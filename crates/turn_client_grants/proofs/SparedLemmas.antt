@@ -1,6 +1,6 @@
 -- No channel that is reserved fails: it was reported when it expired.
-use Rattle.std.proofs.Common.{◌≡◌, ℕ, Bool, arith, false, true}
-use Rattle.std.specs.Prelude.{◌&&◌, Option}
+use Rattle.std.proofs.Common.{ℕ, arith}
+use Rattle.std.specs.Prelude.{Option}
 use Rattle.turn_types.specs.declared.family.AddressFamily.{AddressFamily}
 use Rattle.turn_client_grants.specs.Failures.{SparesReserved}
 use Rattle.turn_client_grants.specs.GrantFilter.{holds}

@@ -8,20 +8,20 @@ use Rattle.turn_client_grants.proofs.ledger.GrantLedger.expire_in.Goals as goal
 pub fail_front-requires : goal.fail_front-requires
 fail_front-requires c = spares-pending_channels c.args.family c.args.purposes.now
 
-pub fail_front-2-requires : goal.fail_front-2-requires
-fail_front-2-requires c = spares-pending_permissions c.args.family c.args.purposes.now
+pub fail_front-requires-2 : goal.fail_front-requires-2
+fail_front-requires-2 c = spares-pending_permissions c.args.family c.args.purposes.now
 
-pub fail_front-3-requires : goal.fail_front-3-requires
-fail_front-3-requires c = spares-expired_permissions c.args.family c.args.now
+pub fail_front-requires-3 : goal.fail_front-requires-3
+fail_front-requires-3 c = spares-expired_permissions c.args.family c.args.now
 
-pub fail_front-4-requires : goal.fail_front-4-requires
-fail_front-4-requires c = spares-connects c.args.family c.args.purposes.now
+pub fail_front-requires-4 : goal.fail_front-requires-4
+fail_front-requires-4 c = spares-connects c.args.family c.args.purposes.now
 
 pub unbind-requires : goal.unbind-requires
 unbind-requires c = spares-unbound c.args.family c.args.now c.args.purposes.now
 
-pub fail_front-5-requires : goal.fail_front-5-requires
-fail_front-5-requires c = spares-offers c.args.family c.args.timed_out.now
+pub fail_front-requires-5 : goal.fail_front-requires-5
+fail_front-requires-5 c = spares-offers c.args.family c.args.timed_out.now
 
 pub returns-clause-state : goal.returns-clause-state
 unfolding holds

@@ -1,4 +1,5 @@
-use Rattle.std.proofs.Common.{arith, not, refl}
+use Rattle.std.proofs.Common.{Bool, arith, not, refl}
+use Rattle.turn_client_api.specs.declared.grant.Grant.{Grant}
 use Rattle.turn_client_grants.specs.GrantFilter.{holds}
 use Rattle.turn_client_grants.specs.declared.grant_filter.GrantFilter.TheVariants as W
 use Rattle.turn_client_grants.proofs.RoomLemmas.{closes-filtered, event_room_for-filtered}
@@ -11,7 +12,7 @@ returns-clause-state c = λ s.
 
 pub returns-clause-room : goal.returns-clause-room
 returns-clause-room c =
-    let stays = λ g. not (holds (W.FreedChannels c.args.family c.args.now) g) in
+    let stays : Grant → Bool = λ g. not (holds (W.FreedChannels c.args.family c.args.now) g) in
     rw (← c.self.view_is, c.remove.ensures.grants, c.unlist.ensures.grants)
     (record {
       grants_left = omega (arith, c.remove.ensures.grant_room, c.unlist.ensures.grant_room);
@@ -22,7 +23,7 @@ returns-clause-room c =
 
 pub invariant_of-self : goal.invariant_of-self
 invariant_of-self c =
-    let stays = λ g. not (holds (W.FreedChannels c.args.family c.args.now) g) in
+    let stays : Grant → Bool = λ g. not (holds (W.FreedChannels c.args.family c.args.now) g) in
     rw (c.remove.ensures.grants, c.unlist.ensures.grants)
     (record {
       events_fit = omega (arith, event_room_for-filtered stays c.self.inside.table.grants, c.self.invariant.events_fit);
