@@ -67,6 +67,28 @@ pub set-HasOwnEnds : (p : Stream → Bool) (f : Stream → Stream) → KeepsEnd 
     → HasOwnEnds (set xs i (f (get_or xs i d)))
 set-HasOwnEnds p f same xs i d h e = rw (set-first p f xs i d h e) (at_end-HasOwnEnds (get_or xs i d).local f same xs h)
 
+restored : (xs : List Stream) (i : ℕ) (x : Stream) → HasOwnEnds xs → slice_get xs i ≡ Some x
+    → at_end x.local (with_content x.bytes) (at_end x.local (with_content []) xs) ≡ xs
+unfolding IsDistinct
+restored [] i x h e = cc
+restored (y ∷ ys) zero x h e =
+    let same : y ≡ x = cc in
+    let later : at_end y.local (with_content y.bytes) (at_end y.local (with_content []) ys) ≡ ys =
+    ap (at_end y.local (with_content y.bytes)) (others y.local (with_content []) ys h.0) ∙ others y.local (with_content y.bytes) ys h.0 in
+    subst (λ z. at_end z.local (with_content z.bytes) (at_end z.local (with_content []) (y ∷ ys)) ≡ y ∷ ys) same
+    (rw (same_address-self y.local, same_address-self y.local) (ap (λ t. y ∷ t) later))
+restored (y ∷ ys) (suc i) x h e =
+    let apart = at-differs y.local ys i x h.0 e in
+    rw (apart, apart) (ap (λ t. y ∷ t) (restored ys i x h.1 e))
+
+-- the first stream that passes a test is taken out and put back
+pub put-back : (p : Stream → Bool) (xs : List Stream) (i : ℕ) (d : Stream) → HasOwnEnds xs → position p xs ≡ Some i
+    → at_end (get_or xs i d).local (with_content (get_or xs i d).bytes) (set xs i (with_content [] (get_or xs i d))) ≡ xs
+put-back p xs i d h e =
+    let first = position-IsFirst p xs i e in
+    ap (at_end (get_or xs i d).local (with_content (get_or xs i d).bytes)) (set-first p (with_content []) xs i d h e)
+    ∙ restored xs i (get_or xs i d) h (slice_get-get_or xs i d first.within)
+
 -- the stream at this local address is changed
 pub set-local : (local : SocketAddr) (f : Stream → Stream) (xs : List Stream) (i : ℕ) (d : Stream) → HasOwnEnds xs → position (is_at local) xs ≡ Some i
     → set xs i (f (get_or xs i d)) ≡ at_end local f xs

@@ -1,17 +1,13 @@
 //! One stream, and the buffer of its bytes.
 
-ghost use Rattle.std.specs.Prelude.{◌≡◌, ◌↔◌, ◌++◌, [], false, length, IsTrue, OnOk, OnErr, Some};
+ghost use Rattle.std.specs.Prelude.{◌≡◌, ◌↔◌, ◌++◌, [], IsTrue, OnOk, OnErr, Some};
 ghost use Rattle.turn_types.specs.Frames.{frame_len};
-ghost use Rattle.turn_client_api.specs.Streams.{HoldsLittle, is_ready};
 ghost use Rattle.turn_client_streams.specs.Buffered.{broken, is_broken_mode, is_control_mode, with_content, meant, passed};
-ghost use Rattle.turn_client_streams.specs.Front.{HasFront};
 
 mod incoming;
 
-use crate::front::{FrameKind, Front};
 use std::alloc::{AllocError, Global};
 use std::marker::Model;
-use std::mem;
 use std::net::SocketAddr;
 use turn_client_api::Mode;
 use turn_types::tcp::TurnTcpBuffer;
@@ -21,10 +17,10 @@ use turn_types::tcp::TurnTcpBuffer;
 /// It holds at most twice the buffered bytes, as `TurnTcpBuffer` does.
 #[derive(Debug, Drop)]
 pub struct BufferedStream {
-    alloc: Global,
-    local: SocketAddr,
-    mode: Mode,
-    buffer: TurnTcpBuffer,
+    pub(crate) alloc: Global,
+    pub(crate) local: SocketAddr,
+    pub(crate) mode: Mode,
+    pub(crate) buffer: TurnTcpBuffer,
 }
 
 impl Model for BufferedStream {
@@ -87,38 +83,6 @@ impl BufferedStream {
         matches!(self.mode, Mode::Broken)
     }
 
-    /// Whether it can be processed: it begins with a whole frame, with bytes that no frame begins with,
-    /// or with data of its peer.
-    pub fn is_ready(&self) -> bool
-        ensures exact { result ≡ is_ready self.now }
-        ensures little { result ≡ false → HoldsLittle self.now }
-    {
-        match self.mode {
-            Mode::Control | Mode::Waiting => match self.front() {
-                Front::Frame(_, _) | Front::Stuck => true,
-                Front::Partial => false,
-            },
-            Mode::Bound(_) => !self.buffer.is_empty(),
-            Mode::Broken => false,
-        }
-    }
-
-    /// What the buffered bytes begin with, if they are frames.
-    pub fn front(&self) -> Front<'_>
-        ensures { HasFront self.now result }
-    {
-        match self.buffer.front() {
-            Some(frame) => Front::Frame(FrameKind::of(frame), frame),
-            None => {
-                if self.buffer.is_stuck() {
-                    Front::Stuck
-                } else {
-                    Front::Partial
-                }
-            }
-        }
-    }
-
     /// Drops the first frame, which is whole and has so many bytes, as the one in front. Allocates no memory.
     pub fn pass(&mut self, len: usize)
         requires { frame_len self.old.bytes ≡ Some len }
@@ -170,26 +134,5 @@ impl BufferedStream {
         ensures { self.new ≡ meant mode self.old }
     {
         self.mode = mode;
-    }
-
-    /// The stream with its bytes; none of them remains here.
-    pub(crate) fn take_out(&mut self) -> BufferedStream
-        ensures stream { result ≡ self.old }
-        ensures after { self.new ≡ with_content [] self.old }
-    {
-        BufferedStream {
-            alloc: self.alloc,
-            local: self.local,
-            mode: self.mode,
-            buffer: mem::replace(&mut self.buffer, TurnTcpBuffer::new(self.alloc)),
-        }
-    }
-
-    /// Holds the bytes of another stream, in place of its own.
-    pub(crate) fn hold(&mut self, other: BufferedStream)
-        ensures { self.new ≡ with_content other.bytes self.old }
-    {
-        let BufferedStream { buffer, .. } = other;
-        self.buffer = buffer;
     }
 }

@@ -1,8 +1,11 @@
 //! What a stream of frames begins with (RFC 8656, section 12).
 
-ghost use Rattle.std.specs.Prelude.{◌≡◌, ◌<◌, length};
-ghost use Rattle.turn_types.specs.Frames.{begins_message};
-ghost use Rattle.turn_client_streams.specs.Front.{is_message_kind};
+ghost use Rattle.std.specs.Prelude.{◌≡◌, false};
+ghost use Rattle.turn_client_api.specs.Streams.{HoldsLittle, is_ready};
+ghost use Rattle.turn_client_streams.specs.Front.{HasFront};
+
+use crate::buffered::BufferedStream;
+use turn_client_api::Mode;
 
 /// What a frame is, as its first two bits say.
 #[derive(Clone, Copy, Debug, PartialEq, Eq)]
@@ -24,15 +27,43 @@ pub enum Front<'a> {
     Stuck,
 }
 
-impl FrameKind {
-    /// What this whole frame is. Its first byte is enough.
-    pub(crate) fn of(frame: &[u8]) -> FrameKind
-        requires { 0 < length frame.now }
-        ensures { is_message_kind result ≡ begins_message frame.now }
+impl BufferedStream {
+    /// Whether it can be processed: it begins with a whole frame, with bytes that no frame begins with,
+    /// or with data of its peer.
+    pub fn is_ready(&self) -> bool
+        ensures exact { result ≡ is_ready self.now }
+        ensures little { result ≡ false → HoldsLittle self.now }
     {
-        if frame[0] < 0x40 {
-            return FrameKind::Message;
+        match self.mode {
+            Mode::Control | Mode::Waiting => match self.front() {
+                Front::Frame(_, _) | Front::Stuck => true,
+                Front::Partial => false,
+            },
+            Mode::Bound(_) => !self.buffer.is_empty(),
+            Mode::Broken => false,
         }
-        FrameKind::Channel
+    }
+
+    /// What the buffered bytes begin with, if they are frames.
+    pub fn front(&self) -> Front<'_>
+        ensures { HasFront self.now result }
+    {
+        match self.buffer.front() {
+            Some(frame) => {
+                // The first two bits say what it is.
+                if frame[0] < 0x40 {
+                    Front::Frame(FrameKind::Message, frame)
+                } else {
+                    Front::Frame(FrameKind::Channel, frame)
+                }
+            }
+            None => {
+                if self.buffer.is_stuck() {
+                    Front::Stuck
+                } else {
+                    Front::Partial
+                }
+            }
+        }
     }
 }

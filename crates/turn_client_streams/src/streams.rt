@@ -1,15 +1,18 @@
 //! The list of a client's streams.
 
-ghost use Rattle.std.specs.Prelude.{◌≡◌, ◌<◌, All, IsNone, find, OnOk, IfOk, IsOk, Some, option_copied, option_map};
+ghost use Rattle.std.specs.Prelude.{◌≡◌, ◌<◌, OnOk, IfOk, IsOk, Some, option_copied, option_map};
 ghost use Rattle.std.specs.List.{position};
 ghost use Rattle.turn_agent.specs.Agent.{same_address};
 ghost use Rattle.turn_stun.specs.declared.transport.TransportType.TheVariants.{Udp};
 ghost use Rattle.turn_client_api.specs.Calls.{with_stream};
 ghost use Rattle.turn_client_api.specs.Connections.{with_mode};
 ghost use Rattle.turn_client_api.specs.State.{State, first_streams};
-ghost use Rattle.turn_client_api.specs.Streams.{HoldsLittle, broken_at, is_ready, stream_at, with_bytes, without_stream};
-ghost use Rattle.turn_client_streams.specs.Held.{control_passed, control_stream, taken_out, with_streams};
+ghost use Rattle.turn_client_api.specs.Streams.{broken_at, stream_at, without_stream};
+ghost use Rattle.turn_client_streams.specs.Held.{control_passed, control_stream, with_streams};
 ghost use Rattle.turn_types.specs.Frames.{frame_len};
+
+mod put;
+mod take;
 
 use crate::buffered::BufferedStream;
 use std::alloc::{AllocError, Global};
@@ -38,14 +41,6 @@ impl Model for Streams {
     ghost view = { λ s. record { list = s.list.items; room = vec_capacity s.list - vec_len s.list } };
 
     ghost invariant = { λ s. HasOwnEnds s.list.items };
-}
-
-/// The place of the first stream that can be processed.
-fn ready_place(list: &[BufferedStream]) -> Option<usize>
-    ensures exact { result ≡ position is_ready list.now }
-    ensures little { IsNone result → All HoldsLittle list.now }
-{
-    list.iter().position(|stream| stream.is_ready())
 }
 
 /// The place of the stream at this local address.
@@ -106,39 +101,6 @@ impl Streams {
         ensures { (s : State) → with_streams self.new.list s ≡ control_passed (with_streams self.old.list s) }
     {
         self.list[0].pass(len);
-    }
-
-    /// Takes out the first stream that can be processed.
-    pub fn take_ready(&mut self) -> Option<BufferedStream>
-        ensures stream { result ≡ find is_ready self.old.list }
-        ensures little { IsNone result → All HoldsLittle self.new.list }
-        ensures after { (s : State) → with_streams self.new.list s ≡ taken_out result (with_streams self.old.list s) }
-    {
-        let Some(place) = ready_place(self.list.as_slice()) else {
-            return None;
-        };
-        Some(self.list[place].take_out())
-    }
-
-    /// Takes out the stream at this local address.
-    pub fn take_at(&mut self, local: SocketAddr) -> Option<BufferedStream>
-        ensures stream { (s : State) → result ≡ stream_at local (with_streams self.old.list s) }
-        ensures after { (s : State) → with_streams self.new.list s ≡ taken_out result (with_streams self.old.list s) }
-    {
-        let Some(place) = place_at(self.list.as_slice(), local) else {
-            return None;
-        };
-        Some(self.list[place].take_out())
-    }
-
-    /// Puts the bytes of this stream, which was taken out, back into the one at the same local address.
-    /// The mode in the list counts; if the stream is no longer there, the bytes are dropped.
-    pub fn put(&mut self, stream: BufferedStream)
-        ensures { (s : State) → with_streams self.new.list s ≡ with_bytes stream.local stream.bytes (with_streams self.old.list s) }
-    {
-        if let Some(place) = place_at(self.list.as_slice(), stream.local()) {
-            self.list[place].hold(stream);
-        }
     }
 
     /// Breaks the stream at this local address: its buffered bytes are dropped, and nothing more is read
