@@ -34,7 +34,7 @@ use Rattle.turn_client_laws.proofs.AnyStreamsLemmas.{both_with}
 use Rattle.turn_client_laws.proofs.AnyStreamsTime.{poll-alike, transmit-alike}
 use Rattle.turn_client_laws.proofs.SendOrderLemmas.{steady-FitsPhaseForPoll}
 use Rattle.turn_client_laws.proofs.TimelyLemmas.{poll-timely}
-use Rattle.turn_client_proto.specs.Over.{IsClientOver}
+use Rattle.turn_client_tcp.specs.Over.{IsClientOver}
 
 -- the control machine goes from `was` to `t`, and its client from `s` to `u`
 pub record Follows (s was t u : State) : Type 0 where

@@ -7,7 +7,7 @@ use Rattle.turn_client_api.specs.Steps.{Leaves}
 use Rattle.turn_client_api.specs.declared.call.Call.{Call}
 use Rattle.turn_client_laws.proofs.InAllocation.{leaves-GrantsHaveAllocations}
 use Rattle.turn_client_laws.proofs.SendOrderLemmas.{leaves-steadies}
-use Rattle.turn_client_proto.specs.Over.{IsClientOver}
+use Rattle.turn_client_tcp.specs.Over.{IsClientOver}
 use Rattle.turn_client_proto.proofs.CarrierLemmas.{leaves-SameCarriers}
 use Rattle.turn_client_proto.proofs.NoStreamLemmas.{leaves-no_streams}
 

@@ -1,3 +1,2 @@
 pub mod Client
 pub mod Delivered
-pub mod Over

@@ -29,7 +29,6 @@
 #![tactic(auto)]
 
 pub mod api;
-mod carrier;
 pub mod client;
 mod over;
 pub mod prelude;
@@ -39,7 +38,7 @@ pub mod tcp;
 pub mod types;
 pub mod udp;
 
-pub use carrier::Carrier;
 pub use over::TurnClientOver;
 pub use runs::{Call, Replayed, Reply, replay, reply_to};
 pub use turn_client_api::{PermissionAddressesIter, RelayedAddressesIter};
+pub use turn_client_tcp::Carrier;

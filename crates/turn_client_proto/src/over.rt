@@ -4,7 +4,6 @@ ghost use Rattle.std.specs.Prelude.{◌≡◌, ◌≤◌, ◌^◌, IfOk, IsOk};
 ghost use Rattle.turn_client_api.specs.Alarm.{IsTimely};
 ghost use Rattle.turn_client_api.specs.Poll.{poll_step};
 
-use crate::carrier::Carrier;
 use std::alloc::AllocError;
 use std::convert::AsSlice;
 use std::fmt::Debug;
@@ -16,6 +15,7 @@ use turn_client_api::{
     TcpConnectError, TransmitBuild, TurnClientApi, TurnEvent, TurnPeerData, TurnPollRet,
     TurnRecvRet,
 };
+use turn_client_tcp::Carrier;
 use turn_stun::data::Data;
 use turn_stun::instant::Instant;
 use turn_stun::transport::{Transmit, TransportType};
@@ -29,7 +29,7 @@ pub struct TurnClientOver<C: Carrier> {
 
 impl<C: Carrier> Model for TurnClientOver<C> {
     ghost use Rattle.turn_client_api.specs.State.{State};
-    ghost use Rattle.turn_client_proto.specs.Over.{IsClientOver};
+    ghost use Rattle.turn_client_tcp.specs.Over.{IsClientOver};
 
     ghost Value = { State };
 

@@ -6,21 +6,17 @@ ghost use Rattle.turn_client_api.specs.State.{initial};
 ghost use Rattle.turn_client_api.specs.Streams.{HoldsLittle, poll_recv_step};
 ghost use Rattle.turn_client_tcp.specs.Lent.{IsLentInPlace, IsReadIfAny};
 
-use crate::carrier::{Carrier, is_from_server};
 use crate::over::TurnClientOver;
 use std::alloc::{AllocError, Global};
-use std::convert::AsSlice;
-use std::fmt::Debug;
 use std::net::SocketAddr;
+use turn_client_api::TurnConfig;
 pub use turn_client_api::{
     BindChannelError, CreatePermissionError, DeleteError, KeepError, SendError, TcpAllocateError,
     TcpConnectError, TurnEvent, TurnPollRet, TurnRecvRet,
 };
-use turn_client_api::{Socket5Tuple, TurnConfig, TurnPeerData};
-use turn_client_core::TurnClientProtocol;
 use turn_client_tcp::TurnClientTcpProtocol;
 use turn_stun::instant::Instant;
-use turn_stun::transport::{Transmit, TransportType};
+use turn_stun::transport::TransportType;
 
 /// A client that reaches its server over TCP, for allocations over UDP or over TCP. Contracts describe it
 /// by its `State`.
@@ -77,55 +73,5 @@ impl TurnClientTcp {
         ensures free { IsLentInPlace self.old → IsOk result }
     {
         self.carrier.poll_recv_with(now, read)
-    }
-}
-
-impl Carrier for TurnClientTcpProtocol {
-    ghost use Rattle.std.specs.Prelude.{refl};
-    ghost use Rattle.turn_client_core.specs.Apart.{with_streams_of};
-    ghost use Rattle.turn_stun.specs.declared.transport.TransportType.TheVariants.{Tcp};
-
-    ghost transport = { Tcp };
-
-    ghost state = { λ c. c };
-
-    ghost with_control = { λ c s. with_streams_of c s };
-
-    ghost controlled = { λ c s. refl };
-
-    #[inline(always)]
-    fn control(&self) -> &TurnClientProtocol {
-        self.control()
-    }
-
-    #[inline(always)]
-    fn control_mut(&mut self) -> &mut TurnClientProtocol {
-        self.control_mut()
-    }
-
-    fn take_socket(
-        &mut self,
-        id: u32,
-        five_tuple: Socket5Tuple,
-        peer_addr: SocketAddr,
-        local_addr: Option<SocketAddr>,
-        now: Instant,
-    ) -> Result<(), TcpAllocateError> {
-        self.allocated_tcp_socket(id, five_tuple, peer_addr, local_addr, now)
-    }
-
-    fn receive<T: AsSlice<u8> + Debug + Drop>(
-        &mut self,
-        transmit: Transmit<T>,
-        now: Instant,
-    ) -> Result<TurnRecvRet<T>, AllocError> {
-        if !is_from_server(self.control(), transmit.transport, transmit.from) {
-            return Ok(TurnRecvRet::Ignored(transmit));
-        }
-        self.piece(transmit, now)
-    }
-
-    fn next_payload(&mut self, now: Instant) -> Result<Option<TurnPeerData<Vec<u8>>>, AllocError> {
-        self.poll_recv(now)
     }
 }

@@ -7,7 +7,6 @@ ghost use Rattle.turn_client_api.specs.State.{initial};
 ghost use Rattle.turn_client_api.specs.Streams.{HoldsLittle, poll_recv_step};
 ghost use Rattle.turn_client_tcp.specs.Lent.{IsReadIfAny};
 
-use crate::carrier::{Carrier, is_from_server};
 use crate::over::TurnClientOver;
 use std::alloc::{AllocError, Global};
 use std::convert::AsSlice;
@@ -20,6 +19,7 @@ pub use turn_client_api::{
 };
 use turn_client_api::{Socket5Tuple, TurnConfig, TurnPeerData};
 use turn_client_core::TurnClientProtocol;
+use turn_client_tcp::{Carrier, is_from_server};
 use turn_stun::instant::Instant;
 use turn_stun::transport::{Transmit, TransportType};
 

@@ -25,10 +25,10 @@ use Rattle.turn_client_api.specs.declared.state.Mode.TheVariants.{Control, Broke
 use Rattle.turn_client_api.specs.declared.state.Stream.{Stream}
 use Rattle.turn_client_laws.proofs.StreamDrainLemmas.{ready-waits}
 use Rattle.turn_client_streams.specs.Buffered.{front_frame, is_broken_mode, passed}
-use Rattle.turn_client_tcp.specs.Carriers.{IsCarriedBy, carried_takes_memory}
-use Rattle.turn_client_tcp.specs.declared.protocol.frame.Carrier.{Carrier}
+use Rattle.turn_client_tcp.specs.Origins.{IsCarriedBy, carried_takes_memory}
+use Rattle.turn_client_tcp.specs.declared.protocol.frame.FrameOrigin.{FrameOrigin}
 use Rattle.turn_client_tcp.specs.StreamSteps.{EndsBehind, fed_frame_step, piece_takes_none}
-use Rattle.turn_client_tcp.proofs.CarrierLemmas.{carried-memory}
+use Rattle.turn_client_tcp.proofs.OriginLemmas.{carried-memory}
 use Rattle.turn_client_core.proofs.ResultLemmas.{none-is, none-some_not}
 use Rattle.turn_client_tcp.proofs.TurnLemmas.{framed-some, steps-none}
 
@@ -198,13 +198,13 @@ front-piece stream piece frame waits whole front =
     same ∙ take-length piece
 
 -- the first frame requires no memory
-pub free-front : (stream : Stream) (carrier : Carrier) (piece frame : List ℕ) (t : State) → IsCarriedBy carrier stream → is_free_frame piece t stream ≡ true
-    → Some frame ≡ front_frame (stream_with_piece stream piece) → carried_takes_memory carrier frame t ≡ true → ⊥
-free-front stream carrier piece frame t carried free front takes =
+pub free-front : (stream : Stream) (origin : FrameOrigin) (piece frame : List ℕ) (t : State) → IsCarriedBy origin stream → is_free_frame piece t stream ≡ true
+    → Some frame ≡ front_frame (stream_with_piece stream piece) → carried_takes_memory origin frame t ≡ true → ⊥
+free-front stream origin piece frame t carried free front takes =
     let is = free-is piece t stream free in
     let same : frame ≡ piece = front-piece stream piece frame is.waits is.whole front in
     let no : true ≡ false =
-    sym takes ∙ (sym (carried-memory carrier stream frame t carried) ∙ (ap (λ bytes. frame_takes_memory stream bytes t) same ∙ is.takes)) in
+    sym takes ∙ (sym (carried-memory origin stream frame t carried) ∙ (ap (λ bytes. frame_takes_memory stream bytes t) same ∙ is.takes)) in
     cc
 
 -- then no stream is ready
@@ -234,14 +234,7 @@ free-rests stream piece now t control free = let is = free-is piece t stream fre
 -- ---- a broken stream
 
 -- its bytes allocate no memory if no stream is ready
-pub free-broken : (to : SocketAddr) (piece : List ℕ) (s : State) → option_map_or (λ (x : Stream). is_broken_mode x.mode) (stream_at to s) false ≡ true → piece_takes_none to piece s ≡ true
-    → find is_ready s.streams ≡ None
-free-broken to piece s broken free = by (stream_at to s) refl broken
-  where
-    of : (stream : Stream) → is_broken_mode stream.mode ≡ true → (is_free_piece piece stream ≡ true) ⊎ (is_free_frame piece s stream ≡ true) → find is_ready s.streams ≡ None
-    of stream is (inl bound) = absurd (broken-unbound stream.mode is (free-bound piece stream bound))
-    of stream is (inr frame) = (free-is piece s stream frame).rest
-
-    by : (o : Option Stream) → stream_at to s ≡ o → option_map_or (λ (x : Stream). is_broken_mode x.mode) o false ≡ true → find is_ready s.streams ≡ None
-    by None e is = let no : false ≡ true = is in cc
-    by (Some stream) e is = of stream is (free-either to piece s stream e free)
+pub free-broken : (piece : List ℕ) (s : State) (stream : Stream) → is_broken_mode stream.mode ≡ true
+    → (is_free_piece piece stream ≡ true) ⊎ (is_free_frame piece s stream ≡ true) → find is_ready s.streams ≡ None
+free-broken piece s stream is (inl bound) = absurd (broken-unbound stream.mode is (free-bound piece stream bound))
+free-broken piece s stream is (inr frame) = (free-is piece s stream frame).rest

@@ -1,9 +1,9 @@
 pub mod ArrivalLemmas
 pub mod CallLemmas
-pub mod CarrierLemmas
 pub mod ControlDataLemmas
 pub mod FrameLemmas
 pub mod FreePieceLemmas
+pub mod OriginLemmas
 pub mod PieceLemmas
 pub mod TurnLemmas
 pub mod UngrantedLemmas

@@ -20,10 +20,10 @@ use Rattle.turn_client_core.specs.ProtocolRecv.{IsPart, IsRangeWithin, outcome_i
 use Rattle.turn_client_core.specs.declared.protocol_recv.TurnProtocolRecv.{TurnProtocolRecv}
 use Rattle.turn_client_core.specs.declared.protocol_recv.TurnProtocolRecv.TheVariants as T
 use Rattle.turn_client_tcp.specs.StreamSteps.{IsFront, came_with, given_as, left_by, bytes_in_range, put_or_broken}
-use Rattle.turn_client_tcp.specs.Carriers.{IsCarriedBy, carried_step}
-use Rattle.turn_client_tcp.specs.declared.protocol.frame.Carrier.{Carrier}
-use Rattle.turn_client_tcp.specs.declared.protocol.frame.Carrier.TheVariants as C
-use Rattle.turn_client_tcp.proofs.CarrierLemmas.{carried-step}
+use Rattle.turn_client_tcp.specs.Origins.{IsCarriedBy, carried_step}
+use Rattle.turn_client_tcp.specs.declared.protocol.frame.FrameOrigin.{FrameOrigin}
+use Rattle.turn_client_tcp.specs.declared.protocol.frame.FrameOrigin.TheVariants as C
+use Rattle.turn_client_tcp.proofs.OriginLemmas.{carried-step}
 use Rattle.turn_client_tcp.proofs.TurnLemmas.{framed-none, framed-some}
 
 -- ---- a part of a part
@@ -101,28 +101,28 @@ passed-mode s = by (frame_len s.bytes)
     by None = refl
     by (Some len) = refl
 
-pub fed-some : (s : Stream) (carrier : Carrier) (frame : List ℕ) (now : ℕ) (t : State) → IsCarriedBy carrier s → Some frame ≡ front_frame s
-    → framed_stream_step s now t ≡ ((carried_step carrier frame now t).0, left_by (without_front s) (carried_step carrier frame now t).1)
-fed-some s carrier frame now t is e =
+pub fed-some : (s : Stream) (origin : FrameOrigin) (frame : List ℕ) (now : ℕ) (t : State) → IsCarriedBy origin s → Some frame ≡ front_frame s
+    → framed_stream_step s now t ≡ ((carried_step origin frame now t).0, left_by (without_front s) (carried_step origin frame now t).1)
+fed-some s origin frame now t is e =
     let begins = front-begins s frame e in
     let same : without_front s ≡ passed s = ap (λ b. cond b (broken s) (passed s)) begins in
     framed-some s frame now t begins e
-    ∙ (ap (λ p. (p.0, with_bytes (passed s).local (passed s).bytes p.1)) (carried-step carrier s frame now t is)
-    ∙ ap (λ (u : Stream). ((carried_step carrier frame now t).0, left_by u (carried_step carrier frame now t).1)) (sym same))
+    ∙ (ap (λ p. (p.0, with_bytes (passed s).local (passed s).bytes p.1)) (carried-step origin s frame now t is)
+    ∙ ap (λ (u : Stream). ((carried_step origin frame now t).0, left_by u (carried_step origin frame now t).1)) (sym same))
 
 pub handled-kept : (waited : List ℕ) → place_kept waited Handled ≡ Handled
 handled-kept [] = refl
 handled-kept (b ∷ waited) = refl
 
 -- a stream of frames without a whole first frame waits for the rest, or is broken
-pub fed-none : (s : Stream) (carrier : Carrier) (now : ℕ) (t : State) → IsCarriedBy carrier s → None ≡ front_frame s → framed_stream_step s now t ≡ (Handled, put_or_broken (without_front s) t)
-fed-none s carrier now t is e = by (begins_no_frame s.bytes) refl
+pub fed-none : (s : Stream) (origin : FrameOrigin) (now : ℕ) (t : State) → IsCarriedBy origin s → None ≡ front_frame s → framed_stream_step s now t ≡ (Handled, put_or_broken (without_front s) t)
+fed-none s origin now t is e = by (begins_no_frame s.bytes) refl
   where
     unpassed : (o : Option ℕ) → None ≡ option_map (λ len. take len s.bytes) o → option_map_or (λ len. record s { bytes = drop len s.bytes }) o s ≡ s
     unpassed None f = refl
     unpassed (Some len) f = cc
 
-    put : (carrier : Carrier) → IsCarriedBy carrier s → put_or_broken s t ≡ left_by s t
+    put : (origin : FrameOrigin) → IsCarriedBy origin s → put_or_broken s t ≡ left_by s t
     put C.Control is = rw is refl
     put (C.Waiting local) is = rw is.0 refl
 
@@ -130,4 +130,4 @@ fed-none s carrier now t is e = by (begins_no_frame s.bytes) refl
     by true f = rw f refl
     by false f =
         let same : without_front s ≡ s = ap (λ b. cond b (broken s) (passed s)) f ∙ unpassed (frame_len s.bytes) e in
-        framed-none s now t f e ∙ ap (λ (x : State). (Handled, x)) (sym (ap (λ (u : Stream). put_or_broken u t) same ∙ put carrier is))
+        framed-none s now t f e ∙ ap (λ (x : State). (Handled, x)) (sym (ap (λ (u : Stream). put_or_broken u t) same ∙ put origin is))

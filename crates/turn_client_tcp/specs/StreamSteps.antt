@@ -11,7 +11,7 @@ use Rattle.turn_client_api.specs.Answers.{EndsAfterSteps, stream_takes_none}
 use Rattle.turn_client_api.specs.Effect.{closed}
 use Rattle.turn_client_api.specs.Streams.{stream_with_piece, broken_at, framed_stream_step, owned, payload_in, sent_by, stream_at, with_bytes}
 use Rattle.turn_client_api.specs.Payloads.{Payload, Outcome, Handled, Ignored, PeerData, PeerIcmp}
-use Rattle.turn_client_api.specs.Receive.{place_kept, stream_step, then_all, whole_piece}
+use Rattle.turn_client_api.specs.Receive.{broken_step, place_kept, stream_step, then_all, whole_piece}
 use Rattle.turn_client_api.specs.State.{State}
 use Rattle.turn_client_api.specs.declared.state.Mode.{Mode}
 use Rattle.turn_client_api.specs.declared.state.Mode.TheVariants.{Control, Waiting, Bound, Broken}
@@ -71,7 +71,7 @@ abbrev pub fed_frame_step : Stream → List ℕ → ℕ → State → Outcome ×
 fed_frame_step stream piece now t =
     let step = framed_stream_step (stream_with_piece stream piece) now t in (place_kept stream.bytes step.0, step.1)
 
--- the effect of a piece of a stream that is taken out and not broken
+-- the effect of a piece of a stream that is taken out: a broken one is put back
 abbrev pub whole_piece_step : Stream → List ℕ → ℕ → State → Outcome × State
 whole_piece_step stream piece now t = by stream.mode
   where
@@ -79,7 +79,7 @@ whole_piece_step stream piece now t = by stream.mode
     by Control = then_all now (fed_frame_step stream piece now t)
     by Waiting = fed_frame_step stream piece now t
     by (Bound peer) = (PeerData (bound_sent peer stream.bytes piece), t)
-    by Broken = (Handled, t)
+    by Broken = broken_step stream now (left_by stream t)
 
 -- the state in which all streams are processed, unless something of a peer was received
 abbrev pub others_from : Outcome × State → Option State
@@ -92,10 +92,12 @@ abbrev pub EndsBehind : ℕ → Outcome × State → State → Type 0
 EndsBehind now p s = IsSomeAnd (others_from p) (λ t. EndsAfterSteps now t s)
 
 -- memory allocation failed for the piece, or for bytes of other streams, which are processed after a piece of
--- the control stream
+-- the control stream, also if that is broken
 abbrev pub PieceEnds : Stream → List ℕ → ℕ → State → State → Type 0
 PieceEnds stream piece now t s =
-    (s ≡ closed (broken_at stream.local t)) ⊎ ((stream.mode ≡ Control) × EndsBehind now (fed_frame_step stream piece now t) s)
+    (s ≡ closed (broken_at stream.local t))
+    ⊎ ((stream.mode ≡ Control) × EndsBehind now (fed_frame_step stream piece now t) s)
+    ⊎ ((is_broken_mode stream.mode ≡ true) × (same_address stream.local t.local ≡ true) × EndsAfterSteps now (left_by stream t) s)
 
 -- a piece for this local address
 abbrev pub piece_at : SocketAddr → List ℕ → ℕ → State → Outcome × State

@@ -10,23 +10,26 @@
 //!    | the buffered bytes of streams:          turn_client_streams
 //! ```
 //!
-//! Begin with [`TurnClientTcpProtocol`]: a piece of a stream is cut into frames here. A message goes to the
+//! Begin with [`Carrier`], which says what differs between a client over UDP and one over TCP, and with
+//! [`TurnClientTcpProtocol`], which is the latter: a piece of a stream is cut into frames here. A message goes to the
 //! control machine, which has no streams; a ChannelData message is data of its channel's peer, and so are all
 //! bytes of a connection that is bound.
 //!
 //! ```rust
-//! match client.piece(transmit, now)? {
+//! match client.receive(transmit, now)? {
 //!     TurnRecvRet::PeerData(given) => deliver(given),
 //!     TurnRecvRet::PeerIcmp { peer, .. } => unreachable_peer(peer),
 //!     TurnRecvRet::Handled | TurnRecvRet::Ignored(_) => {}
 //! }
-//! while let Some(given) = client.poll_recv(now)? {
+//! while let Some(given) = client.next_payload(now)? {
 //!     deliver(given);
 //! }
 //! ```
 #![tactic(auto)]
 
+mod carrier;
 mod protocol;
 mod received;
 
+pub use carrier::{Carrier, is_from_server};
 pub use protocol::TurnClientTcpProtocol;

@@ -1,17 +1,16 @@
 //! A client over TCP: the control machine, and the streams beside it.
 //!
-//! A piece of a stream arrives in `recv`, and `piece` takes its first frame; `poll_recv` takes those that are
+//! A piece of a stream arrives in `carrier`, and `piece` takes its first frame; `poll_recv` takes those that are
 //! buffered. What a frame does stands in `frame`, and the data of a channel that is read where it is buffered
-//! in `control_data`. `data_socket` opens a stream. What concerns none is asked of the `control` machine itself.
+//! in `control_data`. `carrier` also opens a stream, and lends the control machine for what concerns none.
 
-mod control;
+mod carrier;
 mod control_data;
-mod data_socket;
 mod frame;
 mod piece;
 mod poll_recv;
 mod poll_recv_with;
-mod recv;
+mod stream_end;
 
 ghost use Rattle.std.specs.Prelude.{◌≡◌, IfOk};
 ghost use Rattle.turn_client_api.specs.State.{initial};

@@ -1,14 +1,13 @@
 //! Whole frames of a client's streams (RFC 8656, section 12.5; RFC 6062, section 4.3).
 
-ghost use Rattle.std.specs.Prelude.{◌≡◌, [], false, IfOk, OnErr, OnOk, Some, length, true};
-ghost use Rattle.turn_client_api.specs.Memory.{bind_takes_memory, packet_takes_memory, waiting_takes_memory};
+ghost use Rattle.std.specs.Prelude.{◌≡◌, [], IfOk, OnErr, OnOk, Some, length, true};
+ghost use Rattle.turn_client_api.specs.Memory.{bind_takes_memory, waiting_takes_memory};
 ghost use Rattle.turn_client_api.specs.Connections.{bind_step};
-ghost use Rattle.turn_client_api.specs.Payloads.{channel_sent};
-ghost use Rattle.turn_client_api.specs.Streams.{control_frame_step, waiting_frame_step};
+ghost use Rattle.turn_client_api.specs.Streams.{waiting_frame_step};
 ghost use Rattle.turn_client_core.specs.ProtocolRecv.{IsPart, outcome_in};
 ghost use Rattle.turn_client_laws.specs.StreamEffects.{with_stream_bound};
 ghost use Rattle.turn_client_streams.specs.Front.{IsOfKind};
-ghost use Rattle.turn_client_tcp.specs.Carriers.{carried_step, carried_takes_memory};
+ghost use Rattle.turn_client_tcp.specs.Origins.{carried_step, carried_takes_memory};
 ghost use Rattle.turn_types.specs.Frames.{begins_message, frame_len};
 
 use crate::protocol::TurnClientTcpProtocol;
@@ -23,7 +22,7 @@ use turn_types::channel::ChannelData;
 
 /// The connection that a frame came over.
 #[derive(Clone, Copy)]
-pub(crate) enum Carrier {
+pub(crate) enum FrameOrigin {
     /// The control connection.
     Control,
     /// The data connection from this local address, which waits to be bound.
@@ -41,7 +40,7 @@ impl TurnClientTcpProtocol {
     /// connection one that does not keep it.
     pub(crate) fn frame(
         &mut self,
-        carrier: Carrier,
+        origin: FrameOrigin,
         kind: FrameKind,
         frame: &[u8],
         now: Instant,
@@ -49,56 +48,28 @@ impl TurnClientTcpProtocol {
         requires whole { frame_len frame.now ≡ Some (length frame.now) }
         requires kind { IsOfKind kind frame.now }
         requires before { self.old.phase ≡ Phase.Authenticating → self.old.grants ≡ [] }
-        ensures answer { IfOk result (λ reported. outcome_in frame.now reported ≡ (carried_step carrier frame.now now self.old).0) }
+        ensures answer { IfOk result (λ reported. outcome_in frame.now reported ≡ (carried_step origin frame.now now self.old).0) }
         ensures part { IfOk result (IsPart frame.now self.old self.new) }
-        ensures after { OnOk result (self.new ≡ (carried_step carrier frame.now now self.old).1) }
+        ensures after { OnOk result (self.new ≡ (carried_step origin frame.now now self.old).1) }
         ensures err { OnErr result (self.new ≡ self.old) }
-        ensures wanted { OnErr result (carried_takes_memory carrier frame.now self.old ≡ true) }
+        ensures wanted { OnErr result (carried_takes_memory origin frame.now self.old ≡ true) }
     {
-        match carrier {
-            Carrier::Control => match kind {
-                FrameKind::Message => self.control_message(frame, now),
-                FrameKind::Channel => Ok(self.channel_data(frame)),
+        match origin {
+            FrameOrigin::Control => match kind {
+                FrameKind::Message => match Message::from_bytes(frame) {
+                    Ok(message) => self.control.message_unless_ignored(&message, now),
+                    // It begins like a message, and is none: it is dropped.
+                    Err(_) => Ok(TurnProtocolRecv::Handled),
+                },
+                FrameKind::Channel => {
+                    let channel = ChannelData::parse(frame).unwrap();
+                    Ok(self.control.channel_sent(frame, &channel))
+                }
             },
-            Carrier::Waiting(local) => match kind {
+            FrameOrigin::Waiting(local) => match kind {
                 FrameKind::Message => self.waiting_message(local, frame, now),
                 FrameKind::Channel => Ok(TurnProtocolRecv::Ignored),
             },
-        }
-    }
-
-    /// The result of a whole ChannelData message of the control connection: data of its channel's peer.
-    fn channel_data(&self, frame: &[u8]) -> TurnProtocolRecv
-        requires whole { frame_len frame.now ≡ Some (length frame.now) }
-        requires channel { begins_message frame.now ≡ false }
-        ensures answer { outcome_in frame.now result ≡ channel_sent self.now frame.now }
-        ensures part { IsPart frame.now self.now self.now result }
-    {
-        let channel = ChannelData::parse(frame).unwrap();
-        self.control.channel_sent(frame, &channel)
-    }
-
-    /// Processes a frame of the control connection that begins like a STUN message. One that is none is dropped.
-    ///
-    /// # Errors
-    ///
-    /// If memory allocation fails. Nothing changes then.
-    fn control_message(
-        &mut self,
-        frame: &[u8],
-        now: Instant,
-    ) -> Result<TurnProtocolRecv, AllocError>
-        requires begins { begins_message frame.now ≡ true }
-        requires before { self.old.phase ≡ Phase.Authenticating → self.old.grants ≡ [] }
-        ensures answer { IfOk result (λ reported. outcome_in frame.now reported ≡ (control_frame_step frame.now now self.old).0) }
-        ensures part { IfOk result (IsPart frame.now self.old self.new) }
-        ensures after { OnOk result (self.new ≡ (control_frame_step frame.now now self.old).1) }
-        ensures err { OnErr result (self.new ≡ self.old) }
-        ensures wanted { OnErr result (packet_takes_memory frame.now self.old ≡ true) }
-    {
-        match Message::from_bytes(frame) {
-            Ok(message) => self.control.message_unless_ignored(&message, now),
-            Err(_) => Ok(TurnProtocolRecv::Handled),
         }
     }
 

@@ -1,7 +1,7 @@
 //! Pieces of a client's streams (RFC 8656, section 12.5; RFC 6062, section 4.3).
 
-ghost use Rattle.std.specs.Prelude.{◌≡◌, ◌≤◌, ◌<◌, [], length, true, IfOk, IsOk, OnErr, OnOk, Some};
-ghost use Rattle.std.specs.Option.{option_map_or};
+ghost use Rattle.std.specs.Prelude.{◌≡◌, ◌≤◌, ◌<◌, [], false, find, length, true, IfOk, IsOk, None, OnErr, OnOk, Some};
+ghost use Rattle.turn_agent.specs.Agent.{same_address};
 ghost use Rattle.turn_client_api.specs.Answers.{EndsAfterSteps, HandsBack, IsPartOf, given_payload, outcome_of};
 ghost use Rattle.turn_client_api.specs.Effect.{closed};
 ghost use Rattle.turn_client_laws.specs.LawsOrder.{IsUngranted};
@@ -9,17 +9,17 @@ ghost use Rattle.turn_client_api.specs.Memory.{is_free_frame};
 ghost use Rattle.turn_client_api.specs.PeerBytes.{held_in};
 ghost use Rattle.turn_client_api.specs.Payloads.{PeerData};
 ghost use Rattle.turn_client_api.specs.Receive.{then_all};
-ghost use Rattle.turn_client_api.specs.Streams.{broken_at, is_bound, owned, poll_recv_step};
-ghost use Rattle.turn_client_api.specs.declared.state.Mode.TheVariants.{Control};
+ghost use Rattle.turn_client_api.specs.Streams.{broken_at, is_bound, is_ready, owned};
+ghost use Rattle.turn_client_streams.specs.Buffered.{is_broken_mode};
 ghost use Rattle.turn_client_streams.specs.Front.{IsOfKind};
-ghost use Rattle.turn_client_tcp.specs.Carriers.{IsCarriedBy, carried_step, carried_takes_memory};
-ghost use Rattle.turn_client_tcp.specs.StreamSteps.{EndsBehind, IsFront, PieceEnds, bound_sent, came_with, fed_frame_step};
+ghost use Rattle.turn_client_tcp.specs.Origins.{IsCarriedBy, carried_step, carried_takes_memory};
+ghost use Rattle.turn_client_tcp.specs.StreamSteps.{EndsBehind, IsFront, PieceEnds, bound_sent, broken_piece_step, came_with, fed_frame_step};
 ghost use Rattle.turn_client_tcp.specs.StreamSteps.{given_as, left_by, bytes_in_range, whole_piece_step, put_or_broken};
 ghost use Rattle.turn_types.specs.Frames.{frame_len};
 ghost use Rattle.turn_types.specs.Incoming.{IsNamedIncoming, incoming_bytes};
 
 use crate::protocol::TurnClientTcpProtocol;
-use crate::protocol::frame::Carrier;
+use crate::protocol::frame::FrameOrigin;
 use std::alloc::AllocError;
 use std::convert::AsSlice;
 use std::fmt::Debug;
@@ -32,7 +32,8 @@ use turn_stun::transport::{Transmit, TransportType};
 use turn_types::tcp::IncomingTcp;
 
 impl TurnClientTcpProtocol {
-    /// Processes a piece of a stream that is taken out and not broken.
+    /// Processes a piece of a stream that is taken out, by what its bytes are. After a piece of the control
+    /// stream that gives nothing of a peer, all streams are processed.
     ///
     /// # Errors
     ///
@@ -52,42 +53,25 @@ impl TurnClientTcpProtocol {
         ensures after { OnOk result (self.new ≡ (whole_piece_step stream (T.items transmit.payload) now self.old).1) }
         ensures no_memory { OnErr result (PieceEnds stream (T.items transmit.payload) now self.old self.new) }
         ensures free { is_bound stream.mode ≡ true → stream.bytes ≡ [] → IsOk result }
-        ensures free_frame { is_free_frame (T.items transmit.payload) self.old stream ≡ true → IsOk result }
+        ensures free_frame { is_broken_mode stream.mode ≡ false → is_free_frame (T.items transmit.payload) self.old stream ≡ true → IsOk result }
+        ensures free_broken { is_broken_mode stream.mode ≡ true → find is_ready (left_by stream self.old).streams ≡ None → IsOk result }
     {
         match stream.mode() {
-            Mode::Control => self.control_piece(stream, transmit, now),
+            Mode::Control => {
+                let first = self.framed_piece(stream, FrameOrigin::Control, transmit, now)?;
+                self.then_all(first, now)
+            }
             Mode::Waiting => {
-                let carrier = Carrier::Waiting(stream.local());
-                self.framed_piece(stream, carrier, transmit, now)
+                let origin = FrameOrigin::Waiting(stream.local());
+                self.framed_piece(stream, origin, transmit, now)
             }
             Mode::Bound(peer) => self.bound_piece(stream, peer, transmit),
-            Mode::Broken => Ok(TurnRecvRet::Handled),
+            Mode::Broken => {
+                let local = stream.local();
+                self.streams.put(stream);
+                self.broken_piece(local, now)
+            }
         }
-    }
-
-    /// Processes a piece of the control stream, which is taken out. Unless that gives something of a
-    /// peer, all streams are processed then.
-    ///
-    /// # Errors
-    ///
-    /// If memory allocation fails. The stream being processed is broken then, and the client has ended.
-    fn control_piece<T: AsSlice<u8> + Debug + Drop>(
-        &mut self,
-        stream: BufferedStream,
-        transmit: Transmit<T>,
-        now: Instant,
-    ) -> Result<TurnRecvRet<T>, AllocError>
-        requires some { 0 < length (T.items transmit.payload) }
-        requires control { stream.mode ≡ Control }
-        requires before { IsUngranted self.old.phase → self.old.grants ≡ [] }
-        ensures answer { IfOk result (λ given. outcome_of given ≡ (then_all now (fed_frame_step stream (T.items transmit.payload) now self.old)).0) }
-        ensures hands_back { IfOk result (HandsBack transmit) }
-        ensures after { OnOk result (self.new ≡ (then_all now (fed_frame_step stream (T.items transmit.payload) now self.old)).1) }
-        ensures no_memory { OnErr result (PieceEnds stream (T.items transmit.payload) now self.old self.new) }
-        ensures free { is_free_frame (T.items transmit.payload) self.old stream ≡ true → IsOk result }
-    {
-        let first = self.framed_piece(stream, Carrier::Control, transmit, now)?;
-        self.then_all(first, now)
     }
 
     /// Unless something of a peer was received, processes all streams, and returns the data that they
@@ -109,62 +93,53 @@ impl TurnClientTcpProtocol {
         ensures no_memory { OnErr result (EndsBehind now (outcome_of first, self.old) self.new) }
     {
         match first {
-            TurnRecvRet::Handled => self.others(TurnRecvRet::Handled, now),
-            TurnRecvRet::Ignored(transmit) => self.others(TurnRecvRet::Ignored(transmit), now),
-            TurnRecvRet::PeerData(given) => Ok(TurnRecvRet::PeerData(given)),
-            TurnRecvRet::PeerIcmp {
-                transport,
-                peer,
-                icmp_type,
-                icmp_code,
-                icmp_data,
-            } => Ok(TurnRecvRet::PeerIcmp {
-                transport,
-                peer,
-                icmp_type,
-                icmp_code,
-                icmp_data,
-            }),
+            TurnRecvRet::Handled | TurnRecvRet::Ignored(_) => match self.process_ready(now)? {
+                Some(given) => Ok(TurnRecvRet::PeerData(given.into_data())),
+                None => Ok(first),
+            },
+            TurnRecvRet::PeerData(_) | TurnRecvRet::PeerIcmp { .. } => Ok(first),
         }
     }
 
-    /// Processes all streams, and returns the data that they give in place of `otherwise`.
+    /// Processes bytes of the broken stream at this local address: they are dropped, and if it is the
+    /// control stream, all other streams are processed. The caller need not know that this one broke (our
+    /// choice).
     ///
     /// # Errors
     ///
     /// If memory allocation for the bytes of a stream fails. That stream is broken then, and the client
     /// has ended.
-    pub(crate) fn others<T: AsSlice<u8> + Debug + Drop>(
+    fn broken_piece<T: AsSlice<u8> + Debug + Drop>(
         &mut self,
-        otherwise: TurnRecvRet<T>,
+        local: SocketAddr,
         now: Instant,
     ) -> Result<TurnRecvRet<T>, AllocError>
         requires before { IsUngranted self.old.phase → self.old.grants ≡ [] }
-        ensures answer { IfOk result (λ given. outcome_of given ≡ option_map_or PeerData (poll_recv_step now self.old).0 (outcome_of otherwise)) }
-        ensures hands_back { (transmit : Transmit T) → HandsBack transmit otherwise → IfOk result (HandsBack transmit) }
-        ensures after { OnOk result (self.new ≡ (poll_recv_step now self.old).1) }
-        ensures no_memory { OnErr result (EndsAfterSteps now self.old self.new) }
+        ensures answer { IfOk result (λ given. outcome_of given ≡ (broken_piece_step local now self.old).0) }
+        ensures hands_back { (transmit : Transmit T) → IfOk result (HandsBack transmit) }
+        ensures after { OnOk result (self.new ≡ (broken_piece_step local now self.old).1) }
+        ensures no_memory { OnErr result ((same_address local self.old.local ≡ true) × EndsAfterSteps now self.old self.new) }
     {
-        match self.process_ready(now)? {
-            Some(given) => Ok(TurnRecvRet::PeerData(given.into_data())),
-            None => Ok(otherwise),
+        if local == self.control.local_addr() {
+            return self.then_all(TurnRecvRet::Handled, now);
         }
+        Ok(TurnRecvRet::Handled)
     }
 
-    /// Processes a piece of a stream of frames, which is taken out.
+    /// Appends a piece to a stream of frames, which is taken out, and processes its first frame.
     ///
     /// # Errors
     ///
     /// If memory allocation fails. The stream is broken then, and the client has ended.
     fn framed_piece<T: AsSlice<u8> + Debug + Drop>(
         &mut self,
-        stream: BufferedStream,
-        carrier: Carrier,
+        mut stream: BufferedStream,
+        origin: FrameOrigin,
         transmit: Transmit<T>,
         now: Instant,
     ) -> Result<TurnRecvRet<T>, AllocError>
         requires some { 0 < length (T.items transmit.payload) }
-        requires carrier { IsCarriedBy carrier stream }
+        requires origin { IsCarriedBy origin stream }
         requires before { self.old.phase ≡ Phase.Authenticating → self.old.grants ≡ [] }
         ensures answer { IfOk result (λ given. outcome_of given ≡ (fed_frame_step stream (T.items transmit.payload) now self.old).0) }
         ensures hands_back { IfOk result (HandsBack transmit) }
@@ -173,7 +148,15 @@ impl TurnClientTcpProtocol {
         ensures free { is_free_frame (T.items transmit.payload) self.old stream ≡ true → IsOk result }
     {
         let local = stream.local();
-        match self.first_frame_step(stream, carrier, transmit, now) {
+        let Ok(given) = stream.incoming_tcp(transmit) else {
+            self.end_at(local);
+            return Err(AllocError);
+        };
+        let Some(front) = given else {
+            self.put_or_break(stream);
+            return Ok(TurnRecvRet::Handled);
+        };
+        match self.first_frame(stream, origin, front, now) {
             Ok(first) => Ok(first),
             Err(refusal) => {
                 self.end_at(local);
@@ -189,35 +172,6 @@ impl TurnClientTcpProtocol {
     {
         self.streams.break_at(local);
         self.control.close();
-    }
-
-    /// Appends a piece to a stream of frames, which is taken out, and processes its first frame.
-    ///
-    /// # Errors
-    ///
-    /// If memory allocation fails. Nothing changes then.
-    fn first_frame_step<T: AsSlice<u8> + Debug + Drop>(
-        &mut self,
-        mut stream: BufferedStream,
-        carrier: Carrier,
-        transmit: Transmit<T>,
-        now: Instant,
-    ) -> Result<TurnRecvRet<T>, AllocError>
-        requires some { 0 < length (T.items transmit.payload) }
-        requires carrier { IsCarriedBy carrier stream }
-        requires before { self.old.phase ≡ Phase.Authenticating → self.old.grants ≡ [] }
-        ensures answer { IfOk result (λ given. outcome_of given ≡ (fed_frame_step stream (T.items transmit.payload) now self.old).0) }
-        ensures hands_back { IfOk result (HandsBack transmit) }
-        ensures after { OnOk result (self.new ≡ (fed_frame_step stream (T.items transmit.payload) now self.old).1) }
-        ensures err { OnErr result (self.new ≡ self.old) }
-        ensures free { is_free_frame (T.items transmit.payload) self.old stream ≡ true → IsOk result }
-    {
-        let front = stream.incoming_tcp(transmit)?;
-        let Some(front) = front else {
-            self.put_or_break(stream);
-            return Ok(TurnRecvRet::Handled);
-        };
-        self.first_frame(stream, carrier, front, now)
     }
 
     /// Puts the stream back, to receive the rest of its frame, or breaks it if no frame begins with the
@@ -240,7 +194,7 @@ impl TurnClientTcpProtocol {
     fn first_frame<T: AsSlice<u8> + Debug + Drop>(
         &mut self,
         stream: BufferedStream,
-        carrier: Carrier,
+        origin: FrameOrigin,
         front: IncomingTcp<T>,
         now: Instant,
     ) -> Result<TurnRecvRet<T>, AllocError>
@@ -248,24 +202,24 @@ impl TurnClientTcpProtocol {
         requires front { IsFront T.items front }
         requires kind { IsNamedIncoming T.items front }
         requires before { self.old.phase ≡ Phase.Authenticating → self.old.grants ≡ [] }
-        ensures answer { IfOk result (λ given. outcome_of given ≡ given_as front (carried_step carrier (incoming_bytes T.items front) now self.old).0) }
+        ensures answer { IfOk result (λ given. outcome_of given ≡ given_as front (carried_step origin (incoming_bytes T.items front) now self.old).0) }
         ensures hands_back { IfOk result (HandsBack (came_with front)) }
-        ensures after { OnOk result (self.new ≡ left_by stream (carried_step carrier (incoming_bytes T.items front) now self.old).1) }
+        ensures after { OnOk result (self.new ≡ left_by stream (carried_step origin (incoming_bytes T.items front) now self.old).1) }
         ensures err { OnErr result (self.new ≡ self.old) }
-        ensures wanted { OnErr result (carried_takes_memory carrier (incoming_bytes T.items front) self.old ≡ true) }
+        ensures wanted { OnErr result (carried_takes_memory origin (incoming_bytes T.items front) self.old ≡ true) }
     {
         match front {
             IncomingTcp::CompleteMessage(transmit, place) => {
-                self.lent_frame(stream, carrier, FrameKind::Message, transmit, place, now)
+                self.lent_frame(stream, origin, FrameKind::Message, transmit, place, now)
             }
             IncomingTcp::CompleteChannel(transmit, place) => {
-                self.lent_frame(stream, carrier, FrameKind::Channel, transmit, place, now)
+                self.lent_frame(stream, origin, FrameKind::Channel, transmit, place, now)
             }
             IncomingTcp::StoredMessage(frame, transmit) => {
-                self.stored_frame(stream, carrier, FrameKind::Message, frame, transmit, now)
+                self.stored_frame(stream, origin, FrameKind::Message, frame, transmit, now)
             }
             IncomingTcp::StoredChannel(frame, transmit) => {
-                self.stored_frame(stream, carrier, FrameKind::Channel, frame, transmit, now)
+                self.stored_frame(stream, origin, FrameKind::Channel, frame, transmit, now)
             }
         }
     }
@@ -278,7 +232,7 @@ impl TurnClientTcpProtocol {
     fn lent_frame<T: AsSlice<u8> + Debug + Drop>(
         &mut self,
         stream: BufferedStream,
-        carrier: Carrier,
+        origin: FrameOrigin,
         kind: FrameKind,
         transmit: Transmit<T>,
         place: Range<usize>,
@@ -289,14 +243,14 @@ impl TurnClientTcpProtocol {
         requires whole { let frame = bytes_in_range (T.items transmit.payload) place in frame_len frame ≡ Some (length frame) }
         requires kind { IsOfKind kind (bytes_in_range (T.items transmit.payload) place) }
         requires before { self.old.phase ≡ Phase.Authenticating → self.old.grants ≡ [] }
-        ensures answer { IfOk result (λ given. outcome_of given ≡ (carried_step carrier (bytes_in_range (T.items transmit.payload) place) now self.old).0) }
+        ensures answer { IfOk result (λ given. outcome_of given ≡ (carried_step origin (bytes_in_range (T.items transmit.payload) place) now self.old).0) }
         ensures hands_back { IfOk result (HandsBack transmit) }
-        ensures after { OnOk result (self.new ≡ left_by stream (carried_step carrier (bytes_in_range (T.items transmit.payload) place) now self.old).1) }
+        ensures after { OnOk result (self.new ≡ left_by stream (carried_step origin (bytes_in_range (T.items transmit.payload) place) now self.old).1) }
         ensures err { OnErr result (self.new ≡ self.old) }
-        ensures wanted { OnErr result (carried_takes_memory carrier (bytes_in_range (T.items transmit.payload) place) self.old ≡ true) }
+        ensures wanted { OnErr result (carried_takes_memory origin (bytes_in_range (T.items transmit.payload) place) self.old ≡ true) }
     {
         let frame = &transmit.payload.as_slice()[place.start..place.end];
-        let reported = self.frame(carrier, kind, frame, now)?;
+        let reported = self.frame(origin, kind, frame, now)?;
         self.streams.put(stream);
         Ok(reported.lent(transmit))
     }
@@ -309,7 +263,7 @@ impl TurnClientTcpProtocol {
     fn stored_frame<T: AsSlice<u8> + Debug + Drop>(
         &mut self,
         stream: BufferedStream,
-        carrier: Carrier,
+        origin: FrameOrigin,
         kind: FrameKind,
         frame: Vec<u8>,
         transmit: Transmit<T>,
@@ -318,13 +272,13 @@ impl TurnClientTcpProtocol {
         requires whole { frame_len frame.items ≡ Some (length frame.items) }
         requires kind { IsOfKind kind frame.items }
         requires before { self.old.phase ≡ Phase.Authenticating → self.old.grants ≡ [] }
-        ensures answer { IfOk result (λ given. outcome_of given ≡ owned (carried_step carrier frame.items now self.old).0) }
+        ensures answer { IfOk result (λ given. outcome_of given ≡ owned (carried_step origin frame.items now self.old).0) }
         ensures hands_back { IfOk result (HandsBack transmit) }
-        ensures after { OnOk result (self.new ≡ left_by stream (carried_step carrier frame.items now self.old).1) }
+        ensures after { OnOk result (self.new ≡ left_by stream (carried_step origin frame.items now self.old).1) }
         ensures err { OnErr result (self.new ≡ self.old) }
-        ensures wanted { OnErr result (carried_takes_memory carrier frame.items self.old ≡ true) }
+        ensures wanted { OnErr result (carried_takes_memory origin frame.items self.old ≡ true) }
     {
-        let reported = self.frame(carrier, kind, frame.as_slice(), now)?;
+        let reported = self.frame(origin, kind, frame.as_slice(), now)?;
         self.streams.put(stream);
         Ok(reported.owned(frame, transmit))
     }

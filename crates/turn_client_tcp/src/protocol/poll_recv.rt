@@ -1,54 +1,27 @@
 //! The next frames of a client's streams (RFC 8656, section 12.5; RFC 6062, section 4.3).
 
 ghost use Rattle.std.specs.Prelude.{◌≡◌, All, [], option_map, true, IfOk, IsNone, IsOk, None, OnErr, OnOk};
-ghost use Rattle.turn_client_api.specs.Answers.{EndsAfterSteps, given_payload};
+ghost use Rattle.turn_client_api.specs.Answers.{EndsAfterSteps};
 ghost use Rattle.turn_client_laws.specs.LawsOrder.{IsUngranted};
 ghost use Rattle.turn_client_api.specs.Streams.{HoldsLittle, framed_stream_step, is_bound};
 ghost use Rattle.turn_client_api.specs.Streams.{detached_frame_step, poll_recv_step};
-ghost use Rattle.turn_client_tcp.specs.Carriers.{IsCarriedBy};
+ghost use Rattle.turn_client_tcp.specs.Origins.{IsCarriedBy};
 ghost use Rattle.turn_client_tcp.specs.Lent.{IsBoundFirst};
 ghost use Rattle.turn_client_core.specs.ProtocolRecv.{IsPart, outcome_in};
 ghost use Rattle.turn_client_tcp.specs.StreamSteps.{received_payload, owned_payload};
 ghost use Rattle.turn_client_tcp.specs.Wanted.{EndsInNeed, FrontWantsMemory, StepWantsMemory};
 
 use crate::protocol::TurnClientTcpProtocol;
-use crate::protocol::frame::Carrier;
+use crate::protocol::frame::FrameOrigin;
 use crate::received::Received;
 use std::alloc::AllocError;
-use turn_client_api::{Mode, Phase, TurnPeerData};
+use turn_client_api::{Mode, Phase};
 use turn_client_core::TurnProtocolRecv;
 use turn_client_streams::{BufferedStream, Front};
 use turn_stun::instant::Instant;
 use turn_stun::transport::TransportType;
 
 impl TurnClientTcpProtocol {
-    /// The next payload of a peer that the streams hold, in the order in which they were opened, or
-    /// none. All other frames before it are processed; ICMP reports among them are dropped.
-    ///
-    /// # Errors
-    ///
-    /// If memory allocation for the bytes of a stream fails. The client has ended then, and the stream
-    /// that was read delivers nothing more; whole frames that were processed before keep their effect.
-    /// Memory is allocated only for a message that is answered or that changes the client, and for a copy
-    /// of data in a frame.
-    pub fn poll_recv(&mut self, now: Instant) -> Result<Option<TurnPeerData<Vec<u8>>>, AllocError>
-        requires before { IsUngranted self.old.phase → self.old.grants ≡ [] }
-        ensures answer { IfOk result (λ given. option_map given_payload given ≡ (poll_recv_step now self.old).0) }
-        ensures little { IfOk result (λ given. IsNone given → All HoldsLittle self.new.streams) }
-        ensures after { OnOk result (self.new ≡ (poll_recv_step now self.old).1) }
-        ensures no_memory { OnErr result (EndsAfterSteps now self.old self.new) }
-        ensures wanted { OnErr result (EndsInNeed now self.old self.new) }
-    {
-        // Most frames of a busy client are ChannelData messages. For them no stream is taken out.
-        if let Some(given) = self.take_control_data()? {
-            return Ok(Some(given.into_data()));
-        }
-        match self.process_ready(now)? {
-            Some(given) => Ok(Some(given.into_data())),
-            None => Ok(None),
-        }
-    }
-
     /// Processes the streams that are ready, until one gives a payload.
     ///
     /// # Errors
@@ -98,10 +71,10 @@ impl TurnClientTcpProtocol {
         ensures free { is_bound stream.mode ≡ true → IsOk result }
     {
         match stream.mode() {
-            Mode::Control => self.framed_stream_step(stream, Carrier::Control, now),
+            Mode::Control => self.framed_stream_step(stream, FrameOrigin::Control, now),
             Mode::Waiting => {
-                let carrier = Carrier::Waiting(stream.local());
-                self.framed_stream_step(stream, carrier, now)
+                let origin = FrameOrigin::Waiting(stream.local());
+                self.framed_stream_step(stream, origin, now)
             }
             Mode::Bound(peer) => Ok(Some(Received {
                 transport: TransportType::Tcp,
@@ -121,10 +94,10 @@ impl TurnClientTcpProtocol {
     fn framed_stream_step(
         &mut self,
         mut stream: BufferedStream,
-        carrier: Carrier,
+        origin: FrameOrigin,
         now: Instant,
     ) -> Result<Option<Received>, AllocError>
-        requires carrier { IsCarriedBy carrier stream }
+        requires origin { IsCarriedBy origin stream }
         requires before { self.old.phase ≡ Phase.Authenticating → self.old.grants ≡ [] }
         ensures answer { IfOk result (λ given. option_map received_payload given ≡ owned_payload (framed_stream_step stream now self.old).0) }
         ensures after { OnOk result (self.new ≡ (framed_stream_step stream now self.old).1) }
@@ -133,7 +106,7 @@ impl TurnClientTcpProtocol {
     {
         match stream.front() {
             Front::Frame(kind, frame) => {
-                let reported = self.frame(carrier, kind, frame, now)?;
+                let reported = self.frame(origin, kind, frame, now)?;
                 let given = self.owned(frame, reported)?;
                 let len = frame.len();
                 stream.pass(len);

@@ -2,7 +2,7 @@ use Rattle.std.proofs.Common.{refl, subst}
 use Rattle.turn_client_proto.proofs.CallLemmas.{poll-keeps}
 use Rattle.turn_client_proto.proofs.ControlLemmas.{follows, poll-left, poll-said, timely}
 use Rattle.turn_client_proto.proofs.OverLemmas.{leaves-IsClientOver}
-use Rattle.turn_client_proto.specs.Over.{IsClientOver}
+use Rattle.turn_client_tcp.specs.Over.{IsClientOver}
 use Rattle.turn_client_proto.proofs.over.TurnClientOverTurnClientApi.poll.Goals as goal
 
 pub invariant_of-self : goal.invariant_of-self

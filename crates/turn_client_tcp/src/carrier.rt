@@ -8,7 +8,7 @@ ghost use Rattle.turn_client_api.specs.Receive.{is_from_server, recv_step};
 ghost use Rattle.turn_client_api.specs.State.{State};
 ghost use Rattle.turn_client_api.specs.Streams.{HoldsLittle, poll_recv_step};
 ghost use Rattle.turn_client_core.specs.Apart.{with_streams_of};
-ghost use Rattle.turn_client_proto.specs.Over.{IsClientOver};
+ghost use Rattle.turn_client_tcp.specs.Over.{IsClientOver};
 ghost use Rattle.turn_client_tcp.specs.Control.{LendsControl};
 ghost use Rattle.turn_stun.specs.declared.transport.TransportType.{TransportType};
 
@@ -45,7 +45,7 @@ pub trait Carrier: Debug + Drop {
         ensures value { with_streams_of (state self.old) result.now ≡ state self.old };
 
     /// Reports what became of a data connection that was offered, as
-    /// [`TurnClientApi::allocated_tcp_socket`](crate::api::TurnClientApi::allocated_tcp_socket) does.
+    /// [`TurnClientApi::allocated_tcp_socket`](turn_client_api::TurnClientApi::allocated_tcp_socket) does.
     ///
     /// # Errors
     ///
@@ -62,7 +62,7 @@ pub trait Carrier: Debug + Drop {
         ensures step { TakesSocket result (state self.old) (state self.new)
             (allocated_tcp_socket_step id five_tuple peer_addr local_addr now (state self.old)) };
 
-    /// Processes a datagram or a piece of a stream, as [`TurnClientApi::recv`](crate::api::TurnClientApi::recv)
+    /// Processes a datagram or a piece of a stream, as [`TurnClientApi::recv`](turn_client_api::TurnClientApi::recv)
     /// does.
     ///
     /// # Errors
@@ -82,7 +82,7 @@ pub trait Carrier: Debug + Drop {
         ensures no_memory { OnErr result (RecvEnds transmit.to (T.items transmit.payload) now (state self.old) (state self.new)) }
         ensures free { takes_no_memory transmit.transport transmit.from transmit.to (T.items transmit.payload) (state self.old) ≡ true → IsOk result };
 
-    /// The next payload that the streams hold, as [`TurnClientApi::poll_recv`](crate::api::TurnClientApi::poll_recv)
+    /// The next payload that the streams hold, as [`TurnClientApi::poll_recv`](turn_client_api::TurnClientApi::poll_recv)
     /// returns it.
     ///
     /// # Errors
@@ -100,7 +100,7 @@ pub trait Carrier: Debug + Drop {
 }
 
 /// Whether a packet from this address over this transport comes from the server of the client.
-pub(crate) fn is_from_server(
+pub fn is_from_server(
     control: &TurnClientProtocol,
     transport: TransportType,
     from: SocketAddr,

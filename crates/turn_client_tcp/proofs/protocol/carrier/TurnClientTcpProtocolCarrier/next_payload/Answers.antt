@@ -7,7 +7,7 @@ use Rattle.turn_client_tcp.specs.StreamSteps.{received_payload}
 use Rattle.turn_client_tcp.specs.Wanted.{EndsInNeed}
 use Rattle.turn_client_tcp.proofs.ControlDataLemmas.{data-ends, data-given, data-wants}
 use Rattle.turn_client_core.proofs.ResultLemmas.{on-err}
-use Rattle.turn_client_tcp.proofs.protocol.TurnClientTcpProtocol.poll_recv.Goals as goal
+use Rattle.turn_client_tcp.proofs.protocol.carrier.TurnClientTcpProtocolCarrier.next_payload.Goals as goal
 
 pub returns-in_err-given-clause-no_memory : goal.returns-in_err-given-clause-no_memory
 returns-in_err-given-clause-no_memory c =

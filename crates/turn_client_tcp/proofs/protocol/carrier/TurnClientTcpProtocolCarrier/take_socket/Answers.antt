@@ -7,7 +7,7 @@ use Rattle.turn_client_laws.proofs.AnyStreamsEffects.{opened_in, socket-alike}
 use Rattle.turn_client_laws.proofs.AnyStreamsLemmas.{with_streams}
 use Rattle.turn_client_laws.specs.StreamEffects.{opens_at}
 use Rattle.turn_client_tcp.proofs.CallLemmas.{fails-with, opens-ok, opens-with, takes-with}
-use Rattle.turn_client_tcp.proofs.protocol.TurnClientTcpProtocol.allocated_tcp_socket.Goals as goal
+use Rattle.turn_client_tcp.proofs.protocol.carrier.TurnClientTcpProtocolCarrier.take_socket.Goals as goal
 
 -- the step with the streams is that of the control machine, and then the stream is opened that `opens_at` names
 
