@@ -1,5 +1,5 @@
 -- Streams with distinct local addresses: to change one of them is to change the one at its local address.
-use Rattle.std.proofs.Common.{◌≡◌, ℕ, zero, suc, Bool, true, false, not, cond, List, [], ◌∷◌, ◌++◌, map, filter, drop, Option, Some, None, refl, sym, subst, ap, ◌∙◌, get_or}
+use Rattle.std.proofs.Common.{◌≡◌, ℕ, ◌+◌, zero, suc, Bool, true, false, not, cond, nat_lt, if◌then◌else◌, List, [], ◌∷◌, ◌++◌, length, map, filter, drop, Option, Some, None, refl, sym, subst, ap, ◌∙◌, get_or}
 use Rattle.std.specs.Prelude.{find, slice_get, set}
 use Rattle.std.specs.Option.{option_map, option_map_or}
 use Rattle.std.specs.List.{IsDistinct, AllByRecursion, position}
@@ -11,7 +11,9 @@ use Rattle.turn_client_api.specs.declared.state.Stream.{Stream}
 use Rattle.turn_client_api.proofs.AddressLemmas.{same_address-true, same_address-self, differ-sym}
 use Rattle.turn_client_api.proofs.StreamEnds.{ends, IsNoneOf}
 use Rattle.turn_client_api.specs.State.{State}
+use Rattle.turn_types.specs.Buffers.{Buffered, cut_off, with_moved, with_taken}
 use Rattle.turn_types.specs.Frames.{frame_len}
+use Rattle.turn_types.specs.Streams as B
 use Rattle.turn_client_streams.specs.Buffered.{is_control_mode, passed, with_content}
 use Rattle.turn_client_streams.specs.Held.{HasOwnEnds, control_passed, control_stream, with_streams}
 
@@ -118,6 +120,25 @@ passed-is x = by (frame_len x.bytes)
         → with_content (option_map_or (λ len. with_content (drop len x.bytes) x) o x).bytes x ≡ option_map_or (λ len. with_content (drop len x.bytes) x) o x
     by None = refl
     by (Some len) = refl
+
+-- a buffer whose first n bytes are returned, which moves the others to the front or not
+abbrev cut_as : Bool → ℕ → Buffered → Buffered
+cut_as moves n b =
+    let rest : B.Stream = record { bytes = drop n b.stream.bytes; is_broken = b.stream.is_broken } in
+    if moves then record { stream = rest; start = 0; counts = with_moved (length rest.bytes) (with_taken n b.counts) }
+    else record { stream = rest; start = b.start + n; counts = with_taken n b.counts }
+
+-- it holds the others in both cases
+pub cut-stream : (n : ℕ) (b : Buffered) → (cut_off n b).stream ≡ record { bytes = drop n b.stream.bytes; is_broken = b.stream.is_broken }
+cut-stream n b = by (nat_lt (length (drop n b.stream.bytes)) (b.start + n))
+  where
+    by : (moves : Bool) → (cut_as moves n b).stream ≡ record { bytes = drop n b.stream.bytes; is_broken = b.stream.is_broken }
+    by true = refl
+    by false = refl
+
+-- a whole first frame that has so many bytes is dropped
+pub passed-whole : (len : ℕ) (x : Stream) → frame_len x.bytes ≡ Some len → with_content (drop len x.bytes) x ≡ passed x
+passed-whole len x e = ap (λ o. option_map_or (λ n. with_content (drop n x.bytes) x) o x) (sym e)
 
 -- its first frame is dropped
 pub passed-control : (xs : List Stream) (d : Stream) (len : ℕ) (s : State) → HasOwnEnds xs
