@@ -1,4 +1,4 @@
-use Rattle.std.proofs.Common.{◌≡◌, ◌∙◌, List, ℕ, true, false, None, ap, subst, sym}
+use Rattle.std.proofs.Common.{◌≡◌, ◌∙◌, None, ap, subst, sym}
 use Rattle.std.specs.Prelude.{IfOk, OnOk, find}
 use Rattle.std.proofs.lemmas.Result.{on_err_weaker}
 use Rattle.turn_client_api.specs.Answers.{outcome_of}
