@@ -1,11 +1,12 @@
 //! A client that reaches its server over UDP.
 
-ghost use Rattle.std.specs.Prelude.{◌≡◌, ◌&&◌, All, IfOk, IsNone, IsOk, OnOk};
+ghost use Rattle.std.specs.Prelude.{◌≡◌, ◌≤◌, ◌&&◌, length, All, IfOk, IfSome, IsNone, IsOk, OnOk};
 ghost use Rattle.turn_agent.specs.Agent.{same_address};
 ghost use Rattle.turn_client_api.specs.Receive.{is_from_server};
 ghost use Rattle.turn_client_api.specs.State.{initial};
 ghost use Rattle.turn_client_api.specs.Streams.{HoldsLittle, poll_recv_step};
 ghost use Rattle.turn_client_tcp.specs.Lent.{IsReadIfAny};
+ghost use Rattle.turn_client_proto.specs.Channels.{BringsData, BringsNoFrame};
 
 use crate::over::TurnClientOver;
 use std::alloc::{AllocError, Global};
@@ -13,15 +14,17 @@ use std::convert::AsSlice;
 use std::fmt::Debug;
 use std::marker::Model;
 use std::net::SocketAddr;
+use std::ops::Range;
 pub use turn_client_api::{
     BindChannelError, CreatePermissionError, DeleteError, KeepError, SendError, TcpAllocateError,
     TcpConnectError, TurnEvent, TurnPollRet, TurnRecvRet,
 };
 use turn_client_api::{Socket5Tuple, TurnConfig, TurnPeerData};
-use turn_client_core::TurnClientProtocol;
+use turn_client_core::{TurnClientProtocol, TurnProtocolRecv};
 use turn_client_tcp::{Carrier, is_from_server};
 use turn_stun::instant::Instant;
 use turn_stun::transport::{Transmit, TransportType};
+use turn_types::channel::ChannelData;
 
 /// A client that reaches its server over UDP. Contracts describe it by its `State`.
 pub type TurnClientUdp = TurnClientOver<TurnClientUdpProtocol>;
@@ -76,6 +79,37 @@ impl TurnClientUdp {
         })
     }
 
+    /// The data of a peer that this datagram carries, if the server sent it to the client and it is a ChannelData message
+    /// of an active channel (RFC 8656, section 12.6): the transport and the peer, and where the data lies in the bytes.
+    ///
+    /// [`TurnClientApi::recv`](crate::api::TurnClientApi::recv) returns the same of it, and changes nothing. Ask this first to
+    /// read the data where it lies, without handing the datagram over and back.
+    // Each packet asks this: where it is not inlined, the address is copied.
+    #[inline(always)]
+    pub fn channel_data(
+        &self,
+        transport: TransportType,
+        from: &SocketAddr,
+        to: &SocketAddr,
+        bytes: &[u8],
+    ) -> Option<(TransportType, SocketAddr, Range<usize>)>
+        ensures received { IfSome result (λ found. BringsData transport from.now to.now bytes.now self.now found.0 found.1 found.2) }
+        // A ChannelData message of which it returns none is ignored.
+        ensures others { IsNone result → BringsNoFrame transport from.now to.now bytes.now self.now }
+        ensures within { IfSome result (λ found. (found.2.start ≤ found.2.end) × (found.2.end ≤ length bytes.now)) }
+    {
+        let Ok(frame) = ChannelData::parse(bytes) else {
+            return None;
+        };
+        if !self.carrier.is_own(transport, *from, *to) {
+            return None;
+        }
+        match self.carrier.control.channel_sent(bytes, &frame) {
+            TurnProtocolRecv::PeerData(transport, peer, place) => Some((transport, peer, place)),
+            _ => None,
+        }
+    }
+
     /// Returns none, and `read` is not called: a client over UDP has no streams. The method is here as
     /// [`TurnClientApi::poll_recv`](crate::api::TurnClientApi::poll_recv) is, for a caller of any client.
     ///
@@ -100,6 +134,7 @@ impl TurnClientUdp {
 
 impl TurnClientUdpProtocol {
     /// Whether a packet with these addresses is a datagram of the server to the client.
+    #[inline(always)]
     fn is_own(&self, transport: TransportType, from: SocketAddr, to: SocketAddr) -> bool
         ensures { result ≡ (is_from_server transport from self.now && same_address to self.now.local) }
     {
