@@ -80,6 +80,8 @@ impl<C: Carrier> TurnClientApi for TurnClientOver<C> {
             .create_permission(transport, peer_addr, now)
     }
 
+    // Where it is not inlined, the address is passed on in parts.
+    #[inline(always)]
     fn have_permission(&self, transport: TransportType, to: IpAddr) -> bool {
         self.carrier.control().have_permission(transport, to)
     }
