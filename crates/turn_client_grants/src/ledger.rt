@@ -6,7 +6,7 @@ ghost use Rattle.turn_client_api.specs.Effect.{renewed};
 ghost use Rattle.turn_client_api.specs.Grants.{find_allocation_to, failures_among, jump, unlisted, wait, with_grant, without_grants};
 ghost use Rattle.turn_client_api.specs.Poll.{failed};
 ghost use Rattle.turn_client_api.specs.State.{State, later_by, seconds};
-ghost use Rattle.turn_client_grants.specs.Failures.{SparesReserved};
+ghost use Rattle.turn_client_grants.specs.Failures.{RoomIsEnough, SparesReserved};
 ghost use Rattle.turn_client_grants.specs.Keys.{is_found_by};
 ghost use Rattle.turn_client_grants.specs.declared.key.Key.{Key};
 ghost use Rattle.turn_client_grants.specs.Ledger.{IsApart, SameRoomBut, with_ledger};
@@ -216,17 +216,19 @@ impl GrantLedger {
     }
 
     /// Replaces the grant that this key finds by another one, after all others, and queues this event
-    /// after all others. It uses no room for grants.
+    /// after all others. It uses no room for grants, and the room for events that may result from the old
+    /// grant is left to the new one.
     fn replace(&mut self, key: &Key, grant: &Grant, event: TurnEvent)
         requires numbered { is_numbered grant.now ≡ true }
         requires apart { IsApart grant.now }
         requires there { list_any (is_found_by key.now) self.old.grants ≡ true }
         // Each key that finds the new grant finds the old one.
         requires keyed { (k : Key) → is_found_by k grant.now ≡ true → list_any (λ g. is_found_by key.now g && is_found_by k g) self.old.grants ≡ true }
-        requires event_room { 3 ≤ self.old.event_room }
+        requires weighs { RoomIsEnough (is_found_by key.now) self.old.grants grant.now }
+        requires event_room { 1 ≤ self.old.event_room }
         ensures state { (s : State) → with_ledger self.new s
             ≡ wait (event ∷ []) (with_grant grant.now (without_grants (is_found_by key.now) (with_ledger self.old s))) }
-        ensures room { SameRoomBut 0 3 self.old self.new }
+        ensures room { SameRoomBut 0 1 self.old self.new }
     {
         self.table.replace(key, grant);
         self.push_event(event);

@@ -36,9 +36,9 @@ impl GrantLedger {
     /// The server answered for the permission for this IP address. `reserve` makes room for the event:
     /// what is granted replaces what was pending.
     pub fn permission_answered(&mut self, ip: IpAddr, is_granted: bool, now: Instant)
-        requires { 3 ≤ self.old.event_room }
+        requires { 1 ≤ self.old.event_room }
         ensures state { (s : State) → with_ledger self.new s ≡ permission_answered ip is_granted now (with_ledger self.old s) }
-        ensures room { SameRoomBut 0 3 self.old self.new }
+        ensures room { SameRoomBut 0 1 self.old self.new }
     {
         let Some(progress) = self.table.permission_state(ip) else {
             return;
@@ -61,9 +61,9 @@ impl GrantLedger {
         now: Instant,
     )
         requires there { list_any (is_permission_of ip) self.old.grants ≡ true }
-        requires event_room { 3 ≤ self.old.event_room }
+        requires event_room { 1 ≤ self.old.event_room }
         ensures state { (s : State) → with_ledger self.new s ≡ pending_permission_answered ip is_kept is_granted now (with_ledger self.old s) }
-        ensures room { SameRoomBut 0 3 self.old self.new }
+        ensures room { SameRoomBut 0 1 self.old self.new }
     {
         let transport = self.transport();
         if is_granted {
@@ -76,9 +76,9 @@ impl GrantLedger {
     /// A pending permission is active from now on, after all other grants.
     fn permission_granted(&mut self, ip: IpAddr, expiry: Instant, is_kept: bool)
         requires there { list_any (is_permission_of ip) self.old.grants ≡ true }
-        requires event_room { 3 ≤ self.old.event_room }
+        requires event_room { 1 ≤ self.old.event_room }
         ensures state { (s : State) → with_ledger self.new s ≡ permission_granted ip expiry is_kept (with_ledger self.old s) }
-        ensures room { SameRoomBut 0 3 self.old self.new }
+        ensures room { SameRoomBut 0 1 self.old self.new }
     {
         let transport = self.transport();
         self.replace(
@@ -90,9 +90,9 @@ impl GrantLedger {
 
     /// The server answered for an active permission that is refreshed.
     fn active_permission_answered(&mut self, ip: IpAddr, is_granted: bool, now: Instant)
-        requires { 3 ≤ self.old.event_room }
+        requires { 1 ≤ self.old.event_room }
         ensures state { (s : State) → with_ledger self.new s ≡ active_permission_answered ip is_granted now (with_ledger self.old s) }
-        ensures room { SameRoomBut 0 3 self.old self.new }
+        ensures room { SameRoomBut 0 1 self.old self.new }
     {
         let transport = self.transport();
         if is_granted {
@@ -104,9 +104,9 @@ impl GrantLedger {
 
     /// The server answered for the permission that the purpose names, if it names one.
     fn permission_answered_for(&mut self, purpose: &Purpose, is_granted: bool, now: Instant)
-        requires { 3 ≤ self.old.event_room }
+        requires { 1 ≤ self.old.event_room }
         ensures state { (s : State) → with_ledger self.new s ≡ permission_answered_for is_granted now (with_ledger self.old s) purpose.now }
-        ensures room { SameRoomBut 0 3 self.old self.new }
+        ensures room { SameRoomBut 0 1 self.old self.new }
     {
         match purpose {
             Purpose::ForPermission(ip) => self.permission_answered(*ip, is_granted, now),
@@ -125,10 +125,10 @@ impl GrantLedger {
         is_granted: bool,
         now: Instant,
     )
-        requires { 3 ≤ self.old.event_room }
+        requires { 1 ≤ self.old.event_room }
         ensures state { (s : State) → with_ledger self.new s
             ≡ fold (permission_answered_for is_granted now) (with_ledger self.old s) (option_to_list purpose.now) }
-        ensures room { SameRoomBut 0 3 self.old self.new }
+        ensures room { SameRoomBut 0 1 self.old self.new }
     {
         match purpose {
             Some(purpose) => self.permission_answered_for(purpose, is_granted, now),
@@ -138,9 +138,9 @@ impl GrantLedger {
 
     /// The server answered for the permissions that the request with this ID was made for.
     fn permissions_answered(&mut self, id: TransactionId, is_granted: bool, now: Instant)
-        requires { 6 ≤ self.old.event_room }
+        requires { 2 ≤ self.old.event_room }
         ensures state { (s : State) → with_ledger self.new s ≡ listed_permissions_answered id is_granted now (with_ledger self.old s) }
-        ensures room { SameRoomBut 0 6 self.old self.new }
+        ensures room { SameRoomBut 0 2 self.old self.new }
     {
         let purposes = self.table.purposes_of(id);
         self.permission_answered_for_one(&purposes.first, is_granted, now);
@@ -157,9 +157,9 @@ impl GrantLedger {
         is_granted: bool,
         now: Instant,
     )
-        requires { 9 ≤ self.old.event_room }
+        requires { 3 ≤ self.old.event_room }
         ensures state { (s : State) → with_ledger self.new s ≡ channel_answered number id is_granted now (with_ledger self.old s) }
-        ensures room { SameRoomBut 0 9 self.old self.new }
+        ensures room { SameRoomBut 0 3 self.old self.new }
     {
         let Some(peer) = self.table.channel_owner(number) else {
             return;
@@ -190,9 +190,9 @@ impl GrantLedger {
     )
         requires there { list_any (λ g. is_channel_of number g && is_open_to peer g) self.old.grants ≡ true }
         requires numbered { is_numbered (Grant.Channel number peer (Progress.Pending true)) ≡ true }
-        requires event_room { 9 ≤ self.old.event_room }
+        requires event_room { 3 ≤ self.old.event_room }
         ensures state { (s : State) → with_ledger self.new s ≡ pending_channel_answered number peer is_kept id is_granted now (with_ledger self.old s) }
-        ensures room { SameRoomBut 0 9 self.old self.new }
+        ensures room { SameRoomBut 0 3 self.old self.new }
     {
         if is_granted {
             return self.channel_granted(number, peer, is_kept, id, now);
@@ -211,9 +211,9 @@ impl GrantLedger {
     )
         requires there { list_any (λ g. is_channel_of number g && is_open_to peer g) self.old.grants ≡ true }
         requires numbered { is_numbered (Grant.Channel number peer (Progress.Pending true)) ≡ true }
-        requires event_room { 9 ≤ self.old.event_room }
+        requires event_room { 3 ≤ self.old.event_room }
         ensures state { (s : State) → with_ledger self.new s ≡ pending_channel_answered number peer is_kept id true now (with_ledger self.old s) }
-        ensures room { SameRoomBut 0 9 self.old self.new }
+        ensures room { SameRoomBut 0 3 self.old self.new }
     {
         let transport = self.transport();
         self.permissions_answered(id, true, now);
@@ -233,10 +233,10 @@ impl GrantLedger {
 
     /// A pending channel is refused, and so is the permission that was requested with it.
     fn channel_refused(&mut self, number: u16, peer: SocketAddr, id: TransactionId)
-        requires { 9 ≤ self.old.event_room }
+        requires { 3 ≤ self.old.event_room }
         ensures state { (s : State) (is_kept : Bool) (now : ℕ)
             → with_ledger self.new s ≡ pending_channel_answered number peer is_kept id false now (with_ledger self.old s) }
-        ensures room { SameRoomBut 0 9 self.old self.new }
+        ensures room { SameRoomBut 0 3 self.old self.new }
     {
         let transport = self.transport();
         let purposes = self.table.purposes_of(id);
@@ -257,9 +257,9 @@ impl GrantLedger {
     )
         requires there { list_any (is_channel_of number) self.old.grants ≡ true }
         requires numbered { is_numbered (Grant.Channel number peer (Progress.Pending true)) ≡ true }
-        requires event_room { 9 ≤ self.old.event_room }
+        requires event_room { 3 ≤ self.old.event_room }
         ensures state { (s : State) → with_ledger self.new s ≡ active_channel_answered number peer expiry is_granted now (with_ledger self.old s) }
-        ensures room { SameRoomBut 0 9 self.old self.new }
+        ensures room { SameRoomBut 0 3 self.old self.new }
     {
         let transport = self.transport();
         if is_granted {
