@@ -1,10 +1,10 @@
 //! What a signed reply of the server to a request changes (RFC 8656, sections 8.3, 10.3 and 12.3; RFC
 //! 6062, section 4.3).
 
-ghost use Rattle.std.specs.Prelude.{◌≡◌, ◌≤◌, ◌||◌, option_to_list};
+ghost use Rattle.std.specs.Prelude.{◌≡◌, ◌≤◌, ◌||◌, Some, option_to_list};
 ghost use Rattle.turn_client_api.specs.Effect.{allocation_mismatch, effect, delete_answered, has_code, prolonged, refreshed};
 ghost use Rattle.turn_client_api.specs.State.{State};
-ghost use Rattle.turn_client_core.specs.Effects.{AnswersPurposes, after, connect_replied};
+ghost use Rattle.turn_client_core.specs.Effects.{AnswersPurposes, added_for, after, connect_replied, grants_added};
 ghost use Rattle.turn_client_grants.specs.Ledger.{LessRoom, SameRoomBut, with_ledger};
 ghost use Rattle.turn_client_grants.specs.GrantFilter.{purposes_in};
 ghost use Rattle.turn_stun.specs.Message.{id_of};
@@ -58,10 +58,10 @@ pub(crate) fn answer_all(
     is_granted: bool,
     now: Instant,
 ) -> Effect
-    requires grant_room { 2 ≤ ledger.old.grant_room }
-    requires event_room { 18 ≤ ledger.old.event_room }
+    requires grant_room { grants_added purposes.now ≤ ledger.old.grant_room }
+    requires event_room { 6 ≤ ledger.old.event_room }
     ensures state { AnswersPurposes (purposes_in purposes.now) is_granted message.now now ledger.old ledger.new result }
-    ensures room { LessRoom 2 0 18 0 ledger.old ledger.new }
+    ensures room { LessRoom (grants_added purposes.now) 0 6 0 ledger.old ledger.new }
 {
     let first = answer_one(ledger, &purposes.first, message, is_granted, now);
     let second = answer_one(ledger, &purposes.second, message, is_granted, now);
@@ -76,10 +76,10 @@ fn answer_one(
     is_granted: bool,
     now: Instant,
 ) -> Effect
-    requires grant_room { 1 ≤ ledger.old.grant_room }
-    requires event_room { 9 ≤ ledger.old.event_room }
+    requires grant_room { added_for purpose.now ≤ ledger.old.grant_room }
+    requires event_room { 3 ≤ ledger.old.event_room }
     ensures state { AnswersPurposes (option_to_list purpose.now) is_granted message.now now ledger.old ledger.new result }
-    ensures room { LessRoom 1 0 9 0 ledger.old ledger.new }
+    ensures room { LessRoom (added_for purpose.now) 0 3 0 ledger.old ledger.new }
 {
     match purpose {
         Some(purpose) => answer(ledger, purpose, message, is_granted, now),
@@ -95,11 +95,11 @@ fn answer(
     is_granted: bool,
     now: Instant,
 ) -> Effect
-    requires grant_room { 1 ≤ ledger.old.grant_room }
-    requires event_room { 9 ≤ ledger.old.event_room }
+    requires grant_room { added_for (Some purpose.now) ≤ ledger.old.grant_room }
+    requires event_room { 3 ≤ ledger.old.event_room }
     ensures state { (s : State) → after result (with_ledger ledger.new s)
         ≡ effect (id_of message.now) is_granted message.now now (with_ledger ledger.old s) purpose.now }
-    ensures room { LessRoom 1 0 9 0 ledger.old ledger.new }
+    ensures room { LessRoom (added_for (Some purpose.now)) 0 3 0 ledger.old ledger.new }
 {
     match purpose {
         Purpose::ForAllocation => Effect::Nothing,
