@@ -1,11 +1,11 @@
--- A map that leads to the rows of a list, as rows are added and removed.
+-- What leads from keys to the rows of a list, as rows are added and removed.
 use Rattle.std.specs.Prelude.{◌≡◌, Bool, true, false, cond, not, is_some, List, [], ◌∷◌, ◌++◌, map, filter, filter_map, find, slice_get, Option, Some, None, option_map, option_to_list}
 use Rattle.std.specs.Prelude.{option_and_then, refl}
 use Rattle.std.specs.List.{list_any}
 use Rattle.std.proofs.lemmas.Map.Entries.{option_filter}
 use Rattle.std.proofs.Common.{ap, arith, sym, ◌∙◌, append-nil, subst}
 use Rattle.std.proofs.lemmas.List.Elements.{filter-append}
-use Rattle.turn_client_grants.specs.Index.{IsIndex, leads}
+use Rattle.turn_client_grants.specs.Index.{IsIndex, scan}
 
 module _ {G : Type 0} where
   -- ---- tests and lists
@@ -34,11 +34,8 @@ module _ {G : Type 0} where
 
   -- ---- at most one
 
-  pub first-of : (found : Option G) (g : G) (gs : List G) → g ∷ gs ≡ option_to_list found → found ≡ Some g
+  first-of : (found : Option G) (g : G) (gs : List G) → g ∷ gs ≡ option_to_list found → found ≡ Some g
   first-of found g gs h = grind arith
-
-  pub rest-of : (found : Option G) (g : G) (gs : List G) → g ∷ gs ≡ option_to_list found → gs ≡ []
-  rest-of found g gs h = grind arith
 
   -- ---- reading
 
@@ -121,16 +118,7 @@ module _ {G : Type 0} where
         by : (found : Option G) → filter other (option_to_list found) ≡ g ∷ [] → found ≡ Some g
         by found e = grind arith
 
-    -- no row has the key, so the map leads nowhere from it
-    pub index-free : (eq : K → K → Bool) → ((a b : K) → eq a b ≡ true → a ≡ b) → (find : K → Option G) (rows : List G) (key : K)
-        → IsIndex test find rows → list_any (test key) rows ≡ false → (k : K) → eq key k ≡ true → find k ≡ None
-    index-free eq exact find rows key is free k at =
-        subst (λ (k : K). find k ≡ None) (exact key k at) (none (find key) (sym (any-by_index find rows key is) ∙ free))
-      where
-        none : (found : Option G) → is_some found ≡ false → found ≡ None
-        none found h = grind arith
-
-    -- ---- with a map, or without one
+    -- ---- by a scan
 
     -- a scan finds the only row that passes
     found-alone : (p : G → Bool) (rows : List G) (found : Option G) → filter p rows ≡ option_to_list found → find p rows ≡ found
@@ -142,19 +130,7 @@ module _ {G : Type 0} where
         by true e next = rw e (sym (first-of found g (filter p rows) (rw e at alone)))
         by false e next = rw e (next (rw e at alone))
 
-    pub leads-made : (b : Bool) (map : K → Option G) (rows : List G) (k : K) → b ≡ true → leads test b map rows k ≡ map k
-    leads-made b map rows k made = rw made refl
-
-    pub leads-same : (b c : Bool) (map : K → Option G) (rows : List G) → c ≡ b → IsIndex test (leads test b map rows) rows → IsIndex test (leads test c map rows) rows
-    leads-same b c map rows same is = rw same is
-
-    -- any map tells what a scan finds
-    leads-scanned : (map then : K → Option G) (rows : List G) → IsIndex test map rows → IsIndex test (leads test false then rows) rows
+    -- what leads from the keys to the rows tells what a scan finds
+    pub index-scanned : (map : K → Option G) (rows : List G) → IsIndex test map rows → IsIndex test (scan test rows) rows
     unfolding IsIndex
-    leads-scanned map then rows is k = is k ∙ sym (ap option_to_list (found-alone (test k) rows (map k) (is k)))
-
-    -- the map, if there is one, changes as the rows do
-    pub leads-next : (b c : Bool) (map then : K → Option G) (next : K → Option G → Option G) (rows others : List G) → c ≡ b → (b ≡ true → (k : K) → then k ≡ next k (map k))
-        → IsIndex test (λ k. next k (leads test b map rows k)) others → IsIndex test (leads test c then others) others
-    leads-next true c map then next rows others same now is = rw same (index-same (λ k. next k (map k)) then others is (now refl))
-    leads-next false c map then next rows others same now is = rw same (leads-scanned (λ k. next k (leads test false map rows k)) then others is)
+    index-scanned map rows is k = is k ∙ sym (ap option_to_list (found-alone (test k) rows (map k) (is k)))

@@ -1,4 +1,4 @@
--- The map of the grants, as grants are added and removed.
+-- What leads from keys to grants, as grants are added and removed.
 use Rattle.std.specs.Prelude.{◌≡◌, ℕ, ◌==◌, Bool, true, false, cond, not, ◌||◌, ◌&&◌, List, [], ◌∷◌, ◌++◌, filter, filter_map, fold, map, Option, Some, None, is_none, is_some, option_and_then}
 use Rattle.std.specs.Prelude.{option_map, option_to_list, refl}
 use Rattle.std.specs.List.{list_all, list_any}
@@ -24,14 +24,15 @@ use Rattle.turn_client_api.specs.declared.grant.Purpose.{Purpose}
 use Rattle.turn_client_api.specs.declared.grant.Progress.TheVariants.{Reserved}
 use Rattle.turn_client_api.specs.declared.grant.Relay.{Relay}
 use Rattle.turn_types.specs.declared.family.AddressFamily.{AddressFamily}
-use Rattle.turn_client_grants.specs.Index.{IsIndex, leads}
-use Rattle.turn_client_grants.specs.Keys.{found_after, is_found_by, is_open_to}
+use Rattle.turn_client_grants.specs.Index.{IsIndex, scan}
+use Rattle.turn_client_grants.specs.Keys.{is_found_by, is_open_to}
+use Rattle.turn_client_grants.specs.Kept.{AreAlone}
 use Rattle.turn_client_grants.specs.Lists.{first_among}
 use Rattle.turn_client_grants.specs.Table.{are_apart, changed, has_no_double, unlisted_in}
 use Rattle.turn_client_grants.specs.declared.changes.Change.{Change}
 use Rattle.turn_client_grants.specs.declared.key.Key.{Key}
 use Rattle.turn_client_grants.specs.declared.key.Key.TheVariants as By
-use Rattle.turn_client_grants.proofs.IndexLemmas.{any-by_index, first-by_index, index-agrees, index-changed, index-found, index-filtered, index-pushed, index-pushed_other, index-same, first-of, leads-made, rest-of}
+use Rattle.turn_client_grants.proofs.IndexLemmas.{any-by_index, first-by_index, index-agrees, index-changed, index-found, index-filtered, index-pushed, index-pushed_other, index-same, index-scanned}
 use Rattle.turn_client_grants.proofs.TableLemmas.{changed-same}
 
 -- ---- a new grant has keys of its own
@@ -73,13 +74,17 @@ free-keys rows g new k at = by k g new at
 
 -- ---- grants are added
 
+-- what the key leads to, if the grant is found by its keys from now on
+abbrev found_after : Key → Option Grant → Grant → Option Grant
+found_after k was grant = cond (is_found_by k grant) (Some grant) was
+
 none-found : (found : Option Grant) → is_some found ≡ false → found ≡ None
 none-found found h = grind arith
 
 index-free : (rows : List Grant) (find : Key → Option Grant) (g : Grant) → IsIndex is_found_by find rows → IsFree rows g → (k : Key) → is_found_by k g ≡ true → find k ≡ None
 index-free rows find g is free k at = none-found (find k) (sym (any-by_index is_found_by find rows k is) ∙ free k at)
 
-pub index-added : (rows : List Grant) (find then : Key → Option Grant) (g : Grant) → IsIndex is_found_by find rows → IsFree rows g
+index-added : (rows : List Grant) (find then : Key → Option Grant) (g : Grant) → IsIndex is_found_by find rows → IsFree rows g
     → ((k : Key) → then k ≡ found_after k (find k) g) → IsIndex is_found_by then (rows ++ g ∷ [])
 index-added rows find then g is free now = index-pushed is_found_by find then rows g (λ k. is_found_by k g) is now (λ k. refl) (index-free rows find g is free)
 
@@ -105,7 +110,7 @@ index-more (g ∷ others) rows find then is free apart now =
     subst (λ (gs : List Grant). IsIndex is_found_by then gs) (append_assoc rows (g ∷ []) others)
     (index-more others (rows ++ g ∷ []) mid then (index-added rows find mid g is free.0 (λ k. refl)) (both-free rows g others free.1 (all-free (g ∷ []) others parts.0)) parts.1 now)
 
-pub index-added_all : (rows more : List Grant) (find then : Key → Option Grant) → IsIndex is_found_by find rows → list_all (has_no_double rows) more ≡ true → are_apart more ≡ true
+index-added_all : (rows more : List Grant) (find then : Key → Option Grant) → IsIndex is_found_by find rows → list_all (has_no_double rows) more ≡ true → are_apart more ≡ true
     → ((k : Key) → then k ≡ fold (found_after k) (find k) more) → IsIndex is_found_by then (rows ++ more)
 index-added_all rows more find then is new apart now = index-more more rows find then is (all-free rows more new) apart now
 
@@ -117,7 +122,7 @@ relay-keys k a = grind arith
 offer-keys : (k : Key) (offer : DataOffer) → is_found_by k (Offer offer) ≡ false
 offer-keys k offer = grind arith
 
-pub index-relays : (addresses : List SocketAddr) (lifetime now : ℕ) (rows : List Grant) (find : Key → Option Grant) → IsIndex is_found_by find rows
+index-relays : (addresses : List SocketAddr) (lifetime now : ℕ) (rows : List Grant) (find : Key → Option Grant) → IsIndex is_found_by find rows
     → IsIndex is_found_by find (rows ++ map (new_allocation lifetime now) addresses)
 index-relays [] lifetime now rows find is = subst (λ (gs : List Grant). IsIndex is_found_by find gs) (sym (append-nil rows)) is
 index-relays (a ∷ others) lifetime now rows find is =
@@ -128,7 +133,7 @@ found-reported : (k : Key) (family : AddressFamily) (rows : List Grant) → filt
 found-reported k family [] = refl
 found-reported k family (g ∷ rows) = grind (arith, offer-keys k, found-reported k family rows)
 
-pub index-reported : (family : AddressFamily) (rows : List Grant) (find : Key → Option Grant) → IsIndex is_found_by find rows → IsIndex is_found_by find (first_reported family rows)
+index-reported : (family : AddressFamily) (rows : List Grant) (find : Key → Option Grant) → IsIndex is_found_by find rows → IsIndex is_found_by find (first_reported family rows)
 unfolding IsIndex
 index-reported family rows find is k = found-reported k family rows ∙ is k
 
@@ -136,7 +141,7 @@ found-taken : (k : Key) (id : ℕ) (peer : SocketAddr) (rows : List Grant) → f
 found-taken k id peer [] = refl
 found-taken k id peer (g ∷ rows) = grind (arith, offer-keys k, found-taken k id peer rows)
 
-pub index-taken : (id : ℕ) (peer : SocketAddr) (rows : List Grant) (find : Key → Option Grant) → IsIndex is_found_by find rows → IsIndex is_found_by find (without_first (is_offer_of id peer) rows)
+index-taken : (id : ℕ) (peer : SocketAddr) (rows : List Grant) (find : Key → Option Grant) → IsIndex is_found_by find rows → IsIndex is_found_by find (without_first (is_offer_of id peer) rows)
 unfolding IsIndex
 index-taken id peer rows find is k = found-taken k id peer rows ∙ is k
 
@@ -147,11 +152,11 @@ found-changed change (By.Number n) g = changed-same (is_channel_of n) (λ a e x.
 found-changed change (By.Peer p) g = changed-same (is_open_to p) (λ a e x. refl) (λ ip e u. refl) (λ n p e u. refl) (λ ip e u. refl) (λ n p e u. refl) (λ c d. refl) change g
 found-changed change (By.Ip ip) g = changed-same (is_permission_of ip) (λ a e x. refl) (λ ip e u. refl) (λ n p e u. refl) (λ ip e u. refl) (λ n p e u. refl) (λ c d. refl) change g
 
-pub index-changed_by : (change : Change) (rows : List Grant) (find then : Key → Option Grant) → IsIndex is_found_by find rows
+index-changed_by : (change : Change) (rows : List Grant) (find then : Key → Option Grant) → IsIndex is_found_by find rows
     → ((k : Key) → then k ≡ option_map (changed change) (find k)) → IsIndex is_found_by then (map (changed change) rows)
 index-changed_by change rows find then is now = index-changed is_found_by find then rows (changed change) is now (found-changed change)
 
-pub index-without : (which : Grant → Bool) (rows : List Grant) (find then : Key → Option Grant) → IsIndex is_found_by find rows
+index-without : (which : Grant → Bool) (rows : List Grant) (find then : Key → Option Grant) → IsIndex is_found_by find rows
     → ((k : Key) → then k ≡ option_filter (λ g. not (which g)) (find k)) → IsIndex is_found_by then (filter (λ g. not (which g)) rows)
 index-without which rows find then is now = index-filtered is_found_by find then rows (λ g. not (which g)) is now
 
@@ -170,11 +175,7 @@ one-goes : (which : Grant → Bool) (rows : List Grant) (find : Key → Option G
 unfolding IsIndex
 one-goes which rows find k is there = ap (λ (gs : List Grant). list_any which gs) (sym (is k)) ∙ (sym (any-both which (is_found_by k) rows) ∙ there)
 
-pub keyed-found : (which : Grant → Bool) (rows : List Grant) (find : Key → Option Grant) (grant : Grant) → IsIndex is_found_by find rows → IsKeyed which grant rows → (k : Key)
-    → is_found_by k grant ≡ true → is_some (find k) ≡ true
-keyed-found which rows find grant is keyed k at = grind (arith, one-goes which rows find k is (keyed k at))
-
-pub index-replaced : (which : Grant → Bool) (rows : List Grant) (find then : Key → Option Grant) (grant : Grant) → IsIndex is_found_by find rows → IsKeyed which grant rows
+index-replaced : (which : Grant → Bool) (rows : List Grant) (find then : Key → Option Grant) (grant : Grant) → IsIndex is_found_by find rows → IsKeyed which grant rows
     → ((k : Key) → then k ≡ cond (is_found_by k grant) (Some grant) (option_filter (λ g. not (which g)) (find k)))
     → IsIndex is_found_by then (filter (λ g. not (which g)) rows ++ grant ∷ [])
 index-replaced which rows find then grant is keyed now =
@@ -207,32 +208,6 @@ unlisted-one rows listed find key old is found =
     by : (p : Purpose) → is_for p old ≡ list_any (λ g. is_found_by key g && is_for p g) rows
     by p = none (is_for p old) ∙ sym (any-filtered (is_found_by key) (is_for p) rows ∙ ap (list_any (is_for p)) (index-found is_found_by find rows key old is found))
 
--- its keys are those that lead to a grant that the key finds
-pub taken-one : (rows : List Grant) (find : Key → Option Grant) (key : Key) (old : Grant) (k : Key) → IsIndex is_found_by find rows → find key ≡ Some old
-    → cond (is_found_by k old) None (find k) ≡ option_filter (λ g. not (is_found_by key g)) (find k)
-taken-one rows find key old k is found = by (find k) refl (is_found_by k old) refl
-  where
-    alone : filter (is_found_by key) rows ≡ old ∷ []
-    alone = index-found is_found_by find rows key old is found
-
-    by : (at : Option Grant) → find k ≡ at → (b : Bool) → is_found_by k old ≡ b → cond (is_found_by k old) None (find k) ≡ option_filter (λ g. not (is_found_by key g)) (find k)
-    by None e true d = rw (e, d) refl
-    by None e false d = rw (e, d) refl
-    by (Some g) e true d =
-        let same : g ≡ old = same_Some g old (sym e ∙ index-agrees is_found_by (is_found_by key) find rows k old is alone d) in
-        let passes : is_found_by key g ≡ true = rw same (first-passes (is_found_by key) rows old alone) in
-        rw (e, d, passes) refl
-    by (Some g) e false d = rw (e, d) (one (is_found_by key g) refl)
-      where
-        one : (b : Bool) → is_found_by key g ≡ b → Some g ≡ cond (not (is_found_by key g)) (Some g) None
-        one false f = rw f refl
-        one true f =
-            let own : filter (is_found_by k) rows ≡ g ∷ [] = index-found is_found_by find rows k g is e in
-            let same : old ≡ g = same_Some old g (sym found ∙ index-agrees is_found_by (is_found_by k) find rows key g is own f) in
-            let passes : is_found_by k old ≡ true = rw same (first-passes (is_found_by k) rows g own) in
-            let no : false ≡ true = sym d ∙ passes in
-            cc
-
 -- ---- reading
 
 pub first-found : {X : Type 0} (f : Grant → Option X) (find : Key → Option Grant) (rows : List Grant) (k : Key) → IsIndex is_found_by find rows
@@ -251,38 +226,42 @@ other-active a g h = grind arith
 pub other-permission : (a : IpAddr) (g : Grant) → is_permission_of a g ≡ false → permission_progress a g ≡ None
 other-permission a g h = grind arith
 
--- ---- a map is made
+-- ---- a key finds at most one grant
 
--- where a key finds at most one grant, adding all in turn leads to that one
-fold-alone : (k : Key) (rows : List Grant) (was at : Option Grant) → filter (is_found_by k) rows ≡ option_to_list at → fold (found_after k) was rows ≡ cond (is_some at) at was
-fold-alone k [] was None alone = refl
-fold-alone k [] was (Some g) alone = cc
-fold-alone k (g ∷ rows) was at alone = by (is_found_by k g) refl (fold-alone k rows)
-  where
-    by : (b : Bool) → is_found_by k g ≡ b
-        → ((was at : Option Grant) → filter (is_found_by k) rows ≡ option_to_list at → fold (found_after k) was rows ≡ cond (is_some at) at was)
-        → fold (found_after k) (found_after k was g) rows ≡ cond (is_some at) at was
-    by true e next =
-        let one : g ∷ filter (is_found_by k) rows ≡ option_to_list at = rw e at alone in
-        rw (e, first-of at g (filter (is_found_by k) rows) one) (next (Some g) None (rest-of at g (filter (is_found_by k) rows) one))
-    by false e next = rw e (next was at (rw e at alone))
+pub alone-added : (rows : List Grant) (g : Grant) → AreAlone rows → has_no_double rows g ≡ true → AreAlone (rows ++ g ∷ [])
+alone-added rows g is new =
+    let then : Key → Option Grant = λ k. found_after k (scan is_found_by rows k) g in
+    index-scanned is_found_by then (rows ++ g ∷ []) (index-added rows (scan is_found_by rows) then g is (free-keys rows g new) (λ k. refl))
 
-made-alone : (at : Option Grant) → cond (is_some at) at None ≡ at
-made-alone at = grind arith
+pub alone-added_all : (rows more : List Grant) → AreAlone rows → list_all (has_no_double rows) more ≡ true → are_apart more ≡ true → AreAlone (rows ++ more)
+alone-added_all rows more is new apart =
+    let then : Key → Option Grant = λ k. fold (found_after k) (scan is_found_by rows k) more in
+    index-scanned is_found_by then (rows ++ more) (index-added_all rows more (scan is_found_by rows) then is new apart (λ k. refl))
 
-pub index-made : (rows : List Grant) (find then : Key → Option Grant) → IsIndex is_found_by find rows → ((k : Key) → then k ≡ fold (found_after k) None rows)
-    → IsIndex is_found_by then rows
-unfolding IsIndex
-index-made rows find then is now k = is k ∙ sym (ap option_to_list (now k ∙ (fold-alone k rows None (find k) (is k) ∙ made-alone (find k))))
+pub alone-relays : (addresses : List SocketAddr) (lifetime now : ℕ) (rows : List Grant) → AreAlone rows → AreAlone (rows ++ map (new_allocation lifetime now) addresses)
+alone-relays addresses lifetime now rows is = index-scanned is_found_by (scan is_found_by rows) _ (index-relays addresses lifetime now rows (scan is_found_by rows) is)
 
--- more grants than are scanned have a map
-pub first-mapped : {X : Type 0} (f : Grant → Option X) (map : Key → Option Grant) (rows : List Grant) (k : Key) (made : Bool) → IsIndex is_found_by (leads is_found_by made map rows) rows
-    → made ≡ true → ((g : Grant) → is_found_by k g ≡ false → f g ≡ None) → first_among f rows ≡ option_and_then f (map k)
-first-mapped f map rows k made is on other =
-    first-found f (leads is_found_by made map rows) rows k is other ∙ ap (option_and_then f) (leads-made is_found_by made map rows k on)
+pub alone-reported : (family : AddressFamily) (rows : List Grant) → AreAlone rows → AreAlone (first_reported family rows)
+alone-reported family rows is = index-scanned is_found_by (scan is_found_by rows) _ (index-reported family rows (scan is_found_by rows) is)
 
--- such a map leads to a grant that its key finds
-pub mapped-passes : (map : Key → Option Grant) (rows : List Grant) (k : Key) (made : Bool) (g : Grant) → IsIndex is_found_by (leads is_found_by made map rows) rows → made ≡ true
-    → map k ≡ Some g → is_found_by k g ≡ true
-mapped-passes map rows k made g is on at =
-    first-passes (is_found_by k) rows g (index-found is_found_by (leads is_found_by made map rows) rows k g is (leads-made is_found_by made map rows k on ∙ at))
+pub alone-taken : (id : ℕ) (peer : SocketAddr) (rows : List Grant) → AreAlone rows → AreAlone (without_first (is_offer_of id peer) rows)
+alone-taken id peer rows is = index-scanned is_found_by (scan is_found_by rows) _ (index-taken id peer rows (scan is_found_by rows) is)
+
+pub alone-changed : (change : Change) (rows : List Grant) → AreAlone rows → AreAlone (map (changed change) rows)
+alone-changed change rows is =
+    let then : Key → Option Grant = λ k. option_map (changed change) (scan is_found_by rows k) in
+    index-scanned is_found_by then (map (changed change) rows) (index-changed_by change rows (scan is_found_by rows) then is (λ k. refl))
+
+pub alone-without : (which : Grant → Bool) (rows : List Grant) → AreAlone rows → AreAlone (filter (λ g. not (which g)) rows)
+alone-without which rows is =
+    let then : Key → Option Grant = λ k. option_filter (λ g. not (which g)) (scan is_found_by rows k) in
+    index-scanned is_found_by then (filter (λ g. not (which g)) rows) (index-without which rows (scan is_found_by rows) then is (λ k. refl))
+
+pub alone-replaced : (which : Grant → Bool) (rows : List Grant) (grant : Grant) → AreAlone rows → IsKeyed which grant rows → AreAlone (filter (λ g. not (which g)) rows ++ grant ∷ [])
+alone-replaced which rows grant is keyed =
+    let then : Key → Option Grant = λ k. cond (is_found_by k grant) (Some grant) (option_filter (λ g. not (which g)) (scan is_found_by rows k)) in
+    index-scanned is_found_by then (filter (λ g. not (which g)) rows ++ grant ∷ []) (index-replaced which rows (scan is_found_by rows) then grant is keyed (λ k. refl))
+
+-- the grant that a key finds passes its test
+pub found-passes : (rows : List Grant) (key : Key) (g : Grant) → AreAlone rows → scan is_found_by rows key ≡ Some g → is_found_by key g ≡ true
+found-passes rows key g is found = first-passes (is_found_by key) rows g (index-found is_found_by (scan is_found_by rows) rows key g is found)

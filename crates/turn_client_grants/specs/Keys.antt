@@ -1,8 +1,10 @@
--- The keys by which a grant is found, and a map that leads from keys to grants.
-use Rattle.std.specs.Prelude.{Bool, ◌&&◌, cond, not, Option, None, Some}
+-- The keys by which a grant is found.
+use Rattle.std.specs.Prelude.{Bool, Option, None, Some}
 pub use Rattle.turn_client_api.specs.Calls.{is_open_to}
 use Rattle.turn_client_api.specs.Grants.{is_channel_of, is_permission_of}
 use Rattle.turn_client_api.specs.declared.grant.Grant.{Grant}
+use Rattle.turn_client_api.specs.declared.grant.Grant.TheVariants.{Permission, Channel}
+use Rattle.turn_client_api.specs.declared.grant.Progress.TheVariants.{Reserved}
 use Rattle.turn_client_grants.specs.declared.key.Key.{Key}
 use Rattle.turn_client_grants.specs.declared.key.Key.TheVariants as By
 
@@ -11,18 +13,19 @@ is_found_by (By.Number number) grant = is_channel_of number grant
 is_found_by (By.Peer peer) grant = is_open_to peer grant
 is_found_by (By.Ip ip) grant = is_permission_of ip grant
 
--- what the key leads to, if the grant is found by its keys from now on
-abbrev pub found_after : Key → Option Grant → Grant → Option Grant
-found_after k was grant = cond (is_found_by k grant) (Some grant) was
+-- the key of a grant that is no address with a port, if it has one
+abbrev pub name_of : Grant → Option Key
+name_of (Permission ip progress) = Some (By.Ip ip)
+name_of (Channel number peer progress) = Some (By.Number number)
+name_of _ = None
 
--- what the key leads to, if its grant is taken out, unless the other grant is found by it
-abbrev pub taken_after : Bool → Key → Option Grant → Grant → Option Grant
-taken_after is_out k was other = cond (is_out && not (is_found_by k other)) None was
+-- the other key, of a channel that is pending or active
+abbrev pub peer_of : Grant → Option Key
+peer_of (Channel number peer (Reserved until)) = None
+peer_of (Channel number peer progress) = Some (By.Peer peer)
+peer_of _ = None
 
--- what the key leads to, if the old grant is found no more, except by the keys of the other
-abbrev pub released_after : Key → Option Grant → Grant → Grant → Option Grant
-released_after k was old other = taken_after (is_found_by k old) k was other
-
--- what the key leads to, if the grant is found in place of the old one from now on
-abbrev pub replaced_after : Key → Option Grant → Grant → Grant → Option Grant
-replaced_after k was old grant = cond (is_found_by k grant) (Some grant) (cond (is_found_by k old) None was)
+-- the key of a grant that may be this one
+abbrev pub key_like : Key → Grant → Option Key
+key_like (By.Peer peer) = peer_of
+key_like _ = name_of

@@ -21,6 +21,7 @@
 #![tactic(auto)]
 
 mod allocation_events;
+mod chains;
 mod changes;
 mod due;
 mod grant_filter;

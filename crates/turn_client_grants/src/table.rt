@@ -1,10 +1,10 @@
 //! The table of grants.
 //!
 //! The grants are a list, in their order, which is scanned while they are few. Of more, a channel and a
-//! permission are found by a hash map, which leads from a channel's number, from the peer of a channel that
-//! is pending or active, and from the IP address of a permission to a copy of the grant. What is read from
-//! all grants at once, such as the next expiry and the next refresh, is a summary. It is computed anew only
-//! by a change after which it may be another one.
+//! permission are found by a hash, which leads from a channel's number, from the peer of a channel that is
+//! pending or active, and from the IP address of a permission to places in the list. What is read from all
+//! grants at once, such as the next expiry and the next refresh, is a summary. It is computed anew only by a
+//! change after which it may be another one.
 
 ghost use Rattle.std.specs.Prelude.{◌≡◌, ◌≤◌, ◌<◌, ◌+◌, ◌++◌, ◌∷◌, ◌==◌, ◌&&◌, [], false, true, None, filter, length, map, not, OnOk};
 ghost use Rattle.std.specs.List.{list_all, list_any};
@@ -59,9 +59,7 @@ pub struct GrantTable {
 
 impl Model for GrantTable {
     ghost use Rattle.std.specs.Prelude.{◌-◌, min, vec_capacity, vec_len};
-    ghost use Rattle.std.specs.HashMap as hash;
-    ghost use Rattle.std.specs.HashMap.{spare};
-    ghost use Rattle.turn_client_grants.specs.Kept.{IsIndexed, index_room};
+    ghost use Rattle.turn_client_grants.specs.Kept.{IsIndexed, index_room, links_room};
     ghost use Rattle.turn_client_grants.specs.Table.{Table};
 
     ghost Value = { Table };
@@ -69,12 +67,11 @@ impl Model for GrantTable {
     ghost view = { λ t. record {
       grants = t.grants.items;
       listed = t.listed.items;
-      grant_room = min (vec_capacity t.grants - vec_len t.grants) (index_room t.index.is_made (vec_len t.grants) (spare t.index.found));
+      grant_room = min (vec_capacity t.grants - vec_len t.grants) (index_room t.index.is_made (vec_len t.grants) (links_room t.index));
       listing_room = t.listed.room;
     } };
 
-    ghost invariant = { λ t.
-        IsIndexed t.grants.items t.listed.items t.index.is_made (hash.get ⟦<Key as PartialEq>⟧.eq t.index.found) t.summary };
+    ghost invariant = { λ t. IsIndexed t.grants.items t.listed.items t.index t.summary };
 }
 
 impl GrantTable {
@@ -160,6 +157,7 @@ impl GrantTable {
         ensures listing_room { self.new.listing_room ≡ self.old.listing_room }
     {
         changes::add_allocations(&mut self.grants, addresses, lifetime, now);
+        self.index.remake(self.grants.as_slice());
         self.summary = summary_of(self.grants.as_slice(), self.listed.as_slice());
     }
 
@@ -221,7 +219,7 @@ impl GrantTable {
         }
         self.listed.unlist(self.grants.as_slice(), which);
         changes::remove(&mut self.grants, which);
-        self.index.remove(which);
+        self.index.remake(self.grants.as_slice());
         self.summary = summary_of(self.grants.as_slice(), self.listed.as_slice());
     }
 
@@ -244,6 +242,7 @@ impl GrantTable {
         ensures listing_room { self.new.listing_room ≡ self.old.listing_room }
     {
         offers::take(&mut self.grants, id, peer);
+        self.index.remake(self.grants.as_slice());
         self.summary = summary_of(self.grants.as_slice(), self.listed.as_slice());
     }
 
@@ -278,7 +277,7 @@ impl GrantTable {
             self.listed.as_slice(),
             &[*grant],
         );
-        self.index.replace(&old, grant);
+        self.index.remake(self.grants.as_slice());
     }
 
     /// The active ones of these grants expire at this time, and no request is listed for them any more.
@@ -309,10 +308,8 @@ impl GrantTable {
         let Some(old) = self.index.find(self.grants.as_slice(), key) else {
             return;
         };
-        let grant = change.applied(&old);
         self.listed.unlist_one(&old);
         changes::apply_to(&mut self.grants, key, change);
-        self.index.set_keys(&grant);
         self.summary = summary_of(self.grants.as_slice(), self.listed.as_slice());
     }
 
@@ -324,7 +321,6 @@ impl GrantTable {
         ensures listing_room { self.new.listing_room ≡ self.old.listing_room }
     {
         changes::apply(&mut self.grants, change);
-        self.index.change(change);
         self.summary = summary_of(self.grants.as_slice(), self.listed.as_slice());
     }
 }

@@ -135,7 +135,7 @@ impl GrantTable {
             return reads::permission_state(self.grants.as_slice(), ip);
         }
         let key = Key::Ip(ip);
-        match self.index.found.get(&key) {
+        match self.index.lead(self.grants.as_slice(), &key) {
             Some(grant) => progress_of(grant),
             None => None,
         }
@@ -185,7 +185,7 @@ impl GrantTable {
             return reads::channel_peer(self.grants.as_slice(), number);
         }
         let key = Key::Number(number);
-        match self.index.found.get(&key) {
+        match self.index.lead(self.grants.as_slice(), &key) {
             Some(grant) => active_peer_of(grant),
             None => None,
         }
@@ -202,7 +202,7 @@ impl GrantTable {
             return reads::active_channel(self.grants.as_slice(), peer);
         }
         let key = Key::Peer(peer);
-        match self.index.found.get(&key) {
+        match self.index.lead(self.grants.as_slice(), &key) {
             Some(grant) => active_number_of(grant),
             None => None,
         }
@@ -216,7 +216,10 @@ impl GrantTable {
             return reads::has_channel(self.grants.as_slice(), peer);
         }
         let key = Key::Peer(peer);
-        self.index.found.contains_key(&key)
+        match self.index.lead(self.grants.as_slice(), &key) {
+            Some(_) => true,
+            None => false,
+        }
     }
 
     /// Until when a reserved channel keeps the peer from being bound, if that is now or later. Of several
