@@ -1,16 +1,14 @@
 -- What a reply changes in a client apart from its grants.
-use Rattle.std.specs.Prelude.{◌≡◌, ◌+◌, ℕ, Bool, if◌then◌else◌, List, fold, Option, None, Some}
+use Rattle.std.specs.Prelude.{◌≡◌, ℕ, Bool, if◌then◌else◌, List, fold, None}
 use Rattle.std.specs.declared.net.socket_addr.SocketAddr.{SocketAddr}
 use Rattle.turn_client_api.specs.Effect.{challenges_reset, connect_answered, effect}
 use Rattle.turn_client_api.specs.Judgement.{connection_id_in}
 use Rattle.turn_client_api.specs.State.{State}
 use Rattle.turn_client_api.specs.declared.grant.Purpose.{Purpose}
-use Rattle.turn_client_api.specs.declared.grant.Purpose.TheVariants.{ForConnect}
 use Rattle.turn_client_api.specs.declared.state.Phase.TheVariants.{Closed}
 use Rattle.turn_client_core.specs.declared.effect.Effect.{Effect}
 use Rattle.turn_client_core.specs.declared.effect.Effect.TheVariants.{Nothing, Taken, AllocationsDeleted}
 use Rattle.turn_client_grants.specs.Ledger.{Ledger, with_ledger}
-use Rattle.turn_client_grants.specs.declared.purposes.Purposes.{Purposes}
 use Rattle.turn_stun.specs.Message.{id_of}
 
 -- the client after it
@@ -23,15 +21,6 @@ after AllocationsDeleted s = challenges_reset (record s { phase = Closed })
 abbrev pub AnswersPurposes : List Purpose → Bool → List ℕ → ℕ → Ledger → Ledger → Effect → Type 0
 AnswersPurposes purposes is_granted message now was ledger outcome =
     (s : State) → after outcome (with_ledger ledger s) ≡ fold (effect (id_of message) is_granted message now) (with_ledger was s) purposes
-
--- how many grants a reply may add for the purpose, if there is one: that to a CONNECT may add an offer
-abbrev pub added_for : Option Purpose → ℕ
-added_for (Some (ForConnect peer)) = 1
-added_for _ = 0
-
--- how many grants a reply may add for these purposes
-abbrev pub grants_added : Purposes → ℕ
-grants_added purposes = added_for purposes.first + added_for purposes.second
 
 -- the reply to a CONNECT makes an offer, or reports that the connection failed (RFC 6062, section 4.3)
 abbrev pub connect_replied : SocketAddr → Bool → List ℕ → State → State

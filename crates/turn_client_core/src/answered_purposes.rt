@@ -1,9 +1,8 @@
 //! The purposes of requests that a reply of the server concerns.
 
-ghost use Rattle.std.specs.Prelude.{◌≡◌, ◌≢◌, ◌≤◌, [], false, filter, find, option_to_list, true};
+ghost use Rattle.std.specs.Prelude.{◌≡◌, ◌≢◌, [], false, filter, find, option_to_list, true};
 ghost use Rattle.turn_client_api.specs.Payloads.{is_answered};
 ghost use Rattle.turn_client_api.specs.Retry.{retried};
-ghost use Rattle.turn_client_core.specs.Effects.{added_for, grants_added};
 ghost use Rattle.turn_client_core.specs.Kinds.{of_kind};
 ghost use Rattle.turn_client_grants.specs.GrantFilter.{purposes_in};
 
@@ -51,25 +50,6 @@ fn answered_one(method: Method, purpose: &Option<Purpose>) -> Option<Purpose>
     match purpose {
         Some(purpose) if is_answered(method, purpose) => Some(*purpose),
         _ => None,
-    }
-}
-
-/// How many grants a reply may add for these purposes: one for each CONNECT.
-pub(crate) fn grants_added(purposes: &Purposes) -> usize
-    ensures { result ≡ grants_added purposes.now }
-{
-    added_for(&purposes.first) + added_for(&purposes.second)
-}
-
-/// How many grants a reply may add for the purpose, if there is one.
-fn added_for(purpose: &Option<Purpose>) -> usize
-    ensures added { result ≡ added_for purpose.now }
-    ensures few { result ≤ 1 }
-{
-    match purpose {
-        // An offer, in place of what was requested.
-        Some(Purpose::ForConnect(_)) => 1,
-        _ => 0,
     }
 }
 

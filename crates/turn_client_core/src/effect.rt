@@ -4,7 +4,8 @@
 ghost use Rattle.std.specs.Prelude.{◌≡◌, ◌≤◌, ◌||◌, Some, option_to_list};
 ghost use Rattle.turn_client_api.specs.Effect.{allocation_mismatch, effect, delete_answered, has_code, prolonged, refreshed};
 ghost use Rattle.turn_client_api.specs.State.{State};
-ghost use Rattle.turn_client_core.specs.Effects.{AnswersPurposes, added_for, after, connect_replied, grants_added};
+ghost use Rattle.turn_client_core.specs.Effects.{AnswersPurposes, after, connect_replied};
+ghost use Rattle.turn_client_grants.specs.Failures.{added_for, grants_added};
 ghost use Rattle.turn_client_grants.specs.Ledger.{LessRoom, SameRoomBut, with_ledger};
 ghost use Rattle.turn_client_grants.specs.GrantFilter.{purposes_in};
 ghost use Rattle.turn_stun.specs.Message.{id_of};

@@ -13,7 +13,7 @@ ghost use Rattle.turn_client_core.specs.Replies.{asks_ipv6};
 ghost use Rattle.turn_client_grants.specs.GrantFilter.{purposes_in};
 ghost use Rattle.turn_stun.specs.Message.{id_of};
 
-use crate::answered_purposes::{answered, grants_added, is_empty};
+use crate::answered_purposes::{answered, is_empty};
 use crate::effect::{Effect, answer_all};
 use crate::protocol::TurnClientProtocol;
 use crate::protocol_recv::TurnProtocolRecv;
@@ -59,7 +59,7 @@ impl TurnClientProtocol {
         let Some(events) = self.families.len().checked_add(6) else {
             return Err(AllocError);
         };
-        self.ledger.reserve(grants_added(&purposes), 0, events, 0)?;
+        self.ledger.reserve(purposes.grants_added(), 0, events, 0)?;
         self.outbox.end(id);
         let effect = answer_all(&mut self.ledger, &purposes, message, is_granted, now);
         self.apply_effect(effect);
