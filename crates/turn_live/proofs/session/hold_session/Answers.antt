@@ -25,9 +25,9 @@ returns-in_err-head g c =
 pub new_client-requires : goal.new_client-requires
 new_client-requires g c = record { allocation = head_is_made c.as_slice.result.now c.in_ok-head.head c.in_ok-head.ensures }
 
-pub returns-in_err-client : goal.returns-in_err-client
-returns-in_err-client g c =
-    let p = err_from_is_err_and c.from_residual-in_err-client.result c.from_residual-in_err-client.ensures.1 in
+pub returns-in_err-client-in-Feed : goal.returns-in_err-client-in-Feed
+returns-in_err-client-in-Feed g c =
+    let p = err_from_is_err_and c.from_residual-in_err-client-in-Feed.result c.from_residual-in_err-client-in-Feed.ensures.1 in
     rw (p.1, p.2) (head_unheard (g.R.Read.remaining c.args.reader.now) (g.R.Read.remaining c.take_line.new.reader)
     (g.W.Write.contents c.args.writer.now) c.in_ok-line.ensures.0 c.in_ok-line.end c.in_ok-line.ensures.1)
 
@@ -43,7 +43,7 @@ returns-in-Feed g c =
     let taken = subst (λ (end : LineEnd). IsTaken first second line end) c.in-Feed.is c.in_ok-line.ensures.1 in
     let heard = subst (λ (text : List ℕ). line_head text ≡ Ok head) c.as_slice.ensures.value c.in_ok-head.ensures in
     let says = sym (kept_head c.in_ok-line.line.items line c.in_ok-line.ensures.2) ∙ heard in
-    let talks = subst (λ (s : State). Talks (calls_said head.request.allocation s) second third old new c.answer_calls.result) c.in_ok-client.ensures c.answer_calls.ensures in
+    let talks = subst (λ (s : State). Talks (calls_said head.request.allocation s) second third old new c.answer_calls.result) c.in_ok-client-in-Feed.ensures c.answer_calls.ensures in
     head_heard first second third old new line head c.answer_calls.result taken says talks
 
 pub returns : goal.returns
