@@ -1,5 +1,5 @@
 -- The same for the client and for the bytes to be read, each on its own.
-use Rattle.std.specs.Prelude.{◌≡◌, ◌⊎◌, ℕ, List, length, slice_get, Option, Some, None, Result, Ok, Err}
+use Rattle.std.specs.Prelude.{◌≡◌, ◌⊎◌, ℕ, nat_lt, Bool, List, length, slice_get, Option, Some, None, Result, Ok, Err}
 use Rattle.std.specs.declared.net.ip_addr.IpAddr.{IpAddr}
 use Rattle.std.specs.declared.net.socket_addr.SocketAddr.{SocketAddr}
 use Rattle.std.specs.declared.ops.Range.{Range}
@@ -14,6 +14,7 @@ use Rattle.turn_client_calls.specs.Wanted.{EndsForMemory}
 use Rattle.turn_c_calls.specs.Answer.{answer_to, reply_bytes, data_answer, found_answer, permission_answer}
 use Rattle.turn_c_calls.specs.Buffer.{PutsIfAny}
 use Rattle.turn_c_calls.specs.Held.{held}
+use Rattle.turn_c_calls.specs.Judge.{judged_as, request_judged}
 use Rattle.turn_c_calls.specs.Operation.{Operation}
 use Rattle.turn_c_calls.specs.Request.{call_in, index_in}
 use Rattle.turn_c_calls.specs.Step.{Does, Fails, IsFailed, IsMade}
@@ -21,6 +22,8 @@ use Rattle.turn_c_calls.specs.declared.answer.Answer.{Answer}
 use Rattle.turn_c_calls.specs.declared.fault.Fault.{Fault}
 use Rattle.turn_c_calls.specs.declared.fault.Fault.TheVariants as Faults
 use Rattle.turn_c_calls.specs.declared.code.TheConstants.{PEER_DATA_RANGE}
+use Rattle.turn_c_calls.specs.declared.request.Kind.TheVariants as Kinds
+use Rattle.turn_c_calls.specs.declared.request.Request.{Request}
 
 -- ---- what became of the input
 
@@ -94,6 +97,31 @@ EndsLook None said a b = ⊥
 abbrev pub LacksLook : {A : Type 0} → Option A → Fault → Answer → Answer → Type 0
 LacksLook (Some x) fault a b = ⊥
 LacksLook None fault a b = (fault ≡ Faults.Call) × (b ≡ a)
+
+-- ---- a request
+
+-- what it does was done
+abbrev pub RequestEnds : Request → List ℕ → State → State → List ℕ → List ℕ → List ℕ → List ℕ → Answer → Answer → Type 0
+RequestEnds r bytes s t was unread buffer after a b =
+    Ends (request_judged s.config.allocation_transport r (nat_lt 0 (length was)) (length bytes) (length buffer)) bytes s t was unread buffer after a b
+
+-- why it was not answered
+abbrev pub RequestLacks : Request → Fault → List ℕ → State → State → List ℕ → List ℕ → List ℕ → List ℕ → Answer → Answer → Type 0
+RequestLacks r fault bytes s t was unread buffer after a b =
+    Lacks (request_judged s.config.allocation_transport r (nat_lt 0 (length was)) (length bytes) (length buffer)) fault bytes s t was unread buffer after a b
+
+-- a request for sending data at this time, whatever is to be read
+abbrev pub SendEnds : ℕ → Request → List ℕ → State → State → List ℕ → List ℕ → Answer → Answer → Type 0
+SendEnds now r bytes s t buffer after a b =
+    (unread : List ℕ) (is_left : Bool)
+    → Ends (judged_as s.config.allocation_transport now r is_left (length bytes) (length buffer) Kinds.SendTo) bytes s t unread unread buffer after a b
+
+abbrev pub SendLacks : ℕ → Request → Fault → List ℕ → State → State → List ℕ → List ℕ → Answer → Answer → Type 0
+SendLacks now r fault bytes s t buffer after a b =
+    (unread : List ℕ) (is_left : Bool)
+    → Lacks (judged_as s.config.allocation_transport now r is_left (length bytes) (length buffer) Kinds.SendTo) fault bytes s t unread unread buffer after a b
+
+-- ---- what a look answers
 
 abbrev pub permissions_answer : ℕ → State → TransportType × SocketAddr → Answer → Answer
 permissions_answer index s relayed a = permission_answer (slice_get (permissions_of relayed.0 relayed.1 s) index) a

@@ -74,6 +74,18 @@ abbrev pub HeadLacks : Result Peer Fault → Fault → State → State → List 
 HeadLacks (Ok peer) fault s t buffer after a b = ⊥
 HeadLacks (Err refused) fault s t buffer after a b = (fault ≡ refused) × (t ≡ s) × (after ≡ buffer) × (b ≡ a)
 
+-- ---- a request for a head
+
+-- what it does was done
+abbrev pub HeadRequestEnds : Request → ℕ → State → State → List ℕ → List ℕ → Answer → Answer → Type 0
+HeadRequestEnds r len s t buffer after a b =
+    HeadEnds (head_judged s.config.allocation_transport r len (length buffer)) r.time len s t buffer after a b
+
+-- why it was refused
+abbrev pub HeadRequestLacks : Request → Fault → ℕ → State → State → List ℕ → List ℕ → Answer → Answer → Type 0
+HeadRequestLacks r fault len s t buffer after a b =
+    HeadLacks (head_judged s.config.allocation_transport r len (length buffer)) fault s t buffer after a b
+
 -- ---- one step of a session
 
 -- a head is made and what is to be read stays, or nothing but the kind of the answer has changed

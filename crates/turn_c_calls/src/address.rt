@@ -105,6 +105,8 @@ fn octets_of(ip: Ipv6Addr) -> [u8; 16]
 }
 
 /// The address of these numbers, or none if its family is neither 4 nor 6, or its reserved byte is not 0.
+// In a caller that knows the family, one of the two is left.
+#[inline(always)]
 pub fn socket_at(address: &Address) -> Option<SocketAddr>
     ensures { result ≡ socket_at address.now }
 {

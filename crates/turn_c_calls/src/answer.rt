@@ -256,6 +256,8 @@ impl Answer {
     }
 
     /// An answer of this kind about a peer.
+    // The address is read from where it lies: in the caller it would be taken apart at each step to here.
+    #[inline(never)]
     fn set_peer(&mut self, kind: u32, transport: TransportType, peer: &SocketAddr)
         ensures { self.new ≡ peer_answer kind transport (c_address peer.now) self.old }
     {

@@ -17,6 +17,7 @@ use turn_client_api::{TransmitBuild, TurnPeerData, TurnRecvRet};
 use turn_types::transmit::DelayedTransmitBuild;
 
 /// Answers what became of an input. Allocates no memory.
+#[inline(always)]
 pub fn report<T: AsSlice<u8> + Drop>(
     alloc: Global,
     outcome: TurnRecvRet<T>,
@@ -75,6 +76,7 @@ pub fn give(kept: Kept, unread: &mut Unread, buffer: &mut [u8], answer: &mut Ans
 }
 
 /// Writes a packet to the buffer, which is large enough.
+#[inline(always)]
 pub fn write<T: DelayedTransmitBuild>(
     packet: TransmitBuild<T>,
     buffer: &mut [u8],

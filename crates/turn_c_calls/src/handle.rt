@@ -1,13 +1,15 @@
 //! A request: what it says, whether that is possible, and how it is answered.
 
-ghost use Rattle.std.specs.Prelude.{◌≡◌, ◌≤◌, ◌^◌, ℕ, List, Bool, nat_lt, length, IfErr, IfSome, OnOk};
-ghost use Rattle.turn_c_calls.specs.Arms.{Ends, EndsLook, EndsPlain, Lacks, LacksLook, LacksPlain, have_permission_answer, permissions_answer};
-ghost use Rattle.turn_c_calls.specs.Judge.{IsPossible, if_fits, request_judged, judged_as};
+ghost use Rattle.std.specs.Prelude.{◌≡◌, ◌≤◌, ◌^◌, ℕ, List, nat_lt, length, IfErr, IfSome, OnOk};
+ghost use Rattle.turn_c_calls.specs.Arms.{Ends, EndsLook, EndsPlain, Lacks, LacksLook, LacksPlain, RequestEnds, RequestLacks, SendEnds, SendLacks};
+ghost use Rattle.turn_c_calls.specs.Arms.{have_permission_answer, permissions_answer};
+ghost use Rattle.turn_c_calls.specs.Judge.{IsPossible, if_fits, judged_as};
 ghost use Rattle.turn_c_calls.specs.Look.{LacksSight, Looks, looked};
 ghost use Rattle.turn_c_calls.specs.Operation.{PollRecv, PollTransmit};
 ghost use Rattle.turn_c_calls.specs.Request.{peer_ip_of, relayed_of};
 
 use crate::answer::Answer;
+use crate::code::IPV4;
 use crate::fault::Fault;
 use crate::make;
 use crate::request::{
@@ -45,12 +47,10 @@ pub fn handle<C: TurnClientApi>(
     answer: &mut Answer,
 ) -> Result<(), Fault>
     requires { (C.state client.old).config.allocation_transport ≡ relays }
-    ensures ok { OnOk result (Ends (request_judged (C.state client.old).config.allocation_transport request.now
-        (nat_lt 0 (length unread.old)) (length bytes.now) (length buffer.old)) bytes.now
-        (C.state client.old) (C.state client.new) unread.old unread.new buffer.old buffer.new answer.old answer.new) }
-    ensures err { IfErr result (λ fault. Lacks (request_judged (C.state client.old).config.allocation_transport request.now
-        (nat_lt 0 (length unread.old)) (length bytes.now) (length buffer.old)) fault bytes.now
-        (C.state client.old) (C.state client.new) unread.old unread.new buffer.old buffer.new answer.old answer.new) }
+    ensures ok { OnOk result (RequestEnds request.now bytes.now (C.state client.old) (C.state client.new)
+        unread.old unread.new buffer.old buffer.new answer.old answer.new) }
+    ensures err { IfErr result (λ fault. RequestLacks request.now fault bytes.now (C.state client.old) (C.state client.new)
+        unread.old unread.new buffer.old buffer.new answer.old answer.new) }
 {
     let now = time_of(request.time).ok_or(Fault::Time)?;
     let kind = kind_in(request).ok_or(Fault::Call)?;
@@ -97,6 +97,7 @@ fn plain<C: TurnClientApi>(
     }
 }
 
+/// Sends data to a peer.
 fn send_to<C: TurnClientApi>(
     client: &mut C,
     relays: TransportType,
@@ -108,12 +109,35 @@ fn send_to<C: TurnClientApi>(
 ) -> Result<(), Fault>
     requires time { now ≤ 2 ^ 62 }
     requires relays { (C.state client.old).config.allocation_transport ≡ relays }
-    ensures ok { OnOk result ((unread : List ℕ) (is_left : Bool) → Ends (judged_as (C.state client.old).config.allocation_transport
-        now request.now is_left (length bytes.now) (length buffer.old) Kind.SendTo) bytes.now
-        (C.state client.old) (C.state client.new) unread unread buffer.old buffer.new answer.old answer.new) }
-    ensures err { IfErr result (λ fault. (unread : List ℕ) (is_left : Bool) → Lacks (judged_as (C.state client.old).config.allocation_transport
-        now request.now is_left (length bytes.now) (length buffer.old) Kind.SendTo) fault bytes.now
-        (C.state client.old) (C.state client.new) unread unread buffer.old buffer.new answer.old answer.new) }
+    ensures ok { OnOk result (SendEnds now request.now bytes.now (C.state client.old) (C.state client.new)
+        buffer.old buffer.new answer.old answer.new) }
+    ensures err { IfErr result (λ fault. SendLacks now request.now fault bytes.now (C.state client.old) (C.state client.new)
+        buffer.old buffer.new answer.old answer.new) }
+{
+    // Compiled for each family apart: an address that may be of either is moved in parts at each step.
+    match request.peer.family {
+        IPV4 => send_to_peer(client, relays, now, request, bytes, buffer, answer),
+        _ => send_to_peer(client, relays, now, request, bytes, buffer, answer),
+    }
+}
+
+/// As [`send_to`], compiled into each of its cases.
+#[inline(always)]
+fn send_to_peer<C: TurnClientApi>(
+    client: &mut C,
+    relays: TransportType,
+    now: Instant,
+    request: &Request,
+    bytes: &[u8],
+    buffer: &mut [u8],
+    answer: &mut Answer,
+) -> Result<(), Fault>
+    requires time { now ≤ 2 ^ 62 }
+    requires relays { (C.state client.old).config.allocation_transport ≡ relays }
+    ensures ok { OnOk result (SendEnds now request.now bytes.now (C.state client.old) (C.state client.new)
+        buffer.old buffer.new answer.old answer.new) }
+    ensures err { IfErr result (λ fault. SendLacks now request.now fault bytes.now (C.state client.old) (C.state client.new)
+        buffer.old buffer.new answer.old answer.new) }
 {
     let Some((transport, to)) = peer_of(request) else {
         return Err(Fault::Call);

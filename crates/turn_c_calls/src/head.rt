@@ -2,9 +2,10 @@
 
 ghost use Rattle.std.specs.Prelude.{◌≡◌, ◌≤◌, ◌<◌, ◌+◌, ◌^◌, ◌==◌, length, nat_lt, true, false, IfErr, OnOk};
 ghost use Rattle.turn_stun.specs.declared.transport.TransportType.TheVariants.{Udp};
-ghost use Rattle.turn_c_calls.specs.Head.{HeadEnds, HeadLacks, HeadMade, head_judged, head_of, number_set, padding_of};
+ghost use Rattle.turn_c_calls.specs.Head.{HeadMade, HeadRequestEnds, HeadRequestLacks, head_of, number_set, padding_of};
 
 use crate::answer::Answer;
+use crate::code::IPV4;
 use crate::fault::Fault;
 use crate::request::{Request, peer_of, time_of};
 use std::net::SocketAddr;
@@ -35,10 +36,33 @@ pub fn send_head<C: TurnClientApi>(
     answer: &mut Answer,
 ) -> Result<(), Fault>
     requires { (C.state client.old).config.allocation_transport ≡ relays }
-    ensures ok { OnOk result (HeadEnds (head_judged (C.state client.old).config.allocation_transport request.now len (length buffer.old))
-        request.now.time len (C.state client.old) (C.state client.new) buffer.old buffer.new answer.old answer.new) }
-    ensures err { IfErr result (λ fault. HeadLacks (head_judged (C.state client.old).config.allocation_transport request.now len
-        (length buffer.old)) fault (C.state client.old) (C.state client.new) buffer.old buffer.new answer.old answer.new) }
+    ensures ok { OnOk result (HeadRequestEnds request.now len (C.state client.old) (C.state client.new)
+        buffer.old buffer.new answer.old answer.new) }
+    ensures err { IfErr result (λ fault. HeadRequestLacks request.now fault len (C.state client.old) (C.state client.new)
+        buffer.old buffer.new answer.old answer.new) }
+{
+    // Compiled for each family apart, as `send_to` of a whole packet.
+    match request.peer.family {
+        IPV4 => head_to_peer(client, relays, request, len, buffer, answer),
+        _ => head_to_peer(client, relays, request, len, buffer, answer),
+    }
+}
+
+/// As [`send_head`], compiled into each of its cases.
+#[inline(always)]
+fn head_to_peer<C: TurnClientApi>(
+    client: &mut C,
+    relays: TransportType,
+    request: &Request,
+    len: usize,
+    buffer: &mut [u8],
+    answer: &mut Answer,
+) -> Result<(), Fault>
+    requires { (C.state client.old).config.allocation_transport ≡ relays }
+    ensures ok { OnOk result (HeadRequestEnds request.now len (C.state client.old) (C.state client.new)
+        buffer.old buffer.new answer.old answer.new) }
+    ensures err { IfErr result (λ fault. HeadRequestLacks request.now fault len (C.state client.old) (C.state client.new)
+        buffer.old buffer.new answer.old answer.new) }
 {
     let now = time_of(request.time).ok_or(Fault::Time)?;
     if request.reserved != 0 {

@@ -39,6 +39,7 @@ pub fn plain<C: TurnClientApi>(
 }
 
 /// Sends the data to a peer: the packet is written to the buffer.
+#[inline(always)]
 pub fn send_to<C: TurnClientApi>(
     client: &mut C,
     transport: TransportType,
@@ -61,6 +62,7 @@ pub fn send_to<C: TurnClientApi>(
 }
 
 /// Passes in the data that was received.
+#[inline(always)]
 pub fn recv<C: TurnClientApi>(
     alloc: Global,
     client: &mut C,

@@ -1,6 +1,12 @@
 //! A client with the bytes that are to be read of it.
 
+ghost use Rattle.std.specs.Prelude.{◌≡◌, IfErr, OnOk};
+ghost use Rattle.turn_client_proto.specs.Client.{state_of};
+ghost use Rattle.turn_c_calls.specs.Arms.{RequestEnds, RequestLacks};
+ghost use Rattle.turn_c_calls.specs.Head.{HeadRequestEnds, HeadRequestLacks};
+
 use crate::answer::Answer;
+use crate::fault::Fault;
 use crate::handle::{handle, look};
 use crate::head::send_head;
 use crate::request::Request;
@@ -64,7 +70,7 @@ impl Session {
     {
         let client = &mut self.client;
         let unread = &mut self.unread;
-        match handle(
+        match handle_either(
             alloc,
             client,
             self.relays,
@@ -90,7 +96,7 @@ impl Session {
         ensures { HeadSteps request.now len self.old self.new buffer.old buffer.new answer.old answer.new }
     {
         let client = &mut self.client;
-        match send_head(client, self.relays, request, len, buffer, answer) {
+        match send_head_either(client, self.relays, request, len, buffer, answer) {
             Ok(()) => {}
             Err(fault) => answer.kind = fault.code(),
         }
@@ -105,5 +111,58 @@ impl Session {
             Ok(()) => {}
             Err(fault) => answer.kind = fault.code(),
         }
+    }
+}
+
+/// As [`handle`], for a client over UDP and one over TCP apart: what the calls of either return is not copied into one type for
+/// both.
+fn handle_either(
+    alloc: Global,
+    client: &mut TurnClient,
+    relays: TransportType,
+    request: &Request,
+    bytes: &[u8],
+    unread: &mut Unread,
+    buffer: &mut [u8],
+    answer: &mut Answer,
+) -> Result<(), Fault>
+    requires { (state_of client.old).config.allocation_transport ≡ relays }
+    ensures ok { OnOk result (RequestEnds request.now bytes.now (state_of client.old) (state_of client.new)
+        unread.old unread.new buffer.old buffer.new answer.old answer.new) }
+    ensures err { IfErr result (λ fault. RequestLacks request.now fault bytes.now (state_of client.old) (state_of client.new)
+        unread.old unread.new buffer.old buffer.new answer.old answer.new) }
+{
+    match client {
+        TurnClient::Udp(client) => {
+            handle(
+                alloc, client, relays, request, bytes, unread, buffer, answer,
+            )
+        }
+        TurnClient::Tcp(client) => {
+            handle(
+                alloc, client, relays, request, bytes, unread, buffer, answer,
+            )
+        }
+    }
+}
+
+/// As [`send_head`], for a client over UDP and one over TCP apart.
+fn send_head_either(
+    client: &mut TurnClient,
+    relays: TransportType,
+    request: &Request,
+    len: usize,
+    buffer: &mut [u8],
+    answer: &mut Answer,
+) -> Result<(), Fault>
+    requires { (state_of client.old).config.allocation_transport ≡ relays }
+    ensures ok { OnOk result (HeadRequestEnds request.now len (state_of client.old) (state_of client.new)
+        buffer.old buffer.new answer.old answer.new) }
+    ensures err { IfErr result (λ fault. HeadRequestLacks request.now fault len (state_of client.old) (state_of client.new)
+        buffer.old buffer.new answer.old answer.new) }
+{
+    match client {
+        TurnClient::Udp(client) => send_head(client, relays, request, len, buffer, answer),
+        TurnClient::Tcp(client) => send_head(client, relays, request, len, buffer, answer),
     }
 }

@@ -12,25 +12,25 @@ use Rattle.turn_c_calls.proofs.session.Session.answer.Goals.{in-Ok, in-Err}
 
 pub invariant_of-self : goal.invariant_of-self
 invariant_of-self c =
-    handled_kept c.args.bytes.now (state_of c.self.inside.client) (state_of c.handle.new.client) c.self.inside.unread c.handle.new.unread
-    c.args.buffer.now c.handle.new.buffer c.args.answer.now c.handle.new.answer c.handle.result _ c.handle.ensures.ok c.handle.ensures.err
+    handled_kept c.args.bytes.now (state_of c.self.inside.client) (state_of c.handle_either.new.client) c.self.inside.unread c.handle_either.new.unread
+    c.args.buffer.now c.handle_either.new.buffer c.args.answer.now c.handle_either.new.answer c.handle_either.result _ c.handle_either.ensures.ok c.handle_either.ensures.err
     ∙ c.self.invariant
 
 pub returns : goal.returns
 returns c =
     let was = state_of c.self.inside.client in
-    let now = state_of c.handle.new.client in
+    let now = state_of c.handle_either.new.client in
     let unread = c.self.inside.unread in
     let judgement = request_judged was.config.allocation_transport c.args.request.now (nat_lt 0 (length unread)) (length c.args.bytes.now) (length c.args.buffer.now) in
     let Ended = λ (last : Answer).
-    Finishes judgement c.args.bytes.now (held was unread) (held now c.handle.new.unread) c.args.buffer.now c.handle.new.buffer c.args.answer.now last in
-    rw (← c.self.view_is) (elim c.match-handle.branch [
+    Finishes judgement c.args.bytes.now (held was unread) (held now c.handle_either.new.unread) c.args.buffer.now c.handle_either.new.buffer c.args.answer.now last in
+    rw (← c.self.view_is) (elim c.match-handle_either.branch [
       | in-Ok w ↦
           subst Ended (sym w.answer-is)
-          (finished c.args.bytes.now was now unread c.handle.new.unread c.args.buffer.now c.handle.new.buffer c.args.answer.now c.handle.new.answer
-          judgement (rw w.in-Ok.is at c.handle.ensures.ok))
+          (finished c.args.bytes.now was now unread c.handle_either.new.unread c.args.buffer.now c.handle_either.new.buffer c.args.answer.now c.handle_either.new.answer
+          judgement (rw w.in-Ok.is at c.handle_either.ensures.ok))
       | in-Err w ↦
-          subst Ended (sym (w.answer-is ∙ ap (λ kind. of_kind kind c.handle.new.answer) w.code-answer.ensures))
-          (refused c.args.bytes.now was now unread c.handle.new.unread c.args.buffer.now c.handle.new.buffer c.args.answer.now c.handle.new.answer
-          judgement _ (rw w.in-Err.is at c.handle.ensures.err))
+          subst Ended (sym (w.answer-is ∙ ap (λ kind. of_kind kind c.handle_either.new.answer) w.code-answer.ensures))
+          (refused c.args.bytes.now was now unread c.handle_either.new.unread c.args.buffer.now c.handle_either.new.buffer c.args.answer.now c.handle_either.new.answer
+          judgement _ (rw w.in-Err.is at c.handle_either.ensures.err))
     ])
