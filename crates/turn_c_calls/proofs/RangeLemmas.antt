@@ -1,9 +1,12 @@
 -- Data of a peer that lies in the input.
-use Rattle.std.proofs.Common.{◌≡◌, ℕ, ◌+◌, ◌-◌, ◌≤◌, List, Some, None, drop, length, take, inl, inr, sym, ap, arith, ◌∙◌}
+use Rattle.std.proofs.Common.{◌≡◌, ℕ, ◌+◌, ◌-◌, ◌≤◌, List, Some, None, drop, length, take, inl, inr, refl, sym, ap, arith, ◌∙◌}
 use Rattle.std.proofs.lemmas.List.{length-drop, length-take, take_min}
+use Rattle.std.specs.Prelude.{slice_range}
 use Rattle.std.specs.declared.convert.AsSlice.{Ghosts}
+use Rattle.std.specs.declared.net.socket_addr.SocketAddr.{SocketAddr}
 use Rattle.std.specs.declared.ops.Range.{Range}
 use Rattle.turn_stun.specs.declared.transport.Transmit.{Transmit}
+use Rattle.turn_stun.specs.declared.transport.TransportType.{TransportType}
 use Rattle.turn_client_api.specs.Answers.{HandsBack, IsPartOf, given_payload, outcome_of, place_in}
 use Rattle.turn_client_api.specs.Payloads as O
 use Rattle.turn_client_api.specs.PeerBytes.{IsOwned, held_bytes, held_in, payload_of}
@@ -26,6 +29,15 @@ use Rattle.turn_c_calls.specs.Step.{IsMade, Shows}
 use Rattle.turn_c_calls.specs.declared.answer.Answer.{Answer}
 use Rattle.turn_c_calls.specs.declared.code.TheConstants.{PEER_DATA_RANGE}
 use Rattle.turn_c_calls.proofs.MadeLemmas.{made_so, received}
+
+-- data of a peer at this place of the input
+abbrev pub outcome_at : List ℕ → TransportType → SocketAddr → Range ℕ → O.Outcome
+outcome_at xs transport peer place = O.PeerData (record {
+  transport = transport;
+  peer = peer;
+  bytes = slice_range xs place.start place.end;
+  place = Some place;
+})
 
 taken_again : (n : ℕ) (xs : List ℕ) → take (length (take n xs)) xs ≡ take n xs
 taken_again n xs = ap (λ m. take m xs) (length-take n xs) ∙ take_min n xs
@@ -97,3 +109,28 @@ module _ {T : Type 0} {g : Ghosts T ℕ} where
       by : (d : DataRangeOrOwned T g) → place_in d ≡ None → IsOwned d
       by (Data.Range range) e = let no : ⊥ = cc in absurd no
       by (Data.Owned bytes) e = tt
+
+-- data that lies in the input, of a call that changes nothing
+pub range_made : (packet : Transmit (List ℕ)) (transport : TransportType) (peer : SocketAddr) (place : Range ℕ) (now : ℕ) (s : State) (was buffer : List ℕ) (a b : Answer)
+    → place.start ≤ place.end → place.end ≤ length packet.payload
+    → packet_step packet now s ≡ (outcome_at packet.payload transport peer place, s)
+    → b ≡ record (data_answer transport peer a) { kind = PEER_DATA_RANGE; start = place.start; len = place.end - place.start }
+    → IsMade (Calls.Recv packet now) 0 (held s was) (held s was) buffer buffer a b
+range_made packet transport peer place now s was buffer a b ordered inside e says =
+    let xs : List ℕ = packet.payload in
+    let size : ℕ = place.end - place.start in
+    let part : List ℕ = take size (drop place.start xs) in
+    let outcome : O.Outcome = outcome_at xs transport peer place in
+    let start : b.start ≡ place.start = ap (λ (x : Answer). x.start) says in
+    let long : length part ≡ size = omega (arith, ordered, inside, length-take size (drop place.start xs), length-drop place.start xs) in
+    let said : ℕ → ℕ → Answer = λ at n. record (data_answer transport peer a) { kind = PEER_DATA_RANGE; start = at; len = n } in
+    let points : Points part xs was (data_answer transport peer a) buffer buffer was b = record {
+      says = says ∙ (ap (λ at. said at size) (sym start) ∙ ap (λ n. said b.start n) (sym long));
+      part = rw start (taken_again size (drop place.start xs));
+      inside = rw (start, long) (omega (arith, ordered, inside));
+      buffer_is = refl;
+      unread_is = refl;
+    } in
+    made_so (Calls.Recv packet now) s s (recv_reply outcome) 0 was was buffer buffer a b
+    (received outcome packet now s s (sym (ap (λ (p : O.Outcome × State). p.0) e)) (sym (ap (λ (p : O.Outcome × State). p.1) e)))
+    (inr points)

@@ -110,6 +110,12 @@ abbrev pub RequestLacks : Request → Fault → List ℕ → State → State →
 RequestLacks r fault bytes s t was unread buffer after a b =
     Lacks (request_judged s.config.allocation_transport r (nat_lt 0 (length was)) (length bytes) (length buffer)) fault bytes s t was unread buffer after a b
 
+-- what it does was done, and only the answer has changed, whatever the client relays over and the buffer is
+abbrev pub RequestShows : Request → List ℕ → State → List ℕ → Answer → Answer → Type 0
+RequestShows r bytes s was a b =
+    (relays : TransportType) (buffer : List ℕ)
+    → Ends (request_judged relays r (nat_lt 0 (length was)) (length bytes) (length buffer)) bytes s s was was buffer buffer a b
+
 -- a request for sending data at this time, whatever is to be read
 abbrev pub SendEnds : ℕ → Request → List ℕ → State → State → List ℕ → List ℕ → Answer → Answer → Type 0
 SendEnds now r bytes s t buffer after a b =

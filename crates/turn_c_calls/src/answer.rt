@@ -158,6 +158,25 @@ impl Answer {
         self.len = len;
     }
 
+    /// As [`Answer::set_peer_data_range`], for data that came over a channel.
+    // Where it is inlined the peer is not copied before it is set.
+    #[inline(always)]
+    pub(crate) fn set_channel_data(
+        &mut self,
+        transport: TransportType,
+        peer: &SocketAddr,
+        start: usize,
+        len: usize,
+    )
+        ensures { self.new ≡ record (data_answer transport peer.now self.old) { kind = PEER_DATA_RANGE; start = start; len = len } }
+    {
+        self.kind = PEER_DATA_RANGE;
+        self.transport = transport_code(transport);
+        self.start = start;
+        self.len = len;
+        self.peer.set(peer);
+    }
+
     /// An ICMP packet that was received for data sent to a peer.
     pub(crate) fn set_peer_icmp(
         &mut self,

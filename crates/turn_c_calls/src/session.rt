@@ -6,6 +6,7 @@ ghost use Rattle.turn_c_calls.specs.Arms.{RequestEnds, RequestLacks};
 ghost use Rattle.turn_c_calls.specs.Head.{HeadRequestEnds, HeadRequestLacks};
 
 use crate::answer::Answer;
+use crate::channel::handle_udp;
 use crate::fault::Fault;
 use crate::handle::{handle, look};
 use crate::head::send_head;
@@ -134,7 +135,7 @@ fn handle_either(
 {
     match client {
         TurnClient::Udp(client) => {
-            handle(
+            handle_udp(
                 alloc, client, relays, request, bytes, unread, buffer, answer,
             )
         }
