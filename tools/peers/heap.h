@@ -8,6 +8,9 @@
 /* The bytes that are allocated and not freed, with what the C library gave beyond what it was asked for. */
 __attribute__((weak)) size_t heap_held(void);
 
+/* The bytes that were asked for and are not freed. */
+__attribute__((weak)) size_t heap_asked(void);
+
 /* The calls of malloc, calloc and their like so far, and those of realloc. */
 __attribute__((weak)) size_t heap_calls(void);
 

@@ -4,7 +4,7 @@
 
    bytes   the packets that it sends and the data that it receives, in hexadecimal digits
    times   the nanoseconds that a turn of each row takes, in the least of its batches, and those of the quickest handshake
-   heap    the allocations of a handshake, and the bytes of heap that the client holds then and with its channels */
+   heap    the allocations of a handshake, and the bytes of heap that the client holds then and with its channels, and has asked for */
 #include "bench.h"
 #include "client.h"
 #include "heap.h"
@@ -155,19 +155,19 @@ static void print_times(int count)
 
 static void print_heap(int count)
 {
-    if (!heap_held || !heap_calls) {
+    if (!heap_held || !heap_asked || !heap_calls) {
         wrong("LD_PRELOAD");
     }
     client_open();
     client_close(); /* what is made once for all clients is there */
-    size_t held = heap_held(), calls = heap_calls();
+    size_t held = heap_held(), asked = heap_asked(), calls = heap_calls();
     client_open();
-    size_t handshake = heap_calls() - calls, idle = heap_held() - held;
+    size_t handshake = heap_calls() - calls, idle = heap_held() - held, asked_idle = heap_asked() - asked;
     for (int i = 0; i < count; i++) {
         client_bind(peer_ip(i));
     }
-    size_t full = heap_held() - held;
-    printf("allocations %zu\nheld_idle %zu\nheld %zu\n", handshake, idle, full);
+    size_t full = heap_held() - held, asked_full = heap_asked() - asked;
+    printf("allocations %zu\nheld_idle %zu\nasked_idle %zu\nheld %zu\nasked %zu\n", handshake, idle, asked_idle, full, asked_full);
     client_close();
 }
 

@@ -87,9 +87,12 @@ def disturbed(times: Times) -> List[str]:
 
 
 def bytes_held(heap: Heap, sizes: List[int], names: List[str]) -> str:
-    held = [name for name in names if PEERS[name].keeps_channels]
+    """What was asked of the heap, and behind it what the C library gave for it. Go tells what its heap gave alone."""
     rows = [("bytes of heap, by the number of channels", "none", *(f"{it:,}" for it in sizes), "allocations of a handshake")]
-    for name in held:
-        found = [heap[name, sizes[0]]["held_idle"], *(heap[name, it]["held"] for it in sizes), heap[name, sizes[0]]["allocations"]]
-        rows.append((name, *(f"{int(it):,}" for it in found)))
+    for name in [it for it in names if PEERS[it].keeps_channels]:
+        found = [heap[name, sizes[0]]] + [heap[name, it] for it in sizes]
+        words = [("asked_idle", "held_idle")] + [("asked", "held")] * len(sizes)
+        cells = [f"{int(row[asked]):,} ({int(row[held]):,})" if asked in row else f"({int(row[held]):,})"
+                 for row, (asked, held) in zip(found, words)]
+        rows.append((name, *cells, f"{int(found[0]['allocations']):,}"))
     return markdown(rows)
