@@ -40,7 +40,7 @@ pub(crate) fn permission(
     draw: &Draw,
 ) -> Result<(), AllocError> {
     let ip = address(draw.n % 8).ip();
-    ledger.reserve(0, 0, 3, 0)?;
+    ledger.reserve(0, 0, 1, 0)?;
     ledger.permission_answered(ip, is_granted(draw), at(draw.now));
     plain.permission_answered(draw.n % 8, is_granted(draw), draw.now)
 }
@@ -51,7 +51,7 @@ pub(crate) fn channel(
     draw: &Draw,
 ) -> Result<(), AllocError> {
     let number = 0x4000u16 | u16::from(draw.n % 8);
-    ledger.reserve(0, 0, 9, 0)?;
+    ledger.reserve(0, 0, 3, 0)?;
     ledger.channel_answered(number, id(draw.m), is_granted(draw), at(draw.now));
     plain.channel_answered(number, draw.m, is_granted(draw), draw.now)
 }
