@@ -60,7 +60,7 @@ move_installed() {
 
 test_installed() {
     local installed="$room/in stalled"
-    step "one version everywhere" tools/library-parts/versions
+    step "one version everywhere" tools/library-parts/versions "$dist"
     step "installed: all is there" check_installed
     step "installed: moved" move_installed
     if has pkg-config "an installed library by pkg-config"; then
