@@ -15,8 +15,9 @@ static int connection, is_by_hand;
 static yarrowdoor *client;
 static yarrowdoor_address local, server, peer;
 static yarrowdoor_answer answer;
-static uint64_t due;
+static uint64_t due, time_read;
 static uint8_t buffer[YARROWDOOR_MAX_PACKET], incoming[65536], payload[STREAM_PAYLOAD], head[4];
+static uint8_t front[YARROWDOOR_MAX_OVERHEAD];
 
 static uint64_t now(void)
 {
@@ -90,16 +91,20 @@ static void bind_channel(void)
     memcpy(head, buffer, sizeof head);
 }
 
+/* Sends the payload behind its head, from where both lie. */
 static void send_numbered(uint32_t number)
 {
+    struct iovec parts[] = {{head, sizeof head}, {payload, sizeof payload}};
     memcpy(payload, &number, sizeof number);
-    if (is_by_hand) {
-        struct iovec parts[] = {{head, sizeof head}, {payload, sizeof payload}};
-        writev(connection, parts, 2);
-        return;
+    if (!is_by_hand) {
+        if (yarrowdoor_send_head(client, YARROWDOOR_UDP, &peer, sizeof payload, time_read, front, sizeof front, &answer) !=
+                YARROWDOOR_PACKET ||
+            answer.start != 0) {
+            stop("no head, or one of a payload that is padded");
+        }
+        parts[0] = (struct iovec){front, answer.len};
     }
-    yarrowdoor_send_to(client, YARROWDOOR_UDP, &peer, payload, sizeof payload, now(), buffer, sizeof buffer, &answer);
-    send(connection, buffer, answer.len, 0);
+    writev(connection, parts, 2);
 }
 
 /* The data of a peer in the packet of so many bytes, or NULL. */
@@ -108,14 +113,18 @@ static const uint8_t *data_in(size_t len)
     if (is_by_hand) {
         return len == sizeof head + sizeof payload && memcmp(incoming, head, sizeof head) == 0 ? incoming + sizeof head : NULL;
     }
-    yarrowdoor_recv(client, YARROWDOOR_UDP, &server, &local, incoming, len, now(), NULL, 0, &answer);
+    yarrowdoor_recv(client, YARROWDOOR_UDP, &server, &local, incoming, len, time_read, NULL, 0, &answer);
     return answer.kind == YARROWDOOR_PEER_DATA_RANGE && answer.len == sizeof payload ? incoming + answer.start : NULL;
 }
 
-/* Receives a packet, and says whether it is the echo of this number. */
+/* Receives a packet, and says whether it is the echo of this number. The library is told the time, which is read once for each
+   packet. */
 static int receive(uint32_t number)
 {
     ssize_t len = recv(connection, incoming, sizeof incoming, 0);
+    if (!is_by_hand) {
+        time_read = now();
+    }
     const uint8_t *data = len > 0 ? data_in((size_t)len) : NULL;
     return data && memcmp(data, &number, sizeof number) == 0;
 }
@@ -133,7 +142,7 @@ static void run(uint32_t count)
         } else {
             sent = echoed;
         }
-        if (!is_by_hand && now() >= due) {
+        if (!is_by_hand && time_read >= due) {
             drive();
         }
     }
@@ -151,6 +160,7 @@ int main(int argc, char **argv)
     open_connection();
     open_client();
     bind_channel();
+    time_read = now();
     run((uint32_t)route.count);
     yarrowdoor_free(client);
     return 0;
