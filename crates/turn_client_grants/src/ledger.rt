@@ -152,6 +152,20 @@ impl GrantLedger {
         room::reserve_queue(&mut self.closes, all_closes)?;
         Ok(())
     }
+
+    /// Gives back the room for listings, if no request is listed. Allocates no memory.
+    pub fn give_back(&mut self)
+        ensures state { (s : State) → with_ledger self.new s ≡ with_ledger self.old s }
+        ensures given_back { self.old.listed ≡ [] → self.new.listing_room ≡ 0 }
+        ensures grant_room { self.new.grant_room ≡ self.old.grant_room }
+        ensures event_room { self.new.event_room ≡ self.old.event_room }
+        ensures close_room { self.new.close_room ≡ self.old.close_room }
+    {
+        let is_idle = self.table.listed().is_empty();
+        if is_idle {
+            self.table.give_back();
+        }
+    }
 }
 
 impl GrantLedger {

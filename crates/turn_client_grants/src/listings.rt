@@ -59,6 +59,16 @@ impl Listings {
         room::reserve(&mut self.items, additional)
     }
 
+    /// Gives back the room, if there are no listings. Allocates no memory.
+    pub(crate) fn give_back(&mut self)
+        ensures items { self.new.items ≡ self.old.items }
+        ensures given_back { self.old.items ≡ [] → self.new.room ≡ 0 }
+    {
+        if self.items.is_empty() {
+            self.items.shrink_to_fit();
+        }
+    }
+
     /// The listings in their order.
     pub(crate) fn as_slice(&self) -> &[Listing]
         ensures value { result.now ≡ self.now.items }

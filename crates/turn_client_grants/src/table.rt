@@ -106,6 +106,16 @@ impl GrantTable {
         self.index.reserve(self.grants.as_slice(), grants)
     }
 
+    /// Gives back the room for listings, if there are none. Allocates no memory.
+    pub(crate) fn give_back(&mut self)
+        ensures grants { self.new.grants ≡ self.old.grants }
+        ensures listed { self.new.listed ≡ self.old.listed }
+        ensures grant_room { self.new.grant_room ≡ self.old.grant_room }
+        ensures given_back { self.old.listed ≡ [] → self.new.listing_room ≡ 0 }
+    {
+        self.listed.give_back();
+    }
+
     /// Adds a grant, which must be new (`has_no_double`), after all others.
     pub(crate) fn push(&mut self, grant: &Grant)
         requires room { 0 < self.old.grant_room }
