@@ -59,6 +59,8 @@ impl TurnClientProtocol {
         self.ledger.reserve(addresses.len(), 0, families.len(), 0)?;
         self.ledger
             .allocated(lifetime, addresses.as_slice(), families, now);
+        // As behind each other reply, an idle client holds no room for requests.
+        self.ledger.give_back();
         self.outbox.end(message.transaction_id());
         self.phase = phase_with(addresses.as_slice());
         self.families.clear();

@@ -62,6 +62,8 @@ impl TurnClientProtocol {
         self.ledger.reserve(purposes.grants_added(), 0, events, 0)?;
         self.outbox.end(id);
         let effect = answer_all(&mut self.ledger, &purposes, message, is_granted, now);
+        // A client serves one caller of many, and is idle most of the time: it holds no room for requests then.
+        self.ledger.give_back();
         self.apply_effect(effect);
         Ok(reported_of(message, &purposes))
     }

@@ -1,5 +1,5 @@
-use Rattle.turn_client_laws.proofs.Common.{◌≡◌, ◌∙◌, ap}
-use Rattle.turn_client_laws.proofs.Machine.{id_of, allocated, transaction_ended, relayed_in, taken_addresses, State}
+use Rattle.turn_client_laws.proofs.Common.{◌≡◌, ◌∙◌, [], ap}
+use Rattle.turn_client_laws.proofs.Machine.{id_of, allocated, phase_with, transaction_ended, relayed_in, taken_addresses, State}
 use Rattle.turn_client_grants.specs.Ledger.{with_ledger}
 use Rattle.turn_client_core.specs.contracts.protocol.TurnClientProtocol.{the_view}
 use Rattle.turn_client_core.proofs.incoming.AllocatedLemmas.{taken-new}
@@ -24,4 +24,5 @@ returns-clause-ok c =
     let same : with_ledger c.reserve.new.self (record gone { families = c.as_slice-families.result.now }) ≡ gone =
     rw c.as_slice-families.ensures (c.reserve.ensures.same gone) in
     rw (c.phase_with-self-inside.ensures, c.as_slice-2.ensures.value, ← c.as_slice.ensures.value, c.clear.ensures.items, c.end.ensures, c.transaction_id.ensures, ← c.self.view_is, ← taken)
-    (c.allocated.ensures.state gone ∙ ap (allocated c.args.lifetime c.as_slice.result.now c.args.now) same)
+    (c.give_back.ensures.state (record gone { phase = phase_with c.as_slice.result.now; families = [] })
+    ∙ (c.allocated.ensures.state gone ∙ ap (allocated c.args.lifetime c.as_slice.result.now c.args.now) same))

@@ -72,9 +72,10 @@ returns-clause-after c =
     let f = effect (id_of m) c.args.is_granted m c.args.now in
     let given = c.answer_all-effect.result in
     c.apply_effect.ensures
+    ∙ (ap (after given) (c.give_back.ensures.state (with_outbox c.end-2.new.self s))
     ∙ (ap (λ o. after given (with_ledger c.answer_all-effect.new.ledger (with_outbox o s))) c.end-2.ensures
     ∙ (c.answer_all-effect.ensures.state (transaction_ended id s)
     ∙ (ap (λ u. fold f u ps) (c.reserve.ensures.same (transaction_ended id s))
     ∙ (ap (λ qs. fold f (transaction_ended id s) qs) read
     ∙ (ap (λ i. fold f (transaction_ended i s) (answered_purposes m c.args.self.now)) c.transaction_id-id.ensures
-    ∙ ap (λ u. fold f (transaction_ended (id_of m) u) (answered_purposes m c.args.self.now)) c.self.view_is)))))
+    ∙ ap (λ u. fold f (transaction_ended (id_of m) u) (answered_purposes m c.args.self.now)) c.self.view_is))))))
