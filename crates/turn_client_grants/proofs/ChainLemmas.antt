@@ -1,5 +1,5 @@
 -- Chains of rows, as rows are added and looked for.
-use Rattle.std.proofs.Common.{◌≡◌, ◌∙◌, ◌≤◌, ◌<◌, ◌+◌, ◌-◌, ℕ, zero, suc, Bool, true, false, cond, List, [], ◌∷◌, ◌++◌, length, map, take, drop, filter, ap, arith, inl, inr, refl, sym}
+use Rattle.std.proofs.Common.{◌≡◌, ◌∙◌, ◌≤◌, ◌<◌, ℕ, zero, suc, Bool, true, false, cond, List, [], ◌∷◌, ◌++◌, length, map, take, drop, filter, ap, arith, inl, inr, refl, sym}
 use Rattle.std.specs.Prelude.{◌⊎◌}
 use Rattle.std.specs.Prelude.{◌==◌, Option, Some, None, find, option_to_list, slice_index, slice_index_or, slice_set}
 use Rattle.std.specs.List.{list_any}
@@ -253,4 +253,64 @@ chained-keyed hs ls keys k place chained within is =
       heads = rw same (heads-pushed hs ls keys k place chained within is);
       links = rw same (links-pushed hs ls keys (Some k) (slice_index hs own) chained led);
       count = count-pushed hs ls keys (Some k) (slice_index hs own) chained;
+    }
+
+-- ---- the last row is taken out
+
+-- a row that is in a bucket has a place
+in-range : (keys : List (Option Key)) (count i b : ℕ) → is_in count b (slice_index_or keys i None) ≡ true → i < length keys
+in-range [] count i b at = cc
+in-range (k ∷ keys) count zero b at = omega arith
+in-range (k ∷ keys) count (suc i) b at = omega (arith, in-range keys count i b at)
+
+count-popped : (hs ls left : List ℕ) (keys : List (Option Key)) (key : Option Key) (before : ℕ) → IsChained hs ls (keys ++ key ∷ []) → ls ≡ left ++ before ∷ [] → length left ≡ length keys
+count-popped hs ls left keys key before chained is = omega (arith, ap length is, length-append left (before ∷ []), length-append keys (key ∷ []), chained.count)
+
+links-popped : (hs ls left : List ℕ) (keys : List (Option Key)) (key : Option Key) (before : ℕ) → IsChained hs ls (keys ++ key ∷ []) → ls ≡ left ++ before ∷ []
+    → (i b : ℕ) → is_in (length hs) b (slice_index_or keys i None) ≡ true → slice_index left i ≡ last_of (is_in (length hs) b) (take i keys)
+links-popped hs ls left keys key before chained is i b at =
+    let lt : i < length keys = in-range keys (length hs) i b at in
+    sym (ap (λ (xs : List ℕ). slice_index xs i) is ∙ get_or_append_left left (before ∷ []) 0 i (omega (arith, lt, count-popped hs ls left keys key before chained is)))
+    ∙ (chained.links i b (ap (is_in (length hs) b) (get_or_append_left keys (key ∷ []) None i lt) ∙ at)
+    ∙ ap (last_of (is_in (length hs) b)) (take-append-le i keys (key ∷ []) (omega (arith, lt))))
+
+pub popped-other : (hs ls left : List ℕ) (keys : List (Option Key)) (before : ℕ) → IsChained hs ls (keys ++ None ∷ []) → ls ≡ left ++ before ∷ [] → IsChained hs left keys
+popped-other hs ls left keys before chained is = record {
+  some = chained.some;
+  heads = λ b lt. chained.heads b lt ∙ last-pushed (is_in (length hs) b) keys None;
+  links = links-popped hs ls left keys None before chained is;
+  count = count-popped hs ls left keys None before chained is;
+}
+
+-- the bucket of the row that goes leads to what its link did
+heads-popped : (hs ls left : List ℕ) (keys : List (Option Key)) (k : Key) (before : ℕ) → IsChained hs ls (keys ++ Some k ∷ []) → ls ≡ left ++ before ∷ []
+    → bucket_of (length hs) k < length hs → (b : ℕ) → b < length hs → slice_index (slice_set hs (bucket_of (length hs) k) before) b ≡ last_of (is_in (length hs) b) keys
+heads-popped hs ls left keys k before chained is within b lt = by (bucket_of (length hs) k == b) refl
+  where
+    own : ℕ
+    own = bucket_of (length hs) k
+
+    by : (c : Bool) → (own == b) ≡ c → slice_index (slice_set hs own before) b ≡ last_of (is_in (length hs) b) keys
+    by true e =
+        let same : length left ≡ length keys = count-popped hs ls left keys (Some k) before chained is in
+        let at : is_in (length hs) b (slice_index_or (keys ++ Some k ∷ []) (length keys) None) ≡ true = ap (is_in (length hs) b) (get_or-append_seam keys (Some k) [] None) ∙ e in
+        ap (λ j. slice_index (slice_set hs own before) j) (sym (eqb-true own b e))
+        ∙ (get_or-set_same hs own before 0 within
+        ∙ (sym (get_or-append_seam left before [] 0)
+        ∙ (ap (λ j. slice_index (left ++ before ∷ []) j) same
+        ∙ (ap (λ (xs : List ℕ). slice_index xs (length keys)) (sym is)
+        ∙ (chained.links (length keys) b at ∙ ap (last_of (is_in (length hs) b)) (take-append_seam keys (Some k ∷ [])))))))
+    by false e =
+        get_or-set_other hs own b before 0 (λ same. let off : false ≡ true = sym e ∙ eq-eqb own b (sym same) in cc)
+        ∙ (chained.heads b lt ∙ (last-pushed (is_in (length hs) b) keys (Some k) ∙ rw e refl))
+
+pub popped-keyed : (hs ls left : List ℕ) (keys : List (Option Key)) (k : Key) (before : ℕ) → IsChained hs ls (keys ++ Some k ∷ []) → ls ≡ left ++ before ∷ []
+    → bucket_of (length hs) k < length hs → IsChained (slice_set hs (bucket_of (length hs) k) before) left keys
+popped-keyed hs ls left keys k before chained is within =
+    let same : length (slice_set hs (bucket_of (length hs) k) before) ≡ length hs = length-set hs (bucket_of (length hs) k) before in
+    record {
+      some = rw same chained.some;
+      heads = rw same (heads-popped hs ls left keys k before chained is within);
+      links = rw same (links-popped hs ls left keys (Some k) before chained is);
+      count = count-popped hs ls left keys (Some k) before chained is;
     }

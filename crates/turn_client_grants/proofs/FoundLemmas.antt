@@ -1,6 +1,6 @@
 -- The grant that a key finds, as it changes in its place.
-use Rattle.std.proofs.Common.{◌≡◌, ◌∙◌, ap, arith, Bool, true, false, cond, List, [], ◌∷◌, map, not, refl, subst, sym, ℕ}
-use Rattle.std.specs.Prelude.{Option, Some, None, is_some, option_map}
+use Rattle.std.proofs.Common.{◌≡◌, arith, false, List, [], ◌∷◌, map, refl, subst, ℕ}
+use Rattle.std.specs.Prelude.{Some}
 use Rattle.std.specs.List.{list_any}
 use Rattle.std.proofs.lemmas.Option.{same_Some}
 use Rattle.turn_client_api.specs.declared.grant.Grant.{Grant}

@@ -3,7 +3,7 @@ use Rattle.std.specs.Prelude.{◌≡◌, Bool, true, false, cond, not, is_some, 
 use Rattle.std.specs.Prelude.{option_and_then, refl}
 use Rattle.std.specs.List.{list_any}
 use Rattle.std.proofs.lemmas.Map.Entries.{option_filter}
-use Rattle.std.proofs.Common.{ap, arith, sym, ◌∙◌, append-nil, subst}
+use Rattle.std.proofs.Common.{ap, arith, sym, ◌∙◌, append-nil}
 use Rattle.std.proofs.lemmas.List.Elements.{filter-append}
 use Rattle.turn_client_grants.specs.Index.{IsIndex, scan}
 

@@ -1,5 +1,5 @@
 -- How many more grants there is room for, with chains or without.
-use Rattle.std.proofs.Common.{◌≡◌, ◌≤◌, ◌+◌, ℕ, Bool, true, false, arith, refl, sym, ◌∙◌}
+use Rattle.std.proofs.Common.{◌≡◌, ◌≤◌, ◌+◌, ℕ, Bool, true, false, arith, refl}
 use Rattle.turn_client_grants.specs.Kept.{few_grants, index_room}
 
 -- what adds so many leaves that much less room

@@ -9,7 +9,6 @@ use Rattle.std.proofs.lemmas.Bool.{and_parts, eqb-true}
 use Rattle.std.proofs.lemmas.List.Elements.{filter_agree}
 use Rattle.std.proofs.lemmas.List.Folds.{list_any-append}
 use Rattle.std.proofs.lemmas.Map.Entries.{option_filter}
-use Rattle.std.proofs.lemmas.Option.{same_Some}
 use Rattle.turn_agent.specs.Agent.{same_address}
 use Rattle.turn_client_api.proofs.AddressLemmas.{same_address-true, same_ip-true}
 use Rattle.turn_client_api.specs.Calls.{active_channel, is_in_progress, is_offer_of, progress_to, without_first}
@@ -32,7 +31,7 @@ use Rattle.turn_client_grants.specs.Table.{are_apart, changed, has_no_double, un
 use Rattle.turn_client_grants.specs.declared.changes.Change.{Change}
 use Rattle.turn_client_grants.specs.declared.key.Key.{Key}
 use Rattle.turn_client_grants.specs.declared.key.Key.TheVariants as By
-use Rattle.turn_client_grants.proofs.IndexLemmas.{any-by_index, first-by_index, index-agrees, index-changed, index-found, index-filtered, index-pushed, index-pushed_other, index-same, index-scanned}
+use Rattle.turn_client_grants.proofs.IndexLemmas.{any-by_index, first-by_index, index-changed, index-found, index-filtered, index-pushed, index-pushed_other, index-same, index-scanned}
 use Rattle.turn_client_grants.proofs.TableLemmas.{changed-same}
 
 -- ---- a new grant has keys of its own

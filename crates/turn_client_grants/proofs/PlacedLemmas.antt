@@ -1,17 +1,17 @@
 -- The chains of a table's grants, as grants are added and change.
-use Rattle.std.proofs.Common.{◌≡◌, ◌∙◌, ◌≤◌, ◌+◌, ℕ, Bool, true, List, [], ◌∷◌, ◌++◌, length, map, ap, append_assoc, arith, refl, sym}
-use Rattle.std.proofs.lemmas.List.{length-map}
-use Rattle.std.proofs.Math.Seq.{take-suc}
-use Rattle.std.specs.Prelude.{◌<◌, ◌-◌, zero, suc, drop, filter, find, option_to_list, replicate, slice_index, slice_index_or, take, Result, Ok, Err, OnErr, OnOk}
+use Rattle.std.proofs.Common.{◌≡◌, ◌∙◌, ◌≤◌, ◌+◌, ℕ, Bool, false, List, [], ◌∷◌, ◌++◌, length, map, ap, arith, not, refl}
+use Rattle.std.proofs.lemmas.List.{length-append, length-map, take-append-le}
+use Rattle.std.specs.List.{list_any}
+use Rattle.turn_client_grants.specs.Lists.{AreLeft}
+use Rattle.std.proofs.Math.Seq.{take-append_seam}
+use Rattle.std.specs.Prelude.{◌<◌, zero, suc, filter, find, option_to_list, replicate, slice_index, take, Result, Ok, Err, OnErr, OnOk}
 use Rattle.turn_client_api.specs.Poll.{first_reported}
 use Rattle.turn_client_api.specs.declared.grant.Grant.{Grant}
-use Rattle.turn_client_api.specs.declared.grant.Grant.TheVariants.{Offer}
-use Rattle.turn_client_api.specs.declared.grant.DataOffer.{DataOffer}
 use Rattle.turn_types.specs.declared.family.AddressFamily.{AddressFamily}
 use Rattle.turn_client_grants.specs.Chains.{IsChained}
 use Rattle.turn_client_grants.specs.Index.{IsIndex}
 use Rattle.turn_client_grants.specs.Kept.{AreAlone, IsLed, IsPlaced, IsReady, links_room}
-use Rattle.turn_client_grants.specs.Keys.{is_found_by, key_like, name_of, peer_of}
+use Rattle.turn_client_grants.specs.Keys.{is_found_by, name_of, peer_of}
 use Rattle.turn_client_grants.specs.Table.{changed}
 use Rattle.turn_client_grants.specs.declared.changes.Change.{Change}
 use Rattle.turn_client_grants.specs.declared.index.Index.{Index}
@@ -92,20 +92,29 @@ ready-by index rows n placed fits = record {
   peer_room = omega (arith, placed.peers.count, length-map rows peer_of, fits);
 }
 
-pub take-next : (rows more : List Grant) (i : ℕ) (g : Grant) → i < length more → g ≡ slice_index_or more i g → (rows ++ take i more) ++ g ∷ [] ≡ rows ++ take (i + 1) more
-take-next rows more i g lt is =
-    let one : suc i ≡ i + 1 = omega arith in
-    append_assoc rows (take i more) (g ∷ [])
-    ∙ ap (λ (gs : List Grant). rows ++ gs) (ap (λ (h : Grant). take i more ++ h ∷ []) is ∙ (sym (take-suc more i g lt) ∙ ap (λ n. take n more) one))
+-- the first of so many rows and others are these
+pub first-rows : (rows more : List Grant) (n : ℕ) → n ≡ length rows → take n (rows ++ more) ≡ rows
+first-rows rows more n is = ap (λ m. take m (rows ++ more)) is ∙ take-append_seam rows more
 
-pub left-next : (more : List Grant) (i : ℕ) → i < length more → length (drop (i + 1) more) + 1 ≡ length (drop i more)
-left-next more i lt = omega (arith, length-drop more i, length-drop more (i + 1), lt)
-  where
-    length-drop : (xs : List Grant) (n : ℕ) → length (drop n xs) ≡ length xs - n
-    length-drop [] zero = omega arith
-    length-drop [] (suc n) = omega arith
-    length-drop (x ∷ xs) zero = omega arith
-    length-drop (x ∷ xs) (suc n) = omega (arith, length-drop xs n)
+-- ---- grants are taken out
+
+pub left-first : (which : Grant → Bool) (rows : List Grant) (n : ℕ) → n ≤ length rows → list_any which (take n rows) ≡ false → take n (filter (λ g. not (which g)) rows) ≡ take n rows
+left-first which [] n le none = refl
+left-first which (g ∷ rows) zero le none = refl
+left-first which (g ∷ rows) (suc n) le none = grind (arith, left-first which rows n)
+
+pub left-long : (which : Grant → Bool) (rows : List Grant) (n : ℕ) → n ≤ length rows → list_any which (take n rows) ≡ false → n ≤ length (filter (λ g. not (which g)) rows)
+left-long which [] n le none = omega (arith, le)
+left-long which (g ∷ rows) zero le none = omega arith
+left-long which (g ∷ rows) (suc n) le none = grind (arith, left-long which rows n)
+
+-- the first rows, before those that go, stay first
+pub left-within : (which : Grant → Bool) (rows more : List Grant) (n : ℕ) → AreLeft which rows n → n ≤ length (filter (λ g. not (which g)) rows ++ more)
+left-within which rows more n left = omega (arith, left-long which rows n left.0 left.1, length-append (filter (λ g. not (which g)) rows) more)
+
+pub left-stay : (which : Grant → Bool) (rows more : List Grant) (n : ℕ) → AreLeft which rows n → take n (filter (λ g. not (which g)) rows ++ more) ≡ take n rows
+left-stay which rows more n left =
+    take-append-le n (filter (λ g. not (which g)) rows) more (left-long which rows n left.0 left.1) ∙ left-first which rows n left.0 left.1
 
 -- the chains are those of the grants if they are made, and stay if they are not
 pub led-reserved : {E : Type 0} (r : Result (Unit {0}) E) (was now : Index) (rows : List Grant) → OnOk r (IsPlaced now rows) → OnErr r (now ≡ was) → IsLed was rows → IsLed now rows

@@ -1,8 +1,8 @@
 //! Chains of rows: each row leads to the one before it whose key is in the same bucket of a hash.
 //!
 //! A chain holds places, and what is looked for is compared with the rows themselves, so no row and no key is
-//! held twice. Rows are added at the end. Where one is taken out, those behind it move, and the chains are made
-//! anew: in the memory that they have.
+//! held twice. Rows are added at the end, and taken out there. Where another one goes, those behind it move: they
+//! are taken out of the chains first, and added again.
 
 ghost use Rattle.std.specs.Prelude.{◌≡◌, ◌<◌, ◌≤◌, ◌+◌, ◌++◌, ◌∷◌, [], List, Option, IfOk, OnErr, OnOk, find, filter, length, map, option_copied, option_to_list};
 ghost use Rattle.std.specs.Prelude.{replicate, slice_index, slice_set, vec_capacity, vec_len};
@@ -74,6 +74,24 @@ impl Chains {
             None => 0,
         };
         let _ = self.links.extend_from_slice(&[before]);
+    }
+
+    /// Takes out the last row, which has this key, or none.
+    pub(crate) fn pop(&mut self, key: &Option<Key>)
+        requires { 0 < length self.old.heads.items }
+        ensures chained { (keys : List (Option Key)) → IsChained self.old.heads.items self.old.links.items (keys ++ key.now ∷ [])
+            → IsChained self.new.heads.items self.new.links.items keys }
+        ensures heads { length self.new.heads.items ≡ length self.old.heads.items }
+        ensures capacity { vec_capacity self.new.links ≡ vec_capacity self.old.links }
+    {
+        let Some(before) = self.links.pop() else {
+            return;
+        };
+        let Some(key) = key else {
+            return;
+        };
+        let bucket = bucket_of(key, self.heads.len());
+        self.heads[bucket] = before;
     }
 
     /// The last row in the bucket of the key, which the next row is from now on.

@@ -12,6 +12,7 @@ ghost use Rattle.turn_client_api.specs.Effect.{lasting, new_allocation};
 ghost use Rattle.turn_client_api.specs.Grants.{changed_allocation, is_of_family};
 ghost use Rattle.turn_client_grants.specs.Found.{LeavesOthers};
 ghost use Rattle.turn_client_grants.specs.Keys.{is_found_by};
+ghost use Rattle.turn_client_grants.specs.Lists.{AreLeft};
 ghost use Rattle.turn_client_grants.specs.Table.{changed};
 ghost use Rattle.turn_client_grants.specs.GrantFilter.{holds};
 
@@ -254,6 +255,30 @@ pub(crate) fn are_absent(grants: &[Grant], which: &GrantFilter) -> bool
     ensures { result ≡ not (list_any (holds which.now) grants.now) }
 {
     !has_any(grants, which)
+}
+
+/// How many grants stand before the first of these.
+pub(crate) fn count_before(grants: &[Grant], which: &GrantFilter) -> usize
+    ensures { AreLeft (holds which.now) grants.now result }
+{
+    'rows: for (place, grant) in grants.iter().enumerate() {
+        if which.holds(grant) {
+            return place;
+        }
+    }
+    grants.len()
+}
+
+/// How many grants stand before the first that this key finds.
+pub(crate) fn count_before_found(grants: &[Grant], key: &Key) -> usize
+    ensures { AreLeft (is_found_by key.now) grants.now result }
+{
+    'rows: for (place, grant) in grants.iter().enumerate() {
+        if key.finds(grant) {
+            return place;
+        }
+    }
+    grants.len()
 }
 
 /// Removes these grants.

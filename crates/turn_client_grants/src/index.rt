@@ -1,6 +1,6 @@
 //! How grants are found by their keys, which a table of few grants does without.
 
-ghost use Rattle.std.specs.Prelude.{◌≡◌, ◌<◌, ◌≤◌, ◌+◌, ◌++◌, ◌∷◌, [], ℕ, List, false, find, length, option_copied, true, OnErr, OnOk};
+ghost use Rattle.std.specs.Prelude.{◌≡◌, ◌<◌, ◌≤◌, ◌+◌, ◌++◌, ◌∷◌, [], List, false, find, length, option_copied, take, true, OnErr, OnOk};
 ghost use Rattle.turn_client_api.specs.declared.grant.Grant.{Grant};
 ghost use Rattle.turn_client_grants.specs.Kept.{AreAlone, IsLed, IsPlaced, IsReady, index_room, links_room};
 ghost use Rattle.turn_client_grants.specs.Keys.{is_found_by};
@@ -119,7 +119,6 @@ impl Index {
         requires { self.old.is_made ≡ true → IsReady 1 self.old }
         ensures placed { (rows : List Grant) → IsLed self.old rows → IsLed self.new (rows ++ grant.now ∷ []) }
         ensures made { self.new.is_made ≡ self.old.is_made }
-        ensures ready { (n : ℕ) → self.old.is_made ≡ true → IsReady (n + 1) self.old → IsReady n self.new }
         ensures room { links_room self.old ≤ links_room self.new }
     {
         if !self.is_made {
@@ -129,15 +128,37 @@ impl Index {
         self.peers.push(&peer_of(grant));
     }
 
-    /// The grants, the next ones, are found by their keys from now on.
-    pub(crate) fn add_all(&mut self, more: &[Grant])
-        requires { self.old.is_made ≡ true → IsReady (length more.now) self.old }
-        ensures placed { (rows : List Grant) → IsLed self.old rows → IsLed self.new (rows ++ more.now) }
+    /// These grants are found by their keys, of which so many first ones were before.
+    pub(crate) fn extend(&mut self, grants: &[Grant], from: usize)
+        requires from { from ≤ length grants.now }
+        requires led { IsLed self.old (take from grants.now) }
+        requires room { self.old.is_made ≡ true → length grants.now ≤ links_room self.old }
+        ensures led { IsLed self.new grants.now }
         ensures made { self.new.is_made ≡ self.old.is_made }
         ensures room { links_room self.old ≤ links_room self.new }
     {
-        for grant in more {
-            self.add(grant);
+        'rows: for place in from..grants.len() {
+            self.add(&grants[place]);
+        }
+    }
+
+    /// Of these grants, so many first ones are found by their keys from now on.
+    pub(crate) fn cut(&mut self, grants: &[Grant], from: usize)
+        requires from { from ≤ length grants.now }
+        requires led { IsLed self.old grants.now }
+        ensures led { IsLed self.new (take from grants.now) }
+        ensures made { self.new.is_made ≡ self.old.is_made }
+        ensures room { links_room self.old ≤ links_room self.new }
+    {
+        if !self.is_made {
+            return;
+        }
+        let mut place = grants.len();
+        'rows: while from < place {
+            place -= 1;
+            let grant = &grants[place];
+            self.names.pop(&name_of(grant));
+            self.peers.pop(&peer_of(grant));
         }
     }
 
@@ -154,6 +175,6 @@ impl Index {
         }
         self.names.clear();
         self.peers.clear();
-        self.add_all(grants);
+        self.extend(grants, 0);
     }
 }

@@ -146,8 +146,9 @@ impl GrantTable {
         ensures grant_room { self.old.grant_room ≤ self.new.grant_room + length more.now }
         ensures listing_room { self.new.listing_room ≡ self.old.listing_room }
     {
+        let count = self.grants.len();
         changes::add_all(&mut self.grants, more);
-        self.index.add_all(more);
+        self.index.extend(self.grants.as_slice(), count);
         self.summary = summary_with(
             &self.summary,
             self.grants.as_slice(),
@@ -166,8 +167,9 @@ impl GrantTable {
         ensures grant_room { self.old.grant_room ≤ self.new.grant_room + length addresses.now }
         ensures listing_room { self.new.listing_room ≡ self.old.listing_room }
     {
+        let count = self.grants.len();
         changes::add_allocations(&mut self.grants, addresses, lifetime, now);
-        self.index.remake(self.grants.as_slice());
+        self.index.extend(self.grants.as_slice(), count);
         self.summary = summary_of(self.grants.as_slice(), self.listed.as_slice());
     }
 
@@ -228,8 +230,10 @@ impl GrantTable {
             return;
         }
         self.listed.unlist(self.grants.as_slice(), which);
+        let count = changes::count_before(self.grants.as_slice(), which);
+        self.index.cut(self.grants.as_slice(), count);
         changes::remove(&mut self.grants, which);
-        self.index.remake(self.grants.as_slice());
+        self.index.extend(self.grants.as_slice(), count);
         self.summary = summary_of(self.grants.as_slice(), self.listed.as_slice());
     }
 
@@ -273,6 +277,8 @@ impl GrantTable {
             return;
         };
         self.listed.unlist_one(&old);
+        let count = changes::count_before_found(self.grants.as_slice(), key);
+        self.index.cut(self.grants.as_slice(), count);
         changes::remove_found(&mut self.grants, key);
         let summary = kept_unless(
             !is_pending(&old),
@@ -287,7 +293,7 @@ impl GrantTable {
             self.listed.as_slice(),
             &[*grant],
         );
-        self.index.remake(self.grants.as_slice());
+        self.index.extend(self.grants.as_slice(), count);
     }
 
     /// The active ones of these grants expire at this time, and no request is listed for them any more.
