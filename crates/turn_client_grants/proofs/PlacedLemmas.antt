@@ -4,7 +4,7 @@ use Rattle.std.proofs.lemmas.List.{length-append, length-map, take-append-le}
 use Rattle.std.specs.List.{list_any}
 use Rattle.turn_client_grants.specs.Lists.{AreLeft}
 use Rattle.std.proofs.Math.Seq.{take-append_seam}
-use Rattle.std.specs.Prelude.{◌<◌, zero, suc, filter, find, option_to_list, replicate, slice_index, take, Result, Ok, Err, OnErr, OnOk}
+use Rattle.std.specs.Prelude.{◌<◌, zero, suc, true, filter, find, option_to_list, replicate, slice_index, slice_index_or, take, Option, Some, None, Result, Ok, Err, OnErr, OnOk}
 use Rattle.turn_client_api.specs.Poll.{first_reported}
 use Rattle.turn_client_api.specs.declared.grant.Grant.{Grant}
 use Rattle.turn_types.specs.declared.family.AddressFamily.{AddressFamily}
@@ -98,6 +98,18 @@ first-rows rows more n is = ap (λ m. take m (rows ++ more)) is ∙ take-append_
 
 -- ---- grants are taken out
 
+-- of one row alone that passes, none before it does
+pub last-left : (which : Grant → Bool) (rows : List Grant) (n : ℕ) (g : Grant) → length (filter which rows) ≤ 1 → n < length rows
+    → which (slice_index_or rows n g) ≡ true → list_any which (take n rows) ≡ false
+last-left which [] n g alone lt passes = grind (arith, lt)
+last-left which (h ∷ rows) zero g alone lt passes = refl
+last-left which (h ∷ rows) (suc n) g alone lt passes = grind (arith, last-left which rows n g, some-pass which rows n g)
+  where
+    some-pass : (which : Grant → Bool) (rows : List Grant) (n : ℕ) (g : Grant) → n < length rows → which (slice_index_or rows n g) ≡ true → 0 < length (filter which rows)
+    some-pass which [] n g lt passes = omega (arith, lt)
+    some-pass which (h ∷ rows) zero g lt passes = grind arith
+    some-pass which (h ∷ rows) (suc n) g lt passes = grind (arith, some-pass which rows n g)
+
 pub left-first : (which : Grant → Bool) (rows : List Grant) (n : ℕ) → n ≤ length rows → list_any which (take n rows) ≡ false → take n (filter (λ g. not (which g)) rows) ≡ take n rows
 left-first which [] n le none = refl
 left-first which (g ∷ rows) zero le none = refl
@@ -126,3 +138,11 @@ led-reserved (Err _) was now rows placed same led = rw same led
 pub alone-by : (rows : List Grant) (key : Key) → AreAlone rows → filter (is_found_by key) rows ≡ option_to_list (find (is_found_by key) rows)
 unfolding IsIndex
 alone-by rows key is = is key
+
+few-listed : (found : Option Grant) → length (option_to_list found) ≤ 1
+few-listed None = omega arith
+few-listed (Some g) = omega arith
+
+-- which is one at most
+pub alone-few : (rows : List Grant) (key : Key) → AreAlone rows → length (filter (is_found_by key) rows) ≤ 1
+alone-few rows key alone = rw (alone-by rows key alone) (few-listed (find (is_found_by key) rows))

@@ -269,12 +269,16 @@ pub(crate) fn count_before(grants: &[Grant], which: &GrantFilter) -> usize
     grants.len()
 }
 
-/// How many grants stand before the first that this key finds.
+/// How many grants stand before the one that this key finds, or all if it finds none. It finds one at most, and what changes is
+/// mostly among the last ones: these are looked at first.
 pub(crate) fn count_before_found(grants: &[Grant], key: &Key) -> usize
+    requires alone { length (filter (is_found_by key.now) grants.now) ≤ 1 }
     ensures { AreLeft (is_found_by key.now) grants.now result }
 {
-    'rows: for (place, grant) in grants.iter().enumerate() {
-        if key.finds(grant) {
+    let mut place = grants.len();
+    'rows: while 0 < place {
+        place -= 1;
+        if key.finds(&grants[place]) {
             return place;
         }
     }
