@@ -9,13 +9,14 @@ ghost use Rattle.turn_types.specs.Incoming.{stored_bytes, incoming_bytes, IsName
 ghost use Rattle.turn_types.specs.Streams.{next_frame_after, broken_stream, framed, with_piece};
 ghost use Rattle.turn_types.specs.Streams.Call.{Piece, Poll};
 
+mod ends;
 mod held;
 mod lent;
 
 use crate::tcp::counts::TcpCounts;
 use crate::tcp::head::{Head, head_of};
 use crate::tcp::incoming::{IncomingTcp, StoredTcp};
-use std::alloc::{AllocError, Global};
+use std::alloc::AllocError;
 use std::convert::AsSlice;
 use std::marker::Model;
 use turn_stun::transport::Transmit;
@@ -55,20 +56,6 @@ impl Model for TurnTcpBuffer {
 }
 
 impl TurnTcpBuffer {
-    /// The buffer of a stream that has not begun. Allocates no memory.
-    pub fn new(alloc: Global) -> TurnTcpBuffer
-        ensures stream { result.stream ≡ framed [] }
-        ensures start { result.start ≡ 0 }
-        ensures counts { result.counts ≡ record { taken = 0; moved = 0 } }
-    {
-        TurnTcpBuffer {
-            bytes: Vec::new(alloc),
-            start: 0,
-            is_broken: false,
-            counts: TcpCounts::NONE,
-        }
-    }
-
     /// Takes a piece of the stream, and returns the first frame, if it is now whole.
     ///
     /// If the buffer was empty, the frame is a range of the piece: it is not copied, and a piece that is
@@ -220,22 +207,6 @@ impl TurnTcpBuffer {
                 Ok(Some(StoredTcp::Channel(frame)))
             }
         }
-    }
-
-    /// The buffered bytes, none of a broken stream. They are moved at most once, and no memory is
-    /// allocated.
-    pub fn into_inner(self) -> Vec<u8>
-        ensures { result.items ≡ self.stream.bytes }
-    {
-        let TurnTcpBuffer {
-            mut bytes,
-            start,
-            ..
-        } = self;
-        let rest = bytes.len() - start;
-        bytes.rotate_left(start);
-        bytes.truncate(rest);
-        bytes
     }
 
     /// Whether no bytes are buffered.
