@@ -36,6 +36,7 @@ impl Hash for Key {
 
     ghost respects_eq = { Prim.search (hashing, rules) };
 
+    #[inline(always)]
     fn hash<H: Hasher>(&self, state: &mut H) {
         match self {
             Key::Number(number) => state.write_u64(u64::from(*number)),
@@ -55,6 +56,8 @@ impl Hash for Key {
 
 impl Key {
     /// Whether the grant is found by this key.
+    // Inlined, as what it calls and the hash, since each caller knows which kind of key it has.
+    #[inline(always)]
     pub(crate) fn finds(&self, grant: &Grant) -> bool
         ensures { result ≡ is_found_by self.now grant.now }
     {
@@ -67,6 +70,7 @@ impl Key {
 }
 
 /// Whether the grant is a channel to the peer that is pending or active.
+#[inline(always)]
 pub(crate) fn is_open_to(peer: SocketAddr, grant: &Grant) -> bool
     ensures { result ≡ is_open_to peer grant.now }
 {
