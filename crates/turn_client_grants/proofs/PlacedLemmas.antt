@@ -4,7 +4,7 @@ use Rattle.std.proofs.lemmas.List.{length-append, length-map, take-append-le}
 use Rattle.std.specs.List.{list_any}
 use Rattle.turn_client_grants.specs.Lists.{AreLeft}
 use Rattle.std.proofs.Math.Seq.{take-append_seam}
-use Rattle.std.specs.Prelude.{◌<◌, zero, suc, true, filter, find, option_to_list, replicate, slice_index, slice_index_or, take, Option, Some, None, Result, Ok, Err, OnErr, OnOk}
+use Rattle.std.specs.Prelude.{◌<◌, zero, suc, true, filter, drop, find, option_to_list, replicate, slice_index, slice_index_or, take, Option, Some, None, Result, Ok, Err, OnErr, OnOk}
 use Rattle.turn_client_api.specs.Poll.{first_reported}
 use Rattle.turn_client_api.specs.declared.grant.Grant.{Grant}
 use Rattle.turn_types.specs.declared.family.AddressFamily.{AddressFamily}
@@ -98,17 +98,42 @@ first-rows rows more n is = ap (λ m. take m (rows ++ more)) is ∙ take-append_
 
 -- ---- grants are taken out
 
+some-passes : (which : Grant → Bool) (rows : List Grant) (n : ℕ) (g : Grant) → n < length rows → which (slice_index_or rows n g) ≡ true → 0 < length (filter which rows)
+some-passes which [] n g lt passes = omega (arith, lt)
+some-passes which (h ∷ rows) zero g lt passes = grind arith
+some-passes which (h ∷ rows) (suc n) g lt passes = grind (arith, some-passes which rows n g)
+
 -- of one row alone that passes, none before it does
 pub last-left : (which : Grant → Bool) (rows : List Grant) (n : ℕ) (g : Grant) → length (filter which rows) ≤ 1 → n < length rows
     → which (slice_index_or rows n g) ≡ true → list_any which (take n rows) ≡ false
 last-left which [] n g alone lt passes = grind (arith, lt)
 last-left which (h ∷ rows) zero g alone lt passes = refl
-last-left which (h ∷ rows) (suc n) g alone lt passes = grind (arith, last-left which rows n g, some-pass which rows n g)
-  where
-    some-pass : (which : Grant → Bool) (rows : List Grant) (n : ℕ) (g : Grant) → n < length rows → which (slice_index_or rows n g) ≡ true → 0 < length (filter which rows)
-    some-pass which [] n g lt passes = omega (arith, lt)
-    some-pass which (h ∷ rows) zero g lt passes = grind arith
-    some-pass which (h ∷ rows) (suc n) g lt passes = grind (arith, some-pass which rows n g)
+last-left which (h ∷ rows) (suc n) g alone lt passes = grind (arith, last-left which rows n g, some-passes which rows n g)
+
+-- none of which passes is left out
+pub none-goes : (which : Grant → Bool) (rows : List Grant) → length (filter which rows) ≤ 0 → filter (λ g. not (which g)) rows ≡ rows
+none-goes which [] few = refl
+none-goes which (g ∷ rows) few = grind (arith, none-goes which rows)
+
+-- where none passes, all stay
+all-stay : (which : Grant → Bool) (rows : List Grant) → list_any which rows ≡ false → filter (λ g. not (which g)) rows ≡ rows
+all-stay which [] none = refl
+all-stay which (g ∷ rows) none = grind (arith, all-stay which rows)
+
+all-parts : (rows : List Grant) → rows ≡ take (length rows) rows ++ drop (length rows + 1) rows
+all-parts [] = refl
+all-parts (g ∷ rows) = grind (arith, all-parts rows)
+
+pub others-of-none : (which : Grant → Bool) (rows : List Grant) → list_any which rows ≡ false
+    → filter (λ g. not (which g)) rows ≡ take (length rows) rows ++ drop (length rows + 1) rows
+others-of-none which rows none = all-stay which rows none ∙ all-parts rows
+
+-- the others of one row alone that passes are those before and behind it
+pub others-of : (which : Grant → Bool) (rows : List Grant) (n : ℕ) (g : Grant) → length (filter which rows) ≤ 1 → n < length rows
+    → which (slice_index_or rows n g) ≡ true → filter (λ h. not (which h)) rows ≡ take n rows ++ drop (n + 1) rows
+others-of which [] n g alone lt passes = grind (arith, lt)
+others-of which (h ∷ rows) zero g alone lt passes = grind (arith, none-goes which rows)
+others-of which (h ∷ rows) (suc n) g alone lt passes = grind (arith, others-of which rows n g, some-passes which rows n g)
 
 pub left-first : (which : Grant → Bool) (rows : List Grant) (n : ℕ) → n ≤ length rows → list_any which (take n rows) ≡ false → take n (filter (λ g. not (which g)) rows) ≡ take n rows
 left-first which [] n le none = refl

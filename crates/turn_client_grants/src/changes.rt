@@ -1,6 +1,6 @@
 //! How lists of grants change.
 
-ghost use Rattle.std.specs.Prelude.{◌≡◌, ◌≤◌, ◌<◌, ◌+◌, ◌++◌, ◌∷◌, [], true, filter, length, map, not, vec_capacity, vec_len};
+ghost use Rattle.std.specs.Prelude.{◌≡◌, ◌≤◌, ◌<◌, ◌+◌, ◌++◌, ◌∷◌, [], true, drop, filter, length, map, not, take, vec_capacity, vec_len};
 ghost use Rattle.std.specs.List.{list_any};
 ghost use Rattle.std.specs.Prelude.{ℕ};
 ghost use Rattle.std.specs.declared.net.ip_addr.IpAddr.{IpAddr};
@@ -273,7 +273,8 @@ pub(crate) fn count_before(grants: &[Grant], which: &GrantFilter) -> usize
 /// mostly among the last ones: these are looked at first.
 pub(crate) fn count_before_found(grants: &[Grant], key: &Key) -> usize
     requires alone { length (filter (is_found_by key.now) grants.now) ≤ 1 }
-    ensures { AreLeft (is_found_by key.now) grants.now result }
+    ensures left { AreLeft (is_found_by key.now) grants.now result }
+    ensures others { filter (λ g. not (is_found_by key.now g)) grants.now ≡ take result grants.now ++ drop (result + 1) grants.now }
 {
     let mut place = grants.len();
     'rows: while 0 < place {
@@ -294,11 +295,13 @@ pub(crate) fn remove(grants: &mut Vec<Grant>, which: &GrantFilter)
     grants.retain(|grant| !which.holds(grant));
 }
 
-/// Removes the grant that this key finds.
-pub(crate) fn remove_found(grants: &mut Vec<Grant>, key: &Key)
-    ensures items { grants.new.items ≡ filter (λ g. not (is_found_by key.now g)) grants.old.items }
+/// Removes the grant at this place, if there is one.
+pub(crate) fn remove_at(grants: &mut Vec<Grant>, place: usize)
+    ensures items { grants.new.items ≡ take place grants.old.items ++ drop (place + 1) grants.old.items }
     ensures capacity { vec_capacity grants.new ≡ vec_capacity grants.old }
     ensures len { vec_len grants.new ≤ vec_len grants.old }
 {
-    grants.retain(|grant| !key.finds(grant));
+    if place < grants.len() {
+        grants.remove(place);
+    }
 }

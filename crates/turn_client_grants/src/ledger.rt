@@ -144,13 +144,15 @@ impl GrantLedger {
         let Some(all_events) = all.checked_add(events) else {
             return Err(AllocError);
         };
+        self.table.reserve(grants, listings)?;
+        room::reserve_queue(&mut self.events, all_events)?;
+        if closes == 0 {
+            return Ok(());
+        }
         let Some(all_closes) = connection_count(self.table.grants()).checked_add(closes) else {
             return Err(AllocError);
         };
-        self.table.reserve(grants, listings)?;
-        room::reserve_queue(&mut self.events, all_events)?;
-        room::reserve_queue(&mut self.closes, all_closes)?;
-        Ok(())
+        room::reserve_queue(&mut self.closes, all_closes)
     }
 
     /// Gives back the room for listings, if no request is listed. Allocates no memory.

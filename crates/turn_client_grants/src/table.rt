@@ -279,7 +279,7 @@ impl GrantTable {
         self.listed.unlist_one(&old);
         let count = changes::count_before_found(self.grants.as_slice(), key);
         self.index.cut(self.grants.as_slice(), count);
-        changes::remove_found(&mut self.grants, key);
+        changes::remove_at(&mut self.grants, count);
         let summary = kept_unless(
             !is_pending(&old),
             &self.summary,
