@@ -5,6 +5,7 @@ ghost use Rattle.turn_agent.specs.Agent.{same_address};
 ghost use Rattle.turn_client_grants.specs.Keys.{is_found_by, is_open_to, name_of, peer_of};
 
 use crate::kind::{is_channel_of, is_permission_of};
+use crate::same::is_same_address;
 use std::hash::{Hash, Hasher};
 use std::net::{IpAddr, SocketAddr};
 use turn_client_api::{Grant, Progress};
@@ -75,7 +76,9 @@ pub(crate) fn is_open_to(peer: SocketAddr, grant: &Grant) -> bool
     ensures { result ≡ is_open_to peer grant.now }
 {
     match grant {
-        Grant::Channel(_, other, Progress::Pending(_) | Progress::Active(_)) => *other == peer,
+        Grant::Channel(_, other, Progress::Pending(_) | Progress::Active(_)) => {
+            is_same_address(other, &peer)
+        }
         _ => false,
     }
 }

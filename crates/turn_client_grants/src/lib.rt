@@ -37,6 +37,7 @@ mod purposes;
 mod reads;
 mod refresh;
 mod room;
+mod same;
 mod summary;
 mod table;
 mod time;
