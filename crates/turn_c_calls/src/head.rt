@@ -2,10 +2,10 @@
 
 ghost use Rattle.std.specs.Prelude.{◌≡◌, ◌≤◌, ◌<◌, ◌+◌, ◌^◌, ◌==◌, length, nat_lt, true, false, IfErr, OnOk};
 ghost use Rattle.turn_stun.specs.declared.transport.TransportType.TheVariants.{Udp};
+ghost use Rattle.turn_c_calls.specs.Request.{peer_of};
 ghost use Rattle.turn_c_calls.specs.Head.{HeadMade, HeadRequestEnds, HeadRequestLacks, head_of, number_set, padding_of};
 
 use crate::answer::Answer;
-use crate::code::IPV4;
 use crate::fault::Fault;
 use crate::request::{Request, peer_of, time_of};
 use std::net::SocketAddr;
@@ -41,24 +41,30 @@ pub fn send_head<C: TurnClientApi>(
     ensures err { IfErr result (λ fault. HeadRequestLacks request.now fault len (C.state client.old) (C.state client.new)
         buffer.old buffer.new answer.old answer.new) }
 {
-    // Compiled for each family apart, as `send_to` of a whole packet.
-    match request.peer.family {
-        IPV4 => head_to_peer(client, relays, request, len, buffer, answer),
-        _ => head_to_peer(client, relays, request, len, buffer, answer),
+    // Compiled for each family apart, as `send_to` of a whole packet. The two calls differ, so that the compiler does not make one
+    // of them.
+    match peer_of(request) {
+        Some((transport, SocketAddr::V4(to))) => {
+            let peer = Some((transport, SocketAddr::V4(to)));
+            head_to_peer(client, relays, request, peer, len, buffer, answer)
+        }
+        peer => head_to_peer(client, relays, request, peer, len, buffer, answer),
     }
 }
 
-/// As [`send_head`], compiled into each of its cases.
+/// As [`send_head`], to the peer that was read, compiled into each of its cases.
 #[inline(always)]
 fn head_to_peer<C: TurnClientApi>(
     client: &mut C,
     relays: TransportType,
     request: &Request,
+    peer: Option<(TransportType, SocketAddr)>,
     len: usize,
     buffer: &mut [u8],
     answer: &mut Answer,
 ) -> Result<(), Fault>
-    requires { (C.state client.old).config.allocation_transport ≡ relays }
+    requires relays { (C.state client.old).config.allocation_transport ≡ relays }
+    requires peer { peer ≡ peer_of request.now }
     ensures ok { OnOk result (HeadRequestEnds request.now len (C.state client.old) (C.state client.new)
         buffer.old buffer.new answer.old answer.new) }
     ensures err { IfErr result (λ fault. HeadRequestLacks request.now fault len (C.state client.old) (C.state client.new)
@@ -68,7 +74,7 @@ fn head_to_peer<C: TurnClientApi>(
     if request.reserved != 0 {
         return Err(Fault::Call);
     }
-    let (transport, to) = peer_of(request).ok_or(Fault::Call)?;
+    let (transport, to) = peer.ok_or(Fault::Call)?;
     if relays == TransportType::Udp && len > MAX_PAYLOAD {
         return Err(Fault::Payload);
     }

@@ -139,6 +139,8 @@ fn kind_of(code: u32) -> Option<Kind>
 }
 
 /// A peer and the transport to it, or none if either is invalid.
+// Its callers go on apart for each family.
+#[inline(always)]
 pub fn peer_of(request: &Request) -> Option<(TransportType, SocketAddr)>
     ensures { result ≡ peer_of request.now }
 {
