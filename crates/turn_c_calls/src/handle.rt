@@ -6,10 +6,9 @@ ghost use Rattle.turn_c_calls.specs.Arms.{have_permission_answer, permissions_an
 ghost use Rattle.turn_c_calls.specs.Judge.{IsPossible, if_fits, judged_as};
 ghost use Rattle.turn_c_calls.specs.Look.{LacksSight, Looks, looked};
 ghost use Rattle.turn_c_calls.specs.Operation.{PollRecv, PollTransmit};
-ghost use Rattle.turn_c_calls.specs.Request.{peer_ip_of, relayed_of};
+ghost use Rattle.turn_c_calls.specs.Request.{peer_ip_of, peer_of, relayed_of};
 
 use crate::answer::Answer;
-use crate::code::IPV4;
 use crate::fault::Fault;
 use crate::make;
 use crate::request::{
@@ -19,6 +18,7 @@ use crate::request::{
 };
 use crate::unread::Unread;
 use std::alloc::Global;
+use std::net::SocketAddr;
 use turn_client_api::{Call, TurnClientApi};
 use turn_stun::instant::Instant;
 use turn_stun::transport::TransportType;
@@ -114,32 +114,38 @@ fn send_to<C: TurnClientApi>(
     ensures err { IfErr result (λ fault. SendLacks now request.now fault bytes.now (C.state client.old) (C.state client.new)
         buffer.old buffer.new answer.old answer.new) }
 {
-    // Compiled for each family apart: an address that may be of either is moved in parts at each step.
-    match request.peer.family {
-        IPV4 => send_to_peer(client, relays, now, request, bytes, buffer, answer),
-        _ => send_to_peer(client, relays, now, request, bytes, buffer, answer),
+    // Compiled for each family apart: an address that may be of either is moved in parts at each step. The two calls differ,
+    // so that the compiler does not make one of them.
+    match peer_of(request) {
+        Some((transport, SocketAddr::V4(to))) => {
+            let peer = Some((transport, SocketAddr::V4(to)));
+            send_to_peer(client, relays, now, request, peer, bytes, buffer, answer)
+        }
+        peer => send_to_peer(client, relays, now, request, peer, bytes, buffer, answer),
     }
 }
 
-/// As [`send_to`], compiled into each of its cases.
+/// As [`send_to`], to the peer that was read, compiled into each of its cases.
 #[inline(always)]
 fn send_to_peer<C: TurnClientApi>(
     client: &mut C,
     relays: TransportType,
     now: Instant,
     request: &Request,
+    peer: Option<(TransportType, SocketAddr)>,
     bytes: &[u8],
     buffer: &mut [u8],
     answer: &mut Answer,
 ) -> Result<(), Fault>
     requires time { now ≤ 2 ^ 62 }
+    requires peer { peer_of request.now ≡ peer }
     requires relays { (C.state client.old).config.allocation_transport ≡ relays }
     ensures ok { OnOk result (SendEnds now request.now bytes.now (C.state client.old) (C.state client.new)
         buffer.old buffer.new answer.old answer.new) }
     ensures err { IfErr result (λ fault. SendLacks now request.now fault bytes.now (C.state client.old) (C.state client.new)
         buffer.old buffer.new answer.old answer.new) }
 {
-    let Some((transport, to)) = peer_of(request) else {
+    let Some((transport, to)) = peer else {
         return Err(Fault::Call);
     };
     if relays == TransportType::Udp && bytes.len() > MAX_PAYLOAD {

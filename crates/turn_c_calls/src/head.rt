@@ -2,8 +2,8 @@
 
 ghost use Rattle.std.specs.Prelude.{◌≡◌, ◌≤◌, ◌<◌, ◌+◌, ◌^◌, ◌==◌, length, nat_lt, true, false, IfErr, OnOk};
 ghost use Rattle.turn_stun.specs.declared.transport.TransportType.TheVariants.{Udp};
-ghost use Rattle.turn_c_calls.specs.Request.{peer_of};
 ghost use Rattle.turn_c_calls.specs.Head.{HeadMade, HeadRequestEnds, HeadRequestLacks, head_of, number_set, padding_of};
+ghost use Rattle.turn_c_calls.specs.Request.{peer_of};
 
 use crate::answer::Answer;
 use crate::fault::Fault;
