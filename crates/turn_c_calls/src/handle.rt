@@ -114,8 +114,7 @@ fn send_to<C: TurnClientApi>(
     ensures err { IfErr result (λ fault. SendLacks now request.now fault bytes.now (C.state client.old) (C.state client.new)
         buffer.old buffer.new answer.old answer.new) }
 {
-    // Compiled for each family apart: an address that may be of either is moved in parts at each step. The two calls differ,
-    // so that the compiler does not make one of them.
+    // Each family has a call of its own, since an address that may be of either is moved in parts at each step.
     match peer_of(request) {
         Some((transport, SocketAddr::V4(to))) => {
             let peer = Some((transport, SocketAddr::V4(to)));
