@@ -1,6 +1,6 @@
 //! A request: what it says, whether that is possible, and how it is answered.
 
-ghost use Rattle.std.specs.Prelude.{◌≡◌, ◌≤◌, ◌^◌, ℕ, List, nat_lt, length, IfErr, IfSome, OnOk};
+ghost use Rattle.std.specs.Prelude.{◌≡◌, ◌≤◌, ◌^◌, ℕ, List, Some, nat_lt, length, IfErr, IfSome, OnOk};
 ghost use Rattle.turn_c_calls.specs.Arms.{Ends, EndsLook, EndsPlain, Lacks, LacksLook, LacksPlain, RequestEnds, RequestLacks, SendEnds, SendLacks};
 ghost use Rattle.turn_c_calls.specs.Arms.{have_permission_answer, permissions_answer};
 ghost use Rattle.turn_c_calls.specs.Judge.{IsPossible, if_fits, judged_as};
@@ -114,39 +114,44 @@ fn send_to<C: TurnClientApi>(
     ensures err { IfErr result (λ fault. SendLacks now request.now fault bytes.now (C.state client.old) (C.state client.new)
         buffer.old buffer.new answer.old answer.new) }
 {
-    // Each family has a call of its own, since an address that may be of either is moved in parts at each step.
+    // Each family has a copy of its own, since an address that may be of either is moved in parts at each step.
     match peer_of(request) {
+        None => Err(Fault::Call),
         Some((transport, SocketAddr::V4(to))) => {
-            let peer = Some((transport, SocketAddr::V4(to)));
-            send_to_peer(client, relays, now, request, peer, bytes, buffer, answer)
+            send_to_peer(
+                client, relays, now, request, transport, to, bytes, buffer, answer,
+            )
         }
-        peer => send_to_peer(client, relays, now, request, peer, bytes, buffer, answer),
+        Some((transport, SocketAddr::V6(to))) => {
+            send_to_peer(
+                client, relays, now, request, transport, to, bytes, buffer, answer,
+            )
+        }
     }
 }
 
-/// As [`send_to`], to the peer that was read, compiled into each of its cases.
+/// As [`send_to`], to the peer that was read, whose address is of a family.
 #[inline(always)]
-fn send_to_peer<C: TurnClientApi>(
+fn send_to_peer<C: TurnClientApi, A: Into<SocketAddr>>(
     client: &mut C,
     relays: TransportType,
     now: Instant,
     request: &Request,
-    peer: Option<(TransportType, SocketAddr)>,
+    transport: TransportType,
+    to: A,
     bytes: &[u8],
     buffer: &mut [u8],
     answer: &mut Answer,
 ) -> Result<(), Fault>
     requires time { now ≤ 2 ^ 62 }
-    requires peer { peer_of request.now ≡ peer }
+    requires peer { (peer : SocketAddr) → A.Into.converts to peer → peer_of request.now ≡ Some (transport, peer) }
     requires relays { (C.state client.old).config.allocation_transport ≡ relays }
     ensures ok { OnOk result (SendEnds now request.now bytes.now (C.state client.old) (C.state client.new)
         buffer.old buffer.new answer.old answer.new) }
     ensures err { IfErr result (λ fault. SendLacks now request.now fault bytes.now (C.state client.old) (C.state client.new)
         buffer.old buffer.new answer.old answer.new) }
 {
-    let Some((transport, to)) = peer else {
-        return Err(Fault::Call);
-    };
+    let to = to.into();
     if relays == TransportType::Udp && bytes.len() > MAX_PAYLOAD {
         return Err(Fault::Payload);
     }

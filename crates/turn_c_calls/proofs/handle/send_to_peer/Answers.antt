@@ -1,4 +1,4 @@
-use Rattle.std.proofs.Common.{arith, ◌≡◌, ◌≤◌, ◌+◌, ◌∙◌, ℕ, length, nat_lt, Some, Bool, true, ◌&&◌, if◌then◌else◌}
+use Rattle.std.proofs.Common.{arith, ◌≡◌, ◌≤◌, ◌+◌, ℕ, length, nat_lt, Some, Bool, true, ◌&&◌, if◌then◌else◌}
 use Rattle.turn_c_calls.specs.Judge.{is_udp}
 use Rattle.turn_c_calls.specs.Request.{peer_of}
 use Rattle.turn_c_calls.proofs.handle.send_to_peer.Goals as goal
@@ -10,7 +10,7 @@ fitting udp len room x y z few fits = grind (arith, few, fits)
 
 pub returns-clause-ok : goal.returns-clause-ok
 returns-clause-ok g c =
-    let is : peer_of c.args.request.now ≡ Some (c.in-Some.transport, c.in-Some.to) = c.requires.peer ∙ c.in-Some.is in
+    let is : peer_of c.args.request.now ≡ Some (c.args.transport, c.into-to.result) = c.requires.peer _ c.into-to.ensures in
     let udp = is_udp (g.C.TurnClientApi.state c.args.client.now).config.allocation_transport in
     let few : udp ≡ true → length c.args.bytes.now ≤ 65504 = λ yes. elim c.else-eq.branch [
       | else-eq-via-then-eq+else-bytes-gt-MAX_PAYLOAD w ↦ w.if-bytes-gt-MAX_PAYLOAD.false
