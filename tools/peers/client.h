@@ -9,9 +9,11 @@
 /* What a turn does: the rows of the table. README.md says how each is made. */
 enum task { FRAME_OUT, FRAME_HEAD, FRAME_IN, AROUND_OUT, AROUND_IN, SEND_OUT, SEND_HEAD, DATA_IN, POLL, TRANSMIT, ROWS };
 
-/* What peers send, and what is sent to them. */
+/* What peers send, and what is sent to them. Those who copy it for a client take its length from a variable, as a program
+   does: where the compiler knows the length, it copies by `rep movsq`, which takes 60 ns in place of 10 on some processors. */
 enum { PAYLOAD = 1200 };
 extern uint8_t payload[PAYLOAD];
+extern size_t payload_len;
 
 /* Each peer is this port of an IP address of its own. To the other port no channel is bound. */
 enum { PORT = 10000, OTHER_PORT = 10001 };

@@ -124,7 +124,7 @@ uint64_t client_turn(enum task row)
 {
     switch (row) {
     case FRAME_OUT:
-        memcpy(packet + 4, payload, PAYLOAD);
+        memcpy(packet + 4, payload, payload_len);
         return write_frame_head();
     case FRAME_HEAD:
         return write_frame_head();

@@ -168,15 +168,15 @@ uint64_t client_turn(enum task row)
 {
     switch (row) {
     case FRAME_OUT:
-        memcpy(out->buf + ROOM, payload, PAYLOAD);
+        memcpy(out->buf + ROOM, payload, payload_len);
         return send_in_place(&peer);
     case FRAME_HEAD:
         return send_in_place(&peer);
     case AROUND_OUT:
-        memcpy(out->buf + ROOM, payload, PAYLOAD);
+        memcpy(out->buf + ROOM, payload, payload_len);
         return send_in_place(&peers[chosen]);
     case SEND_OUT:
-        memcpy(out->buf + ROOM, payload, PAYLOAD);
+        memcpy(out->buf + ROOM, payload, payload_len);
         return send_in_place(&other);
     case SEND_HEAD:
         return send_in_place(&other);

@@ -26,6 +26,7 @@ static const char *const names[] = {
 enum { HANDSHAKE = ROWS, HANDSHAKES = 300 };
 
 uint8_t payload[PAYLOAD];
+size_t payload_len = PAYLOAD;
 int chosen;
 static int channels;
 static uint8_t frame[4 + PAYLOAD], indication[36 + PAYLOAD];
