@@ -36,6 +36,7 @@ const MAX_FRAME: usize = 64;
 /// The first of these: `Time`, `Call`, `Payload`, `Unread` if bytes are left and it may return more, `Buffer`. Nothing has
 /// changed then. `OutOfMemory` if a memory allocation of the call fails: the client is as the call leaves it then, and
 /// nothing else has changed.
+#[inline(always)]
 pub fn handle<C: TurnClientApi>(
     alloc: Global,
     client: &mut C,

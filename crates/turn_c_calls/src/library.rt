@@ -1,12 +1,13 @@
 //! What the C library exports, but for the pointers.
 
 ghost use Rattle.std.specs.Prelude.{◌≡◌, Ok, IfErr, IfOk};
-ghost use Rattle.turn_c_calls.specs.Head.{Responds};
+ghost use Rattle.turn_c_calls.specs.Head.{HeadSteps, Responds};
 ghost use Rattle.turn_c_calls.specs.Look.{LooksAt};
 ghost use Rattle.turn_c_calls.specs.Open.{Refuses, session_of};
+ghost use Rattle.turn_c_calls.specs.Step.{Steps};
 
 use crate::answer::Answer;
-use crate::code::SEND_HEAD;
+use crate::code::{POLL_EVENT, SEND_HEAD};
 use crate::opening::{OpenError, new_session};
 use crate::request::Request;
 use crate::session::Session;
@@ -37,6 +38,7 @@ pub fn start(
 
 /// Answers a request with its data, or for a head with the length of the data alone, and returns the kind of the answer.
 /// Bytes of the answer are written to the buffer.
+#[inline(always)]
 pub fn step(
     session: &mut Session,
     alloc: Global,
@@ -50,11 +52,84 @@ pub fn step(
     ensures kind { result ≡ answer.new.kind }
 {
     if request.kind == SEND_HEAD {
-        session.send_head(request, len, buffer, answer);
+        headed(session, request, len, buffer, answer)
     } else {
-        session.answer(alloc, request, bytes, buffer, answer);
+        answered(session, alloc, request, bytes, buffer, answer)
     }
+}
+
+/// Answers a request for a head, and returns the kind of the answer.
+#[inline(never)]
+fn headed(
+    session: &mut Session,
+    request: &Request,
+    len: usize,
+    buffer: &mut [u8],
+    answer: &mut Answer,
+) -> u32
+    ensures step { HeadSteps request.now len session.old session.new buffer.old buffer.new answer.old answer.new }
+    ensures kind { result ≡ answer.new.kind }
+{
+    session.send_head(request, len, buffer, answer);
     answer.kind
+}
+
+/// Answers a request with its data, and returns the kind of the answer.
+// What is asked most often without a cause, and what is refused by its number, are compiled apart: the other calls together
+// save each register, and need a large frame.
+#[inline(always)]
+fn answered(
+    session: &mut Session,
+    alloc: Global,
+    request: &Request,
+    bytes: &[u8],
+    buffer: &mut [u8],
+    answer: &mut Answer,
+) -> u32
+    ensures step { Steps request.now bytes.now session.old session.new buffer.old buffer.new answer.old answer.new }
+    ensures kind { result ≡ answer.new.kind }
+{
+    if request.kind == POLL_EVENT {
+        answered_here(session, alloc, request, bytes, buffer, answer)
+    } else if request.kind == 0 || request.kind > SEND_HEAD {
+        session.answer(alloc, request, bytes, buffer, answer);
+        answer.kind
+    } else {
+        answered_apart(session, alloc, request, bytes, buffer, answer)
+    }
+}
+
+/// As [`answered`], compiled where it is called.
+#[inline(always)]
+fn answered_here(
+    session: &mut Session,
+    alloc: Global,
+    request: &Request,
+    bytes: &[u8],
+    buffer: &mut [u8],
+    answer: &mut Answer,
+) -> u32
+    ensures step { Steps request.now bytes.now session.old session.new buffer.old buffer.new answer.old answer.new }
+    ensures kind { result ≡ answer.new.kind }
+{
+    session.answer(alloc, request, bytes, buffer, answer);
+    answer.kind
+}
+
+/// As [`answered`], compiled by itself.
+#[inline(never)]
+fn answered_apart(
+    session: &mut Session,
+    alloc: Global,
+    request: &Request,
+    bytes: &[u8],
+    buffer: &mut [u8],
+    answer: &mut Answer,
+) -> u32
+    ensures step { Steps request.now bytes.now session.old session.new buffer.old buffer.new answer.old answer.new }
+    ensures kind { result ≡ answer.new.kind }
+{
+    answered_here(session, alloc, request, bytes, buffer, answer)
 }
 
 /// Answers a request that only looks at the client, and returns the kind of the answer.

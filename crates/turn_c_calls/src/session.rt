@@ -59,6 +59,7 @@ impl Session {
     }
 
     /// Answers a request with its data. Bytes of the answer are written to the buffer.
+    #[inline(always)]
     pub fn answer(
         &mut self,
         alloc: Global,
@@ -87,6 +88,7 @@ impl Session {
     }
 
     /// Answers a request for the head of a packet that carries so many bytes.
+    #[inline(always)]
     pub fn send_head(
         &mut self,
         request: &Request,
@@ -117,6 +119,7 @@ impl Session {
 
 /// As [`handle`], for a client over UDP and one over TCP apart: what the calls of either return is not copied into one type for
 /// both.
+#[inline(always)]
 fn handle_either(
     alloc: Global,
     client: &mut TurnClient,
