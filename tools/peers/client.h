@@ -7,7 +7,9 @@
 #include <stdint.h>
 
 /* What a turn does: the rows of the table. README.md says how each is made. */
-enum task { FRAME_OUT, FRAME_HEAD, FRAME_IN, AROUND_OUT, AROUND_IN, SEND_OUT, SEND_HEAD, DATA_IN, POLL, TRANSMIT, ROWS };
+enum task {
+    FRAME_OUT, FRAME_HEAD, FRAME_IN, AROUND_OUT, AROUND_HEAD, AROUND_IN, SEND_OUT, SEND_HEAD, DATA_IN, POLL, TRANSMIT, ROWS
+};
 
 /* What peers send, and what is sent to them. Those who copy it for a client take its length from a variable, as a program
    does: where the compiler knows the length, it copies by `rep movsq`, which takes 60 ns in place of 10 on some processors. */
@@ -21,7 +23,7 @@ enum { PORT = 10000, OTHER_PORT = 10001 };
 /* The first channel, and the most that there are. */
 enum { FIRST_CHANNEL = 0x4000, CHANNELS = 4096 };
 
-/* The channel that a turn of AROUND_OUT and AROUND_IN uses, counted from 0: each turn another. */
+/* The channel that a turn of AROUND_OUT, AROUND_HEAD and AROUND_IN uses, counted from 0: each turn another. */
 extern int chosen;
 
 /* The client and the server. */

@@ -175,6 +175,8 @@ uint64_t client_turn(enum task row)
     case AROUND_OUT:
         memcpy(out->buf + ROOM, payload, payload_len);
         return send_in_place(&peers[chosen]);
+    case AROUND_HEAD:
+        return send_in_place(&peers[chosen]);
     case SEND_OUT:
         memcpy(out->buf + ROOM, payload, payload_len);
         return send_in_place(&other);

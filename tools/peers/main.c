@@ -20,8 +20,8 @@ void bench_start(uint32_t row);
 void bench_stop(uint32_t row, uint64_t turns);
 
 static const char *const names[] = {
-    "frame_out", "frame_head", "frame_in", "around_out", "around_in", "send_out",
-    "send_head", "data_in",    "poll",     "transmit",   "handshake",
+    "frame_out", "frame_head", "frame_in", "around_out", "around_head", "around_in",
+    "send_out",  "send_head",  "data_in",  "poll",       "transmit",    "handshake",
 };
 enum { HANDSHAKE = ROWS, HANDSHAKES = 300 };
 
@@ -33,10 +33,10 @@ static uint8_t frame[4 + PAYLOAD], indication[36 + PAYLOAD];
 
 /* What a turn of each row answers, so that no refused call is timed. */
 static const uint64_t wanted[ROWS] = {
-    [FRAME_OUT] = 4 + PAYLOAD,  [FRAME_HEAD] = 4 + PAYLOAD, [FRAME_IN] = PAYLOAD,
-    [AROUND_OUT] = 4 + PAYLOAD, [AROUND_IN] = PAYLOAD,      [SEND_OUT] = 36 + PAYLOAD,
-    [SEND_HEAD] = 36 + PAYLOAD, [DATA_IN] = PAYLOAD,        [POLL] = 1,
-    [TRANSMIT] = 1,
+    [FRAME_OUT] = 4 + PAYLOAD,  [FRAME_HEAD] = 4 + PAYLOAD,  [FRAME_IN] = PAYLOAD,
+    [AROUND_OUT] = 4 + PAYLOAD, [AROUND_HEAD] = 4 + PAYLOAD, [AROUND_IN] = PAYLOAD,
+    [SEND_OUT] = 36 + PAYLOAD,  [SEND_HEAD] = 36 + PAYLOAD,  [DATA_IN] = PAYLOAD,
+    [POLL] = 1,                 [TRANSMIT] = 1,
 };
 
 static uint32_t peer_ip(int index)
@@ -121,7 +121,7 @@ static void time_handshakes(void)
 static void time_row(enum task row)
 {
     uint64_t turns, sum = 0;
-    int is_around = row == AROUND_OUT || row == AROUND_IN;
+    int is_around = row == AROUND_OUT || row == AROUND_HEAD || row == AROUND_IN;
     take_input(row);
     while ((turns = bench_next(row, sum)) > 0) {
         sum = 0;

@@ -13,6 +13,7 @@ ROWS = {
     "frame_head": "ChannelData out, payload in place",
     "frame_in": "ChannelData in",
     "around_out": "ChannelData out, payload copied, each channel in turn",
+    "around_head": "ChannelData out, payload in place, each channel in turn",
     "around_in": "ChannelData in, each channel in turn",
     "send_out": "Send indication out, payload copied",
     "send_head": "Send indication out, payload in place",

@@ -29,7 +29,7 @@ int client_has(enum task row)
 #ifdef HAS_SEND_HEAD
     return row < ROWS;
 #else
-    return row != FRAME_HEAD && row != SEND_HEAD;
+    return row != FRAME_HEAD && row != AROUND_HEAD && row != SEND_HEAD;
 #endif
 }
 
@@ -158,6 +158,8 @@ uint64_t client_turn(enum task row)
         return send_head(&peer, &last);
     case AROUND_OUT:
         return send_out(&peers[chosen], &last);
+    case AROUND_HEAD:
+        return send_head(&peers[chosen], &last);
     case SEND_OUT:
         return send_out(&other, &last);
     case SEND_HEAD:
@@ -178,7 +180,7 @@ uint64_t client_turn(enum task row)
 struct made client_made(enum task row)
 {
     struct made made = {.head = packet, .head_len = last.len};
-    if (row == FRAME_HEAD || row == SEND_HEAD) {
+    if (row == FRAME_HEAD || row == AROUND_HEAD || row == SEND_HEAD) {
         made.body = payload; /* of a length that needs no padding */
         made.body_len = PAYLOAD;
     } else if (row == FRAME_IN || row == AROUND_IN || row == DATA_IN) {
