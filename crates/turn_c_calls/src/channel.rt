@@ -17,7 +17,6 @@ use turn_client_proto::udp::TurnClientUdp;
 use turn_stun::transport::TransportType;
 
 /// As [`handle`], for a client over UDP: data over a channel is answered first.
-#[inline(always)]
 pub fn handle_udp(
     alloc: Global,
     client: &mut TurnClientUdp,

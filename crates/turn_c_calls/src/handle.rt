@@ -7,6 +7,7 @@ ghost use Rattle.turn_c_calls.specs.Judge.{IsPossible, if_fits, judged_as};
 ghost use Rattle.turn_c_calls.specs.Look.{LacksSight, Looks, looked};
 ghost use Rattle.turn_c_calls.specs.Operation.{PollRecv, PollTransmit};
 ghost use Rattle.turn_c_calls.specs.Request.{peer_ip_of, peer_of, relayed_of};
+ghost use Rattle.turn_c_calls.specs.declared.code.TheConstants.{POLL_EVENT};
 
 use crate::answer::Answer;
 use crate::fault::Fault;
@@ -36,7 +37,6 @@ const MAX_FRAME: usize = 64;
 /// The first of these: `Time`, `Call`, `Payload`, `Unread` if bytes are left and it may return more, `Buffer`. Nothing has
 /// changed then. `OutOfMemory` if a memory allocation of the call fails: the client is as the call leaves it then, and
 /// nothing else has changed.
-#[inline(always)]
 pub fn handle<C: TurnClientApi>(
     alloc: Global,
     client: &mut C,
@@ -76,6 +76,28 @@ pub fn handle<C: TurnClientApi>(
         Kind::SetPermissionKept => plain(client, set_permission_kept(now, request), answer)?,
         Kind::SetChannelKept => plain(client, set_channel_kept(now, request), answer)?,
     }
+    Ok(())
+}
+
+/// As [`handle`], of a poll for an event.
+#[inline(always)]
+pub fn poll_event<C: TurnClientApi>(
+    client: &mut C,
+    request: &Request,
+    bytes: &[u8],
+    unread: &mut Unread,
+    buffer: &mut [u8],
+    answer: &mut Answer,
+) -> Result<(), Fault>
+    requires { request.now.kind ≡ POLL_EVENT }
+    ensures ok { OnOk result (RequestEnds request.now bytes.now (C.state client.old) (C.state client.new)
+        unread.old unread.new buffer.old buffer.new answer.old answer.new) }
+    ensures err { IfErr result (λ fault. RequestLacks request.now fault bytes.now (C.state client.old) (C.state client.new)
+        unread.old unread.new buffer.old buffer.new answer.old answer.new) }
+{
+    let _now = time_of(request.time).ok_or(Fault::Time)?;
+    let _kind = kind_in(request).ok_or(Fault::Call)?;
+    make::poll_event(client, answer);
     Ok(())
 }
 

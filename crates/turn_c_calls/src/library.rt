@@ -38,6 +38,8 @@ pub fn start(
 
 /// Answers a request with its data, or for a head with the length of the data alone, and returns the kind of the answer.
 /// Bytes of the answer are written to the buffer.
+// A poll for an event mostly finds none, so it is answered here, as is what names no call. The other calls together need each
+// register and a large frame, which would be saved and made for these, too.
 #[inline(always)]
 pub fn step(
     session: &mut Session,
@@ -53,6 +55,12 @@ pub fn step(
 {
     if request.kind == SEND_HEAD {
         headed(session, request, len, buffer, answer)
+    } else if request.kind == POLL_EVENT {
+        session.answer_event(request, bytes, buffer, answer);
+        answer.kind
+    } else if request.kind == 0 || request.kind > SEND_HEAD {
+        session.refuse(request, bytes, buffer, answer);
+        answer.kind
     } else {
         answered(session, alloc, request, bytes, buffer, answer)
     }
@@ -74,34 +82,9 @@ fn headed(
     answer.kind
 }
 
-/// Answers a request with its data, and returns the kind of the answer.
-// What is asked most often without a cause, and what is refused by its number, are compiled apart: the other calls together
-// save each register, and need a large frame.
-#[inline(always)]
+/// Answers another request with its data, and returns the kind of the answer.
+#[inline(never)]
 fn answered(
-    session: &mut Session,
-    alloc: Global,
-    request: &Request,
-    bytes: &[u8],
-    buffer: &mut [u8],
-    answer: &mut Answer,
-) -> u32
-    ensures step { Steps request.now bytes.now session.old session.new buffer.old buffer.new answer.old answer.new }
-    ensures kind { result ≡ answer.new.kind }
-{
-    if request.kind == POLL_EVENT {
-        answered_here(session, alloc, request, bytes, buffer, answer)
-    } else if request.kind == 0 || request.kind > SEND_HEAD {
-        session.answer(alloc, request, bytes, buffer, answer);
-        answer.kind
-    } else {
-        answered_apart(session, alloc, request, bytes, buffer, answer)
-    }
-}
-
-/// As [`answered`], compiled where it is called.
-#[inline(always)]
-fn answered_here(
     session: &mut Session,
     alloc: Global,
     request: &Request,
@@ -114,22 +97,6 @@ fn answered_here(
 {
     session.answer(alloc, request, bytes, buffer, answer);
     answer.kind
-}
-
-/// As [`answered`], compiled by itself.
-#[inline(never)]
-fn answered_apart(
-    session: &mut Session,
-    alloc: Global,
-    request: &Request,
-    bytes: &[u8],
-    buffer: &mut [u8],
-    answer: &mut Answer,
-) -> u32
-    ensures step { Steps request.now bytes.now session.old session.new buffer.old buffer.new answer.old answer.new }
-    ensures kind { result ≡ answer.new.kind }
-{
-    answered_here(session, alloc, request, bytes, buffer, answer)
 }
 
 /// Answers a request that only looks at the client, and returns the kind of the answer.

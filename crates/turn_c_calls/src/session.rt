@@ -1,16 +1,18 @@
 //! A client with the bytes that are to be read of it.
 
-ghost use Rattle.std.specs.Prelude.{◌≡◌, IfErr, OnOk};
+ghost use Rattle.std.specs.Prelude.{◌≡◌, None, IfErr, OnOk};
 ghost use Rattle.turn_client_proto.specs.Client.{state_of};
 ghost use Rattle.turn_c_calls.specs.Arms.{RequestEnds, RequestLacks};
 ghost use Rattle.turn_c_calls.specs.Head.{HeadRequestEnds, HeadRequestLacks};
+ghost use Rattle.turn_c_calls.specs.Request.{kind_in};
+ghost use Rattle.turn_c_calls.specs.declared.code.TheConstants.{POLL_EVENT};
 
 use crate::answer::Answer;
 use crate::channel::handle_udp;
 use crate::fault::Fault;
-use crate::handle::{handle, look};
+use crate::handle::{handle, look, poll_event};
 use crate::head::send_head;
-use crate::request::Request;
+use crate::request::{Request, time_of};
 use crate::unread::Unread;
 use std::alloc::Global;
 use std::marker::Model;
@@ -59,7 +61,6 @@ impl Session {
     }
 
     /// Answers a request with its data. Bytes of the answer are written to the buffer.
-    #[inline(always)]
     pub fn answer(
         &mut self,
         alloc: Global,
@@ -87,8 +88,45 @@ impl Session {
         }
     }
 
-    /// Answers a request for the head of a packet that carries so many bytes.
+    /// Answers a poll for an event, as [`Session::answer`] does, compiled where it is called.
     #[inline(always)]
+    pub fn answer_event(
+        &mut self,
+        request: &Request,
+        bytes: &[u8],
+        buffer: &mut [u8],
+        answer: &mut Answer,
+    )
+        requires { request.now.kind ≡ POLL_EVENT }
+        ensures { Steps request.now bytes.now self.old self.new buffer.old buffer.new answer.old answer.new }
+    {
+        let client = &mut self.client;
+        let unread = &mut self.unread;
+        match poll_event_either(client, request, bytes, unread, buffer, answer) {
+            Ok(()) => {}
+            Err(fault) => answer.kind = fault.code(),
+        }
+    }
+
+    /// Answers a request that names no call, as [`Session::answer`] does, compiled where it is called.
+    #[inline(always)]
+    pub fn refuse(
+        &mut self,
+        request: &Request,
+        bytes: &[u8],
+        buffer: &mut [u8],
+        answer: &mut Answer,
+    )
+        requires { kind_in request.now ≡ None }
+        ensures { Steps request.now bytes.now self.old self.new buffer.old buffer.new answer.old answer.new }
+    {
+        match time_of(request.time) {
+            Some(_now) => answer.kind = Fault::Call.code(),
+            None => answer.kind = Fault::Time.code(),
+        }
+    }
+
+    /// Answers a request for the head of a packet that carries so many bytes.
     pub fn send_head(
         &mut self,
         request: &Request,
@@ -119,7 +157,6 @@ impl Session {
 
 /// As [`handle`], for a client over UDP and one over TCP apart: what the calls of either return is not copied into one type for
 /// both.
-#[inline(always)]
 fn handle_either(
     alloc: Global,
     client: &mut TurnClient,
@@ -147,6 +184,28 @@ fn handle_either(
                 alloc, client, relays, request, bytes, unread, buffer, answer,
             )
         }
+    }
+}
+
+/// As [`poll_event`], for a client over UDP and one over TCP apart.
+#[inline(always)]
+fn poll_event_either(
+    client: &mut TurnClient,
+    request: &Request,
+    bytes: &[u8],
+    unread: &mut Unread,
+    buffer: &mut [u8],
+    answer: &mut Answer,
+) -> Result<(), Fault>
+    requires { request.now.kind ≡ POLL_EVENT }
+    ensures ok { OnOk result (RequestEnds request.now bytes.now (state_of client.old) (state_of client.new)
+        unread.old unread.new buffer.old buffer.new answer.old answer.new) }
+    ensures err { IfErr result (λ fault. RequestLacks request.now fault bytes.now (state_of client.old) (state_of client.new)
+        unread.old unread.new buffer.old buffer.new answer.old answer.new) }
+{
+    match client {
+        TurnClient::Udp(client) => poll_event(client, request, bytes, unread, buffer, answer),
+        TurnClient::Tcp(client) => poll_event(client, request, bytes, unread, buffer, answer),
     }
 }
 
