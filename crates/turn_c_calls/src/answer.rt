@@ -87,6 +87,8 @@ impl Answer {
     }
 
     /// The result of `poll`.
+    // Inlined, so that the result, which is large, is not copied in order to be passed.
+    #[inline(always)]
     pub(crate) fn set_poll(&mut self, returned: &TurnPollRet)
         ensures { self.new ≡ poll_answer returned.now self.old }
     {

@@ -3,12 +3,12 @@ use Rattle.turn_client_laws.proofs.Common.{◌≡◌, ◌∙◌, ℕ, true, fals
 use Rattle.turn_client_laws.proofs.Common.{is_none, is_some, slice_get, fold-append, SocketAddr}
 use Rattle.turn_client_laws.proofs.Machine.{is_timed_out, transaction_timeout, Transaction, is_allocated, timers_of, has_event, has_queued_request, has_reply, keepalive_times, least_due, max_wait}
 use Rattle.turn_client_laws.proofs.Machine.{next_wakeup, pause_end, allocations, answer_by, answer_step, next_offer, offer_step, poll_step, timed_out_step, timed_step, State, max_time, later_by}
-use Rattle.turn_client_laws.proofs.Machine.{DataOffer, Relay, Phase, Allocated, TurnPollRet}
+use Rattle.turn_client_laws.proofs.Machine.{DataOffer, Relay, Phase, Allocated, Authenticating, Requesting, TurnPollRet}
 use Rattle.std.specs.Prelude.{◌&&◌, ◌||◌}
 use Rattle.turn_client_api.specs.declared.poll.TurnPollRet.TheVariants as Do
 use Rattle.turn_client_grants.specs.Due.{times_of}
 use Rattle.turn_client_core.specs.Outgoing.{Outgoing}
-use Rattle.turn_client_core.specs.Polled.{is_without_allocation}
+use Rattle.turn_client_core.specs.Polled.{is_without_allocation, unallocated}
 use Rattle.turn_client_core.specs.Sending.{give_up_step}
 use Rattle.turn_client_core.proofs.calls.AskLemmas.{with_outbox}
 
@@ -57,6 +57,15 @@ pub timed-is : (now : ℕ) (s : State) (o p : Outgoing) (given : Option ℕ) (ph
     → timed_step phase given now (with_outbox p s) ≡ timed_out_step now (with_outbox o s)
 timed-is now s o p given phase times is step =
     ap (λ (phase : Phase). timed_step phase given now (with_outbox p s)) (sym is) ∙ sym (given_up-is now s o p given times step)
+
+-- the client goes on, as it was or after what time brings
+pub requesting-is : (given : Option ℕ) (now : ℕ) (s : State) → is_some given ≡ false → answer_step given now s ≡ timed_step Requesting given now s
+requesting-is None now s e = refl
+requesting-is (Some id) now s e = cc
+
+pub authenticating-is : (given : Option ℕ) (now : ℕ) (s : State) → answer_step given now (unallocated given s) ≡ timed_step Authenticating given now s
+authenticating-is None now s = refl
+authenticating-is (Some id) now s = refl
 
 -- ---- what the caller is to do
 

@@ -4,7 +4,7 @@ ghost use Rattle.std.specs.Prelude.{◌≡◌, ◌≤◌, ◌^◌};
 ghost use Rattle.turn_client_api.specs.Alarm.{IsTimely};
 ghost use Rattle.turn_client_laws.specs.LawsGrantAllocations.{GrantsHaveAllocations};
 ghost use Rattle.turn_client_laws.specs.LawsOrder.{FitsPhase};
-ghost use Rattle.turn_client_api.specs.Poll.{answer_step, timed_out_step, next_offer, is_listed_for_allocation, offer_step, poll_step, timed_step};
+ghost use Rattle.turn_client_api.specs.Poll.{answer_step, timed_out_step, next_offer, is_listed_for_allocation, offer_step, poll_step, silent_step};
 ghost use Rattle.turn_client_core.specs.Polled.{is_without_allocation, unallocated};
 
 use crate::protocol::TurnClientProtocol;
@@ -25,10 +25,10 @@ impl TurnClientProtocol {
         if self.has_pending() {
             return TurnPollRet::WaitUntil(now);
         }
-        match self.next_offer() {
-            Some(offer) => self.report_offer(&offer),
-            None => self.poll_time(now),
+        if let Some(offer) = self.next_offer() {
+            return self.report_offer(&offer);
         }
+        self.poll_time(now)
     }
 
     /// The next offer of a data connection to report to the caller.
@@ -66,49 +66,32 @@ impl TurnClientProtocol {
     {
         let given = self.outbox.give_up(now);
         match self.phase {
-            Phase::New => TurnPollRet::WaitUntil(now),
-            Phase::Requesting => self.poll_requesting(&given, now),
-            Phase::Authenticating => self.poll_authenticating(&given, now),
-            Phase::Allocated => self.poll_allocated(&given, now),
-            Phase::Closed => TurnPollRet::Closed,
-        }
-    }
-
-    /// While the first ALLOCATE awaits its response: if it timed out, the client ends, and what it
-    /// requests has failed. The room to report that was made with the request.
-    fn poll_requesting(&mut self, given: &Option<TransactionId>, now: Instant) -> TurnPollRet
-        requires { self.old.phase ≡ Phase.Requesting }
-        ensures { (result, self.new) ≡ timed_step Phase.Requesting given.now now self.old }
-    {
-        match given {
-            None => self.answer(given, now),
-            Some(_id) => {
-                self.ledger.fail_families_first(self.families.as_slice());
-                self.families.clear();
-                self.close();
-                TurnPollRet::Closed
+            Phase::New => return TurnPollRet::WaitUntil(now),
+            Phase::Requesting => {
+                if given.is_some() {
+                    return self.end_unanswered();
+                }
             }
+            Phase::Authenticating => self.end_unallocated(&given),
+            Phase::Allocated => self.ledger.expire_grants(given, now),
+            Phase::Closed => return TurnPollRet::Closed,
         }
+        self.answer(&given, now)
     }
 
-    /// While a signed ALLOCATE awaits its response: if it timed out, the client ends, without an event.
-    fn poll_authenticating(&mut self, given: &Option<TransactionId>, now: Instant) -> TurnPollRet
-        ensures { (result, self.new) ≡ timed_step Phase.Authenticating given.now now self.old }
+    /// Ends a client whose first ALLOCATE timed out: what it requests has failed. The room to report that
+    /// was made with the request.
+    fn end_unanswered(&mut self) -> TurnPollRet
+        requires { self.old.phase ≡ Phase.Requesting }
+        ensures { (result, self.new) ≡ silent_step self.old }
     {
-        self.end_unallocated(given);
-        self.answer(given, now)
+        self.ledger.fail_families_first(self.families.as_slice());
+        self.families.clear();
+        self.close();
+        TurnPollRet::Closed
     }
 
-    /// After the server has granted an allocation: handles all expiries at this time or earlier, and the
-    /// request that timed out, if there is one.
-    fn poll_allocated(&mut self, given: &Option<TransactionId>, now: Instant) -> TurnPollRet
-        ensures { (result, self.new) ≡ timed_step Phase.Allocated given.now now self.old }
-    {
-        self.ledger.expire_grants(*given, now);
-        self.answer(given, now)
-    }
-
-    /// Ends the client if the request that timed out is an ALLOCATE.
+    /// Ends the client, without an event, if the request that timed out is an ALLOCATE.
     fn end_unallocated(&mut self, given: &Option<TransactionId>)
         ensures { self.new ≡ unallocated given.now self.old }
     {

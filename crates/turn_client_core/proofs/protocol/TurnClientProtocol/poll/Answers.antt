@@ -20,8 +20,8 @@ returns-in-Some-clause-alarm c =
     (c.report_offer.ensures
     ∙ offers-is c.args.now c.args.self.now c.in-Some.offer (sym c.has_pending.ensures ∙ c.if-has_pending.false) (sym c.next_offer.ensures ∙ c.in-Some.is))
 
-pub returns-in-None-clause-alarm : goal.returns-in-None-clause-alarm
-returns-in-None-clause-alarm c =
+pub returns-clause-alarm : goal.returns-clause-alarm
+returns-clause-alarm c =
     timely c.args.now c.args.self.now _ c.requires.now_in_range
     (c.poll_time.ensures
-    ∙ times-is c.args.now c.args.self.now (sym c.has_pending.ensures ∙ c.if-has_pending.false) (sym c.next_offer.ensures ∙ c.in-None.is))
+    ∙ times-is c.args.now c.args.self.now (sym c.has_pending.ensures ∙ c.if-has_pending.false) (sym c.next_offer.ensures ∙ c.in_default.is))

@@ -2,7 +2,7 @@ use Rattle.turn_client_laws.proofs.Common.{ap}
 use Rattle.turn_client_laws.proofs.Machine.{closed, without_families, State}
 use Rattle.turn_client_api.specs.declared.poll.TurnPollRet.TheVariants as Do
 use Rattle.turn_client_core.specs.contracts.protocol.TurnClientProtocol.{the_view}
-use Rattle.turn_client_core.proofs.protocol.TurnClientProtocol.poll_requesting.Goals as goal
+use Rattle.turn_client_core.proofs.protocol.TurnClientProtocol.end_unanswered.Goals as goal
 
 pub fail_families_first-requires : goal.fail_families_first-requires
 fail_families_first-requires c =
@@ -10,8 +10,8 @@ fail_families_first-requires c =
     let room = c.self.invariant.reportable requesting in
     rw c.as_slice.ensures room
 
-pub returns-in-Some : goal.returns-in-Some
-returns-in-Some c =
+pub returns : goal.returns
+returns c =
     let u = without_families (the_view c.self.inside) in
     let failed = rw c.as_slice.ensures at c.fail_families_first.ensures.state u in
-    rw (c.in-Some.is, c.close.ensures, c.clear.ensures.items, ← c.self.view_is) (ap (λ (t : State). (Do.Closed, closed t)) failed)
+    rw (c.close.ensures, c.clear.ensures.items, ← c.self.view_is) (ap (λ (t : State). (Do.Closed, closed t)) failed)
