@@ -62,6 +62,8 @@ impl Answer {
     ghost use Rattle.turn_c_calls.specs.Answer.{peer_answer, permission_answer, poll_answer, refusal_answer, relayed_answer};
 
     /// A reply that has neither bytes nor a list.
+    // Inlined, so that the reply, which is large, is never made as one value.
+    #[inline(always)]
     pub(crate) fn set_reply(&mut self, reply: &Reply)
         requires { IsPlain reply.now }
         ensures { self.new ≡ answer_to 0 reply.now self.old }

@@ -100,6 +100,8 @@ pub trait Carrier: Debug + Drop {
 }
 
 /// Whether a packet from this address over this transport comes from the server of the client.
+// Each packet asks this: where it is not inlined, the address is copied.
+#[inline(always)]
 pub fn is_from_server(
     control: &TurnClientProtocol,
     transport: TransportType,

@@ -38,6 +38,8 @@ impl TurnClientTcpProtocol {
     /// If memory allocation fails for an action that a message requires. Nothing changes then. A
     /// ChannelData message allocates no memory, nor does a message that requires no action, or on a data
     /// connection one that does not keep it.
+    // Inlined, so that what it reports, which is large, is not copied on its way out.
+    #[inline(always)]
     pub(crate) fn frame(
         &mut self,
         origin: FrameOrigin,

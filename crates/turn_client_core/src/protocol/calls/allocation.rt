@@ -13,6 +13,8 @@ use turn_stun::transport::TransportType;
 impl TurnClientProtocol {
     /// Whether an allocation relays over this transport to this IP address, and its expiry has not passed.
     /// If it has, the allocation is marked as expired, so that it is no longer used for sending.
+    // Where it is not inlined, the IP address is copied.
+    #[inline(always)]
     pub(crate) fn has_usable_allocation(
         &mut self,
         transport: TransportType,
