@@ -1,7 +1,7 @@
 -- How a request of one kind ends, by the parts of it that were read.
-use Rattle.std.proofs.Common.{◌≡◌, ℕ, Bool, List, length, Option, Some, None, Result, Ok, Err, OnOk, inl, inr, refl, ap}
+use Rattle.std.proofs.Common.{◌≡◌, ℕ, Bool, List, [], length, Option, Some, None, Result, Ok, Err, OnOk, inl, inr, refl, ap}
 use Rattle.std.specs.Option.{option_map}
-use Rattle.std.specs.Prelude.{IfErr}
+use Rattle.std.specs.Prelude.{IfErr, nat_lt}
 use Rattle.std.specs.declared.net.ip_addr.IpAddr.{IpAddr}
 use Rattle.std.specs.declared.net.socket_addr.SocketAddr.{SocketAddr}
 use Rattle.turn_stun.specs.declared.transport.TransportType.{TransportType}
@@ -12,15 +12,16 @@ use Rattle.turn_client_api.specs.declared.call.Call.TheVariants as Calls
 use Rattle.turn_client_calls.specs.Checks.{needed}
 use Rattle.turn_client_calls.specs.declared.reply.Reply.TheVariants as Replies
 use Rattle.turn_c_calls.specs.Answer.{of_kind}
-use Rattle.turn_c_calls.specs.Arms.{Ends, EndsLook, EndsPlain, Lacks, LacksLook, LacksPlain, have_permission_answer, permissions_answer}
+use Rattle.turn_c_calls.specs.Arms.{BareEnds, BareLacks, Ends, EndsLook, EndsPlain, Lacks, LacksLook, LacksPlain, have_permission_answer, permissions_answer}
 use Rattle.turn_c_calls.specs.Held.{held}
-use Rattle.turn_c_calls.specs.Judge.{fault_code, if_fits}
+use Rattle.turn_c_calls.specs.Judge.{fault_code, if_fits, request_judged}
 use Rattle.turn_c_calls.specs.Operation.{Operation}
 use Rattle.turn_c_calls.specs.Operation as Operations
-use Rattle.turn_c_calls.specs.Step.{Finishes}
+use Rattle.turn_c_calls.specs.Step.{BareSteps, Finishes}
 use Rattle.turn_c_calls.specs.declared.answer.Answer.{Answer}
 use Rattle.turn_c_calls.specs.declared.fault.Fault.{Fault}
 use Rattle.turn_c_calls.specs.declared.fault.Fault.TheVariants as Faults
+use Rattle.turn_c_calls.specs.declared.request.Request.{Request}
 use Rattle.turn_c_calls.proofs.KeptLemmas.{SameRelays, does_kept, fails_kept}
 use Rattle.turn_c_calls.proofs.MadeLemmas.{bare_made}
 
@@ -90,3 +91,23 @@ module _ (bytes : List ℕ) (s t : State) (was unread buffer after : List ℕ) (
       → IfErr r (λ fault. Lacks j fault bytes s t was unread buffer after a b) → SameRelays (held s was) (held t unread)
   handled_kept (Ok done) j ok err = ends_kept j ok
   handled_kept (Err fault) j ok err = lacks_kept j fault err
+
+-- ---- the same of a request that has to do with no bytes
+
+module _ (r : Request) (s t : State) (a b : Answer) where
+  abbrev judged_so : List ℕ → List ℕ → List ℕ → Result Operation Fault
+  judged_so bytes unread buffer = request_judged s.config.allocation_transport r (nat_lt 0 (length unread)) (length bytes) (length buffer)
+
+  pub bare_finished : (unread : List ℕ) → BareEnds r s t a b → BareSteps r (held s unread) (held t unread) a b
+  bare_finished unread h bytes buffer =
+      finished bytes s t unread unread buffer buffer a b (judged_so bytes unread buffer) (h bytes unread buffer)
+
+  pub bare_refused : (unread : List ℕ) (fault : Fault) → BareLacks r fault s t a b
+      → BareSteps r (held s unread) (held t unread) a (of_kind (fault_code fault) b)
+  bare_refused unread fault h bytes buffer =
+      refused bytes s t unread unread buffer buffer a b (judged_so bytes unread buffer) fault (h bytes unread buffer)
+
+  pub bare_kept : {A : Type 0} → (o : Result A Fault) → OnOk o (BareEnds r s t a b) → IfErr o (λ fault. BareLacks r fault s t a b)
+      → SameRelays (held s []) (held t [])
+  bare_kept (Ok done) ok err = ends_kept [] s t [] [] [] [] a b (judged_so [] [] []) (ok [] [] [])
+  bare_kept (Err fault) ok err = lacks_kept [] s t [] [] [] [] a b (judged_so [] [] []) fault (err [] [] [])

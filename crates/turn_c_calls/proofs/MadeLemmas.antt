@@ -4,7 +4,7 @@ use Rattle.std.specs.declared.net.socket_addr.SocketAddr.{SocketAddr}
 use Rattle.turn_stun.specs.declared.transport.TransportType.{TransportType}
 use Rattle.turn_stun.specs.declared.transport.Transmit.{Transmit}
 use Rattle.turn_client_api.specs.Calls.{send_to_step}
-use Rattle.turn_client_api.specs.Payloads.{Outcome, Payload}
+use Rattle.turn_client_api.specs.Payloads.{Ignored, Outcome, Payload}
 use Rattle.turn_client_api.specs.State.{State}
 use Rattle.turn_client_api.specs.Steps.{packet_step}
 use Rattle.turn_client_api.specs.Streams.{poll_recv_step}
@@ -16,12 +16,13 @@ use Rattle.turn_client_calls.specs.Plain.{IsPlainCall}
 use Rattle.turn_client_calls.specs.Run.{poll_recv_reply, recv_reply, reply_of, step}
 use Rattle.turn_client_calls.specs.declared.reply.Reply.TheVariants as Replies
 use Rattle.turn_client_calls.specs.declared.reply.Reply.{Reply}
-use Rattle.turn_c_calls.specs.Answer.{IsPlain, answer_to, reply_bytes}
+use Rattle.turn_c_calls.specs.Answer.{IsPlain, answer_to, of_kind, reply_bytes}
 use Rattle.turn_c_calls.specs.Arms.{MakesPlain}
 use Rattle.turn_c_calls.specs.Buffer.{PutsIfAny}
 use Rattle.turn_c_calls.specs.Held.{held}
 use Rattle.turn_c_calls.specs.Step.{IsMade, Shows, passed_in}
 use Rattle.turn_c_calls.specs.declared.answer.Answer.{Answer}
+use Rattle.turn_c_calls.specs.declared.code.TheConstants.{IGNORED}
 
 abbrev pub Answered : Reply → State → State → Call → Type 0
 Answered reply s t call = ◌≡◌ {A = Reply × State} (reply, t) (step s call)
@@ -117,3 +118,12 @@ pub sent : (said : Result (Transmit (List ℕ)) SendError) (transport : Transpor
     → said ≡ (send_to_step transport to bytes now s).0 → t ≡ (send_to_step transport to bytes now s).1
     → Answered (Replies.SendTo said) s t (Calls.SendTo transport to bytes now)
 sent said transport to bytes now s t a b = λ i. (Replies.SendTo (a i), b i)
+
+-- ---- an input that is ignored
+
+pub ignored_made : (packet : Transmit (List ℕ)) (now : ℕ) (s : State) (was buffer : List ℕ) (a : Answer)
+    → packet_step packet now s ≡ (Ignored, s) → IsMade (Calls.Recv packet now) 0 (held s was) (held s was) buffer buffer a (of_kind IGNORED a)
+ignored_made packet now s was buffer a e =
+    made (Calls.Recv packet now) s s Replies.Ignored 0 was was buffer buffer a (of_kind IGNORED a)
+    (received Ignored packet now s s (sym (ap (λ (p : Outcome × State). p.0) e)) (sym (ap (λ (p : Outcome × State). p.1) e)))
+    (record { says = refl; buffer_is = refl; unread_is = refl })

@@ -110,6 +110,13 @@ abbrev pub RequestLacks : Request → Fault → List ℕ → State → State →
 RequestLacks r fault bytes s t was unread buffer after a b =
     Lacks (request_judged s.config.allocation_transport r (nat_lt 0 (length was)) (length bytes) (length buffer)) fault bytes s t was unread buffer after a b
 
+-- the same of a request that has to do with no bytes, whatever is passed in, is to be read and is in the buffer
+abbrev pub BareEnds : Request → State → State → Answer → Answer → Type 0
+BareEnds r s t a b = (bytes unread buffer : List ℕ) → RequestEnds r bytes s t unread unread buffer buffer a b
+
+abbrev pub BareLacks : Request → Fault → State → State → Answer → Answer → Type 0
+BareLacks r fault s t a b = (bytes unread buffer : List ℕ) → RequestLacks r fault bytes s t unread unread buffer buffer a b
+
 -- what it does was done, and only the answer has changed, whatever the client relays over and the buffer is
 abbrev pub RequestShows : Request → List ℕ → State → List ℕ → Answer → Answer → Type 0
 RequestShows r bytes s was a b =

@@ -43,6 +43,20 @@ kind_of code = option_map (λ k. k.1) (find (λ k. code == k.0) kinds)
 abbrev pub kind_in : Request → Option Kind
 kind_in r = if not (r.reserved == 0) then None else kind_of r.kind
 
+-- what a call has to do with bytes: it takes those of a packet, it writes some to the buffer, or neither
+pub data Flow : Type 0 where
+  Taken : Flow
+  Written : Flow
+  Bare : Flow
+
+abbrev pub flow_of : Kind → Flow
+flow_of Kinds.Recv = Taken
+flow_of Kinds.SendTo = Written
+flow_of Kinds.PollRecv = Written
+flow_of Kinds.PollTransmit = Written
+flow_of Kinds.Read = Written
+flow_of _ = Bare
+
 -- the local address of a data connection, or none if it could not be opened
 abbrev pub local_at : Address → Option (Option SocketAddr)
 local_at a = if a.family == NO_FAMILY && a.reserved == 0 then Some None else option_map Some (socket_at a)

@@ -76,3 +76,7 @@ abbrev pub Steps : Request → List ℕ → Held → Held → List ℕ → List 
 Steps request bytes was now buffer after a b =
     Finishes (request_judged was.client.config.allocation_transport request (nat_lt 0 (length was.unread)) (length bytes) (length buffer))
     bytes was now buffer after a b
+
+-- The same of a request that has to do with no bytes: whatever is passed in, and the buffer stays as it is.
+abbrev pub BareSteps : Request → Held → Held → Answer → Answer → Type 0
+BareSteps request was now a b = (bytes buffer : List ℕ) → Steps request bytes was now buffer buffer a b

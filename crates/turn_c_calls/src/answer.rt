@@ -256,11 +256,17 @@ impl Answer {
     }
 
     /// A relayed address, or that there is none at the index.
+    // Where it is inlined the address is not copied before it is set.
+    #[inline(always)]
     pub(crate) fn set_relayed(&mut self, relayed: Option<(TransportType, SocketAddr)>)
         ensures { self.new ≡ relayed_answer relayed self.old }
     {
         match relayed {
-            Some((transport, addr)) => self.set_peer(ADDRESS, transport, &addr),
+            Some((transport, addr)) => {
+                self.kind = ADDRESS;
+                self.transport = transport_code(transport);
+                self.peer.set(&addr);
+            }
             None => self.kind = NOTHING,
         }
     }

@@ -1,47 +1,47 @@
 //! Data of a peer that came over a channel, answered from where it lies: most of what a client receives is that.
 
-ghost use Rattle.std.specs.Prelude.{◌≡◌, ℕ, List, nat_le, true, false, IfErr, OnOk};
+ghost use Rattle.std.specs.Prelude.{◌≡◌, ℕ, List, nat_le, Some, true, false, IfErr, OnOk};
 ghost use Rattle.turn_stun.specs.Number.{u16_at};
 ghost use Rattle.turn_c_calls.specs.Arms.{Makes, RequestEnds, RequestLacks, RequestShows};
-ghost use Rattle.turn_c_calls.specs.Request.{recv_call};
+ghost use Rattle.turn_c_calls.specs.Request.{kind_of, recv_call};
+ghost use Rattle.turn_c_calls.specs.declared.request.Kind.TheVariants as Kind;
 
 use crate::answer::Answer;
-use crate::code::{IPV4, RECV};
+use crate::code::{IGNORED, IPV4};
 use crate::fault::Fault;
-use crate::handle::handle;
+use crate::handle::recv;
 use crate::request::{Kind, Request, c_tuple, kind_in, time_of};
 use crate::unread::Unread;
 use std::alloc::Global;
 use turn_client_api::Socket5Tuple;
 use turn_client_proto::udp::TurnClientUdp;
 use turn_stun::transport::TransportType;
+use turn_types::channel::ChannelData;
 
-/// As [`handle`], for a client over UDP: data over a channel is answered first.
-pub fn handle_udp(
+/// As [`recv`], for a client over UDP: a ChannelData message is answered first.
+#[inline(always)]
+pub fn recv_udp(
     alloc: Global,
     client: &mut TurnClientUdp,
-    relays: TransportType,
     request: &Request,
     bytes: &[u8],
     unread: &mut Unread,
     buffer: &mut [u8],
     answer: &mut Answer,
 ) -> Result<(), Fault>
-    requires { client.old.config.allocation_transport ≡ relays }
+    requires { kind_of request.now.kind ≡ Some Kind.Recv }
     ensures ok { OnOk result (RequestEnds request.now bytes.now client.old client.new
         unread.old unread.new buffer.old buffer.new answer.old answer.new) }
     ensures err { IfErr result (λ fault. RequestLacks request.now fault bytes.now client.old client.new
         unread.old unread.new buffer.old buffer.new answer.old answer.new) }
 {
-    if request.kind == RECV && begins_frame(bytes) {
+    if begins_frame(bytes) {
         let is_answered = answer_channel_data(client, request, bytes, unread, answer);
         if is_answered {
             return Ok(());
         }
     }
-    handle(
-        alloc, client, relays, request, bytes, unread, buffer, answer,
-    )
+    recv(alloc, client, request, bytes, unread, buffer, answer)
 }
 
 /// Whether the bytes may begin with a ChannelData message. A STUN message begins with two bits 0 (RFC 8656, section 12).
@@ -55,7 +55,7 @@ fn begins_frame(bytes: &[u8]) -> bool
     }
 }
 
-/// Answers a `recv` of data over a channel, and returns whether it was that. Nothing has changed otherwise.
+/// Answers a `recv` of a ChannelData message, and returns whether it was that. Nothing has changed otherwise.
 #[inline(always)]
 fn answer_channel_data(
     client: &TurnClientUdp,
@@ -103,7 +103,7 @@ fn answer_between(
     recv_channel_data(client, &tuple, bytes, answer)
 }
 
-/// Passes in data that came over a channel, and returns whether it was that. Nothing has changed otherwise.
+/// Passes in a ChannelData message, and returns whether it was one. Nothing has changed otherwise.
 #[inline(always)]
 fn recv_channel_data(
     client: &TurnClientUdp,
@@ -121,6 +121,13 @@ fn recv_channel_data(
             answer.set_channel_data(transport, &peer, place.start, len);
             true
         }
-        None => false,
+        // A ChannelData message of which none is returned is ignored.
+        None => match ChannelData::parse(bytes) {
+            Ok(_) => {
+                answer.kind = IGNORED;
+                true
+            }
+            Err(_) => false,
+        },
     }
 }

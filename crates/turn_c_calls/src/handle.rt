@@ -1,13 +1,13 @@
 //! A request: what it says, whether that is possible, and how it is answered.
 
 ghost use Rattle.std.specs.Prelude.{◌≡◌, ◌≤◌, ◌^◌, ℕ, List, Some, nat_lt, length, IfErr, IfSome, OnOk};
-ghost use Rattle.turn_c_calls.specs.Arms.{Ends, EndsLook, EndsPlain, Lacks, LacksLook, LacksPlain, RequestEnds, RequestLacks, SendEnds, SendLacks};
-ghost use Rattle.turn_c_calls.specs.Arms.{have_permission_answer, permissions_answer};
+ghost use Rattle.turn_c_calls.specs.Arms.{BareEnds, BareLacks, Ends, EndsLook, EndsPlain, Lacks, LacksLook, LacksPlain};
+ghost use Rattle.turn_c_calls.specs.Arms.{RequestEnds, RequestLacks, SendEnds, SendLacks, have_permission_answer, permissions_answer};
 ghost use Rattle.turn_c_calls.specs.Judge.{IsPossible, if_fits, judged_as};
 ghost use Rattle.turn_c_calls.specs.Look.{LacksSight, Looks, looked};
 ghost use Rattle.turn_c_calls.specs.Operation.{PollRecv, PollTransmit};
-ghost use Rattle.turn_c_calls.specs.Request.{peer_ip_of, peer_of, relayed_of};
-ghost use Rattle.turn_c_calls.specs.declared.code.TheConstants.{POLL_EVENT};
+ghost use Rattle.turn_c_calls.specs.declared.request.Kind.TheVariants as Kind;
+ghost use Rattle.turn_c_calls.specs.Request.{Bare, Written, flow_of, kind_of, peer_ip_of, peer_of, relayed_of};
 
 use crate::answer::Answer;
 use crate::fault::Fault;
@@ -30,74 +30,87 @@ const MAX_PAYLOAD: usize = 65_504;
 /// The most bytes that a packet adds to the data that it carries to a peer.
 const MAX_FRAME: usize = 64;
 
-/// Answers a request with its data, for a client whose allocation is over `relays`.
+/// Answers a request that writes bytes to the buffer, for a client whose allocation is over `relays`. It is compiled where it
+/// is called, for the kind that is known there.
 ///
 /// # Errors
 ///
 /// The first of these: `Time`, `Call`, `Payload`, `Unread` if bytes are left and it may return more, `Buffer`. Nothing has
 /// changed then. `OutOfMemory` if a memory allocation of the call fails: the client is as the call leaves it then, and
 /// nothing else has changed.
+#[inline(always)]
 pub fn handle<C: TurnClientApi>(
-    alloc: Global,
     client: &mut C,
     relays: TransportType,
+    kind: Kind,
     request: &Request,
     bytes: &[u8],
     unread: &mut Unread,
     buffer: &mut [u8],
     answer: &mut Answer,
 ) -> Result<(), Fault>
-    requires { (C.state client.old).config.allocation_transport ≡ relays }
+    requires relays { (C.state client.old).config.allocation_transport ≡ relays }
+    requires kind { kind_of request.now.kind ≡ Some kind }
+    requires flow { flow_of kind ≡ Written }
     ensures ok { OnOk result (RequestEnds request.now bytes.now (C.state client.old) (C.state client.new)
         unread.old unread.new buffer.old buffer.new answer.old answer.new) }
     ensures err { IfErr result (λ fault. RequestLacks request.now fault bytes.now (C.state client.old) (C.state client.new)
         unread.old unread.new buffer.old buffer.new answer.old answer.new) }
 {
     let now = time_of(request.time).ok_or(Fault::Time)?;
-    let kind = kind_in(request).ok_or(Fault::Call)?;
+    if request.reserved != 0 {
+        return Err(Fault::Call);
+    }
     match kind {
-        Kind::Delete => plain(client, Some(Call::Delete { now }), answer)?,
+        Kind::SendTo => send_to(client, relays, now, request, bytes, buffer, answer)?,
+        Kind::PollRecv => poll_recv(client, now, unread, buffer, answer)?,
+        Kind::PollTransmit => poll_transmit(client, now, unread, buffer, answer)?,
+        Kind::Read => make::read(unread, buffer, answer),
+        _ => unreachable!(),
+    }
+    Ok(())
+}
+
+/// As [`handle`], of a request that has to do with no bytes.
+#[inline(always)]
+pub fn handle_bare<C: TurnClientApi>(
+    client: &mut C,
+    kind: Kind,
+    request: &Request,
+    answer: &mut Answer,
+) -> Result<(), Fault>
+    requires kind { kind_of request.now.kind ≡ Some kind }
+    requires flow { flow_of kind ≡ Bare }
+    ensures ok { OnOk result (BareEnds request.now (C.state client.old) (C.state client.new) answer.old answer.new) }
+    ensures err { IfErr result (λ fault. BareLacks request.now fault (C.state client.old) (C.state client.new) answer.old answer.new) }
+{
+    let now = time_of(request.time).ok_or(Fault::Time)?;
+    if request.reserved != 0 {
+        return Err(Fault::Call);
+    }
+    match kind {
+        Kind::Delete => make::delete(client, now, answer)?,
         Kind::CreatePermission => plain(client, create_permission(now, request), answer)?,
-        Kind::BindChannel => plain(client, bind_channel(now, request), answer)?,
+        Kind::BindChannel => {
+            // Asked first, so that no call, which is large, is made of what is invalid.
+            if peer_of(request).is_none() {
+                return Err(Fault::Call);
+            }
+            plain(client, bind_channel(now, request), answer)?
+        }
         Kind::TcpConnect => plain(client, tcp_connect(now, request), answer)?,
         Kind::AllocatedTcpSocket => plain(client, allocated_tcp_socket(now, request), answer)?,
         Kind::TcpClosed => plain(client, tcp_closed(now, request), answer)?,
-        Kind::SendTo => send_to(client, relays, now, request, bytes, buffer, answer)?,
-        Kind::Recv => recv(alloc, client, now, request, bytes, unread, buffer, answer)?,
-        Kind::PollRecv => poll_recv(client, now, unread, buffer, answer)?,
         Kind::Poll => make::poll(client, now, answer)?,
-        Kind::PollTransmit => poll_transmit(client, now, unread, buffer, answer)?,
         Kind::PollEvent => make::poll_event(client, answer),
         Kind::ProtocolError => plain(client, Some(Call::ProtocolError), answer)?,
         Kind::RelayedAddresses => make::relayed_addresses(client, request.id, answer),
         Kind::Permissions => permissions(client, request, answer)?,
         Kind::HavePermission => have_permission(client, request, answer)?,
-        Kind::Read => make::read(unread, buffer, answer),
         Kind::SetPermissionKept => plain(client, set_permission_kept(now, request), answer)?,
         Kind::SetChannelKept => plain(client, set_channel_kept(now, request), answer)?,
+        _ => unreachable!(),
     }
-    Ok(())
-}
-
-/// As [`handle`], of a poll for an event.
-#[inline(always)]
-pub fn poll_event<C: TurnClientApi>(
-    client: &mut C,
-    request: &Request,
-    bytes: &[u8],
-    unread: &mut Unread,
-    buffer: &mut [u8],
-    answer: &mut Answer,
-) -> Result<(), Fault>
-    requires { request.now.kind ≡ POLL_EVENT }
-    ensures ok { OnOk result (RequestEnds request.now bytes.now (C.state client.old) (C.state client.new)
-        unread.old unread.new buffer.old buffer.new answer.old answer.new) }
-    ensures err { IfErr result (λ fault. RequestLacks request.now fault bytes.now (C.state client.old) (C.state client.new)
-        unread.old unread.new buffer.old buffer.new answer.old answer.new) }
-{
-    let _now = time_of(request.time).ok_or(Fault::Time)?;
-    let _kind = kind_in(request).ok_or(Fault::Call)?;
-    make::poll_event(client, answer);
     Ok(())
 }
 
@@ -121,6 +134,7 @@ fn plain<C: TurnClientApi>(
 }
 
 /// Sends data to a peer.
+#[inline(always)]
 fn send_to<C: TurnClientApi>(
     client: &mut C,
     relays: TransportType,
@@ -185,24 +199,26 @@ fn send_to_peer<C: TurnClientApi, A: Into<SocketAddr>>(
     Ok(())
 }
 
-fn recv<C: TurnClientApi>(
+/// As [`handle`], of a packet that was received.
+pub fn recv<C: TurnClientApi>(
     alloc: Global,
     client: &mut C,
-    now: Instant,
     request: &Request,
     bytes: &[u8],
     unread: &mut Unread,
     buffer: &mut [u8],
     answer: &mut Answer,
 ) -> Result<(), Fault>
-    requires { now ≤ 2 ^ 62 }
-    ensures ok { OnOk result (Ends (judged_as (C.state client.old).config.allocation_transport now request.now
-        (nat_lt 0 (length unread.old)) (length bytes.now) (length buffer.old) Kind.Recv) bytes.now
-        (C.state client.old) (C.state client.new) unread.old unread.new buffer.old buffer.new answer.old answer.new) }
-    ensures err { IfErr result (λ fault. Lacks (judged_as (C.state client.old).config.allocation_transport now request.now
-        (nat_lt 0 (length unread.old)) (length bytes.now) (length buffer.old) Kind.Recv) fault bytes.now
-        (C.state client.old) (C.state client.new) unread.old unread.new buffer.old buffer.new answer.old answer.new) }
+    requires { kind_of request.now.kind ≡ Some Kind.Recv }
+    ensures ok { OnOk result (RequestEnds request.now bytes.now (C.state client.old) (C.state client.new)
+        unread.old unread.new buffer.old buffer.new answer.old answer.new) }
+    ensures err { IfErr result (λ fault. RequestLacks request.now fault bytes.now (C.state client.old) (C.state client.new)
+        unread.old unread.new buffer.old buffer.new answer.old answer.new) }
 {
+    let now = time_of(request.time).ok_or(Fault::Time)?;
+    if request.reserved != 0 {
+        return Err(Fault::Call);
+    }
     let Some(tuple) = c_tuple(request) else {
         return Err(Fault::Call);
     };
@@ -213,6 +229,7 @@ fn recv<C: TurnClientApi>(
     Ok(())
 }
 
+#[inline(always)]
 fn poll_recv<C: TurnClientApi>(
     client: &mut C,
     now: Instant,
@@ -235,6 +252,7 @@ fn poll_recv<C: TurnClientApi>(
     Ok(())
 }
 
+#[inline(always)]
 fn poll_transmit<C: TurnClientApi>(
     client: &mut C,
     now: Instant,

@@ -14,6 +14,7 @@
 pub mod address;
 pub mod answer;
 mod buffer;
+mod by_kind;
 mod channel;
 pub mod code;
 mod fault;

@@ -1,15 +1,17 @@
 //! What the C library exports, but for the pointers.
 
 ghost use Rattle.std.specs.Prelude.{◌≡◌, Ok, IfErr, IfOk};
-ghost use Rattle.turn_c_calls.specs.Head.{HeadSteps, Responds};
+ghost use Rattle.turn_c_calls.specs.Head.{Responds};
 ghost use Rattle.turn_c_calls.specs.Look.{LooksAt};
 ghost use Rattle.turn_c_calls.specs.Open.{Refuses, session_of};
-ghost use Rattle.turn_c_calls.specs.Step.{Steps};
 
 use crate::answer::Answer;
-use crate::code::{POLL_EVENT, SEND_HEAD};
+use crate::by_kind::{
+    bare, poll, poll_event, poll_recv, poll_transmit, read, recv, refuse, send_head, send_to,
+};
+use crate::code::SEND_HEAD;
 use crate::opening::{OpenError, new_session};
-use crate::request::Request;
+use crate::request::{Kind, Request, kind_of};
 use crate::session::Session;
 use crate::settings::Settings;
 use std::alloc::Global;
@@ -38,8 +40,6 @@ pub fn start(
 
 /// Answers a request with its data, or for a head with the length of the data alone, and returns the kind of the answer.
 /// Bytes of the answer are written to the buffer.
-// A poll for an event mostly finds none, so it is answered here, as is what names no call. The other calls together need each
-// register and a large frame, which would be saved and made for these, too.
 #[inline(always)]
 pub fn step(
     session: &mut Session,
@@ -54,49 +54,19 @@ pub fn step(
     ensures kind { result ≡ answer.new.kind }
 {
     if request.kind == SEND_HEAD {
-        headed(session, request, len, buffer, answer)
-    } else if request.kind == POLL_EVENT {
-        session.answer_event(request, bytes, buffer, answer);
-        answer.kind
-    } else if request.kind == 0 || request.kind > SEND_HEAD {
-        session.refuse(request, bytes, buffer, answer);
-        answer.kind
-    } else {
-        answered(session, alloc, request, bytes, buffer, answer)
+        return send_head(session, request, len, buffer, answer);
     }
-}
-
-/// Answers a request for a head, and returns the kind of the answer.
-#[inline(never)]
-fn headed(
-    session: &mut Session,
-    request: &Request,
-    len: usize,
-    buffer: &mut [u8],
-    answer: &mut Answer,
-) -> u32
-    ensures step { HeadSteps request.now len session.old session.new buffer.old buffer.new answer.old answer.new }
-    ensures kind { result ≡ answer.new.kind }
-{
-    session.send_head(request, len, buffer, answer);
-    answer.kind
-}
-
-/// Answers another request with its data, and returns the kind of the answer.
-#[inline(never)]
-fn answered(
-    session: &mut Session,
-    alloc: Global,
-    request: &Request,
-    bytes: &[u8],
-    buffer: &mut [u8],
-    answer: &mut Answer,
-) -> u32
-    ensures step { Steps request.now bytes.now session.old session.new buffer.old buffer.new answer.old answer.new }
-    ensures kind { result ≡ answer.new.kind }
-{
-    session.answer(alloc, request, bytes, buffer, answer);
-    answer.kind
+    match kind_of(request.kind) {
+        None => refuse(session, request, answer),
+        Some(Kind::SendTo) => send_to(session, request, bytes, buffer, answer),
+        Some(Kind::Recv) => recv(session, alloc, request, bytes, buffer, answer),
+        Some(Kind::PollRecv) => poll_recv(session, request, bytes, buffer, answer),
+        Some(Kind::PollTransmit) => poll_transmit(session, request, bytes, buffer, answer),
+        Some(Kind::Read) => read(session, request, bytes, buffer, answer),
+        Some(Kind::Poll) => poll(session, request, answer),
+        Some(Kind::PollEvent) => poll_event(session, request, answer),
+        Some(kind) => bare(session, kind, request, answer),
+    }
 }
 
 /// Answers a request that only looks at the client, and returns the kind of the answer.

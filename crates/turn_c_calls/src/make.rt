@@ -11,12 +11,12 @@ ghost use Rattle.turn_c_calls.specs.Buffer.{Puts};
 ghost use Rattle.turn_c_calls.specs.Request.{recv_call};
 
 use crate::answer::Answer;
-use crate::code::{BYTES, NO, NOTHING, YES};
+use crate::code::{BYTES, DONE, NO, NOTHING, YES};
 use crate::give::{deliver, give, report, write};
 use crate::unread::{Kept, Unread};
 use std::alloc::{AllocError, Global};
 use std::net::{IpAddr, SocketAddr};
-use turn_client_api::{Socket5Tuple, TurnClientApi};
+use turn_client_api::{DeleteError, Socket5Tuple, TurnClientApi};
 use turn_client_calls::{Call, Refusal, plain_reply_to};
 use turn_stun::instant::Instant;
 use turn_stun::transport::{Transmit, TransportType};
@@ -35,6 +35,27 @@ pub fn plain<C: TurnClientApi>(
 {
     let reply = plain_reply_to(client, call)?;
     answer.set_reply(&reply);
+    Ok(())
+}
+
+/// Deletes the allocations.
+// Apart from the other plain calls, since it has no argument that could be invalid.
+#[inline(always)]
+pub fn delete<C: TurnClientApi>(
+    client: &mut C,
+    now: Instant,
+    answer: &mut Answer,
+) -> Result<(), AllocError>
+    requires { now ≤ 2 ^ 62 }
+    ensures ok { OnOk result (MakesPlain (Call.Delete now) 0 (C.state client.old) (C.state client.new) answer.old answer.new) }
+    ensures err { OnErr result (EndsForMemory (Call.Delete now) (C.state client.old) (C.state client.new)) }
+    ensures same { OnErr result (answer.new ≡ answer.old) }
+{
+    match client.delete(now) {
+        Ok(()) => answer.kind = DONE,
+        Err(DeleteError::OutOfMemory) => return Err(AllocError),
+        Err(error) => answer.set_refusal(Refusal::from(error)),
+    }
     Ok(())
 }
 
@@ -196,6 +217,7 @@ pub fn have_permission<C: TurnClientApi>(
 }
 
 /// Reads the next bytes.
+#[inline(always)]
 pub fn read(unread: &mut Unread, buffer: &mut [u8], answer: &mut Answer)
     ensures { Puts unread.old [] (of_kind BYTES answer.old) buffer.old buffer.new unread.new answer.new }
 {

@@ -110,8 +110,9 @@ pub fn kind_in(request: &Request) -> Option<Kind>
     kind_of(request.kind)
 }
 
-/// The kind of this number.
-fn kind_of(code: u32) -> Option<Kind>
+/// The kind of this number, or none if it names no call.
+#[inline(always)]
+pub fn kind_of(code: u32) -> Option<Kind>
     ensures { result ≡ kind_of code }
 {
     match code {

@@ -1,18 +1,18 @@
 //! A client with the bytes that are to be read of it.
 
-ghost use Rattle.std.specs.Prelude.{◌≡◌, None, IfErr, OnOk};
+ghost use Rattle.std.specs.Prelude.{◌≡◌, Some, None, IfErr, OnOk};
 ghost use Rattle.turn_client_proto.specs.Client.{state_of};
-ghost use Rattle.turn_c_calls.specs.Arms.{RequestEnds, RequestLacks};
+ghost use Rattle.turn_c_calls.specs.Arms.{BareEnds, BareLacks, RequestEnds, RequestLacks};
 ghost use Rattle.turn_c_calls.specs.Head.{HeadRequestEnds, HeadRequestLacks};
-ghost use Rattle.turn_c_calls.specs.Request.{kind_in};
-ghost use Rattle.turn_c_calls.specs.declared.code.TheConstants.{POLL_EVENT};
+ghost use Rattle.turn_c_calls.specs.Request.{Bare, Written, flow_of, kind_in, kind_of};
+ghost use Rattle.turn_c_calls.specs.declared.request.Kind.TheVariants as Kind;
 
 use crate::answer::Answer;
-use crate::channel::handle_udp;
+use crate::channel::recv_udp;
 use crate::fault::Fault;
-use crate::handle::{handle, look, poll_event};
+use crate::handle::{handle, handle_bare, look, recv};
 use crate::head::send_head;
-use crate::request::{Request, time_of};
+use crate::request::{Kind, Request, time_of};
 use crate::unread::Unread;
 use std::alloc::Global;
 use std::marker::Model;
@@ -46,7 +46,7 @@ impl Session {
     ghost use Rattle.turn_c_calls.specs.Head.{HeadSteps};
     ghost use Rattle.turn_c_calls.specs.Held.{held};
     ghost use Rattle.turn_c_calls.specs.Look.{look_answer, looked};
-    ghost use Rattle.turn_c_calls.specs.Step.{Steps};
+    ghost use Rattle.turn_c_calls.specs.Step.{BareSteps, Steps};
 
     /// This client, whose allocations relay over `relays`, with nothing to be read.
     pub(crate) fn new(client: TurnClient, relays: TransportType) -> Session
@@ -60,23 +60,27 @@ impl Session {
         }
     }
 
-    /// Answers a request with its data. Bytes of the answer are written to the buffer.
-    pub fn answer(
+    /// Answers a request that writes bytes to the buffer, with its data. It is compiled where it is called, for the kind that
+    /// is known there.
+    #[inline(always)]
+    pub(crate) fn answer(
         &mut self,
-        alloc: Global,
+        kind: Kind,
         request: &Request,
         bytes: &[u8],
         buffer: &mut [u8],
         answer: &mut Answer,
     )
+        requires kind { kind_of request.now.kind ≡ Some kind }
+        requires flow { flow_of kind ≡ Written }
         ensures { Steps request.now bytes.now self.old self.new buffer.old buffer.new answer.old answer.new }
     {
         let client = &mut self.client;
         let unread = &mut self.unread;
         match handle_either(
-            alloc,
             client,
             self.relays,
+            kind,
             request,
             bytes,
             unread,
@@ -88,21 +92,36 @@ impl Session {
         }
     }
 
-    /// Answers a poll for an event, as [`Session::answer`] does, compiled where it is called.
+    /// As [`Session::answer`], of a packet that was received.
     #[inline(always)]
-    pub fn answer_event(
+    pub(crate) fn recv(
         &mut self,
+        alloc: Global,
         request: &Request,
         bytes: &[u8],
         buffer: &mut [u8],
         answer: &mut Answer,
     )
-        requires { request.now.kind ≡ POLL_EVENT }
+        requires { kind_of request.now.kind ≡ Some Kind.Recv }
         ensures { Steps request.now bytes.now self.old self.new buffer.old buffer.new answer.old answer.new }
     {
         let client = &mut self.client;
         let unread = &mut self.unread;
-        match poll_event_either(client, request, bytes, unread, buffer, answer) {
+        match recv_either(alloc, client, request, bytes, unread, buffer, answer) {
+            Ok(()) => {}
+            Err(fault) => answer.kind = fault.code(),
+        }
+    }
+
+    /// As [`Session::answer`], of a request that has to do with no bytes.
+    #[inline(always)]
+    pub(crate) fn answer_bare(&mut self, kind: Kind, request: &Request, answer: &mut Answer)
+        requires kind { kind_of request.now.kind ≡ Some kind }
+        requires flow { flow_of kind ≡ Bare }
+        ensures { BareSteps request.now self.old self.new answer.old answer.new }
+    {
+        let client = &mut self.client;
+        match handle_bare_either(client, kind, request, answer) {
             Ok(()) => {}
             Err(fault) => answer.kind = fault.code(),
         }
@@ -110,15 +129,9 @@ impl Session {
 
     /// Answers a request that names no call, as [`Session::answer`] does, compiled where it is called.
     #[inline(always)]
-    pub fn refuse(
-        &mut self,
-        request: &Request,
-        bytes: &[u8],
-        buffer: &mut [u8],
-        answer: &mut Answer,
-    )
+    pub(crate) fn refuse(&mut self, request: &Request, answer: &mut Answer)
         requires { kind_in request.now ≡ None }
-        ensures { Steps request.now bytes.now self.old self.new buffer.old buffer.new answer.old answer.new }
+        ensures { BareSteps request.now self.old self.new answer.old answer.new }
     {
         match time_of(request.time) {
             Some(_now) => answer.kind = Fault::Call.code(),
@@ -157,17 +170,20 @@ impl Session {
 
 /// As [`handle`], for a client over UDP and one over TCP apart: what the calls of either return is not copied into one type for
 /// both.
+#[inline(always)]
 fn handle_either(
-    alloc: Global,
     client: &mut TurnClient,
     relays: TransportType,
+    kind: Kind,
     request: &Request,
     bytes: &[u8],
     unread: &mut Unread,
     buffer: &mut [u8],
     answer: &mut Answer,
 ) -> Result<(), Fault>
-    requires { (state_of client.old).config.allocation_transport ≡ relays }
+    requires relays { (state_of client.old).config.allocation_transport ≡ relays }
+    requires kind { kind_of request.now.kind ≡ Some kind }
+    requires flow { flow_of kind ≡ Written }
     ensures ok { OnOk result (RequestEnds request.now bytes.now (state_of client.old) (state_of client.new)
         unread.old unread.new buffer.old buffer.new answer.old answer.new) }
     ensures err { IfErr result (λ fault. RequestLacks request.now fault bytes.now (state_of client.old) (state_of client.new)
@@ -175,21 +191,18 @@ fn handle_either(
 {
     match client {
         TurnClient::Udp(client) => {
-            handle_udp(
-                alloc, client, relays, request, bytes, unread, buffer, answer,
-            )
+            handle(client, relays, kind, request, bytes, unread, buffer, answer)
         }
         TurnClient::Tcp(client) => {
-            handle(
-                alloc, client, relays, request, bytes, unread, buffer, answer,
-            )
+            handle(client, relays, kind, request, bytes, unread, buffer, answer)
         }
     }
 }
 
-/// As [`poll_event`], for a client over UDP and one over TCP apart.
+/// As [`recv`], for a client over UDP and one over TCP apart.
 #[inline(always)]
-fn poll_event_either(
+fn recv_either(
+    alloc: Global,
     client: &mut TurnClient,
     request: &Request,
     bytes: &[u8],
@@ -197,15 +210,34 @@ fn poll_event_either(
     buffer: &mut [u8],
     answer: &mut Answer,
 ) -> Result<(), Fault>
-    requires { request.now.kind ≡ POLL_EVENT }
+    requires { kind_of request.now.kind ≡ Some Kind.Recv }
     ensures ok { OnOk result (RequestEnds request.now bytes.now (state_of client.old) (state_of client.new)
         unread.old unread.new buffer.old buffer.new answer.old answer.new) }
     ensures err { IfErr result (λ fault. RequestLacks request.now fault bytes.now (state_of client.old) (state_of client.new)
         unread.old unread.new buffer.old buffer.new answer.old answer.new) }
 {
     match client {
-        TurnClient::Udp(client) => poll_event(client, request, bytes, unread, buffer, answer),
-        TurnClient::Tcp(client) => poll_event(client, request, bytes, unread, buffer, answer),
+        TurnClient::Udp(client) => recv_udp(alloc, client, request, bytes, unread, buffer, answer),
+        TurnClient::Tcp(client) => recv(alloc, client, request, bytes, unread, buffer, answer),
+    }
+}
+
+/// As [`handle_bare`], for a client over UDP and one over TCP apart.
+#[inline(always)]
+fn handle_bare_either(
+    client: &mut TurnClient,
+    kind: Kind,
+    request: &Request,
+    answer: &mut Answer,
+) -> Result<(), Fault>
+    requires kind { kind_of request.now.kind ≡ Some kind }
+    requires flow { flow_of kind ≡ Bare }
+    ensures ok { OnOk result (BareEnds request.now (state_of client.old) (state_of client.new) answer.old answer.new) }
+    ensures err { IfErr result (λ fault. BareLacks request.now fault (state_of client.old) (state_of client.new) answer.old answer.new) }
+{
+    match client {
+        TurnClient::Udp(client) => handle_bare(client, kind, request, answer),
+        TurnClient::Tcp(client) => handle_bare(client, kind, request, answer),
     }
 }
 

@@ -49,6 +49,7 @@ impl Model for Unread {
 }
 
 /// All the bytes, read or not.
+#[inline(always)]
 fn whole_of(kept: &Option<Kept>) -> &[u8]
     ensures { result.now ≡ whole kept.now }
 {
@@ -74,6 +75,7 @@ impl Unread {
     }
 
     /// The bytes that are left.
+    #[inline(always)]
     fn rest(&self) -> &[u8]
         ensures { result.now ≡ self.now }
     {
@@ -81,6 +83,7 @@ impl Unread {
     }
 
     /// How many bytes are left.
+    #[inline(always)]
     pub fn len(&self) -> usize
         ensures { result ≡ length self.now }
     {
@@ -95,6 +98,7 @@ impl Unread {
     }
 
     /// Writes as many of the bytes as fit to the start of the buffer, and returns how many these are. The others are left.
+    #[inline(always)]
     pub fn read(&mut self, buffer: &mut [u8]) -> usize
         ensures count { result ≡ min (length buffer.old) (length self.old) }
         ensures buffer { buffer.new ≡ buffer_filled self.old buffer.old }

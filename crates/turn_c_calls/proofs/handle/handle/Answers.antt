@@ -2,21 +2,6 @@ use Rattle.std.proofs.Common.{arith, length}
 use Rattle.std.specs.Prelude.{nat_lt}
 use Rattle.turn_c_calls.proofs.handle.handle.Goals as goal
 
-pub returns-in_ok-poll-in-Poll-clause-ok : goal.returns-in_ok-poll-in-Poll-clause-ok
-returns-in_ok-poll-in-Poll-clause-ok g c =
-    let h = c.in_ok-poll-in-Poll.ensures.ok c.args.unread.now c.args.buffer.now in grind (arith, h)
-
-pub returns-in-PollEvent-clause-ok : goal.returns-in-PollEvent-clause-ok
-returns-in-PollEvent-clause-ok g c = let h = c.poll_event.ensures c.args.unread.now c.args.buffer.now in grind (arith, h)
-
-pub returns-in_ok-plain-in-Delete-clause-ok : goal.returns-in_ok-plain-in-Delete-clause-ok
-returns-in_ok-plain-in-Delete-clause-ok g c =
-    let h = c.in_ok-plain-in-Delete.ensures.ok c.args.unread.now c.args.buffer.now in grind (arith, h)
-
-pub returns-in_ok-plain-in-ProtocolError-clause-ok : goal.returns-in_ok-plain-in-ProtocolError-clause-ok
-returns-in_ok-plain-in-ProtocolError-clause-ok g c =
-    let h = c.in_ok-plain-in-ProtocolError.ensures.ok c.args.unread.now c.args.buffer.now in grind (arith, h)
-
 pub returns-in_ok-send_to-in-SendTo-clause-ok : goal.returns-in_ok-send_to-in-SendTo-clause-ok
 returns-in_ok-send_to-in-SendTo-clause-ok g c =
     let h = c.in_ok-send_to-in-SendTo.ensures.ok c.args.unread.now (nat_lt 0 (length c.args.unread.now)) in grind (arith, h)
