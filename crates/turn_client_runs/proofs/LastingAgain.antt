@@ -12,7 +12,7 @@ use Rattle.turn_client_runs.proofs.LastingCounts.{passes-all}
 use Rattle.turn_client_runs.proofs.LastingHistory.{GoesOn, known-later, lone-more, waited-next}
 use Rattle.turn_client_runs.proofs.LastingListings.{requests-more}
 use Rattle.turn_client_runs.proofs.LastingStands.{Goes, IsAsked, IsAwaited, IsIdle, IsKept, IsRequest, IsRequested, Stands, due_of, early-paced, extra-paced, listed_as, asked-before, is_served}
-use Rattle.turn_client_runs.proofs.LastingStands.{is_waiting, served, more-paced, pause-le, used}
+use Rattle.turn_client_runs.proofs.LastingStands.{is_waiting, served, more-paced, pause-paced, used, Lag, taken}
 
 -- one packet more is extra
 abbrev pub IsOneMore : ℕ → History → History → Type 0
@@ -20,7 +20,7 @@ IsOneMore now past later = (since : ℕ) → since ≤ now → extra_since since
 
 -- ---- a request is retransmitted
 
-module _ (count slots extras delay now : ℕ) (past later : History) (s : State) (k : IsKept count slots extras delay now past s.transactions s) (on : GoesOn s.transactions past later)
+module _ (count slots extras : ℕ) (lag : Lag) (delay now : ℕ) (past later : History) (s : State) (k : IsKept count slots extras lag delay now past s.transactions s) (on : GoesOn s.transactions past later)
     (more : IsOneMore now past later) (seldom : IsSeldom extras s.config.refresh_ahead now later)
     (row : s.challenges ≤ later.challenged) (x : Transaction) (found : due (agent_of s) now ≡ Some x) where
   abbrev again : Transaction → Transaction
@@ -64,7 +64,7 @@ module _ (count slots extras delay now : ℕ) (past later : History) (s : State)
           let late : y.last_send + wait_at timers s.transport y.resends ≤ now = subst (λ (z : Transaction). z.last_send + wait_at timers s.transport z.resends ≤ now) (sym one) over in
           omega (arith, made, old, next, late)
 
-  idle-again : (g : Grant) → IsIdle slots now past s g → IsIdle slots now later t g
+  idle-again : (g : Grant) → IsIdle slots lag now past s g → IsIdle slots (taken now lag) now later t g
   idle-again g idle = record { unasked = idle.unasked; near = idle.near; soon = soon; paused = paused }
     where
       used-more : due_of s g ≤ now → used past s (due_of s g) + 1 ≤ used later t (due_of s g)
@@ -73,28 +73,33 @@ module _ (count slots extras delay now : ℕ) (past later : History) (s : State)
           let same : served s (due_of s g) ≡ served t (due_of s g) = refl in
           omega (arith, one, same)
 
-      paused : pause_end t + s.config.request_cadence * length s.queue ≤ due_of s g + s.config.request_cadence * (1 + slots + used later t (due_of s g))
+      paused : pause_end t + lag.pace * length s.queue ≤ due_of s g + lag.pace * (1 + slots + used later t (due_of s g))
       paused = elim (cases_lt now (due_of s g)) [
         | inl early ↦
             let few = k.few in
+            let paced = k.paced in
             let pause : pause_end t ≤ now + s.config.request_cadence = omega arith in
-            early-paced s.config.request_cadence s.config.request_cadence (pause_end t) (length s.queue) (length s.queue) now (due_of s g) slots (used later t (due_of s g))
-            refl refl few pause (omega (arith, early))
+            early-paced lag.pace lag.pace (pause_end t) (length s.queue) (length s.queue) now (due_of s g) slots (used later t (due_of s g))
+            refl refl few (omega (arith, pause, paced)) (omega (arith, early))
         | inr late ↦
-            let whole = extra-paced s.config.request_cadence now (length s.queue) (due_of s g) slots (used past s (due_of s g)) (used later t (due_of s g)) (used-more late) idle.soon in
+            let whole = extra-paced lag.pace lag.since (length s.queue) (due_of s g) slots (used past s (due_of s g)) (used later t (due_of s g)) (used-more late) idle.soon in
             let pause : pause_end t ≤ now + s.config.request_cadence = omega arith in
-            omega (arith, whole, pause)
+            let paced = k.paced in
+            let behind = k.behind in
+            omega (arith, whole, pause, paced, behind)
       ]
 
-      soon : now + s.config.request_cadence * length s.queue ≤ due_of s g + s.config.request_cadence * (1 + slots + used later t (due_of s g))
+      soon : now + lag.pace * length s.queue ≤ due_of s g + lag.pace * (1 + slots + used later t (due_of s g))
       soon = elim (cases_lt now (due_of s g)) [
         | inl early ↦
             let few = k.few in
-            early-paced s.config.request_cadence s.config.request_cadence now (length s.queue) (length s.queue) now (due_of s g) slots (used later t (due_of s g))
+            early-paced lag.pace lag.pace now (length s.queue) (length s.queue) now (due_of s g) slots (used later t (due_of s g))
             refl refl few (omega arith) (omega (arith, early))
         | inr late ↦
-            let whole = extra-paced s.config.request_cadence now (length s.queue) (due_of s g) slots (used past s (due_of s g)) (used later t (due_of s g)) (used-more late) idle.soon in
-            omega (arith, whole)
+            let whole = extra-paced lag.pace lag.since (length s.queue) (due_of s g) slots (used past s (due_of s g)) (used later t (due_of s g)) (used-more late) idle.soon in
+            let paced = k.paced in
+            let behind = k.behind in
+            omega (arith, whole, paced, behind)
       ]
 
   requested-again : (when : ℕ → Type 0) (g : Grant) → IsRequested when past s.transactions s.listed g → IsRequested when later t.transactions t.listed g
@@ -108,22 +113,25 @@ module _ (count slots extras delay now : ℕ) (past later : History) (s : State)
     made = rw (same-id p.transaction, on.same p.transaction p.there) p.made;
   }
 
-  stands-again : (g : Grant) → Stands count slots extras delay now past s.transactions s g → Stands count slots extras delay now later t.transactions t g
+  stands-again : (g : Grant) → Stands count slots extras lag delay now past s.transactions s g → Stands count slots extras (taken now lag) delay now later t.transactions t g
   stands-again g was = record { granted = was.granted; room = was.room; long = was.long; either = by was.either }
     where
-      by : IsAwaited delay past s.transactions s.listed g ⊎ IsIdle slots now past s g → IsAwaited delay later t.transactions t.listed g ⊎ IsIdle slots now later t g
+      by : IsAwaited delay past s.transactions s.listed g ⊎ IsIdle slots lag now past s g → IsAwaited delay later t.transactions t.listed g ⊎ IsIdle slots (taken now lag) now later t g
       by (inl a) = inl (requested-again (λ made. made + delay < expiry_of g) g a)
       by (inr idle) = inr (idle-again g idle)
 
   came : (y : Transaction) → Has y t.transactions → (z : Transaction) × Has z s.transactions × (y ≡ again z)
   came y h = has-mapped again y s.transactions h
 
-  pub kept-again : IsKept count slots extras delay now later t.transactions t
+  pub kept-again : IsKept count slots extras (taken now lag) delay now later t.transactions t
   kept-again = record {
     phase = k.phase;
     requests = k.requests;
     few = k.few;
     prompt = k.prompt;
+    paced = k.paced;
+    begins = omega arith;
+    behind = omega arith;
     pace = k.pace;
     sent = omega arith;
     aged = λ y h.
@@ -177,7 +185,7 @@ retry_text s id purpose challenge =
 pub retried-queue : (s : State) (id : ℕ) (purpose : Purpose) (challenge : Challenge) (now : ℕ) → length (state_after_retry s id purpose challenge now).queue ≡ length s.queue + 1
 retried-queue s id purpose challenge now = length-append s.queue (record { packet = to_server s s.local (retry_text s id purpose challenge); is_request = true } ∷ [])
 
-module _ (count slots extras delay now : ℕ) (past later : History) (s : State) (k : IsKept count slots extras delay now past s.transactions s) (on : GoesOn s.transactions past later)
+module _ (count slots extras : ℕ) (lag : Lag) (delay now : ℕ) (past later : History) (s : State) (k : IsKept count slots extras lag delay now past s.transactions s) (on : GoesOn s.transactions past later)
     (more : IsOneMore now past later) (seldom : IsSeldom extras s.config.refresh_ahead now later) (row : s.challenges + 1 ≤ later.challenged) (id : ℕ) (purpose : Purpose) (challenge : Challenge)
     (fits : length s.queue + 1 ≤ slots) (early_made : later.made (fresh_id s) ≤ now) (answered_by : now ≤ later.made (fresh_id s) + delay)
     (as_old : (x : Transaction) → Has x s.transactions → x.id ≡ id → later.made (fresh_id s) ≡ past.made x.id) where
@@ -273,29 +281,29 @@ module _ (count slots extras delay now : ℕ) (past later : History) (s : State)
   one-more : length after.queue ≡ length s.queue + 1
   one-more = retried-queue s id purpose challenge now
 
-  idle-retried : (g : Grant) → IsIdle slots now past s g → IsIdle slots now later after g
+  idle-retried : (g : Grant) → IsIdle slots lag now past s g → IsIdle slots lag now later after g
   idle-retried g idle = record { unasked = not-asked g idle.unasked; near = idle.near; soon = soon; paused = paused }
     where
       used-more : due_of s g ≤ now → used past s (due_of s g) + 1 ≤ used later after (due_of s g)
       used-more early = let one = more (due_of s g) early in let same = serves-same (due_of s g) in omega (arith, one, same)
 
-      by : (x : ℕ) → x ≤ now + s.config.request_cadence → x + s.config.request_cadence * length s.queue ≤ due_of s g + s.config.request_cadence * (1 + slots + used past s (due_of s g))
-          → x + s.config.request_cadence * length after.queue ≤ due_of s g + s.config.request_cadence * (1 + slots + used later after (due_of s g))
+      by : (x : ℕ) → x ≤ now + lag.pace → x + lag.pace * length s.queue ≤ due_of s g + lag.pace * (1 + slots + used past s (due_of s g))
+          → x + lag.pace * length after.queue ≤ due_of s g + lag.pace * (1 + slots + used later after (due_of s g))
       by x pause was = elim (cases_lt now (due_of s g)) [
         | inl early ↦
-            early-paced s.config.request_cadence s.config.request_cadence x (length after.queue) (length after.queue) now (due_of s g) slots (used later after (due_of s g))
+            early-paced lag.pace lag.pace x (length after.queue) (length after.queue) now (due_of s g) slots (used later after (due_of s g))
             refl refl (omega (arith, one-more, fits)) pause (omega (arith, early))
-        | inr late ↦ more-paced s.config.request_cadence x (length s.queue) (length after.queue)
+        | inr late ↦ more-paced lag.pace x (length s.queue) (length after.queue)
             (due_of s g) slots (used past s (due_of s g)) (used later after (due_of s g)) one-more (used-more late) was
       ]
 
-      soon : now + s.config.request_cadence * length after.queue ≤ due_of s g + s.config.request_cadence * (1 + slots + used later after (due_of s g))
-      soon = by now (omega arith) idle.soon
+      soon : lag.since + lag.pace * length after.queue ≤ due_of s g + lag.pace * (1 + slots + used later after (due_of s g))
+      soon = let begins = k.begins in by lag.since (omega (arith, begins)) idle.soon
 
-      paused : pause_end s + s.config.request_cadence * length after.queue ≤ due_of s g + s.config.request_cadence * (1 + slots + used later after (due_of s g))
-      paused = by (pause_end s) (pause-le now s k.sent) idle.paused
+      paused : pause_end s + lag.pace * length after.queue ≤ due_of s g + lag.pace * (1 + slots + used later after (due_of s g))
+      paused = by (pause_end s) (pause-paced count slots extras lag delay now past s.transactions s k) idle.paused
 
-  stands-retried : (g : Grant) → Stands count slots extras delay now past s.transactions s g → Stands count slots extras delay now later after.transactions after g
+  stands-retried : (g : Grant) → Stands count slots extras lag delay now past s.transactions s g → Stands count slots extras lag delay now later after.transactions after g
   stands-retried g was = record {
     granted = was.granted;
     room = was.room;
@@ -319,12 +327,15 @@ module _ (count slots extras delay now : ℕ) (past later : History) (s : State)
       by : (p : Phase) → p ≡ Allocated → phase_after p ≡ Allocated
       by p e = rw e refl
 
-  pub kept-retried : IsKept count slots extras delay now later after.transactions after
+  pub kept-retried : IsKept count slots extras lag delay now later after.transactions after
   kept-retried = record {
     phase = phase-same;
     requests = list_any-append (λ (q : Queued). not q.is_request) s.queue (record { packet = to_server s s.local text; is_request = true } ∷ []) ∙ rw k.requests refl;
     few = omega (arith, one-more, fits);
     prompt = k.prompt;
+    paced = k.paced;
+    begins = k.begins;
+    behind = k.behind;
     pace = k.pace;
     sent = k.sent;
     aged = λ x h. elim (has-last x left new h) [

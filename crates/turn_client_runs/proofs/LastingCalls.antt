@@ -19,6 +19,7 @@ use Rattle.turn_client_runs.proofs.LastingHistory.{lone-more}
 use Rattle.turn_client_runs.proofs.LastingCounts.{passes, passes-all, passes-append, passes-none}
 use Rattle.turn_client_runs.proofs.LastingStands.{Goes, IsPending, IsRequested, requested-more, AreSingle, IsAsked, IsRequest, IsAwaited, IsIdle, IsKept, IsUnique, Stands, allocation-stands, due_of}
 use Rattle.turn_client_runs.proofs.LastingStands.{more-paced, asked-before, leased-active, IsLoose, is_served, is_waiting, not-waiting, served, stands-early, unique-refreshing}
+use Rattle.turn_client_runs.proofs.LastingStands.{Lag}
 use Rattle.turn_client_runs.proofs.LastingTransmits.{same_ip-self}
 use Rattle.turn_client_runs.proofs.LastingListings.{requests-more}
 use Rattle.turn_client_runs.proofs.LastingEffects.{permission-there, some-first}
@@ -43,7 +44,7 @@ pub record AreNew (s : State) (ps : List Purpose) (news : List Grant) : Type 0 w
   pub asked : (g : Grant) → Has g news → (p : Purpose) × Has p ps × (is_for p g ≡ true)
   pub linked : (id : ℕ) → IsRequest (s.grants ++ news) (listings id ps)
 
-module _ (count slots extras delay now : ℕ) (past : History) (s : State) (k : IsKept count slots extras delay now past s.transactions s)
+module _ (count slots extras : ℕ) (lag : Lag) (delay now : ℕ) (past : History) (s : State) (k : IsKept count slots extras lag delay now past s.transactions s)
     (ps : List Purpose) (news : List Grant) (are : AreNew s ps news) (text : List ℕ)
     (fresh : past.made (fresh_id s) ≡ now) where
   abbrev id : ℕ
@@ -102,10 +103,10 @@ module _ (count slots extras delay now : ℕ) (past : History) (s : State) (k : 
   requested-old : (when : ℕ → Type 0) (g : Grant) → IsRequested when past s.transactions s.listed g → IsRequested when past t.transactions t.listed g
   requested-old when g = requested-more when past past s.transactions t.transactions s.listed t.listed g (λ x h. refl) (λ x h. has-left x s.transactions _ h) (λ l h for. has-left l s.listed _ h)
 
-  stands-asked : (g : Grant) → Has g s.grants → Stands count slots extras delay now past s.transactions s g → Stands count slots extras delay now past t.transactions t g
+  stands-asked : (g : Grant) → Has g s.grants → Stands count slots extras lag delay now past s.transactions s g → Stands count slots extras lag delay now past t.transactions t g
   stands-asked g there was = record { granted = was.granted; room = was.room; long = was.long; either = by was.either }
     where
-      by : IsAwaited delay past s.transactions s.listed g ⊎ IsIdle slots now past s g → IsAwaited delay past t.transactions t.listed g ⊎ IsIdle slots now past t g
+      by : IsAwaited delay past s.transactions s.listed g ⊎ IsIdle slots lag now past s g → IsAwaited delay past t.transactions t.listed g ⊎ IsIdle slots lag now past t g
       by (inl a) = inl (requested-old (λ made. made + delay < expiry_of g) g a)
       by (inr idle) =
           let more = serves-more (due_of s g) in
@@ -114,8 +115,8 @@ module _ (count slots extras delay now : ℕ) (past : History) (s : State) (k : 
           inr (record {
             unasked = not-asked g there idle.unasked;
             near = idle.near;
-            soon = more-paced s.config.request_cadence now _ _ (due_of s g) slots _ _ one-more (omega (arith, more)) soon;
-            paused = more-paced s.config.request_cadence (pause_end s) _ _ (due_of s g) slots _ _ one-more (omega (arith, more)) paused;
+            soon = more-paced lag.pace lag.since _ _ (due_of s g) slots _ _ one-more (omega (arith, more)) soon;
+            paused = more-paced lag.pace (pause_end s) _ _ (due_of s g) slots _ _ one-more (omega (arith, more)) paused;
           })
 
   -- what is reserved is not asked for
@@ -139,12 +140,15 @@ module _ (count slots extras delay now : ℕ) (past : History) (s : State) (k : 
         made = omega (arith, fresh);
       }
 
-  pub asked-kept : length t.grants ≤ count → length t.queue ≤ slots → IsKept count slots extras delay now past t.transactions t
+  pub asked-kept : length t.grants ≤ count → length t.queue ≤ slots → IsKept count slots extras lag delay now past t.transactions t
   asked-kept size few = record {
     phase = k.phase;
     requests = list_any-append (λ (q : Queued). not q.is_request) s.queue (packet ∷ []) ∙ rw k.requests refl;
     few = few;
     prompt = k.prompt;
+    paced = k.paced;
+    begins = k.begins;
+    behind = k.behind;
     pace = k.pace;
     sent = k.sent;
     aged = λ x h. elim (has-last x s.transactions sent h) [
@@ -229,16 +233,16 @@ single-more gs p unique new for none-there single q other = by (is_for q new) re
 -- ---- the call
 
 -- what a look-up of an allocation finds has not expired
-found-early : (count slots extras delay now : ℕ) (past : History) (s : State) → IsKept count slots extras delay now past s.transactions s → (transport : TransportType) (ip : IpAddr) (a : Relay)
+found-early : (count slots extras : ℕ) (lag : Lag) (delay now : ℕ) (past : History) (s : State) → IsKept count slots extras lag delay now past s.transactions s → (transport : TransportType) (ip : IpAddr) (a : Relay)
     → find_allocation_to transport ip s ≡ Some a → is_past now a ≡ false
-found-early count slots extras delay now past s k transport ip a e = by (same_transport transport s.config.allocation_transport) e
+found-early count slots extras lag delay now past s k transport ip a e = by (same_transport transport s.config.allocation_transport) e
   where
     by : (b : Bool) → cond b (find_allocation (family_of_ip ip) s) None ≡ Some a → is_past now a ≡ false
     by false e = absurd (none-some a e)
     by true e =
         let found = has-found (λ (r : Relay). same_family (family_of r.relayed) (family_of_ip ip)) a (allocations s) e in
         let there = allocation-there a s.grants found.0 in
-        lt-leb a.expiry now (stands-early count slots extras delay now past s k (Allocation a) there (allocation-stands count slots extras delay now past s.transactions s k a there))
+        lt-leb a.expiry now (stands-early count slots extras lag delay now past s k (Allocation a) there (allocation-stands count slots extras lag delay now past s.transactions s k a there))
 
 -- no permission for the IP address exists
 permission-none : (ip : IpAddr) (s : State) → permission_state ip s ≡ None → (g : Grant) → Has g s.grants → is_permission_of ip g ≡ false
@@ -311,7 +315,7 @@ both-new s single number peer no_channel no_permission house = record {
     others : (g : Grant) → Has g (s.grants ++ Channel number peer (Pending true) ∷ []) → is_permission_of (socket_ip peer) g ≡ false
     others g h = elim (has-append g s.grants (Channel number peer (Pending true) ∷ []) h) [ inl old ↦ no_permission g old | inr (inl e) ↦ rw e refl | inr (inr no_more) ↦ absurd no_more ]
 
-module _ (P : State → Type 0) (count slots extras delay now : ℕ) (past : History) (s : State) (k : IsKept count slots extras delay now past s.transactions s) (same : P s) (asked : Asks P now s) where
+module _ (P : State → Type 0) (count slots extras : ℕ) (lag : Lag) (delay now : ℕ) (past : History) (s : State) (k : IsKept count slots extras lag delay now past s.transactions s) (same : P s) (asked : Asks P now s) where
   pub creates : (transport : TransportType) (ip : IpAddr) → P (create_permission_step transport ip now s).1
   creates transport ip = by (find_allocation_to transport ip s) refl
     where
@@ -334,7 +338,7 @@ module _ (P : State → Type 0) (count slots extras delay now : ℕ) (past : His
       by : (o : Option Relay) → find_allocation_to transport ip s ≡ o → Is (in_allocation o ip now Create.NoAllocation s (permission_step ip now s))
       by None e = same
       by (Some a) e =
-          let early = found-early count slots extras delay now past s k transport ip a e in
+          let early = found-early count slots extras lag delay now past s k transport ip a e in
           let room = allocation-room transport ip s (rw e refl) in
           rw early (step (permission_state ip s) refl room)
 
@@ -388,6 +392,6 @@ module _ (P : State → Type 0) (count slots extras delay now : ℕ) (past : His
       by : (o : Option Relay) → find_allocation_to transport (socket_ip peer) s ≡ o → Is (in_allocation o (socket_ip peer) now Bind.NoAllocation s (channel_step peer now s))
       by None e = same
       by (Some a) e =
-          let early = found-early count slots extras delay now past s k transport (socket_ip peer) a e in
+          let early = found-early count slots extras lag delay now past s k transport (socket_ip peer) a e in
           let room = allocation-room transport (socket_ip peer) s (rw e refl) in
           rw early (step (list_any is_in_progress (channels_to peer s)) room)

@@ -1,5 +1,5 @@
 -- No grant is lost when others expire that were let go.
-use Rattle.turn_client_laws.proofs.Common.{◌≡◌, ◌⊎◌, ℕ, ◌+◌, ◌<◌, ◌≤◌, true, false, List, refl, inl, inr, sym, subst, ◌∙◌, arith, nat_le, SocketAddr, cases_lt, lt-leb}
+use Rattle.turn_client_laws.proofs.Common.{◌≡◌, ◌⊎◌, ℕ, ◌+◌, ◌<◌, ◌≤◌, true, false, List, length, refl, inl, inr, sym, subst, ◌∙◌, arith, nat_le, SocketAddr, cases_lt, lt-leb}
 use Rattle.turn_client_laws.proofs.Machine.{pause_end, family_of_grant, has_request, State, TurnEvent, Grant, Allocation, Channel, Permission, Listing, Active, Pending, Reserved, Relay, Has}
 use Rattle.turn_client_laws.proofs.Laws.{Room, room-more, IsReserved}
 use Rattle.turn_client_runs.specs.History.{History, IsSeldom, extra_since, was_let_go}
@@ -8,7 +8,7 @@ use Rattle.turn_client_runs.proofs.LastingCounts.{passes}
 use Rattle.turn_client_runs.proofs.LastingHistory.{GoesOn, known-later}
 use Rattle.turn_client_runs.proofs.LastingLeft.{IsGone, IsTidy, ExpiresInto, asked_in, is_lost, unasked-less}
 use Rattle.turn_client_runs.proofs.LastingStands.{Follows, Goes, IsAwaited, IsGranted, IsIdle, IsKept, IsKnown, IsPending, IsRequested, IsWell, Remains, Stands, asked-before, bound-le, due_of}
-use Rattle.turn_client_runs.proofs.LastingStands.{early-paced, is_waiting, kept-changed, pause-le, requested-more, stands-early, still-paced, used}
+use Rattle.turn_client_runs.proofs.LastingStands.{early-paced, is_waiting, kept-changed, pause-paced, soon-by, bound, Lag, requested-more, stands-early, still-paced, used}
 use Rattle.turn_client_runs.proofs.GrantInputs.{IsLeased}
 
 -- what waits is not gone
@@ -38,7 +38,7 @@ gone-unserved now since s near (Channel number peer (Active lease)) gone = (refl
 gone-unserved now since s near (Channel number peer (Reserved until)) gone = (refl, lt-leb (since + 150_000_000_000) (due_of s (Channel number peer (Reserved until))) (omega arith))
 gone-unserved now since s near g gone = absurd gone
 
-module _ (count slots extras delay now : ℕ) (past later : History) (s : State) (k : IsKept count slots extras delay now past s.transactions s) (on : GoesOn s.transactions past later)
+module _ (count slots extras : ℕ) (lag : Lag) (delay now : ℕ) (past later : History) (s : State) (k : IsKept count slots extras lag delay now past s.transactions s) (on : GoesOn s.transactions past later)
     (seldom : IsSeldom extras s.config.refresh_ahead now later) (row : s.challenges ≤ later.challenged)
     (grants : List Grant) (listed : List Listing) (events : List TurnEvent) (closes : List SocketAddr)
     (expires_into : ExpiresInto now s.grants s.listed grants listed) (tidy : IsTidy grants listed)
@@ -47,9 +47,9 @@ module _ (count slots extras delay now : ℕ) (past later : History) (s : State)
   t = record s { grants = grants; listed = listed; events = events; closes = closes }
 
   -- what stands is not gone
-  stands-stays : (g : Grant) → Has g s.grants → Stands count slots extras delay now past s.transactions s g → IsGone now g → ⊥
+  stands-stays : (g : Grant) → Has g s.grants → Stands count slots extras lag delay now past s.transactions s g → IsGone now g → ⊥
   stands-stays g there stands gone =
-      let early = stands-early count slots extras delay now past s k g there stands in
+      let early = stands-early count slots extras lag delay now past s k g there stands in
       absurd (omega (arith, early, gone-late now g stands.granted gone))
 
   -- what is gone was let go
@@ -74,33 +74,36 @@ module _ (count slots extras delay now : ℕ) (past later : History) (s : State)
       let extra = counts since before in
       omega (arith, served, extra)
 
-  stands-left : (g : Grant) → Has g s.grants → Stands count slots extras delay now past s.transactions s g → Stands count slots extras delay now later s.transactions t g
+  stands-left : (g : Grant) → Has g s.grants → Stands count slots extras lag delay now past s.transactions s g → Stands count slots extras lag delay now later s.transactions t g
   stands-left g there was = record { granted = was.granted; room = was.room; long = was.long; either = by was.either }
     where
-      by : IsAwaited delay past s.transactions s.listed g ⊎ IsIdle slots now past s g → IsAwaited delay later s.transactions listed g ⊎ IsIdle slots now later t g
+      by : IsAwaited delay past s.transactions s.listed g ⊎ IsIdle slots lag now past s g → IsAwaited delay later s.transactions listed g ⊎ IsIdle slots lag now later t g
       by (inl a) = inl (requested-stays (λ made. made + delay < expiry_of g) g there (stands-stays g there was) a)
       by (inr idle) = elim (cases_lt (due_of s g) now) [
         | inl late ↦
-            let few = bound-le count slots extras delay now past s.transactions s g k there was.granted idle in
+            let few = bound-le count slots extras lag delay now past s.transactions s g k there was.granted idle in
             let pace = k.pace in
-            let more = still-used (due_of s g) (omega (arith, late)) (omega (arith, idle.soon, few, pace)) in
+            let soon = soon-by lag.since lag.pace (length s.queue) (bound slots lag past s g) idle.soon in
+            let behind = k.behind in
+            let more = still-used (due_of s g) (omega (arith, late)) (omega (arith, soon, behind, few, pace)) in
             inr (record {
               unasked = unasked-less s.listed listed expires_into.listed g idle.unasked;
               near = idle.near;
-              soon = still-paced _ _ now _ _ (due_of s g) (due_of s g) slots _ _ refl refl refl more idle.soon;
+              soon = still-paced _ _ lag.since _ _ (due_of s g) (due_of s g) slots _ _ refl refl refl more idle.soon;
               paused = still-paced _ _ (pause_end s) _ _ (due_of s g) (due_of s g) slots _ _ refl refl refl more idle.paused;
             })
         | inr early ↦
             let few = k.few in
+            let begins = k.begins in
             inr (record {
               unasked = unasked-less s.listed listed expires_into.listed g idle.unasked;
               near = idle.near;
-              soon = early-paced s.config.request_cadence _ now _ _ now (due_of s g) slots _ refl refl few (omega arith) early;
-              paused = early-paced s.config.request_cadence _ (pause_end s) _ _ now (due_of s g) slots _ refl refl few (pause-le now s k.sent) early;
+              soon = early-paced lag.pace _ lag.since _ _ now (due_of s g) slots _ refl refl few (omega (arith, begins)) early;
+              paused = early-paced lag.pace _ (pause_end s) _ _ now (due_of s g) slots _ refl refl few (pause-paced count slots extras lag delay now past s.transactions s k) early;
             })
       ]
 
-  well-old : (g : Grant) → Has g s.grants → IsWell count slots extras delay now later s.transactions t g
+  well-old : (g : Grant) → Has g s.grants → IsWell count slots extras lag delay now later s.transactions t g
   well-old g there = elim (k.each g there) [
     | inl (waits, pending) ↦ inl (waits, requested-stays (λ made. made ≤ now) g there (waits-stays now g waits) pending)
     | inr (inl stands) ↦ inr (inl (stands-left g there stands))
@@ -108,7 +111,7 @@ module _ (count slots extras delay now : ℕ) (past later : History) (s : State)
     | inr (inr (freed, inr (is, none))) ↦ inr (inr (on.let_go g freed, inr (is, unasked-less s.listed listed expires_into.listed g none)))
   ]
 
-  well-left : (g : Grant) → Has g grants → IsWell count slots extras delay now later s.transactions t g
+  well-left : (g : Grant) → Has g grants → IsWell count slots extras lag delay now later s.transactions t g
   well-left g h = elim (expires_into.came g h) [
     | inl old ↦ well-old g old
     | inr takes ↦ inr (inr (on.let_go g (takes.let_go past ∙ gone-let_go takes.was takes.there takes.gone), inr (takes.is, takes.unasked)))
@@ -124,8 +127,8 @@ module _ (count slots extras delay now : ℕ) (past later : History) (s : State)
     | inr takes ↦ (λ w. absurd (reserved-waits g takes.is w), λ leased asked. absurd (reserved-leased g takes.is leased))
   ]
 
-  pub kept-left : IsKept count slots extras delay now later s.transactions (record s { grants = grants; listed = listed; events = events; closes = closes })
-  kept-left = kept-changed count slots extras delay now past later s.transactions s.transactions s on.same seldom k grants listed events s.challenges s.ids closes (record {
+  pub kept-left : IsKept count slots extras lag delay now later s.transactions (record s { grants = grants; listed = listed; events = events; closes = closes })
+  kept-left = kept-changed count slots extras lag delay now past later s.transactions s.transactions s on.same seldom k grants listed events s.challenges s.ids closes (record {
     row = row;
     asked = λ l h. let (refreshes, (g, there, for)) = k.asked l (expires_into.listed l h) in (refreshes, (g, expires_into.held l h g there for, for));
     size = let a = k.size in let b = expires_into.size in omega (arith, a, b);

@@ -8,7 +8,7 @@ use Rattle.turn_client_laws.proofs.Laws.{has-any, fresh-free}
 use Rattle.turn_client_runs.specs.History.{History, is_replied, IsSeldom, all_waits, extra_since, first_made, is_extra, lets_channel_go, lets_permission_go, lost, waited, was_let_go, with_call}
 use Rattle.turn_client_runs.specs.Lasting.{expiry_of}
 use Rattle.turn_client_runs.proofs.AppendLemmas.{has-last}
-use Rattle.turn_client_runs.proofs.LastingStands.{AreLetGo, Goes, IsKept, IsKnown, IsPending, IsRequested, IsWell, Stands, due_of, kept-changed, requested-more, still-paced}
+use Rattle.turn_client_runs.proofs.LastingStands.{AreLetGo, Goes, IsKept, IsKnown, IsPending, IsRequested, IsWell, Stands, due_of, kept-changed, requested-more, still-paced, Lag}
 use Rattle.turn_client_runs.proofs.SilenceLemmas.{waited-mono}
 
 -- ---- waits
@@ -144,12 +144,12 @@ call-made call now past s = rw (eq-eqb (fresh_id s) (fresh_id s) refl) refl
 
 -- ---- with more extra packets, all is as it was
 
-module _ (count slots extras delay now : ℕ) (past later : History) (transactions : List Transaction) (s : State) (same : (x : Transaction) → Has x transactions → later.made x.id ≡ past.made x.id)
+module _ (count slots extras : ℕ) (lag : Lag) (delay now : ℕ) (past later : History) (transactions : List Transaction) (s : State) (same : (x : Transaction) → Has x transactions → later.made x.id ≡ past.made x.id)
     (more : (since : ℕ) → extra_since since past ≤ extra_since since later) where
   pub requested-later : (when : ℕ → Type 0) (g : Grant) → IsRequested when past transactions s.listed g → IsRequested when later transactions s.listed g
   requested-later when g = requested-more when past later transactions transactions s.listed s.listed g same (λ x h. h) (λ l h for. h)
 
-  pub stands-later : (g : Grant) → Stands count slots extras delay now past transactions s g → Stands count slots extras delay now later transactions s g
+  pub stands-later : (g : Grant) → Stands count slots extras lag delay now past transactions s g → Stands count slots extras lag delay now later transactions s g
   stands-later g was = record {
     granted = was.granted;
     room = was.room;
@@ -163,13 +163,13 @@ module _ (count slots extras delay now : ℕ) (past later : History) (transactio
           inr (record {
             unasked = idle.unasked;
             near = idle.near;
-            soon = still-paced _ _ now _ _ (due_of s g) (due_of s g) slots _ _ refl refl refl (omega (arith, used_more)) soon;
+            soon = still-paced _ _ lag.since _ _ (due_of s g) (due_of s g) slots _ _ refl refl refl (omega (arith, used_more)) soon;
             paused = still-paced _ _ _ _ _ (due_of s g) (due_of s g) slots _ _ refl refl refl (omega (arith, used_more)) paused;
           })
     ];
   }
 
-  well-later : AreLetGo past later → (g : Grant) → IsWell count slots extras delay now past transactions s g → IsWell count slots extras delay now later transactions s g
+  well-later : AreLetGo past later → (g : Grant) → IsWell count slots extras lag delay now past transactions s g → IsWell count slots extras lag delay now later transactions s g
   well-later let_go g (inl (waits, pending)) = inl (waits, requested-later (λ made. made ≤ now) g pending)
   well-later let_go g (inr (inl stands)) = inr (inl (stands-later g stands))
   well-later let_go g (inr (inr (freed, kind))) = inr (inr (let_go g freed, kind))
@@ -179,12 +179,12 @@ pub known-later : (past later : History) → AreLetGo past later → (g : Grant)
 known-later past later on g e = elim (or_cases (is_kept g) (was_let_go past g) e) [ inl kept ↦ or_left (is_kept g) _ kept | inr freed ↦ or_right (is_kept g) _ (on g freed) ]
 
 -- the same requests were made when they were, and no more packets are extra than may be
-pub kept-with : (count slots extras delay now : ℕ) (past later : History) (s : State) → ((x : Transaction) → Has x s.transactions → later.made x.id ≡ past.made x.id)
+pub kept-with : (count slots extras : ℕ) (lag : Lag) (delay now : ℕ) (past later : History) (s : State) → ((x : Transaction) → Has x s.transactions → later.made x.id ≡ past.made x.id)
     → IsSeldom extras s.config.refresh_ahead now later → s.challenges ≤ later.challenged → ((g : Grant) → Has g s.grants → IsKnown now later s g)
-    → ((g : Grant) → Has g s.grants → IsWell count slots extras delay now later s.transactions s g) → IsKept count slots extras delay now past s.transactions s
-    → IsKept count slots extras delay now later s.transactions s
-kept-with count slots extras delay now past later s same seldom row known each k =
-    kept-changed count slots extras delay now past later s.transactions s.transactions s same seldom k s.grants s.listed s.events s.challenges s.ids s.closes (record {
+    → ((g : Grant) → Has g s.grants → IsWell count slots extras lag delay now later s.transactions s g) → IsKept count slots extras lag delay now past s.transactions s
+    → IsKept count slots extras lag delay now later s.transactions s
+kept-with count slots extras lag delay now past later s same seldom row known each k =
+    kept-changed count slots extras lag delay now past later s.transactions s.transactions s same seldom k s.grants s.listed s.events s.challenges s.ids s.closes (record {
       row = row;
       asked = k.asked;
       size = k.size;
@@ -195,18 +195,18 @@ kept-with count slots extras delay now past later s same seldom row known each k
       each = each;
     })
 
-pub kept-later : (count slots extras delay now : ℕ) (past later : History) (s : State) → GoesOn s.transactions past later → IsSeldom extras s.config.refresh_ahead now later
-    → s.challenges ≤ later.challenged → IsKept count slots extras delay now past s.transactions s → IsKept count slots extras delay now later s.transactions s
-kept-later count slots extras delay now past later s on seldom row k =
-    kept-with count slots extras delay now past later s on.same seldom row
+pub kept-later : (count slots extras : ℕ) (lag : Lag) (delay now : ℕ) (past later : History) (s : State) → GoesOn s.transactions past later → IsSeldom extras s.config.refresh_ahead now later
+    → s.challenges ≤ later.challenged → IsKept count slots extras lag delay now past s.transactions s → IsKept count slots extras lag delay now later s.transactions s
+kept-later count slots extras lag delay now past later s on seldom row k =
+    kept-with count slots extras lag delay now past later s on.same seldom row
     (λ g there. let (waits, due) = k.known g there in (λ w. known-later past later on.let_go g (waits w), due))
-    (λ g there. well-later count slots extras delay now past later s.transactions s on.same on.more on.let_go g (k.each g there)) k
+    (λ g there. well-later count slots extras lag delay now past later s.transactions s on.same on.more on.let_go g (k.each g there)) k
 
 pub goes-later : (past later : History) (ys : List Transaction) (s t : State) → GoesOn s.transactions past later → Goes later later s.transactions ys s t → Goes past later s.transactions ys s t
 goes-later past later ys s t on goes = record {
   let_go = on.let_go;
   remain = goes.remain;
-  follow = λ until g there waits pending none. goes.follow until g there waits (requested-later 0 0 0 0 0 past later s.transactions s on.same on.more (λ made. made ≤ until) g pending) none;
+  follow = λ until g there waits pending none. goes.follow until g there waits (requested-later 0 0 0 (record { late = 0; since = 0; pace = 0 }) 0 0 past later s.transactions s on.same on.more (λ made. made ≤ until) g pending) none;
 }
 
 -- how many challenges came is nothing to the grants

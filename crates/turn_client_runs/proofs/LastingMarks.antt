@@ -7,7 +7,7 @@ use Rattle.turn_client_runs.specs.History.{History, was_let_go}
 use Rattle.turn_client_runs.specs.Lasting.{ahead_of, expiry_of}
 use Rattle.turn_client_runs.proofs.LastingCounts.{or_first, passes-map, passes-mapped}
 use Rattle.turn_client_runs.proofs.LastingStands.{kept-changed, Brings, Goes, IsAwaited, IsGranted, IsIdle, IsKept, IsKnown, IsLoose, IsPending, IsRequest, IsWell, Stands, due_of, is_served}
-use Rattle.turn_client_runs.proofs.LastingStands.{is_waiting, listed_as, served, still-paced, used}
+use Rattle.turn_client_runs.proofs.LastingStands.{is_waiting, listed_as, served, still-paced, used, Lag}
 use Rattle.turn_client_runs.proofs.GrantInputs.{IsLeased}
 
 -- ---- what a mark does not change
@@ -66,7 +66,7 @@ marked-true g h = grind arith
 
 -- ---- the call
 
-module _ (count slots extras delay now : ℕ) (past : History) (s : State) (k : IsKept count slots extras delay now past s.transactions s) (which : Grant → Bool) (kept : Bool)
+module _ (count slots extras : ℕ) (lag : Lag) (delay now : ℕ) (past : History) (s : State) (k : IsKept count slots extras lag delay now past s.transactions s) (which : Grant → Bool) (kept : Bool)
     (let_go : (g : Grant) → which g ≡ true → kept ≡ false → was_let_go past g ≡ true) where
   abbrev t : State
   t = with_marks which kept s
@@ -122,17 +122,17 @@ module _ (count slots extras delay now : ℕ) (past : History) (s : State) (k : 
       each g there e = rw (mark-waits g, mark-asked g, mark-due g) e
 
   -- the others, and what is kept as before
-  stands-marked : (g : Grant) → Stands count slots extras delay now past s.transactions s g → Stands count slots extras delay now past s.transactions t g
+  stands-marked : (g : Grant) → Stands count slots extras lag delay now past s.transactions s g → Stands count slots extras lag delay now past s.transactions t g
   stands-marked g was = record { granted = was.granted; room = was.room; long = was.long; either = by was.either }
     where
-      by : IsAwaited delay past s.transactions s.listed g ⊎ IsIdle slots now past s g → IsAwaited delay past s.transactions s.listed g ⊎ IsIdle slots now past t g
+      by : IsAwaited delay past s.transactions s.listed g ⊎ IsIdle slots lag now past s g → IsAwaited delay past s.transactions s.listed g ⊎ IsIdle slots lag now past t g
       by (inl a) = inl a
       by (inr idle) =
           let more : used past s (due_of s g) ≤ used past t (due_of s g) = let h = serves (due_of s g) in omega (arith, h) in
           inr (record {
             unasked = idle.unasked;
             near = idle.near;
-            soon = still-paced _ _ now _ _ (due_of s g) (due_of s g) slots _ _ refl refl refl more idle.soon;
+            soon = still-paced _ _ lag.since _ _ (due_of s g) (due_of s g) slots _ _ refl refl refl more idle.soon;
             paused = still-paced _ _ (pause_end s) _ _ (due_of s g) (due_of s g) slots _ _ refl refl refl more idle.paused;
           })
 
@@ -154,19 +154,19 @@ module _ (count slots extras delay now : ℕ) (past : History) (s : State) (k : 
       by (inl leased) = inl (for-mark IsLeased g leased (λ e. marked-leased kept g leased))
       by (inr (is, none)) = inr (for-mark IsReserved g is (λ e. subst IsReserved (sym (marked-reserved kept g is)) is), mark-asked g ∙ none)
 
-  well-marked : (g : Grant) → Has g s.grants → IsWell count slots extras delay now past s.transactions t (mark g)
+  well-marked : (g : Grant) → Has g s.grants → IsWell count slots extras lag delay now past s.transactions t (mark g)
   well-marked g there = elim (k.each g there) [
     | inl (waits, pending) ↦ inl (mark-waits g ∙ waits, pending-marked now g pending)
-    | inr (inl stands) ↦ inr (for-mark (λ x. Stands count slots extras delay now past s.transactions t x ⊎ IsLoose past t x) g (inl (stands-marked g stands)) (λ e. by stands kept refl e))
+    | inr (inl stands) ↦ inr (for-mark (λ x. Stands count slots extras lag delay now past s.transactions t x ⊎ IsLoose past t x) g (inl (stands-marked g stands)) (λ e. by stands kept refl e))
     | inr (inr loose) ↦ inr (inr (loose-marked g loose))
   ]
     where
-      same : Stands count slots extras delay now past s.transactions s g → (b : Bool) → marked b g ≡ g
-          → Stands count slots extras delay now past s.transactions t (marked b g) ⊎ IsLoose past t (marked b g)
-      same stands b e = inl (subst (Stands count slots extras delay now past s.transactions t) (sym e) (stands-marked g stands))
+      same : Stands count slots extras lag delay now past s.transactions s g → (b : Bool) → marked b g ≡ g
+          → Stands count slots extras lag delay now past s.transactions t (marked b g) ⊎ IsLoose past t (marked b g)
+      same stands b e = inl (subst (Stands count slots extras lag delay now past s.transactions t) (sym e) (stands-marked g stands))
 
-      by : Stands count slots extras delay now past s.transactions s g → (b : Bool) → kept ≡ b → which g ≡ true
-          → Stands count slots extras delay now past s.transactions t (marked b g) ⊎ IsLoose past t (marked b g)
+      by : Stands count slots extras lag delay now past s.transactions s g → (b : Bool) → kept ≡ b → which g ≡ true
+          → Stands count slots extras lag delay now past s.transactions t (marked b g) ⊎ IsLoose past t (marked b g)
       by stands true f e = same stands true (marked-kept g (granted-kept g stands.granted))
       by stands false f e = elim (marked-granted false g stands.granted) [
         | inl is ↦ same stands false is
@@ -196,8 +196,8 @@ module _ (count slots extras delay now : ℕ) (past : History) (s : State) (k : 
       by waits true f e = or_left (is_kept (marked true g)) _ (marked-true g waits)
       by waits false f e = or_right (is_kept (marked false g)) _ (marked-let_go past false g ∙ let_go g e f)
 
-  pub kept-marked : IsKept count slots extras delay now past s.transactions (with_marks which kept s)
-  kept-marked = kept-changed count slots extras delay now past past s.transactions s.transactions s (λ x h. refl) k.seldom k t.grants s.listed s.events s.challenges s.ids s.closes (record {
+  pub kept-marked : IsKept count slots extras lag delay now past s.transactions (with_marks which kept s)
+  kept-marked = kept-changed count slots extras lag delay now past past s.transactions s.transactions s (λ x h. refl) k.seldom k t.grants s.listed s.events s.challenges s.ids s.closes (record {
     row = k.row;
     asked = λ l h. let (refreshes, (g, there, for)) = k.asked l h in (refreshes, (mark g, mark-there g there, mark-for l.purpose g ∙ for));
     size = let same = length-map s.grants mark in let size = k.size in omega (arith, same, size);
@@ -207,7 +207,7 @@ module _ (count slots extras delay now : ℕ) (past : History) (s : State) (k : 
     linked = λ id. linked-marked (listed_as id s.listed) (k.linked id);
     in_allocations = λ g h. let (x, there, e) = came g h in subst (λ (y : Grant). Room t.grants (family_of_grant y)) (sym e) (rw (mark-family x) (room (family_of_grant x) (k.in_allocations x there)));
     known = λ g h. let (x, there, e) = came g h in subst (IsKnown now past t) (sym e) (known-marked x there);
-    each = λ g h. let (x, there, e) = came g h in subst (IsWell count slots extras delay now past s.transactions t) (sym e) (well-marked x there);
+    each = λ g h. let (x, there, e) = came g h in subst (IsWell count slots extras lag delay now past s.transactions t) (sym e) (well-marked x there);
   })
     where
       room : (family : AddressFamily) → Room s.grants family → Room t.grants family

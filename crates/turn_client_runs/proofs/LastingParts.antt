@@ -1,20 +1,21 @@
 -- No grant is lost in a part of a run.
-use Rattle.turn_client_laws.proofs.Common.{◌≡◌, ◌⊎◌, ℕ, ◌+◌, ◌<◌, ◌≤◌, min, Bool, true, false, ◌||◌, eqb, List, [], ◌∷◌, ◌++◌, length, refl, inl, inr, ap, sym, subst, ◌∙◌, arith, is_some, Contains}
+use Rattle.turn_client_laws.proofs.Common.{◌≡◌, ◌⊎◌, ℕ, ◌+◌, ◌*◌, ◌<◌, ◌≤◌, max, min, cond, None, Bool, true, false, ◌||◌, eqb, List, [], ◌∷◌, ◌++◌, length, refl, inl, inr, ap, sym, subst, ◌∙◌, arith, is_some, Contains}
 use Rattle.turn_client_laws.proofs.Common.{list_any, cases_Bool, eqb-true, AllByRecursion, IsDistinct}
 use Rattle.turn_client_laws.proofs.Machine.{Transaction, State, is_kept, pause_end, Grant, Allocation, Permission, Channel, Active, Pending, Listing, Purpose, ForPermission, ForChannel, has_request}
-use Rattle.turn_client_laws.proofs.Machine.{family_of_grant, is_for, same_ip, state_after_all, Call, Has, has-all, same_ip-true}
+use Rattle.turn_client_laws.proofs.Machine.{family_of_grant, is_for, same_ip, next_transmit, PollTransmit, state_after, state_after_all, Call, Has, all-has, has-all, same_ip-true}
 use Rattle.turn_client_laws.proofs.Laws.{room-of, is_double, contains-has, has-contains}
-use Rattle.turn_client_runs.specs.LastingRuns.{LastsThrough}
+use Rattle.turn_client_runs.specs.LastingRuns.{GrantsLastBehind, LastsThrough}
+use Rattle.turn_client_runs.specs.Late.{HasRoomBehind, IsSteadyBehind, OnTimeIsLateByNone, RunsBehind, since_next}
 use Rattle.turn_client_runs.specs.Lasting.{with_expiry, IsRequested, RequestsSucceed, as_granted, GrantsLast, HasRoom, HasStill, IsInForce, IsSteady, IsFresh, RunsSteadily, ahead_of, expiry_of}
-use Rattle.turn_client_runs.specs.OnTime.{time_of_all}
-use Rattle.turn_client_runs.specs.History.{History, IsKeptBy, no_history, was_let_go, with_calls}
+use Rattle.turn_client_runs.specs.OnTime.{time_of, time_of_all}
+use Rattle.turn_client_runs.specs.History.{History, IsKeptBy, no_history, was_let_go, with_call, with_calls}
 use Rattle.turn_client_runs.proofs.LastingStands.{due_of, early-paced, granted-active, leased-active, let_go-became, IsActive, Follows, IsWell, is_waiting, AreSingle, IsGranted, IsKept, IsUnique}
-use Rattle.turn_client_runs.proofs.LastingStands.{Stands, not-waiting, pause-le, stands-early}
+use Rattle.turn_client_runs.proofs.LastingStands.{Lag, Stands, not-waiting, pause-le, pause-paced, stands-early, taken}
 use Rattle.turn_client_runs.proofs.LastingCounts.{passes}
 use Rattle.turn_client_runs.proofs.LastingTransmits.{reserved-inactive}
 use Rattle.turn_client_runs.proofs.LastingExpiry.{reserved-waits}
 use Rattle.turn_client_runs.proofs.LastingSpared.{kept-spared, none-by, pending-spared, runs-alike, spared-none, sparing}
-use Rattle.turn_client_runs.proofs.LastingRuns.{KeepsAll, all-kept, first-part, joined, last-part}
+use Rattle.turn_client_runs.proofs.LastingRuns.{Halves, KeepsAll, all-kept, halves, joined}
 use Rattle.turn_client_runs.proofs.GrantInputs.{IsLeased}
 
 -- ---- the first state
@@ -63,13 +64,21 @@ single-first (g ∷ gs) (apart, others) p unique = elim (cases_Bool (is_for p g)
   | inr e ↦ rw e (omega (arith, single-first gs others p unique))
 ]
 
-steady-kept : (count slots extras delay now : ℕ) (s : State) → IsSteady count slots extras delay now s → IsKept count slots extras delay now (no_history s) s.transactions s
-steady-kept count slots extras delay now s is = record {
+-- how a caller that is so late lags behind at first
+abbrev first_lag : ℕ → ℕ → State → Lag
+first_lag late now s = record { late = late; since = now; pace = s.config.request_cadence + late }
+
+steady-kept : (count slots extras late delay now : ℕ) (s : State) → IsSteadyBehind count slots extras late delay now s
+    → IsKept count slots extras (first_lag late now s) delay now (no_history s) s.transactions s
+steady-kept count slots extras late delay now s begins = record {
   phase = is.allocated;
   requests = rw is.none_queued refl;
   few = is.within.1;
   prompt = is.prompt;
-  pace = is.room_for_more;
+  paced = omega arith;
+  begins = omega arith;
+  behind = omega arith;
+  pace = begins.room_for_more;
   sent = is.sent_before;
   aged = λ x h. absurd (none-there x h);
   lone = λ x y h. absurd (none-there x h);
@@ -88,6 +97,9 @@ steady-kept count slots extras delay now s is = record {
   each = λ g there. inr (inl (stands g there));
 }
   where
+    is : IsSteady count slots extras delay now s
+    is = begins.steady
+
     waits : (g : Grant) → Has g s.grants → is_waiting g ≡ true → (is_kept g || was_let_go (no_history s) g) ≡ true
     waits g there w =
         let granted = force-granted now g (has-all (IsInForce now) g s.grants is.in_force there) in
@@ -102,12 +114,12 @@ steady-kept count slots extras delay now s is = record {
     none : length s.queue ≡ 0
     none = rw is.none_queued refl
 
-    stands : (g : Grant) → Has g s.grants → Stands count slots extras delay now (no_history s) s.transactions s g
+    stands : (g : Grant) → Has g s.grants → Stands count slots extras (first_lag late now s) delay now (no_history s) s.transactions s g
     stands g there =
         let early : now + ahead_of s.config.refresh_ahead g ≤ expiry_of g = has-all (λ g. now + ahead_of s.config.refresh_ahead g ≤ expiry_of g) g s.grants is.none_late there in
         record {
           granted = force-granted now g (has-all (IsInForce now) g s.grants is.in_force there);
-          room = has-all (λ g. HasRoom count slots extras s.config.request_cadence delay (ahead_of s.config.refresh_ahead g)) g s.grants is.room there;
+          room = has-all (λ g. HasRoomBehind count slots extras late s.config.request_cadence delay (ahead_of s.config.refresh_ahead g)) g s.grants begins.room there;
           long = omega (arith, early);
           either = inr (record {
             unasked = unasked g s.listed is.none_listed;
@@ -117,12 +129,12 @@ steady-kept count slots extras delay now s is = record {
           });
         }
 
-early-of : (count slots extras delay now : ℕ) (past : History) (t : State)
-    → IsKept count slots extras delay now past t.transactions t → (h : Grant) → Has h t.grants → IsGranted h → was_let_go past h ≡ false
+early-of : (count slots extras : ℕ) (lag : Lag) (delay now : ℕ) (past : History) (t : State)
+    → IsKept count slots extras lag delay now past t.transactions t → (h : Grant) → Has h t.grants → IsGranted h → was_let_go past h ≡ false
     → now < expiry_of h
-early-of count slots extras delay now past t k h here granted none = elim (k.each h here) [
+early-of count slots extras lag delay now past t k h here granted none = elim (k.each h here) [
   | inl (waits, pending) ↦ absurd (let no : false ≡ true = sym (not-waiting h (granted-active h granted)) ∙ waits in cc)
-  | inr (inl stands) ↦ stands-early count slots extras delay now past t k h here stands
+  | inr (inl stands) ↦ stands-early count slots extras lag delay now past t k h here stands
   | inr (inr loose) ↦ absurd (let no : false ≡ true = sym none ∙ loose.0 in cc)
 ]
 
@@ -138,11 +150,12 @@ requested-waits (Channel number peer (Pending is_kept)) h = (refl, h)
 requested-waits g h = absurd h
 
 -- a permission or a channel whose refresh time is yet to come stands, whatever was let go before
-fresh-stands : (count slots extras delay now : ℕ) (past : History) (s : State) → IsKept count slots extras delay now past s.transactions s → (g : Grant) → Has g s.grants → IsGranted g → IsLeased g
-    → IsFresh now s g → Stands count slots extras delay now past s.transactions s g
-fresh-stands count slots extras delay now past s k g there granted leased fresh =
+fresh-stands : (count slots extras : ℕ) (lag : Lag) (delay now : ℕ) (past : History) (s : State) → IsKept count slots extras lag delay now past s.transactions s → (g : Grant) → Has g s.grants → IsGranted g → IsLeased g
+    → IsFresh now s g → Stands count slots extras lag delay now past s.transactions s g
+fresh-stands count slots extras lag delay now past s k g there granted leased fresh =
     let few = k.few in
     let early : now ≤ due_of s g = omega (arith, fresh) in
+    let begins = k.begins in
     record {
       granted = granted;
       room = let pace = k.pace in let more = leased-ahead s.config.refresh_ahead g leased in omega (arith, pace, more);
@@ -150,8 +163,8 @@ fresh-stands count slots extras delay now past s k g there granted leased fresh 
       either = inr (record {
         unasked = unasked (has_request g s) refl;
         near = omega (arith, early);
-        soon = early-paced s.config.request_cadence _ now _ _ now (due_of s g) slots _ refl refl few (omega arith) early;
-        paused = early-paced s.config.request_cadence _ (pause_end s) _ _ now (due_of s g) slots _ refl refl few (pause-le now s k.sent) early;
+        soon = early-paced lag.pace _ lag.since _ _ now (due_of s g) slots _ refl refl few (omega (arith, begins)) early;
+        paused = early-paced lag.pace _ (pause_end s) _ _ now (due_of s g) slots _ refl refl few (pause-paced count slots extras lag delay now past s.transactions s k) early;
       });
     }
   where
@@ -165,8 +178,8 @@ fresh-stands count slots extras delay now past s k g there granted leased fresh 
     unasked true e = let due = (k.known g there).1 leased e in absurd (omega (arith, due, fresh))
 
 -- both parts of a run, of which the second one lets the grant go nowhere
-module _ (count slots extras delay now : ℕ) (s : State) (earlier later : List Call) (steady : IsSteady count slots extras delay now s)
-    (run : RunsSteadily count slots extras delay now (no_history s) s (earlier ++ later))
+module _ (count slots extras late delay now : ℕ) (s : State) (earlier later : List Call) (steady : IsSteadyBehind count slots extras late delay now s)
+    (run : RunsBehind count slots extras late delay now now (no_history s) s (earlier ++ later))
     (g : Grant) (there : Contains (state_after_all s earlier).grants g) (kept : IsKeptBy later (time_of_all now earlier) (state_after_all s earlier) g) where
   abbrev between : ℕ
   between = time_of_all now earlier
@@ -190,24 +203,37 @@ module _ (count slots extras delay now : ℕ) (s : State) (earlier later : List 
   abbrev end_past : History
   end_past = with_calls later between mid spared
 
+  parts : Halves count slots extras (first_lag late now s) delay now (no_history s) s earlier later
+  parts = halves count slots extras (first_lag late now s) delay now (no_history s) s earlier later (steady-kept count slots extras late delay now s steady) run
+
+  -- how the caller lags behind then
+  abbrev lag : Lag
+  lag = taken parts.since (first_lag late now s)
+
   here : Has g mid.grants
   here = contains-has g mid.grants there
 
-  kept-mid : IsKept count slots extras delay between mid_past mid.transactions mid
-  kept-mid = (all-kept count slots extras delay now (no_history s) s earlier (steady-kept count slots extras delay now s steady)
-      (first-part count slots extras delay now (no_history s) s earlier later run)).0
+  kept-mid : IsKept count slots extras lag delay between mid_past mid.transactions mid
+  kept-mid = parts.kept
 
   end-spares : was_let_go end_past g ≡ false
   end-spares = none-by later between mid spared g (spared-none g mid_past) kept
 
   -- it stands, or waits and is kept, whatever was let go before
   abbrev IsSure : Type 0
-  IsSure = Stands count slots extras delay between mid_past mid.transactions mid g ⊎ ((is_waiting g ≡ true) × (is_kept g ≡ true))
+  IsSure = Stands count slots extras lag delay between mid_past mid.transactions mid g ⊎ ((is_waiting g ≡ true) × (is_kept g ≡ true))
 
-  kept-end : IsSure → KeepsAll count slots extras delay last spared end_past mid end
-  kept-end sure =
-      all-kept count slots extras delay between spared mid later (kept-spared count slots extras delay between mid_past mid kept-mid g here sure)
-      (runs-alike count slots extras delay between mid_past spared mid later (λ id. refl) refl refl (last-part count slots extras delay now (no_history s) s earlier later run))
+  at-end : IsSure → (since : ℕ) × KeepsAll count slots extras (taken since lag) delay last spared end_past mid end
+  at-end sure =
+      all-kept count slots extras lag delay between spared mid later (kept-spared count slots extras lag delay between mid_past mid kept-mid g here sure)
+      (runs-alike count slots extras late delay parts.since between mid_past spared mid later (λ id. refl) refl refl parts.run)
+
+  -- how it lags behind at the end
+  abbrev last_lag : IsSure → Lag
+  last_lag sure = taken (at-end sure).0 lag
+
+  kept-end : (sure : IsSure) → KeepsAll count slots extras (last_lag sure) delay last spared end_past mid end
+  kept-end sure = (at-end sure).1
 
   has-still : IsSure → (h : Grant) → Has h end.grants → with_expiry 0 h ≡ as_granted g → IsGranted h → HasStill g last (state_after_all s (earlier ++ later))
   has-still sure h at_end same granted =
@@ -215,7 +241,7 @@ module _ (count slots extras delay now : ℕ) (s : State) (earlier later : List 
         h,
         has-contains h end.grants at_end,
         same,
-        granted-force last h granted (early-of count slots extras delay last end_past end (kept-end sure).0 h at_end granted (let_go-became end_past g h same ∙ end-spares)),
+        granted-force last h granted (early-of count slots extras (last_lag sure) delay last end_past end (kept-end sure).0 h at_end granted (let_go-became end_past g h same ∙ end-spares)),
       )
 
   lasts : IsInForce between g → IsKeptBy earlier now s g ⊎ IsFresh between mid g → HasStill g last (state_after_all s (earlier ++ later))
@@ -224,16 +250,16 @@ module _ (count slots extras delay now : ℕ) (s : State) (earlier later : List 
       granted : IsGranted g
       granted = force-granted between g in_force
 
-      stands : IsWell count slots extras delay between mid_past mid.transactions mid g → Stands count slots extras delay between mid_past mid.transactions mid g
+      stands : IsWell count slots extras lag delay between mid_past mid.transactions mid g → Stands count slots extras lag delay between mid_past mid.transactions mid g
       stands (inl (waits, pending)) = absurd (let no : false ≡ true = sym (not-waiting g (granted-active g granted)) ∙ waits in cc)
       stands (inr (inl is)) = is
       stands (inr (inr (freed, inr (is, none)))) = absurd (reserved-inactive g is (granted-active g granted))
       stands (inr (inr (freed, inl leased))) = elim counted [
         | inl never ↦ absurd (let no : false ≡ true = sym never ∙ freed in cc)
-        | inr fresh ↦ fresh-stands count slots extras delay between mid_past mid kept-mid g here granted leased fresh
+        | inr fresh ↦ fresh-stands count slots extras lag delay between mid_past mid kept-mid g here granted leased fresh
       ]
 
-      ends : Stands count slots extras delay between mid_past mid.transactions mid g → HasStill g last (state_after_all s (earlier ++ later))
+      ends : Stands count slots extras lag delay between mid_past mid.transactions mid g → HasStill g last (state_after_all s (earlier ++ later))
       ends is =
           let (h, at_end, same, still) = (kept-end (inl is)).1.remain g here granted end-spares in
           has-still (inl is) h at_end (same ∙ force-key between g in_force) still
@@ -251,27 +277,96 @@ module _ (count slots extras delay now : ℕ) (s : State) (earlier later : List 
       active : IsActive g → HasStill g last (state_after_all s (earlier ++ later))
       active is = absurd (let no : false ≡ true = sym (not-waiting g is) ∙ waits.0 in cc)
 
-      by : IsWell count slots extras delay between mid_past mid.transactions mid g → HasStill g last (state_after_all s (earlier ++ later))
+      by : IsWell count slots extras lag delay between mid_past mid.transactions mid g → HasStill g last (state_after_all s (earlier ++ later))
       by (inl (waiting, pending)) = follows ((kept-end (inr waits)).1.follow between g here waiting (pending-spared between mid_past mid.transactions mid.listed g g pending) end-spares)
       by (inr (inl stands)) = active (granted-active g stands.granted)
       by (inr (inr (freed, inl leased))) = active (leased-active g leased)
       by (inr (inr (freed, inr (is, none)))) = absurd (reserved-waits g is waits.0)
 
+-- of the calls of the second part alone
+pub lasts-through : (count slots extras late delay now : ℕ) (s : State) (before after : List Call) → IsSteadyBehind count slots extras late delay now s
+    → RunsBehind count slots extras late delay now now (no_history s) s (before ++ after)
+    → LastsThrough delay now s before after
+lasts-through count slots extras late delay now s before after steady run g there kept = (
+  λ in_force counted. ends (lasts count slots extras late delay now s before after steady run g there kept in_force counted),
+  λ requested after_delay. ends (succeeds count slots extras late delay now s before after steady run g there kept requested after_delay),
+)
+  where
+    ends : HasStill g (time_of_all (time_of_all now before) after) (state_after_all s (before ++ after))
+        → HasStill g (time_of_all (time_of_all now before) after) (state_after_all (state_after_all s before) after)
+    ends = subst (HasStill g (time_of_all (time_of_all now before) after)) (joined s before after)
+
+pub grants-last-behind : GrantsLastBehind
+grants-last-behind = lasts-through
+
+-- ---- a caller that is on time
+
+steady-behind : (count slots extras delay now : ℕ) (s : State) → IsSteady count slots extras delay now s → IsSteadyBehind count slots extras 0 delay now s
+steady-behind count slots extras delay now s is = record {
+  steady = is;
+  room = all-has (λ g. HasRoomBehind count slots extras 0 s.config.request_cadence delay (ahead_of s.config.refresh_ahead g)) s.grants (λ g h.
+      same (count + slots + extras) s.config.request_cadence (ahead_of s.config.refresh_ahead g)
+      (has-all (λ g. HasRoom count slots extras s.config.request_cadence delay (ahead_of s.config.refresh_ahead g)) g s.grants is.room h));
+  room_for_more = same (count + slots + extras) s.config.request_cadence (min s.config.refresh_ahead 150_000_000_000) is.room_for_more;
+}
+  where
+    same : (n cadence ahead : ℕ) → n * cadence + delay < ahead → n * (cadence + 0) + delay + 0 < ahead
+    same n cadence ahead h = omega (arith, h)
+
+-- whether a packet is taken or not
+taken-now : (call : Call) (before : ℕ) (s : State) → since_next call s (time_of before call) ≡ time_of before call
+taken-now (PollTransmit now) before s = by (is_some (next_transmit now s))
+  where
+    by : (b : Bool) → cond b now now ≡ now
+    by true = refl
+    by false = refl
+taken-now call before s = refl
+
+runs-behind : (count slots extras delay before : ℕ) (past : History) (s : State) (calls : List Call) → RunsSteadily count slots extras delay before past s calls
+    → RunsBehind count slots extras 0 delay before before past s calls
+runs-behind count slots extras delay before past s [] run = tt
+runs-behind count slots extras delay before past s (call ∷ calls) (in_time, quiet, within, seldom, run) = (
+  time_of before call,
+  record {
+    caller = record {
+      later = in_time.on_time.later;
+      in_range = in_time.on_time.in_range;
+      from = in_time.on_time.later;
+      begun = omega arith;
+      soon = omega arith;
+      free = λ time after early.
+          let is : max time before ≡ time = omega (arith, after) in
+          subst (λ (t : ℕ). next_transmit t s ≡ None) (sym is) (in_time.on_time.punctual time after early);
+    };
+    answered = in_time.answered;
+  },
+  quiet,
+  within,
+  seldom,
+  subst (λ (since : ℕ). RunsBehind count slots extras 0 delay since (time_of before call) (with_call call (time_of before call) s past) (state_after call s) calls)
+      (sym (taken-now call before s))
+      (runs-behind count slots extras delay (time_of before call) (with_call call (time_of before call) s past) (state_after call s) calls run),
+)
+
+pub on-time-behind : OnTimeIsLateByNone
+on-time-behind count slots extras delay now s calls steady run = (steady-behind count slots extras delay now s steady, runs-behind count slots extras delay now (no_history s) s calls run)
+
+module _ (count slots extras delay now : ℕ) (s : State) (earlier later : List Call) (steady : IsSteady count slots extras delay now s)
+    (run : RunsSteadily count slots extras delay now (no_history s) s (earlier ++ later))
+    (g : Grant) (there : Contains (state_after_all s earlier).grants g) (kept : IsKeptBy later (time_of_all now earlier) (state_after_all s earlier) g) where
+  on-time-lasts : IsInForce (time_of_all now earlier) g → IsKeptBy earlier now s g ⊎ IsFresh (time_of_all now earlier) (state_after_all s earlier) g
+      → HasStill g (time_of_all (time_of_all now earlier) later) (state_after_all s (earlier ++ later))
+  on-time-lasts =
+      lasts count slots extras 0 delay now s earlier later (steady-behind count slots extras delay now s steady) (runs-behind count slots extras delay now (no_history s) s (earlier ++ later) run) g there kept
+
+  on-time-succeeds : IsRequested g → time_of_all now earlier + delay < time_of_all (time_of_all now earlier) later
+      → HasStill g (time_of_all (time_of_all now earlier) later) (state_after_all s (earlier ++ later))
+  on-time-succeeds =
+      succeeds count slots extras 0 delay now s earlier later (steady-behind count slots extras delay now s steady) (runs-behind count slots extras delay now (no_history s) s (earlier ++ later) run) g there kept
+
 pub grants-last : GrantsLast
-grants-last count slots extras delay now s earlier later steady run g there in_force counted kept = lasts count slots extras delay now s earlier later steady run g there kept in_force counted
+grants-last count slots extras delay now s earlier later steady run g there in_force counted kept = on-time-lasts count slots extras delay now s earlier later steady run g there kept in_force counted
 
 pub requests-succeed : RequestsSucceed
-requests-succeed count slots extras delay now s earlier later steady run g there requested late kept = succeeds count slots extras delay now s earlier later steady run g there kept requested late
-
--- the same, of the calls of the second part alone
-module _ (count slots extras delay now : ℕ) (s : State) (before after : List Call) (steady : IsSteady count slots extras delay now s)
-    (run : RunsSteadily count slots extras delay now (no_history s) s (before ++ after)) where
-  pub lasts-through : LastsThrough delay now s before after
-  lasts-through g there kept = (
-    λ in_force counted. ends (lasts count slots extras delay now s before after steady run g there kept in_force counted),
-    λ requested late. ends (succeeds count slots extras delay now s before after steady run g there kept requested late),
-  )
-    where
-      ends : HasStill g (time_of_all (time_of_all now before) after) (state_after_all s (before ++ after))
-          → HasStill g (time_of_all (time_of_all now before) after) (state_after_all (state_after_all s before) after)
-      ends = subst (HasStill g (time_of_all (time_of_all now before) after)) (joined s before after)
+requests-succeed count slots extras delay now s earlier later steady run g there requested after_delay kept =
+    on-time-succeeds count slots extras delay now s earlier later steady run g there kept requested after_delay

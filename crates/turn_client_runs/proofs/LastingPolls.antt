@@ -6,7 +6,7 @@ use Rattle.turn_client_laws.proofs.Machine.{unreported_in, Has}
 use Rattle.turn_client_laws.proofs.Laws.{answer-by}
 use Rattle.turn_client_runs.specs.History.{History}
 use Rattle.turn_client_runs.proofs.LastingLeft.{IsPlain}
-use Rattle.turn_client_runs.proofs.LastingStands.{IsKept, kept-rest, stands-aside}
+use Rattle.turn_client_runs.proofs.LastingStands.{IsKept, Lag, kept-rest, stands-aside}
 
 -- ---- no data connections
 
@@ -56,13 +56,15 @@ polls P now s p all none same each = by (has_event s || has_reply s) refl
 
 -- ---- what is reported does not count
 
-pub kept-aside : (count slots extras delay now : ℕ) (past : History) (transactions : List Transaction) (s : State) (ids : Source) (events : List TurnEvent) (closes : List SocketAddr)
-    → IsKept count slots extras delay now past transactions s → IsKept count slots extras delay now past transactions (record s { ids = ids; events = events; closes = closes })
-kept-aside count slots extras delay now past transactions s ids events closes k =
-    kept-rest count slots extras delay now past transactions s k s.queue s.last_send s.transactions events ids closes (record {
+pub kept-aside : (count slots extras : ℕ) (lag : Lag) (delay now : ℕ) (past : History) (transactions : List Transaction) (s : State) (ids : Source) (events : List TurnEvent) (closes : List SocketAddr)
+    → IsKept count slots extras lag delay now past transactions s → IsKept count slots extras lag delay now past transactions (record s { ids = ids; events = events; closes = closes })
+kept-aside count slots extras lag delay now past transactions s ids events closes k =
+    kept-rest count slots extras lag delay now past transactions s k lag.since s.queue s.last_send s.transactions events ids closes (record {
+      begins = k.begins;
+      behind = k.behind;
       requests = k.requests;
       few = k.few;
       sent = k.sent;
       awaited = λ x h. h;
-      stands = λ g there. stands-aside count slots extras delay now past transactions s.transactions s ids events closes g;
+      stands = λ g there. stands-aside count slots extras lag delay now past transactions s.transactions s ids events closes g;
     })

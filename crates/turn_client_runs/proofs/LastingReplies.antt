@@ -13,7 +13,7 @@ use Rattle.turn_client_runs.proofs.LastingCounts.{or_else, or_first, length-with
 use Rattle.turn_client_runs.proofs.LastingCounts.{passes-same, passes-two}
 use Rattle.turn_client_runs.proofs.LastingStands.{AllRemain, Follows, Goes, IsPending, goes-more, goes-trans, requested-more, IsRequested, AreRequests, Brings, IsRequest, listed_as, IsAsked}
 use Rattle.turn_client_runs.proofs.LastingStands.{IsAwaited, asked-before, kept-changed, granted-active, kept-granted, leased-active, let_go-became, let_go-with, reserved-unserved, IsActive, IsKnown}
-use Rattle.turn_client_runs.proofs.LastingStands.{IsLoose, IsGranted, IsIdle, IsKept, IsRefreshing, Stands, due_of, early-paced, still-paced, is_served, not-waiting, pause-le, IsUnique, IsWell}
+use Rattle.turn_client_runs.proofs.LastingStands.{IsLoose, IsGranted, IsIdle, IsKept, IsRefreshing, Stands, due_of, early-paced, still-paced, is_served, not-waiting, pause-paced, Lag, IsUnique, IsWell}
 use Rattle.turn_client_runs.proofs.LastingStands.{is_waiting, served, used, unique-refreshing, unique-spares}
 use Rattle.turn_client_runs.proofs.LastingListings.{requests-left}
 use Rattle.turn_client_runs.proofs.LastingEffects.{effect-resets, IsForGranted, IsOfKind, Does, granted_for, IsGrantedAnew, effect-brings, effect-does, granted_by, is_shared, renewed_by, renews}
@@ -100,8 +100,8 @@ with-waiting expiry g h = cc
 abbrev left : Purpose → State → List Listing
 left p u = filter (λ l. not (is_shared p u.grants l)) u.listed
 
-module _ (count slots extras delay now : ℕ) (past : History) (transactions : List Transaction) (u : State)
-    (k : IsKept count slots extras delay now past transactions u) (p : Purpose) (refreshing : IsRefreshing p) where
+module _ (count slots extras : ℕ) (lag : Lag) (delay now : ℕ) (past : History) (transactions : List Transaction) (u : State)
+    (k : IsKept count slots extras lag delay now past transactions u) (p : Purpose) (refreshing : IsRefreshing p) where
   -- what is listed still was listed, and for nothing that is answered
   kept-listing : (l : Listing) → Has l (left p u) → Has l u.listed × (is_shared p u.grants l ≡ false)
   kept-listing l h = let (there, keeps) = has-filter (λ (l : Listing). not (is_shared p u.grants l)) l u.listed h in (there, not-true (is_shared p u.grants l) keeps)
@@ -179,7 +179,7 @@ module _ (count slots extras delay now : ℕ) (past : History) (transactions : L
 
   -- if as many grants are served as before, the others stand as they did
   stands-other : (t : State) → t.config ≡ u.config → t.listed ≡ left p u → t.queue ≡ u.queue → t.last_send ≡ u.last_send → ((since : ℕ) → since ≤ now → served u since ≤ served t since)
-      → (g : Grant) → is_for p g ≡ false → Stands count slots extras delay now past transactions u g → Stands count slots extras delay now past transactions t g
+      → (g : Grant) → is_for p g ≡ false → Stands count slots extras lag delay now past transactions u g → Stands count slots extras lag delay now past transactions t g
   stands-other t same ls qs sends serves g other was = record { granted = was.granted; room = rw same was.room; long = rw same was.long; either = by was.either }
     where
       len : length t.queue ≡ length u.queue
@@ -191,13 +191,10 @@ module _ (count slots extras delay now : ℕ) (past : History) (transactions : L
       dues : due_of t g ≡ due_of u g
       dues = rw same refl
 
-      cadence : t.config.request_cadence ≡ u.config.request_cadence
-      cadence = ap (λ (c : Config). c.request_cadence) same
-
       asks : has_request g t ≡ list_any (λ (l : Listing). is_for l.purpose g) (left p u)
       asks = ap (λ (ls : List Listing). list_any (λ (l : Listing). is_for l.purpose g) ls) ls
 
-      by : IsAwaited delay past transactions u.listed g ⊎ IsIdle slots now past u g → IsAwaited delay past transactions t.listed g ⊎ IsIdle slots now past t g
+      by : IsAwaited delay past transactions u.listed g ⊎ IsIdle slots lag now past u g → IsAwaited delay past transactions t.listed g ⊎ IsIdle slots lag now past t g
       by (inl a) = inl (rw ls (requested-other (λ made. made + delay < expiry_of g) g other a))
       by (inr idle) = elim (cases_lt (due_of u g) now) [
         | inl late ↦
@@ -206,16 +203,17 @@ module _ (count slots extras delay now : ℕ) (past : History) (transactions : L
             inr (record {
               unasked = asks ∙ not-asked g idle.unasked;
               near = rw same idle.near;
-              soon = still-paced _ _ now _ _ (due_of u g) (due_of t g) slots _ _ cadence len dues no_fewer idle.soon;
-              paused = still-paced _ _ (pause_end t) _ _ (due_of u g) (due_of t g) slots _ _ cadence len dues no_fewer (rw pauses idle.paused);
+              soon = still-paced _ _ lag.since _ _ (due_of u g) (due_of t g) slots _ _ refl len dues no_fewer idle.soon;
+              paused = still-paced _ _ (pause_end t) _ _ (due_of u g) (due_of t g) slots _ _ refl len dues no_fewer (rw pauses idle.paused);
             })
         | inr early ↦
             let few = k.few in
+            let begins = k.begins in
             inr (record {
               unasked = asks ∙ not-asked g idle.unasked;
               near = rw same idle.near;
-              soon = early-paced _ _ now _ _ now (due_of t g) slots _ cadence len few (omega arith) (rw dues early);
-              paused = early-paced _ _ (pause_end t) _ _ now (due_of t g) slots _ cadence len few (rw pauses (pause-le now u k.sent)) (rw dues early);
+              soon = early-paced _ _ lag.since _ _ now (due_of t g) slots _ refl len few (omega (arith, begins)) (rw dues early);
+              paused = early-paced _ _ (pause_end t) _ _ now (due_of t g) slots _ refl len few (rw pauses (pause-paced count slots extras lag delay now past transactions u k)) (rw dues early);
             })
       ]
 
@@ -235,13 +233,13 @@ module _ (count slots extras delay now : ℕ) (past : History) (transactions : L
 
   -- what was granted now is refreshed much later
   stands-new : (t : State) → t.config ≡ u.config → t.queue ≡ u.queue → t.last_send ≡ u.last_send → (h : Grant) → IsGranted h
-      → (count + slots + extras) * u.config.request_cadence + delay < ahead_of u.config.refresh_ahead h → now + 150_000_000_000 + ahead_of u.config.refresh_ahead h ≤ expiry_of h
-      → has_request h t ≡ false → Stands count slots extras delay now past transactions t h
+      → (count + slots + extras) * lag.pace + delay + lag.late < ahead_of u.config.refresh_ahead h → now + 150_000_000_000 + ahead_of u.config.refresh_ahead h ≤ expiry_of h
+      → has_request h t ≡ false → Stands count slots extras lag delay now past transactions t h
   stands-new t same qs sends h granted room late unasked =
       let len : length t.queue ≡ length u.queue = ap (λ (q : List Queued). length q) qs in
       let pauses = pauses-same t same sends in
-      let cadence : t.config.request_cadence ≡ u.config.request_cadence = ap (λ (c : Config). c.request_cadence) same in
       let few = k.few in
+      let begins = k.begins in
       let early : now ≤ due_of t h = rw same (omega (arith, late)) in
       record {
         granted = granted;
@@ -250,8 +248,8 @@ module _ (count slots extras delay now : ℕ) (past : History) (transactions : L
         either = inr (record {
           unasked = unasked;
           near = omega (arith, early);
-          soon = early-paced _ _ now _ _ now (due_of t h) slots _ cadence len few (omega arith) early;
-          paused = early-paced _ _ (pause_end t) _ _ now (due_of t h) slots _ cadence len few (rw pauses (pause-le now u k.sent)) early;
+          soon = early-paced _ _ lag.since _ _ now (due_of t h) slots _ refl len few (omega (arith, begins)) early;
+          paused = early-paced _ _ (pause_end t) _ _ now (due_of t h) slots _ refl len few (rw pauses (pause-paced count slots extras lag delay now past transactions u k)) early;
         });
       }
 
@@ -271,8 +269,8 @@ module _ (count slots extras delay now : ℕ) (past : History) (transactions : L
 
 -- ---- a refresh
 
-module _ (count slots extras delay now : ℕ) (past : History) (transactions : List Transaction) (u : State)
-    (k : IsKept count slots extras delay now past transactions u) (p : Purpose) (refreshing : IsRefreshing p) (expiry challenges : ℕ)
+module _ (count slots extras : ℕ) (lag : Lag) (delay now : ℕ) (past : History) (transactions : List Transaction) (u : State)
+    (k : IsKept count slots extras lag delay now past transactions u) (p : Purpose) (refreshing : IsRefreshing p) (expiry challenges : ℕ)
     (fewer : challenges ≤ u.challenges) (late : now + granted_for p ≤ expiry) (alone : IsForGranted p u) where
   abbrev t : State
   t = renewed_by p expiry challenges u
@@ -296,7 +294,7 @@ module _ (count slots extras delay now : ℕ) (past : History) (transactions : L
   serves since before = passes-map (is_served u since) (is_served t since) (renews p expiry) u.grants each
     where
       serves-late : (g : Grant) → IsActive g → is_for p g ≡ true → is_served t since (with_expiry expiry g) ≡ true
-      serves-late g active f = serves-new count slots extras delay now past transactions u k p refreshing t refl since (with_expiry expiry g) before (expires-late g active f)
+      serves-late g active f = serves-new count slots extras lag delay now past transactions u k p refreshing t refl since (with_expiry expiry g) before (expires-late g active f)
 
       each : (g : Grant) → Has g u.grants → is_served u since g ≡ true → is_served t since (renews p expiry g) ≡ true
       each g there e = by (is_for p g) refl
@@ -308,7 +306,7 @@ module _ (count slots extras delay now : ℕ) (past : History) (transactions : L
             | inr (inr (freed, inl leased)) ↦ serves-late g (leased-active g leased) f
             | inr (inr (freed, inr (is, none))) ↦ absurd (let no : false ≡ true = sym (reserved-unserved u since g is none) ∙ e in cc)
           ]
-          by false f = serves-other count slots extras delay now past transactions u k p refreshing t refl refl since g f e
+          by false f = serves-other count slots extras lag delay now past transactions u k p refreshing t refl refl since g f e
 
   -- what has an allocation has it still
   has-room : (family : AddressFamily) → Room u.grants family → Room t.grants family
@@ -328,12 +326,12 @@ module _ (count slots extras delay now : ℕ) (past : History) (transactions : L
 
   -- what is renewed is requested no more
   unasked-renewed : (g : Grant) → Has g u.grants → is_for p g ≡ true → has_request (with_expiry expiry g) t ≡ false
-  unasked-renewed g there e = answered count slots extras delay now past transactions u k p refreshing g (with_expiry expiry g) there e (λ l was for. sym (with-for l.purpose expiry g) ∙ for)
+  unasked-renewed g there e = answered count slots extras lag delay now past transactions u k p refreshing g (with_expiry expiry g) there e (λ l was for. sym (with-for l.purpose expiry g) ∙ for)
 
   loose-renewed : (g : Grant) → IsLoose past u g → IsLoose past t (with_expiry expiry g)
   loose-renewed g (freed, inl leased) = (let_go-with past expiry g ∙ freed, inl (with-leased expiry g leased))
   loose-renewed g (freed, inr (is, none)) =
-      subst (IsLoose past t) (sym (with-reserved expiry g is)) (loose-other count slots extras delay now past transactions u k p refreshing t refl g (freed, inr (is, none)))
+      subst (IsLoose past t) (sym (with-reserved expiry g is)) (loose-other count slots extras lag delay now past transactions u k p refreshing t refl g (freed, inr (is, none)))
 
   renews-known : (g : Grant) → Has g u.grants → IsKnown now past t (renews p expiry g)
   renews-known g there = by (is_for p g) refl
@@ -343,37 +341,37 @@ module _ (count slots extras delay now : ℕ) (past : History) (transactions : L
 
       by : (b : Bool) → is_for p g ≡ b → IsKnown now past t (cond b (with_expiry expiry g) g)
       by true e = (waits (k.known g there), λ leased asked. absurd (let no : false ≡ true = sym (unasked-renewed g there e) ∙ asked in cc))
-      by false e = known-other count slots extras delay now past transactions u k p refreshing t refl refl g (k.known g there)
+      by false e = known-other count slots extras lag delay now past transactions u k p refreshing t refl refl g (k.known g there)
 
-  renews-well : (g : Grant) → Has g u.grants → IsWell count slots extras delay now past transactions t (renews p expiry g)
+  renews-well : (g : Grant) → Has g u.grants → IsWell count slots extras lag delay now past transactions t (renews p expiry g)
   renews-well g there = by (is_for p g) refl (k.each g there)
     where
-      by : (b : Bool) → is_for p g ≡ b → IsWell count slots extras delay now past transactions u g → IsWell count slots extras delay now past transactions t (cond b (with_expiry expiry g) g)
+      by : (b : Bool) → is_for p g ≡ b → IsWell count slots extras lag delay now past transactions u g → IsWell count slots extras lag delay now past transactions t (cond b (with_expiry expiry g) g)
       by true e (inl (waits, pending)) = absurd (unanswered g there waits e)
       by true e (inr (inr loose)) = inr (inr (loose-renewed g loose))
       by true e (inr (inl was)) =
           let a = with-ahead u.config.refresh_ahead expiry g in
-          inr (inl (stands-new count slots extras delay now past transactions u k p refreshing t refl refl refl (with_expiry expiry g) (with-granted expiry g was.granted)
+          inr (inl (stands-new count slots extras lag delay now past transactions u k p refreshing t refl refl refl (with_expiry expiry g) (with-granted expiry g was.granted)
           (omega (arith, a, was.room)) (expires-late g (granted-active g was.granted) e) (unasked-renewed g there e)))
-      by false e (inl (waits, pending)) = inl (waits, requested-other count slots extras delay now past transactions u k p refreshing (λ made. made ≤ now) g e pending)
-      by false e (inr (inl was)) = inr (inl (stands-other count slots extras delay now past transactions u k p refreshing t refl refl refl refl serves g e was))
-      by false e (inr (inr loose)) = inr (inr (loose-other count slots extras delay now past transactions u k p refreshing t refl g loose))
+      by false e (inl (waits, pending)) = inl (waits, requested-other count slots extras lag delay now past transactions u k p refreshing (λ made. made ≤ now) g e pending)
+      by false e (inr (inl was)) = inr (inl (stands-other count slots extras lag delay now past transactions u k p refreshing t refl refl refl refl serves g e was))
+      by false e (inr (inr loose)) = inr (inr (loose-other count slots extras lag delay now past transactions u k p refreshing t refl g loose))
 
-  pub renewed-kept : IsKept count slots extras delay now past transactions t
-  renewed-kept = kept-changed count slots extras delay now past past transactions transactions u (λ x h. refl) k.seldom k t.grants t.listed u.events challenges u.ids u.closes (record {
+  pub renewed-kept : IsKept count slots extras lag delay now past transactions t
+  renewed-kept = kept-changed count slots extras lag delay now past past transactions transactions u (λ x h. refl) k.seldom k t.grants t.listed u.events challenges u.ids u.closes (record {
     row = let row = k.row in omega (arith, row, fewer);
-    asked = λ l h. asked l (k.asked l (kept-listing count slots extras delay now past transactions u k p refreshing l h).0);
+    asked = λ l h. asked l (k.asked l (kept-listing count slots extras lag delay now past transactions u k p refreshing l h).0);
     size = let same = length-map u.grants (renews p expiry) in let size = k.size in omega (arith, same, size);
     single = λ q unique.
         let few = k.single q unique in
         omega (arith, few, passes-mapped (is_for q) (is_for q) (renews p expiry) u.grants (λ g there e. sym (renews-for q p expiry g) ∙ e));
-    linked = linked-left count slots extras delay now past transactions u k p refreshing t.grants
+    linked = linked-left count slots extras lag delay now past transactions u k p refreshing t.grants
         (λ g there other. subst (λ (h : Grant). Has h t.grants) (rw other refl) (map-has (renews p expiry) g u.grants there));
     in_allocations = λ g h.
         let (x, there, e) = has-mapped (renews p expiry) g u.grants h in
         subst (λ (y : Grant). Room t.grants (family_of_grant y)) (sym e) (rw (renews-family x) (has-room (family_of_grant x) (k.in_allocations x there)));
     known = λ g h. let (x, there, e) = has-mapped (renews p expiry) g u.grants h in subst (IsKnown now past t) (sym e) (renews-known x there);
-    each = λ g h. let (x, there, e) = has-mapped (renews p expiry) g u.grants h in subst (IsWell count slots extras delay now past transactions t) (sym e) (renews-well x there);
+    each = λ g h. let (x, there, e) = has-mapped (renews p expiry) g u.grants h in subst (IsWell count slots extras lag delay now past transactions t) (sym e) (renews-well x there);
   })
     where
       asked : (l : Listing) → IsAsked u.grants l → IsAsked t.grants l
@@ -401,12 +399,12 @@ module _ (count slots extras delay now : ℕ) (past : History) (transactions : L
       by until g there waits pending true e = absurd (unanswered g there waits e)
       by until g there waits pending false e = inl (
         subst (λ (h : Grant). Has h t.grants) (rw e refl) (map-has (renews p expiry) g u.grants there),
-        requested-other count slots extras delay now past transactions u k p refreshing (λ made. made ≤ until) g e pending,
+        requested-other count slots extras lag delay now past transactions u k p refreshing (λ made. made ≤ until) g e pending,
       )
 
 -- ---- what waited
 
-module _ (count slots extras delay now : ℕ) (past : History) (transactions : List Transaction) (u : State) (k : IsKept count slots extras delay now past transactions u) (p : Purpose) (made : State)
+module _ (count slots extras : ℕ) (lag : Lag) (delay now : ℕ) (past : History) (transactions : List Transaction) (u : State) (k : IsKept count slots extras lag delay now past transactions u) (p : Purpose) (made : State)
     (anew : IsGrantedAnew p now u made) where
   abbrev new : Grant
   new = anew.new
@@ -434,7 +432,7 @@ module _ (count slots extras delay now : ℕ) (past : History) (transactions : L
   new-there = has-right new others (new ∷ []) (inl refl)
 
   new-serves : (since : ℕ) → since ≤ now → is_served after since new ≡ true
-  new-serves since before = serves-new count slots extras delay now past transactions u k p refreshing after refl since new before anew.late
+  new-serves since before = serves-new count slots extras lag delay now past transactions u k p refreshing after refl since new before anew.late
 
   serves-anew : (since : ℕ) → since ≤ now → served u since ≤ served after since
   serves-anew since before =
@@ -442,13 +440,13 @@ module _ (count slots extras delay now : ℕ) (past : History) (transactions : L
       let one = k.single p anew.unique in
       let same = passes-all (is_served u since) (is_served after since) others
       (λ g h e. let (there, not) = has-filter (λ (g : Grant). not (is_for p g)) g u.grants h in
-      serves-other count slots extras delay now past transactions u k p refreshing after refl refl since g (not-true (is_for p g) not) e) in
+      serves-other count slots extras lag delay now past transactions u k p refreshing after refl refl since g (not-true (is_for p g) not) e) in
       let more = passes-append (is_served after since) others (new ∷ []) in
       let last : passes (is_served after since) (new ∷ []) ≡ 1 = rw (new-serves since before) refl in
       omega (arith, split, one, same, more, last)
 
   new-unasked : has_request new after ≡ false
-  new-unasked = answered count slots extras delay now past transactions u k p refreshing anew.waits new anew.there anew.same
+  new-unasked = answered count slots extras lag delay now past transactions u k p refreshing anew.waits new anew.there anew.same
       (λ l was for. for-joins l.purpose p anew.waits new (k.asked l was).0 refreshing for anew.for anew.same)
 
   -- what is granted, but not kept, was let go
@@ -456,27 +454,27 @@ module _ (count slots extras delay now : ℕ) (past : History) (transactions : L
   new-let_go loose = let_go-became past anew.waits new anew.becomes
       ∙ or_else (is_kept anew.waits) (was_let_go past anew.waits) (sym anew.marks ∙ loose) ((k.known anew.waits anew.there).0 anew.waiting)
 
-  well-anew : (g : Grant) → Has g after.grants → IsWell count slots extras delay now past transactions after g
+  well-anew : (g : Grant) → Has g after.grants → IsWell count slots extras lag delay now past transactions after g
   well-anew g h = elim (which g h) [
     | inl (there, other) ↦ elim (k.each g there) [
-      | inl (waits, pending) ↦ inl (waits, requested-other count slots extras delay now past transactions u k p refreshing (λ made. made ≤ now) g other pending)
-      | inr (inl was) ↦ inr (inl (stands-other count slots extras delay now past transactions u k p refreshing after refl refl refl refl serves-anew g other was))
-      | inr (inr loose) ↦ inr (inr (loose-other count slots extras delay now past transactions u k p refreshing after refl g loose))
+      | inl (waits, pending) ↦ inl (waits, requested-other count slots extras lag delay now past transactions u k p refreshing (λ made. made ≤ now) g other pending)
+      | inr (inl was) ↦ inr (inl (stands-other count slots extras lag delay now past transactions u k p refreshing after refl refl refl refl serves-anew g other was))
+      | inr (inr loose) ↦ inr (inr (loose-other count slots extras lag delay now past transactions u k p refreshing after refl g loose))
     ]
-    | inr e ↦ subst (IsWell count slots extras delay now past transactions after) (sym e) (inr (new-well (is_kept new) refl))
+    | inr e ↦ subst (IsWell count slots extras lag delay now past transactions after) (sym e) (inr (new-well (is_kept new) refl))
   ]
     where
-      new-well : (b : Bool) → is_kept new ≡ b → Stands count slots extras delay now past transactions after new ⊎ IsLoose past after new
+      new-well : (b : Bool) → is_kept new ≡ b → Stands count slots extras lag delay now past transactions after new ⊎ IsLoose past after new
       new-well true kept =
           let pace = k.pace in
           let minute = anew.minute in
-          inl (stands-new count slots extras delay now past transactions u k p refreshing after refl refl refl new (kept-granted new anew.leased kept)
+          inl (stands-new count slots extras lag delay now past transactions u k p refreshing after refl refl refl new (kept-granted new anew.leased kept)
           (omega (arith, pace, minute)) anew.late new-unasked)
       new-well false kept = inr (new-let_go kept, inl anew.leased)
 
   known-anew : (g : Grant) → Has g after.grants → IsKnown now past after g
   known-anew g h = elim (which g h) [
-    | inl (there, other) ↦ known-other count slots extras delay now past transactions u k p refreshing after refl refl g (k.known g there)
+    | inl (there, other) ↦ known-other count slots extras lag delay now past transactions u k p refreshing after refl refl g (k.known g there)
     | inr e ↦ subst (IsKnown now past after) (sym e) (
       λ waits. absurd (let no : false ≡ true = sym (not-waiting new (leased-active new anew.leased)) ∙ waits in cc),
       λ leased asked. absurd (let no : false ≡ true = sym new-unasked ∙ asked in cc),
@@ -509,20 +507,20 @@ module _ (count slots extras delay now : ℕ) (past : History) (transactions : L
   room-anew : (family : AddressFamily) → Room u.grants family → Room after.grants family
   room-anew = room-more u.grants after.grants (λ a there. stays-there (Allocation a) there (unique-spares p anew.unique a))
 
-  pub anew-kept : IsKept count slots extras delay now past transactions after
-  anew-kept = kept-changed count slots extras delay now past past transactions transactions u (λ x h. refl) k.seldom k after.grants after.listed anew.events anew.challenges u.ids u.closes (record {
+  pub anew-kept : IsKept count slots extras lag delay now past transactions after
+  anew-kept = kept-changed count slots extras lag delay now past past transactions transactions u (λ x h. refl) k.seldom k after.grants after.listed anew.events anew.challenges u.ids u.closes (record {
     row = let row = k.row in let fewer = anew.fewer in omega (arith, row, fewer);
     asked = λ l h.
-        let (was, unshared) = kept-listing count slots extras delay now past transactions u k p refreshing l h in
+        let (was, unshared) = kept-listing count slots extras lag delay now past transactions u k p refreshing l h in
         let (refreshes, (g, there, for)) = k.asked l was in
-        (refreshes, (g, stays-there g there (others-asked count slots extras delay now past transactions u k p refreshing l h g there for), for));
+        (refreshes, (g, stays-there g there (others-asked count slots extras lag delay now past transactions u k p refreshing l h g there for), for));
     size =
         let one = length-without (is_for p) anew.waits u.grants anew.there anew.same in
         let len = length-append others (new ∷ []) in
         let size = k.size in
         omega (arith, one, len, size);
     single = single-anew;
-    linked = linked-left count slots extras delay now past transactions u k p refreshing after.grants stays-there;
+    linked = linked-left count slots extras lag delay now past transactions u k p refreshing after.grants stays-there;
     in_allocations = λ g h. elim (which g h) [
       | inl (there, other) ↦ room-anew (family_of_grant g) (k.in_allocations g there)
       | inr e ↦ subst (λ (y : Grant). Room after.grants (family_of_grant y)) (sym e)
@@ -556,13 +554,13 @@ module _ (count slots extras delay now : ℕ) (past : History) (transactions : L
           let is : anew.waits ≡ g = passes-same (is_for p) anew.waits g u.grants (k.single p anew.unique) anew.there there anew.same e in
           let kept = or_first (is_kept g) (was_let_go past g) none ((k.known g there).0 waits) in
           inr (new, new-there, anew.becomes ∙ ap as_granted is, kept-granted new anew.leased (anew.marks ∙ (ap is_kept is ∙ kept)))
-      by until g there waits pending none false e = inl (stays-there g there e, requested-other count slots extras delay now past transactions u k p refreshing (λ made. made ≤ until) g e pending)
+      by until g there waits pending none false e = inl (stays-there g there e, requested-other count slots extras lag delay now past transactions u k p refreshing (λ made. made ≤ until) g e pending)
 
 -- ---- all purposes of a request
 
 -- what is listed is listed for none of these any more
-pub record IsAnswered (count slots extras delay now : ℕ) (past : History) (transactions : List Transaction) (purposes : List Purpose) (u t : State) : Type 0 where
-  pub kept : IsKept count slots extras delay now past transactions t
+pub record IsAnswered (count slots extras : ℕ) (lag : Lag) (delay now : ℕ) (past : History) (transactions : List Transaction) (purposes : List Purpose) (u t : State) : Type 0 where
+  pub kept : IsKept count slots extras lag delay now past transactions t
   pub goes : Goes past past transactions transactions u t
   pub outstanding : t.transactions ≡ u.transactions
   pub listed : (l : Listing) → Has l t.listed → Has l u.listed × (Has l.purpose purposes → ⊥)
@@ -575,18 +573,18 @@ one-listed p u l h (g, there, for) e =
     let no : false ≡ true = sym (not-true (is_shared p u.grants l) keeps) ∙ some in
     cc
 
-pub all-known : (count slots extras delay now : ℕ) (past : History) (transactions : List Transaction) (u : State)
-    → IsKept count slots extras delay now past transactions u → (g : Grant) → Has g u.grants
+pub all-known : (count slots extras : ℕ) (lag : Lag) (delay now : ℕ) (past : History) (transactions : List Transaction) (u : State)
+    → IsKept count slots extras lag delay now past transactions u → (g : Grant) → Has g u.grants
     → IsOfKind u g
-all-known count slots extras delay now past transactions u k g there = elim (k.each g there) [
+all-known count slots extras lag delay now past transactions u k g there = elim (k.each g there) [
   | inl (waits, pending) ↦ inl waits
   | inr (inl stands) ↦ inr (inl (granted-active g stands.granted))
   | inr (inr (freed, inl leased)) ↦ inr (inl (leased-active g leased))
   | inr (inr (freed, inr reserved)) ↦ inr (inr reserved)
 ]
 
-module _ (count slots extras delay now : ℕ) (past : History) (transactions : List Transaction) (u : State)
-    (k : IsKept count slots extras delay now past transactions u) (p : Purpose) (refreshing : IsRefreshing p) (g : Grant)
+module _ (count slots extras : ℕ) (lag : Lag) (delay now : ℕ) (past : History) (transactions : List Transaction) (u : State)
+    (k : IsKept count slots extras lag delay now past transactions u) (p : Purpose) (refreshing : IsRefreshing p) (g : Grant)
     (there : Has g u.grants)
     (for : is_for p g ≡ true) where
   left-listed : (l : Listing) → Has l (left p u) → Has l u.listed × (Has l.purpose (p ∷ []) → ⊥)
@@ -596,25 +594,25 @@ module _ (count slots extras delay now : ℕ) (past : History) (transactions : L
   )
 
   -- one purpose is answered
-  pub one-answered : (t : State) → Does p now u t → IsAnswered count slots extras delay now past transactions (p ∷ []) u t
-  one-answered t (inl (expiry, challenges, fewer, late, is, alone)) = subst (IsAnswered count slots extras delay now past transactions (p ∷ []) u) (sym is) (record {
-    kept = renewed-kept count slots extras delay now past transactions u k p refreshing expiry challenges fewer late alone;
-    goes = renewed-goes count slots extras delay now past transactions u k p refreshing expiry challenges fewer late alone;
+  pub one-answered : (t : State) → Does p now u t → IsAnswered count slots extras lag delay now past transactions (p ∷ []) u t
+  one-answered t (inl (expiry, challenges, fewer, late, is, alone)) = subst (IsAnswered count slots extras lag delay now past transactions (p ∷ []) u) (sym is) (record {
+    kept = renewed-kept count slots extras lag delay now past transactions u k p refreshing expiry challenges fewer late alone;
+    goes = renewed-goes count slots extras lag delay now past transactions u k p refreshing expiry challenges fewer late alone;
     outstanding = refl;
     listed = left-listed;
   })
-  one-answered t (inr anew) = subst (IsAnswered count slots extras delay now past transactions (p ∷ []) u) (sym anew.is) (record {
-    kept = anew-kept count slots extras delay now past transactions u k p t anew;
-    goes = anew-goes count slots extras delay now past transactions u k p t anew;
+  one-answered t (inr anew) = subst (IsAnswered count slots extras lag delay now past transactions (p ∷ []) u) (sym anew.is) (record {
+    kept = anew-kept count slots extras lag delay now past transactions u k p t anew;
+    goes = anew-goes count slots extras lag delay now past transactions u k p t anew;
     outstanding = refl;
     listed = left-listed;
   })
 
 -- one purpose is answered after another one
-both-answered : (count slots extras delay now : ℕ) (past : History) (transactions : List Transaction) (p q : Purpose) (u v t : State)
-    → IsAnswered count slots extras delay now past transactions (q ∷ []) u v
-    → IsAnswered count slots extras delay now past transactions (p ∷ []) v t → IsAnswered count slots extras delay now past transactions (p ∷ q ∷ []) u t
-both-answered count slots extras delay now past transactions p q u v t first last = record {
+both-answered : (count slots extras : ℕ) (lag : Lag) (delay now : ℕ) (past : History) (transactions : List Transaction) (p q : Purpose) (u v t : State)
+    → IsAnswered count slots extras lag delay now past transactions (q ∷ []) u v
+    → IsAnswered count slots extras lag delay now past transactions (p ∷ []) v t → IsAnswered count slots extras lag delay now past transactions (p ∷ q ∷ []) u t
+both-answered count slots extras lag delay now past transactions p q u v t first last = record {
   kept = last.kept;
   goes = goes-trans past past past transactions transactions transactions u v t first.goes last.goes;
   outstanding = last.outstanding ∙ first.outstanding;
@@ -635,25 +633,25 @@ of_method method (ForChannel number peer) r e = eq-eqb _ method (sym e)
 of_method method p r e = absurd r
 
 -- all that the request was made for is answered
-pub all-answered : (message : List ℕ) (id count slots extras delay now : ℕ) (past : History) (transactions : List Transaction) (u : State) → IsKept count slots extras delay now past transactions u
+pub all-answered : (message : List ℕ) (id count slots extras : ℕ) (lag : Lag) (delay now : ℕ) (past : History) (transactions : List Transaction) (u : State) → IsKept count slots extras lag delay now past transactions u
     → ((p : Purpose) → Has p (purposes_of id u) → IsGiven u.grants p) → Answers message (purposes_of id u)
     → let t = fold (effect id true message now) u (filter (is_answered (method_in message)) (purposes_of id u)) in
-    IsAnswered count slots extras delay now past transactions (purposes_of id u) u t × ((p : Purpose) → Has p (purposes_of id u) → t.challenges ≡ 0)
-all-answered message id count slots extras delay now past transactions u k given answers = by (listed_as id u.listed) refl (k.linked id)
+    IsAnswered count slots extras lag delay now past transactions (purposes_of id u) u t × ((p : Purpose) → Has p (purposes_of id u) → t.challenges ≡ 0)
+all-answered message id count slots extras lag delay now past transactions u k given answers = by (listed_as id u.listed) refl (k.linked id)
   where
     answered_to : List Purpose → State
     answered_to ps = fold (effect id true message now) u (filter (is_answered (method_in message)) ps)
 
     Done : List Purpose → Type 0
-    Done ps = IsAnswered count slots extras delay now past transactions ps u (answered_to ps) × ((p : Purpose) → Has p ps → (answered_to ps).challenges ≡ 0)
+    Done ps = IsAnswered count slots extras lag delay now past transactions ps u (answered_to ps) × ((p : Purpose) → Has p ps → (answered_to ps).challenges ≡ 0)
 
     known : (g : Grant) → Has g u.grants → IsOfKind u g
-    known = all-known count slots extras delay now past transactions u k
+    known = all-known count slots extras lag delay now past transactions u k
 
     one : (p : Purpose) → purposes_of id u ≡ p ∷ [] → IsGiven u.grants p → Grants message p → Done (p ∷ [])
     one p e (refreshing, (g, there, for)) grants =
         rw (of_method (method_in message) p refreshing grants.0) (
-          one-answered count slots extras delay now past transactions u k p refreshing g there for (effect id true message now u p)
+          one-answered count slots extras lag delay now past transactions u k p refreshing g there for (effect id true message now u p)
               (effect-does message id now u p k.in_range known refreshing grants e g there for),
           λ q h. effect-resets message id now u p refreshing grants,
         )
@@ -665,10 +663,10 @@ all-answered message id count slots extras delay now past transactions u k given
         let not : is_answered (method_in message) (ForPermission ip) ≡ false = rw m refl in
         let t = effect id true message now u (ForChannel number peer) in
         let both = effect-brings message number peer ip id now u k.in_range known e g there for h here is waits (k.single (ForChannel number peer) tt) in
-        let first = one-answered count slots extras delay now past transactions u k (ForPermission ip) tt g there for both.middle both.first in
-        let last = one-answered count slots extras delay now past transactions both.middle first.kept (ForChannel number peer) tt h (both.stays h here (apart h is)) is t both.last in
+        let first = one-answered count slots extras lag delay now past transactions u k (ForPermission ip) tt g there for both.middle both.first in
+        let last = one-answered count slots extras lag delay now past transactions both.middle first.kept (ForChannel number peer) tt h (both.stays h here (apart h is)) is t both.last in
         rw (yes, not) (
-          both-answered count slots extras delay now past transactions (ForChannel number peer) (ForPermission ip) u both.middle t first last,
+          both-answered count slots extras lag delay now past transactions (ForChannel number peer) (ForPermission ip) u both.middle t first last,
           λ q h. effect-resets message id now u (ForChannel number peer) tt grants,
         )
       where

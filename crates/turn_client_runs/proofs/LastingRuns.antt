@@ -6,16 +6,17 @@ use Rattle.turn_client_laws.proofs.Machine.{Transmit, IsValidated, validation_of
 use Rattle.turn_client_laws.proofs.Machine.{Allocated, Relay, Grant, Allocation, Permission, Channel, Listing, Purpose, allocations, is_past, is_permission_of, same_transport, purposes_of, Challenged}
 use Rattle.turn_client_laws.proofs.Machine.{SignedSuccess, challenge_in, class_in, judgement_of, retried, state_after_retry, Challenge, transaction_ended, Handled, Ignored, Outcome, challenge_step}
 use Rattle.turn_client_laws.proofs.Machine.{datagram_step, message_step, response_step, signed_step, bind_channel_step, create_permission_step, expired_at, poll_step, transmit_step, fresh_id}
-use Rattle.turn_client_laws.proofs.Machine.{packet_step, state_after, state_after_all, Call, BindChannel, CreatePermission, Recv, Poll, PollTransmit, PollEvent, SendTo, SetChannelKept}
+use Rattle.turn_client_laws.proofs.Machine.{packet_step, to_server, state_after, state_after_all, Call, BindChannel, CreatePermission, Recv, Poll, PollTransmit, PollEvent, SendTo, SetChannelKept}
 use Rattle.turn_client_laws.proofs.Machine.{SetPermissionKept, allocation-there, Has, filter-has, has-filter, map-has}
 use Rattle.turn_client_laws.proofs.Laws.{any-has, has-any, purpose-with, send_to-by}
 use Rattle.turn_client_api.specs.declared.error.KeepError.{KeepError}
 use Rattle.turn_client_api.specs.declared.error.KeepError.TheVariants.{NotGranted}
-use Rattle.turn_client_runs.specs.Lasting.{AreInTime, IsAnsweredChallenge, Answers, DatagramsAreMessages, IsQuiet, IsSuccess, expiry_of, HoldsAtMost, RunsSteadily, SuccessesEndRequests}
+use Rattle.turn_client_runs.specs.Late.{AreAnswered, RunsBehind, since_next}
+use Rattle.turn_client_runs.specs.Lasting.{IsAnsweredChallenge, Answers, DatagramsAreMessages, IsQuiet, IsSuccess, expiry_of, HoldsAtMost, SuccessesEndRequests}
 use Rattle.turn_client_runs.proofs.MadeLemmas.{success-ends}
 use Rattle.turn_client_runs.specs.OnTime.{IsFromServer, time_of, time_of_all}
 use Rattle.turn_client_runs.specs.History.{History, is_replied, IsSeldom, extra_since, is_extra, lost, was_let_go, with_call, with_calls}
-use Rattle.turn_client_runs.proofs.LastingStands.{allocation-stands, kept-changed, kept-rest, stands-aside, Goes, IsRequested, goes-more, goes-trans, IsKept, Stands, stands-early}
+use Rattle.turn_client_runs.proofs.LastingStands.{allocation-stands, kept-changed, kept-rest, stands-aside, Goes, IsRequested, goes-more, goes-trans, IsKept, Lag, Stands, stands-early, taken}
 use Rattle.turn_client_runs.proofs.LastingCounts.{passes, passes-length}
 use Rattle.turn_client_runs.proofs.LastingCalls.{Asks, asked-goes, asked-kept, binds, creates}
 use Rattle.turn_client_runs.proofs.LastingAgain.{IsOneMore, goes-again, goes-retried, kept-again, kept-retried, retried-queue}
@@ -71,10 +72,10 @@ success-ended packet now s p is =
 -- ---- what is left is kept
 
 -- no grant is lost by the call
-abbrev pub KeepsAll : ℕ → ℕ → ℕ → ℕ → ℕ → History → History → State → State → Type 0
-KeepsAll count slots extras delay now past later s t = IsKept count slots extras delay now later t.transactions t × Goes past later s.transactions t.transactions s t
+abbrev pub KeepsAll : ℕ → ℕ → ℕ → Lag → ℕ → ℕ → History → History → State → State → Type 0
+KeepsAll count slots extras lag delay now past later s t = IsKept count slots extras lag delay now later t.transactions t × Goes past later s.transactions t.transactions s t
 
-module _ (count slots extras delay now : ℕ) (past : History) (s : State) (k : IsKept count slots extras delay now past s.transactions s)
+module _ (count slots extras : ℕ) (lag : Lag) (delay now : ℕ) (past : History) (s : State) (k : IsKept count slots extras lag delay now past s.transactions s)
     (message : List ℕ) (answers : Answers message (purposes_of (id_of message) s)) where
   abbrev id : ℕ
   id = id_of message
@@ -88,13 +89,15 @@ module _ (count slots extras delay now : ℕ) (past : History) (s : State) (k : 
   still : (x : Transaction) → Has x ended.transactions → Has x s.transactions
   still x h = (has-filter (λ (x : Transaction). not (eqb x.id id)) x s.transactions h).0
 
-  kept-ended : IsKept count slots extras delay now past s.transactions ended
-  kept-ended = kept-rest count slots extras delay now past s.transactions s k s.queue s.last_send ended.transactions s.events s.ids s.closes (record {
+  kept-ended : IsKept count slots extras lag delay now past s.transactions ended
+  kept-ended = kept-rest count slots extras lag delay now past s.transactions s k lag.since s.queue s.last_send ended.transactions s.events s.ids s.closes (record {
+    begins = k.begins;
+    behind = k.behind;
     requests = k.requests;
     few = k.few;
     sent = k.sent;
     awaited = still;
-    stands = λ g there. stands-aside count slots extras delay now past s.transactions ended.transactions s s.ids s.events s.closes g;
+    stands = λ g there. stands-aside count slots extras lag delay now past s.transactions ended.transactions s s.ids s.events s.closes g;
   })
 
   purpose-listed : (l : Listing) → Has l s.listed → l.id ≡ id → Has l.purpose (purposes_of id s)
@@ -103,14 +106,14 @@ module _ (count slots extras delay now : ℕ) (past : History) (s : State) (k : 
   given : (p : Purpose) → Has p (purposes_of id ended) → IsGiven ended.grants p
   given p h = k.asked (record { id = id; purpose = p }) (purpose-with id p s h)
 
-  done : IsAnswered count slots extras delay now past s.transactions (purposes_of id ended) ended t
-  done = (all-answered message id count slots extras delay now past s.transactions ended kept-ended given answers).0
+  done : IsAnswered count slots extras lag delay now past s.transactions (purposes_of id ended) ended t
+  done = (all-answered message id count slots extras lag delay now past s.transactions ended kept-ended given answers).0
 
   -- a success of a request that is listed begins a row of challenges anew
   pub reset-answered : list_any (λ (l : Listing). eqb l.id id) s.listed ≡ true → t.challenges ≡ 0
   reset-answered some =
       let (l, there, e) = any-has (λ (l : Listing). eqb l.id id) s.listed some in
-      (all-answered message id count slots extras delay now past s.transactions ended kept-ended given answers).1 l.purpose (purpose-listed l there (eqb-true l.id id e))
+      (all-answered message id count slots extras lag delay now past s.transactions ended kept-ended given answers).1 l.purpose (purpose-listed l there (eqb-true l.id id e))
 
   -- what is listed under the ID is listed no more
   unlisted : (l : Listing) → Has l t.listed → l.id ≡ id → ⊥
@@ -137,7 +140,7 @@ module _ (count slots extras delay now : ℕ) (past : History) (s : State) (k : 
     made = a.made;
   }
 
-  stands-answered : (g : Grant) → Stands count slots extras delay now past s.transactions t g → Stands count slots extras delay now past t.transactions t g
+  stands-answered : (g : Grant) → Stands count slots extras lag delay now past s.transactions t g → Stands count slots extras lag delay now past t.transactions t g
   stands-answered g was = record {
     granted = was.granted;
     room = was.room;
@@ -155,9 +158,9 @@ module _ (count slots extras delay now : ℕ) (past : History) (s : State) (k : 
     ];
   }
 
-  pub kept-answered : KeepsAll count slots extras delay now past past s t
+  pub kept-answered : KeepsAll count slots extras lag delay now past past s t
   kept-answered = (
-    kept-changed count slots extras delay now past past s.transactions t.transactions t (λ x h. refl) done.kept.seldom done.kept t.grants t.listed t.events t.challenges t.ids t.closes (record {
+    kept-changed count slots extras lag delay now past past s.transactions t.transactions t (λ x h. refl) done.kept.seldom done.kept t.grants t.listed t.events t.challenges t.ids t.closes (record {
       row = done.kept.row;
       asked = done.kept.asked;
       size = done.kept.size;
@@ -181,19 +184,19 @@ goes-same : (past : History) (s t : State) → t.grants ≡ s.grants → t.trans
 goes-same past s t e f l =
     goes-more past s.transactions t.transactions s t e (λ x h. subst (λ (xs : List Transaction). Has x xs) (sym f) h) (λ m h. subst (λ (ls : List Listing). Has m ls) (sym l) h)
 
-all-plain : (count slots extras delay now : ℕ) (past : History) (s : State) → IsKept count slots extras delay now past s.transactions s → ArePlain s
-all-plain count slots extras delay now past s k g there = elim (all-known count slots extras delay now past s.transactions s k g there) [
+all-plain : (count slots extras : ℕ) (lag : Lag) (delay now : ℕ) (past : History) (s : State) → IsKept count slots extras lag delay now past s.transactions s → ArePlain s
+all-plain count slots extras lag delay now past s k g there = elim (all-known count slots extras lag delay now past s.transactions s k g there) [
   | inl waits ↦ inl waits
   | inr (inl active) ↦ inr (inl active)
   | inr (inr (is, none)) ↦ inr (inr is)
 ]
 
-tidy-of : (count slots extras delay now : ℕ) (past : History) (s : State) → IsKept count slots extras delay now past s.transactions s → IsTidy s.grants s.listed
-tidy-of count slots extras delay now past s k = record {
+tidy-of : (count slots extras : ℕ) (lag : Lag) (delay now : ℕ) (past : History) (s : State) → IsKept count slots extras lag delay now past s.transactions s → IsTidy s.grants s.listed
+tidy-of count slots extras lag delay now past s k = record {
   refreshing = λ l h. (k.asked l h).0;
   single = k.single;
   linked = k.linked;
-  plain = all-plain count slots extras delay now past s k;
+  plain = all-plain count slots extras lag delay now past s k;
 }
 
 -- the challenge is answered
@@ -217,12 +220,12 @@ challenged packet now past s challenge p few is o = is.message ∙ ap (λ (z : O
     counted : challenge_step packet.payload challenge now s ≡ retry_step packet.payload challenge now s
     counted = rw (lt-ltb s.challenges s.config.max_stale_nonces few) refl
 
-module _ (count slots extras delay before : ℕ) (past : History) (s : State) where
+module _ (count slots extras : ℕ) (lag : Lag) (delay before : ℕ) (past : History) (s : State) where
   abbrev Kept : ℕ → History → Type 0
-  Kept now later = IsKept count slots extras delay now later s.transactions s
+  Kept now later = IsKept count slots extras lag delay now later s.transactions s
 
   abbrev Keeps : ℕ → History → History → State → Type 0
-  Keeps now first later t = KeepsAll count slots extras delay now first later s t
+  Keeps now first later t = KeepsAll count slots extras lag delay now first later s t
 
   abbrev onward : Call → History
   onward c = with_call c (time_of before c) s past
@@ -231,12 +234,17 @@ module _ (count slots extras delay before : ℕ) (past : History) (s : State) wh
   Seldom c = IsSeldom extras s.config.refresh_ahead (time_of before c) (onward c)
 
   -- with another history all is kept, and so it is after the call
+  calm-to : (to : Lag) (c : Call) (t : State) → Kept (time_of before c) past → Seldom c → s.challenges ≤ (onward c).challenged
+      → (Kept (time_of before c) (onward c) → KeepsAll count slots extras to delay (time_of before c) (onward c) (onward c) s t)
+      → KeepsAll count slots extras to delay (time_of before c) past (onward c) s t
+  calm-to to c t k seldom row step =
+      let on = call-goes_on c (time_of before c) past s in
+      let (kept, goes) = step (kept-later count slots extras lag delay (time_of before c) past (onward c) s on seldom row k) in
+      (kept, goes-later past (onward c) t.transactions s t on goes)
+
   calm : (c : Call) (t : State) → Kept (time_of before c) past → Seldom c → s.challenges ≤ (onward c).challenged
       → (Kept (time_of before c) (onward c) → Keeps (time_of before c) (onward c) (onward c) t) → Keeps (time_of before c) past (onward c) t
-  calm c t k seldom row step =
-      let on = call-goes_on c (time_of before c) past s in
-      let (kept, goes) = step (kept-later count slots extras delay (time_of before c) past (onward c) s on seldom row k) in
-      (kept, goes-later past (onward c) t.transactions s t on goes)
+  calm = calm-to lag
 
   same-kept : (c : Call) → Kept (time_of before c) past → Seldom c → state_after c s ≡ s → Keeps (time_of before c) past (onward c) (state_after c s)
   same-kept c k seldom same =
@@ -244,22 +252,26 @@ module _ (count slots extras delay before : ℕ) (past : History) (s : State) wh
 
   asks-kept : (now : ℕ) (later : History) → later.made (fresh_id s) ≡ now → Kept now later → Asks (λ t. HoldsAtMost count slots t → Keeps now later later t) now s
   asks-kept now later fresh k ps news text are w =
-      (asked-kept count slots extras delay now later s k ps news are text fresh w.0 w.1, asked-goes count slots extras delay now later s k ps news are text fresh)
+      (asked-kept count slots extras lag delay now later s k ps news are text fresh w.0 w.1, asked-goes count slots extras lag delay now later s k ps news are text fresh)
 
-  transmits-kept : (now : ℕ) → Kept now past → Seldom (PollTransmit now) → Keeps now past (onward (PollTransmit now)) (transmit_step now s).1
+  -- a packet that is taken is late no more
+  abbrev Transmits : ℕ → Option (Transmit (List ℕ)) × State → Type 0
+  Transmits now z = KeepsAll count slots extras (taken (cond (is_some z.0) now lag.since) lag) delay now past (onward (PollTransmit now)) s z.1
+
+  transmits-kept : (now : ℕ) → Kept now past → Seldom (PollTransmit now) → Transmits now (transmit_step now s)
   transmits-kept now k seldom = by (due (agent_of s) now) refl
     where
-      by : (o : Option Transaction) → due (agent_of s) now ≡ o → Keeps now past (onward (PollTransmit now)) (transmit_step now s).1
+      by : (o : Option Transaction) → due (agent_of s) now ≡ o → Transmits now (transmit_step now s)
       by None e =
-          calm (PollTransmit now) (transmit_step now s).1 k seldom k.row
-          (λ k. transmit-kept count slots extras delay now (onward (PollTransmit now)) s k (call-made (PollTransmit now) now past s) e)
+          calm-to (taken (cond (is_some (transmit_step now s).0) now lag.since) lag) (PollTransmit now) (transmit_step now s).1 k seldom k.row
+          (λ k. transmit-kept count slots extras lag delay now (onward (PollTransmit now)) s k (call-made (PollTransmit now) now past s) e)
       by (Some x) e =
           let on = call-goes_on (PollTransmit now) now past s in
           let more = call-extra (PollTransmit now) now past s (subst (λ (o : Option Transaction). is_some o ≡ true) (sym e) refl) in
-          let is : record s { transactions = resent x.id now s.transactions; last_send = Some now } ≡ (transmit_step now s).1 = rw (e, transmit_step) refl in
-          subst (Keeps now past (onward (PollTransmit now))) is (
-            kept-again count slots extras delay now past (onward (PollTransmit now)) s k on more seldom k.row x e,
-            goes-again count slots extras delay now past (onward (PollTransmit now)) s k on more seldom k.row x e,
+          let is : (Some (record (to_server s s.local x.request) { to = x.to }), record s { transactions = resent x.id now s.transactions; last_send = Some now }) ≡ transmit_step now s = rw (e, transmit_step) refl in
+          subst (Transmits now) is (
+            kept-again count slots extras lag delay now past (onward (PollTransmit now)) s k on more seldom k.row x e,
+            goes-again count slots extras lag delay now past (onward (PollTransmit now)) s k on more seldom k.row x e,
           )
 
   -- the server requires another nonce
@@ -281,8 +293,8 @@ module _ (count slots extras delay before : ℕ) (past : History) (s : State) wh
     retried-kept : (challenge : Challenge) (purpose : Purpose)
         → state_after (Recv packet now) s ≡ state_after_retry s of_reply purpose challenge now → Keeps now past behind (state_after (Recv packet now) s)
     retried-kept challenge purpose e = subst (Keeps now past behind) (sym e) (
-      kept-retried count slots extras delay now past behind s k on more seldom row of_reply purpose challenge fits early answered as-old,
-      goes-retried count slots extras delay now past behind s k on more seldom row of_reply purpose challenge fits early answered as-old,
+      kept-retried count slots extras lag delay now past behind s k on more seldom row of_reply purpose challenge fits early answered as-old,
+      goes-retried count slots extras lag delay now past behind s k on more seldom row of_reply purpose challenge fits early answered as-old,
     )
       where
         on : GoesOn s.transactions past behind
@@ -356,7 +368,7 @@ module _ (count slots extras delay before : ℕ) (past : History) (s : State) wh
   answered-kept : (packet : Transmit (List ℕ)) (now : ℕ) → Kept now past → Seldom (Recv packet now) → IsSuccess packet now s
       → Keeps now past (onward (Recv packet now)) (state_after (Recv packet now) s)
   answered-kept packet now k seldom is = subst (Keeps now past later) (sym (received packet now s k.phase is)) (
-    kept-later count slots extras delay now middle later t (record { same = λ x h. refl; more = λ since. omega arith; let_go = λ g e. e }) kept.0.seldom
+    kept-later count slots extras lag delay now middle later t (record { same = λ x h. refl; more = λ since. omega arith; let_go = λ g e. e }) kept.0.seldom
         (row (is_extra (Recv packet now) s) (is_replied id (Recv packet now) s) refl) kept.0,
     goes-row past later past.challenged s.transactions t.transactions s t (goes-later past middle t.transactions s t on kept.1),
   )
@@ -377,11 +389,11 @@ module _ (count slots extras delay before : ℕ) (past : History) (s : State) wh
       on : GoesOn s.transactions past middle
       on = let on = call-goes_on (Recv packet now) now past s in record { same = on.same; more = on.more; let_go = on.let_go }
 
-      begun : IsKept count slots extras delay now middle s.transactions s
-      begun = kept-later count slots extras delay now past middle s on seldom k.row k
+      begun : IsKept count slots extras lag delay now middle s.transactions s
+      begun = kept-later count slots extras lag delay now past middle s on seldom k.row k
 
-      kept : KeepsAll count slots extras delay now middle middle s t
-      kept = kept-answered count slots extras delay now middle s begun packet.payload is.answers
+      kept : KeepsAll count slots extras lag delay now middle middle s t
+      kept = kept-answered count slots extras lag delay now middle s begun packet.payload is.answers
 
       row : (a b : Bool) → is_replied id (Recv packet now) s ≡ b → t.challenges ≤ cond a (past.challenged + 1) (cond b 0 past.challenged)
       row true b e = let old = kept.0.row in omega (arith, old)
@@ -389,7 +401,7 @@ module _ (count slots extras delay before : ℕ) (past : History) (s : State) wh
       row false true e =
           let listed = list_any (λ (l : Listing). eqb l.id id) s.listed in
           let some = (and_parts listed _ (and_parts (listed && is_outstanding id s.transactions) _ e).0).0 in
-          let none = reset-answered count slots extras delay now middle s begun packet.payload is.answers some in
+          let none = reset-answered count slots extras lag delay now middle s begun packet.payload is.answers some in
           omega (arith, none)
 
   -- ---- what expires
@@ -406,7 +418,7 @@ module _ (count slots extras delay before : ℕ) (past : History) (s : State) wh
 
   polled-kept : (now : ℕ) → Kept now past → Seldom (Poll now) → Keeps now past (onward (Poll now)) (poll_step now s).1
   polled-kept now k seldom =
-      polls (λ t. (poll_step now s).1 ≡ t → Keeps now past (onward (Poll now)) t) now s k.phase (all-plain count slots extras delay now past s k)
+      polls (λ t. (poll_step now s).1 ≡ t → Keeps now past (onward (Poll now)) t) now s k.phase (all-plain count slots extras lag delay now past s k)
       (none-over_yet delay now past s k.prompt k.in_range k.aged k.heard)
       (λ e. calm (Poll now) s k seldom k.row (λ k. (k, goes-same (onward (Poll now)) s s refl refl refl)))
       expires refl
@@ -414,20 +426,20 @@ module _ (count slots extras delay before : ℕ) (past : History) (s : State) wh
       early : (a : Relay) → Has a (allocations s) → is_past now a ≡ false
       early a h =
           let there = allocation-there a s.grants h in
-          lt-leb a.expiry now (stands-early count slots extras delay now past s k (Allocation a) there (allocation-stands count slots extras delay now past s.transactions s k a there))
+          lt-leb a.expiry now (stands-early count slots extras lag delay now past s k (Allocation a) there (allocation-stands count slots extras lag delay now past s.transactions s k a there))
 
       expires : (closes : List SocketAddr) → (poll_step now s).1 ≡ record (expired_at None now s) { closes = closes }
           → Keeps now past (onward (Poll now)) (record (expired_at None now s) { closes = closes })
       expires closes is =
           let u = expired_at None now s in
-          let (alters, (expires_into, tidy)) = expired_at-passes now s early (tidy-of count slots extras delay now past s k) in
+          let (alters, (expires_into, tidy)) = expired_at-passes now s early (tidy-of count slots extras lag delay now past s k) in
           let on = call-goes_on (Poll now) now past s in
           let counts = lost-counts now (record u { closes = closes }) is in
           let same : record s { grants = u.grants; listed = u.listed; events = u.events; closes = closes } ≡ record u { closes = closes } =
           ap (λ (x : State). record x { closes = closes }) (sym alters) in
           subst (Keeps now past (onward (Poll now))) same (
-            kept-left count slots extras delay now past (onward (Poll now)) s k on seldom k.row u.grants u.listed u.events closes expires_into tidy counts,
-            goes-left count slots extras delay now past (onward (Poll now)) s k on seldom k.row u.grants u.listed u.events closes expires_into tidy counts,
+            kept-left count slots extras lag delay now past (onward (Poll now)) s k on seldom k.row u.grants u.listed u.events closes expires_into tidy counts,
+            goes-left count slots extras lag delay now past (onward (Poll now)) s k on seldom k.row u.grants u.listed u.events closes expires_into tidy counts,
           )
 
   -- ---- what is let go, or kept again
@@ -439,7 +451,7 @@ module _ (count slots extras delay before : ℕ) (past : History) (s : State) wh
     where
       by : (b : Bool) → (same_transport transport s.config.allocation_transport && list_any which s.grants) ≡ b
           → Keeps before later later (cond {A = Result Unit KeepError × State} b (Ok tt, with_marks which kept s) (Err NotGranted, s)).1
-      by true e = (kept-marked count slots extras delay before later s k which kept (let_go e), goes-marked count slots extras delay before later s k which kept (let_go e))
+      by true e = (kept-marked count slots extras lag delay before later s k which kept (let_go e), goes-marked count slots extras lag delay before later s k which kept (let_go e))
       by false e = (k, goes-same later s s refl refl refl)
 
   permission-let_go : (transport : TransportType) (ip : IpAddr) (kept : Bool) → (same_transport transport s.config.allocation_transport && list_any (is_permission_of ip) s.grants) ≡ true
@@ -454,27 +466,28 @@ module _ (count slots extras delay before : ℕ) (past : History) (s : State) wh
   channel-let_go transport peer false ok (Channel number other progress) is e = or_right (past.channel_let_go number other) _ (rw ok (and_parts (is_in_progress progress) _ is).1)
   channel-let_go transport peer false ok g is e = cc
 
-  call-by : (c : Call) → Kept (time_of before c) past → Seldom c → IsQuiet c past s → HoldsAtMost count slots (state_after c s) → Keeps (time_of before c) past (onward c) (state_after c s)
+  call-by : (c : Call) → Kept (time_of before c) past → Seldom c → IsQuiet c past s → HoldsAtMost count slots (state_after c s)
+      → KeepsAll count slots extras (taken (since_next c s lag.since) lag) delay (time_of before c) past (onward c) s (state_after c s)
   call-by (Poll now) k seldom quiet within = polled-kept now k seldom
   call-by (PollTransmit now) k seldom quiet within = transmits-kept now k seldom
   call-by PollEvent k seldom quiet within = calm PollEvent (record s { events = drop 1 s.events }) k seldom k.row (λ k. (
-    kept-aside count slots extras delay before (onward PollEvent) s.transactions s s.ids
+    kept-aside count slots extras lag delay before (onward PollEvent) s.transactions s s.ids
         (drop 1 s.events) s.closes k,
     goes-same (onward PollEvent) s (record s { events = drop 1 s.events }) refl refl refl,
   ))
   call-by (SendTo transport peer bytes now) k seldom quiet within = calm (SendTo transport peer bytes now) (send_to_step transport peer bytes now s).1 k seldom k.row (λ k.
       send_to-by (Keeps now (onward (SendTo transport peer bytes now)) (onward (SendTo transport peer bytes now))) transport peer bytes now s
       (λ ids. (
-        kept-aside count slots extras delay now (onward (SendTo transport peer bytes now)) s.transactions s ids s.events s.closes k,
+        kept-aside count slots extras lag delay now (onward (SendTo transport peer bytes now)) s.transactions s ids s.events s.closes k,
         goes-same (onward (SendTo transport peer bytes now)) s (record s { ids = ids }) refl refl refl,
       )))
   call-by (CreatePermission transport ip now) k seldom quiet within = calm (CreatePermission transport ip now) (create_permission_step transport ip now s).1 k seldom k.row (λ k.
       let later = onward (CreatePermission transport ip now) in
-      creates (λ t. HoldsAtMost count slots t → Keeps now later later t) count slots extras delay now later s k (λ w. (k, goes-same later s s refl refl refl))
+      creates (λ t. HoldsAtMost count slots t → Keeps now later later t) count slots extras lag delay now later s k (λ w. (k, goes-same later s s refl refl refl))
       (asks-kept now later (call-made (CreatePermission transport ip now) now past s) k) transport ip within)
   call-by (BindChannel transport peer now) k seldom quiet within = calm (BindChannel transport peer now) (bind_channel_step transport peer now s).1 k seldom k.row (λ k.
       let later = onward (BindChannel transport peer now) in
-      binds (λ t. HoldsAtMost count slots t → Keeps now later later t) count slots extras delay now later s k (λ w. (k, goes-same later s s refl refl refl))
+      binds (λ t. HoldsAtMost count slots t → Keeps now later later t) count slots extras lag delay now later s k (λ w. (k, goes-same later s s refl refl refl))
       (asks-kept now later (call-made (BindChannel transport peer now) now past s) k) transport peer within)
   call-by (SetPermissionKept transport ip kept) k seldom quiet within = calm (SetPermissionKept transport ip kept) (permission_kept_step transport ip kept s).1 k seldom k.row (λ k.
       marks-kept (onward (SetPermissionKept transport ip kept)) k transport (is_permission_of ip) kept (λ ok g is. permission-let_go transport ip kept ok g is))
@@ -485,40 +498,46 @@ module _ (count slots extras delay before : ℕ) (past : History) (s : State) wh
   call-by (Recv packet now) k seldom (inr (inr same)) within = same-kept (Recv packet now) k seldom same
   call-by c k seldom same within = same-kept c k seldom same
 
-  pub call-kept : (call : Call) → Kept before past → AreInTime delay before (time_of before call) past s → IsQuiet call past s → HoldsAtMost count slots (state_after call s) → Seldom call
-      → Keeps (time_of before call) past (onward call) (state_after call s)
-  call-kept call k in_time quiet within seldom = call-by call (time-kept count slots extras delay before (time_of before call) past s k in_time) seldom quiet within
+-- a call that comes in time
+call-kept : (count slots extras : ℕ) (lag : Lag) (delay before : ℕ) (past : History) (s : State) (start : ℕ) (call : Call) → IsKept count slots extras lag delay before past s.transactions s
+    → AreAnswered lag.late delay lag.since before start (time_of before call) past s
+    → IsQuiet call past s → HoldsAtMost count slots (state_after call s) → IsSeldom extras s.config.refresh_ahead (time_of before call) (with_call call (time_of before call) s past)
+    → KeepsAll count slots extras (taken (since_next call s start) lag) delay (time_of before call) past (with_call call (time_of before call) s past) s (state_after call s)
+call-kept count slots extras lag delay before past s start call k in_time quiet within seldom =
+    call-by count slots extras (taken start lag) delay before past s call
+    (time-kept count slots extras lag delay before start (time_of before call) past s k in_time) seldom quiet within
 
-pub all-kept : (count slots extras delay before : ℕ) (past : History) (s : State) (calls : List Call) → IsKept count slots extras delay before past s.transactions s
-    → RunsSteadily count slots extras delay before past s calls
-    → KeepsAll count slots extras delay (time_of_all before calls) past (with_calls calls before s past) s (state_after_all s calls)
-all-kept count slots extras delay before past s [] k run = (k, goes-same past s s refl refl refl)
-all-kept count slots extras delay before past s (call ∷ calls) k (in_time, quiet, within, seldom, run) =
+pub all-kept : (count slots extras : ℕ) (lag : Lag) (delay before : ℕ) (past : History) (s : State) (calls : List Call) → IsKept count slots extras lag delay before past s.transactions s
+    → RunsBehind count slots extras lag.late delay lag.since before past s calls
+    → (since : ℕ) × KeepsAll count slots extras (taken since lag) delay (time_of_all before calls) past (with_calls calls before s past) s (state_after_all s calls)
+all-kept count slots extras lag delay before past s [] k run = (lag.since, (k, goes-same past s s refl refl refl))
+all-kept count slots extras lag delay before past s (call ∷ calls) k (start, in_time, quiet, within, seldom, run) =
     let later = with_call call (time_of before call) s past in
-    let (kept, goes) = call-kept count slots extras delay before past s call k in_time quiet within seldom in
-    let (last, as_well) = all-kept count slots extras delay (time_of before call) later (state_after call s) calls kept run in (
-      last,
-      goes-trans past later (with_calls calls (time_of before call) (state_after call s) later) s.transactions (state_after call s).transactions
-          (state_after_all (state_after call s) calls).transactions s (state_after call s) (state_after_all (state_after call s) calls) goes as_well,
+    let (kept, goes) = call-kept count slots extras lag delay before past s start call k in_time quiet within seldom in
+    let (since, both) = all-kept count slots extras (taken (since_next call s start) lag) delay (time_of before call) later (state_after call s) calls kept run in
+    let (last, as_well) = both in (
+      since,
+      (
+        last,
+        goes-trans past later (with_calls calls (time_of before call) (state_after call s) later) s.transactions (state_after call s).transactions
+            (state_after_all (state_after call s) calls).transactions s (state_after call s) (state_after_all (state_after call s) calls) goes as_well,
+      ),
     )
 
--- a run is that of its first calls, and then that of the others
-pub first-part : (count slots extras delay before : ℕ) (past : History) (s : State) (earlier later : List Call) → RunsSteadily count slots extras delay before past s (earlier ++ later)
-    → RunsSteadily count slots extras delay before past s earlier
-first-part count slots extras delay before past s [] later run = tt
-first-part count slots extras delay before past s (call ∷ earlier) later (in_time, quiet, within, seldom, run) = (
-  in_time,
-  quiet,
-  within,
-  seldom,
-  first-part count slots extras delay (time_of before call) (with_call call (time_of before call) s past) (state_after call s) earlier later run,
-)
+-- After the first calls of a run all is kept, and the others go on from there.
+pub record Halves (count slots extras : ℕ) (lag : Lag) (delay before : ℕ) (past : History) (s : State) (earlier later : List Call) : Type 0 where
+  pub since : ℕ
+  pub kept : IsKept count slots extras (taken since lag) delay (time_of_all before earlier) (with_calls earlier before s past) (state_after_all s earlier).transactions (state_after_all s earlier)
+  pub run : RunsBehind count slots extras lag.late delay since (time_of_all before earlier) (with_calls earlier before s past) (state_after_all s earlier) later
 
-pub last-part : (count slots extras delay before : ℕ) (past : History) (s : State) (earlier later : List Call) → RunsSteadily count slots extras delay before past s (earlier ++ later)
-    → RunsSteadily count slots extras delay (time_of_all before earlier) (with_calls earlier before s past) (state_after_all s earlier) later
-last-part count slots extras delay before past s [] later run = run
-last-part count slots extras delay before past s (call ∷ earlier) later (in_time, quiet, within, seldom, run) =
-    last-part count slots extras delay (time_of before call) (with_call call (time_of before call) s past) (state_after call s) earlier later run
+pub halves : (count slots extras : ℕ) (lag : Lag) (delay before : ℕ) (past : History) (s : State) (earlier later : List Call) → IsKept count slots extras lag delay before past s.transactions s
+    → RunsBehind count slots extras lag.late delay lag.since before past s (earlier ++ later) → Halves count slots extras lag delay before past s earlier later
+halves count slots extras lag delay before past s [] later k run = record { since = lag.since; kept = k; run = run }
+halves count slots extras lag delay before past s (call ∷ earlier) later k (start, in_time, quiet, within, seldom, run) =
+    let (kept, goes) = call-kept count slots extras lag delay before past s start call k in_time quiet within seldom in
+    let rest =
+    halves count slots extras (taken (since_next call s start) lag) delay (time_of before call) (with_call call (time_of before call) s past) (state_after call s) earlier later kept run in
+    record { since = rest.since; kept = rest.kept; run = rest.run }
 
 pub joined : (s : State) (earlier later : List Call) → state_after_all s (earlier ++ later) ≡ state_after_all (state_after_all s earlier) later
 joined s [] later = refl

@@ -4,12 +4,13 @@ use Rattle.turn_client_laws.proofs.Common.{or_cases, or_left, or_right}
 use Rattle.turn_client_laws.proofs.Machine.{id_of, Transaction, is_kept, is_channel_of, is_for, is_permission_of, State, state_after, Call, Recv, Grant, Channel, Permission, Listing, Purpose}
 use Rattle.turn_client_laws.proofs.Machine.{ForChannel, ForPermission, Has, all-has, has-all}
 use Rattle.turn_client_runs.specs.History.{History, challenged_by, first_made, no_history, was_let_go, with_call, with_calls}
-use Rattle.turn_client_runs.specs.Lasting.{IsQuiet, RunsSteadily}
+use Rattle.turn_client_runs.specs.Late.{RunsBehind, since_next}
+use Rattle.turn_client_runs.specs.Lasting.{IsQuiet}
 use Rattle.turn_client_runs.specs.OnTime.{time_of}
 use Rattle.turn_client_runs.proofs.LastingCounts.{passes-same}
 use Rattle.turn_client_runs.proofs.LastingExpiry.{reserved-waits}
 use Rattle.turn_client_runs.proofs.LastingHistory.{kept-with, stands-later}
-use Rattle.turn_client_runs.proofs.LastingStands.{IsUnique, granted-active, leased-active, not-waiting, IsKept, IsKnown, IsPending, requested-more, IsWell, Stands, is_waiting}
+use Rattle.turn_client_runs.proofs.LastingStands.{IsUnique, granted-active, leased-active, not-waiting, IsKept, IsKnown, IsPending, requested-more, IsWell, Lag, Stands, is_waiting}
 use Rattle.turn_client_runs.proofs.LastingTransmits.{same_ip-self}
 
 -- the grant was not let go before
@@ -50,30 +51,30 @@ module _ (g : Grant) (past : History) where
       by true f = inr (ForChannel number peer, (tt, eq-eqb number number refl, f))
   others-spared h e = cc
 
-module _ (count slots extras delay now : ℕ) (past : History) (s : State) (k : IsKept count slots extras delay now past s.transactions s) (g : Grant) (here : Has g s.grants)
-    (sure : Stands count slots extras delay now past s.transactions s g ⊎ ((is_waiting g ≡ true) × (is_kept g ≡ true))) where
+module _ (count slots extras : ℕ) (lag : Lag) (delay now : ℕ) (past : History) (s : State) (k : IsKept count slots extras lag delay now past s.transactions s) (g : Grant) (here : Has g s.grants)
+    (sure : Stands count slots extras lag delay now past s.transactions s g ⊎ ((is_waiting g ≡ true) × (is_kept g ≡ true))) where
   abbrev later : History
   later = sparing g past
 
-  stands-spared : (h : Grant) → Stands count slots extras delay now past s.transactions s h → Stands count slots extras delay now later s.transactions s h
-  stands-spared = stands-later count slots extras delay now past later s.transactions s (λ x h. refl) (λ since. omega arith)
+  stands-spared : (h : Grant) → Stands count slots extras lag delay now past s.transactions s h → Stands count slots extras lag delay now later s.transactions s h
+  stands-spared = stands-later count slots extras lag delay now past later s.transactions s (λ x h. refl) (λ since. omega arith)
 
   -- what is for the same is the same
   only : (h : Grant) → Has h s.grants → (p : Purpose) × IsUniqueFor p h g → h ≡ g
   only h there (p, (unique, one, two)) = passes-same (is_for p) h g s.grants (k.single p unique) there here one two
 
-  well-spared : (h : Grant) → Has h s.grants → IsWell count slots extras delay now later s.transactions s h
+  well-spared : (h : Grant) → Has h s.grants → IsWell count slots extras lag delay now later s.transactions s h
   well-spared h there = elim (k.each h there) [
     | inl (waits, pending) ↦ inl (waits, pending-spared now past s.transactions s.listed g h pending)
     | inr (inl stands) ↦ inr (inl (stands-spared h stands))
     | inr (inr (freed, kind)) ↦ elim (others-spared g past h freed) [
       | inl still ↦ inr (inr (still, kind))
-      | inr same ↦ subst (IsWell count slots extras delay now later s.transactions s) (sym (only h there same)) (by sure (k.each g here))
+      | inr same ↦ subst (IsWell count slots extras lag delay now later s.transactions s) (sym (only h there same)) (by sure (k.each g here))
     ]
   ]
     where
-      by : Stands count slots extras delay now past s.transactions s g ⊎ ((is_waiting g ≡ true) × (is_kept g ≡ true)) → IsWell count slots extras delay now past s.transactions s g
-          → IsWell count slots extras delay now later s.transactions s g
+      by : Stands count slots extras lag delay now past s.transactions s g ⊎ ((is_waiting g ≡ true) × (is_kept g ≡ true)) → IsWell count slots extras lag delay now past s.transactions s g
+          → IsWell count slots extras lag delay now later s.transactions s g
       by (inl stands) well = inr (inl (stands-spared g stands))
       by (inr waits) (inl (is, pending)) = inl (is, pending-spared now past s.transactions s.listed g g pending)
       by (inr waits) (inr (inl stands)) = inr (inl (stands-spared g stands))
@@ -92,12 +93,12 @@ module _ (count slots extras delay now : ℕ) (past : History) (s : State) (k : 
     due,
   )
     where
-      by : Stands count slots extras delay now past s.transactions s g ⊎ ((is_waiting g ≡ true) × (is_kept g ≡ true)) → is_waiting g ≡ true → is_kept g ≡ true
+      by : Stands count slots extras lag delay now past s.transactions s g ⊎ ((is_waiting g ≡ true) × (is_kept g ≡ true)) → is_waiting g ≡ true → is_kept g ≡ true
       by (inl stands) w = absurd (let no : false ≡ true = sym (not-waiting g (granted-active g stands.granted)) ∙ w in cc)
       by (inr waits) w = waits.1
 
-  pub kept-spared : IsKept count slots extras delay now (sparing g past) s.transactions s
-  kept-spared = kept-with count slots extras delay now past (sparing g past) s (λ x h. refl) k.seldom k.row known-spared well-spared k
+  pub kept-spared : IsKept count slots extras lag delay now (sparing g past) s.transactions s
+  kept-spared = kept-with count slots extras lag delay now past (sparing g past) s (λ x h. refl) k.seldom k.row known-spared well-spared k
 
 -- ---- the rest of the run
 
@@ -124,17 +125,18 @@ quiet-alike (Recv packet now) past other s row (inr (inr same)) = inr (inr same)
 quiet-alike call past other s row quiet = quiet
 
 -- when requests were made, which packets were extra, and how many challenges came, is all that counts
-pub runs-alike : (count slots extras delay before : ℕ) (past other : History) (s : State) (calls : List Call) → ((id : ℕ) → past.made id ≡ other.made id) → past.extra ≡ other.extra
-    → past.challenged ≡ other.challenged → RunsSteadily count slots extras delay before past s calls → RunsSteadily count slots extras delay before other s calls
-runs-alike count slots extras delay before past other s [] made extra row run = tt
-runs-alike count slots extras delay before past other s (call ∷ calls) made extra row (in_time, quiet, within, seldom, run) =
+pub runs-alike : (count slots extras late delay since before : ℕ) (past other : History) (s : State) (calls : List Call) → ((id : ℕ) → past.made id ≡ other.made id) → past.extra ≡ other.extra
+    → past.challenged ≡ other.challenged → RunsBehind count slots extras late delay since before past s calls → RunsBehind count slots extras late delay since before other s calls
+runs-alike count slots extras late delay since before past other s [] made extra row run = tt
+runs-alike count slots extras late delay since before past other s (call ∷ calls) made extra row (start, in_time, quiet, within, seldom, run) =
     let now = time_of before call in
     let more : (with_call call now s past).extra ≡ (with_call call now s other).extra = rw extra refl in (
-      record { on_time = in_time.on_time; answered = all-has (λ (x : Transaction). now ≤ other.made x.id + delay) s.transactions answered },
+      start,
+      record { caller = in_time.caller; answered = all-has (λ (x : Transaction). now ≤ other.made x.id + delay) s.transactions answered },
       quiet-alike call past other s row quiet,
       within,
       λ since near. subst (λ (times : List ℕ). length (filter (λ time. nat_le since time) times) ≤ extras) more (seldom since near),
-      runs-alike count slots extras delay now (with_call call now s past) (with_call call now s other)
+      runs-alike count slots extras late delay (since_next call s start) now (with_call call now s past) (with_call call now s other)
           (state_after call s) calls (call-alike call now s past other made) more (row-alike call now s past other row) run,
     )
   where

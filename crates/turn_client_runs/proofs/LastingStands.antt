@@ -45,9 +45,19 @@ served s since = passes (is_served s since) s.grants
 abbrev pub used : History → State → ℕ → ℕ
 used past s since = extra_since since past + served s since
 
--- the request for a refresh leaves by then
-abbrev pub bound : ℕ → History → State → Grant → ℕ
-bound slots past s g = due_of s g + s.config.request_cadence * (1 + slots + used past s (due_of s g))
+-- How far the caller lags behind: by `late` at most, since `since` at the earliest; so a packet leaves in each `pace`.
+pub record Lag : Type 0 where
+  pub late : ℕ
+  pub since : ℕ
+  pub pace : ℕ
+
+-- it takes a packet, and lags behind no more
+abbrev pub taken : ℕ → Lag → Lag
+taken now lag = record lag { since = now }
+
+-- a caller that is not late takes the request for a refresh by then
+abbrev pub bound : ℕ → Lag → History → State → Grant → ℕ
+bound slots lag past s g = due_of s g + lag.pace * (1 + slots + used past s (due_of s g))
 
 -- a request for it awaits its reply, and was made at such a time
 pub record IsRequested (when : ℕ → Type 0) (past : History) (transactions : List Transaction) (listed : List Listing) (g : Grant) : Type 0 where
@@ -68,17 +78,17 @@ abbrev pub IsPending : ℕ → History → List Transaction → List Listing →
 IsPending until past transactions listed g = IsRequested (λ made. made ≤ until) past transactions listed g
 
 -- it is not too late to request it, once all that is queued was sent
-pub record IsIdle (slots now : ℕ) (past : History) (s : State) (g : Grant) : Type 0 where
+pub record IsIdle (slots : ℕ) (lag : Lag) (now : ℕ) (past : History) (s : State) (g : Grant) : Type 0 where
   pub unasked : has_request g s ≡ false
   pub near : now ≤ due_of s g + s.config.refresh_ahead
-  pub soon : now + s.config.request_cadence * length s.queue ≤ bound slots past s g
-  pub paused : pause_end s + s.config.request_cadence * length s.queue ≤ bound slots past s g
+  pub soon : lag.since + lag.pace * length s.queue ≤ bound slots lag past s g
+  pub paused : pause_end s + lag.pace * length s.queue ≤ bound slots lag past s g
 
-pub record Stands (count slots extras delay now : ℕ) (past : History) (transactions : List Transaction) (s : State) (g : Grant) : Type 0 where
+pub record Stands (count slots extras : ℕ) (lag : Lag) (delay now : ℕ) (past : History) (transactions : List Transaction) (s : State) (g : Grant) : Type 0 where
   pub granted : IsGranted g
-  pub room : (count + slots + extras) * s.config.request_cadence + delay < ahead_of s.config.refresh_ahead g
+  pub room : (count + slots + extras) * lag.pace + delay + lag.late < ahead_of s.config.refresh_ahead g
   pub long : ahead_of s.config.refresh_ahead g ≤ expiry_of g
-  pub either : IsAwaited delay past transactions s.listed g ⊎ IsIdle slots now past s g
+  pub either : IsAwaited delay past transactions s.listed g ⊎ IsIdle slots lag now past s g
 
 pub pending-later : (first until : ℕ) (past : History) (xs : List Transaction) (ls : List Listing) (g : Grant) → first ≤ until → IsPending first past xs ls g → IsPending until past xs ls g
 pending-later first until past xs ls g later p = record {
@@ -183,9 +193,9 @@ abbrev pub IsLoose : History → State → Grant → Type 0
 IsLoose past s g = (was_let_go past g ≡ true) × (IsLeased g ⊎ (IsReserved g × (has_request g s ≡ false)))
 
 -- it is not granted yet, or will be refreshed in time, or was let go
-abbrev pub IsWell : ℕ → ℕ → ℕ → ℕ → ℕ → History → List Transaction → State → Grant → Type 0
-IsWell count slots extras delay now past transactions s g =
-    ((is_waiting g ≡ true) × IsPending now past transactions s.listed g) ⊎ (Stands count slots extras delay now past transactions s g ⊎ IsLoose past s g)
+abbrev pub IsWell : ℕ → ℕ → ℕ → Lag → ℕ → ℕ → History → List Transaction → State → Grant → Type 0
+IsWell count slots extras lag delay now past transactions s g =
+    ((is_waiting g ≡ true) × IsPending now past transactions s.listed g) ⊎ (Stands count slots extras lag delay now past transactions s g ⊎ IsLoose past s g)
 
 -- while it waits, it is kept or was let go; and it is not refreshed before its time
 abbrev pub IsKnown : ℕ → History → State → Grant → Type 0
@@ -242,12 +252,15 @@ request-more gs hs (l ∷ m ∷ []) more h = brings-more gs hs l.purpose m.purpo
 request-more gs hs (l ∷ m ∷ n ∷ ls) more h = absurd h
 
 -- the transactions are those that requests await, of which some may have ended
-pub record IsKept (count slots extras delay now : ℕ) (past : History) (transactions : List Transaction) (s : State) : Type 0 where
+pub record IsKept (count slots extras : ℕ) (lag : Lag) (delay now : ℕ) (past : History) (transactions : List Transaction) (s : State) : Type 0 where
   pub phase : s.phase ≡ Allocated
   pub requests : has_reply s ≡ false
   pub few : length s.queue ≤ slots
   pub prompt : delay < all_waits (timers_of s.config) s.transport
-  pub pace : (count + slots + extras) * s.config.request_cadence + delay < min s.config.refresh_ahead 150_000_000_000
+  pub paced : s.config.request_cadence + lag.late ≤ lag.pace
+  pub begins : lag.since ≤ now
+  pub behind : now ≤ lag.since + lag.late
+  pub pace : (count + slots + extras) * lag.pace + delay + lag.late < min s.config.refresh_ahead 150_000_000_000
   pub sent : IfSome s.last_send (λ time. time ≤ now)
   pub aged : (x : Transaction) → Has x s.transactions → past.made x.id + waited (timers_of s.config) s.transport x.resends ≤ x.last_send
   pub lone : (x y : Transaction) → Has x s.transactions → Has y s.transactions → x.id ≡ y.id → x ≡ y
@@ -262,10 +275,10 @@ pub record IsKept (count slots extras delay now : ℕ) (past : History) (transac
   pub in_range : now ≤ 2 ^ 62
   pub in_allocations : (g : Grant) → Has g s.grants → Room s.grants (family_of_grant g)
   pub known : (g : Grant) → Has g s.grants → IsKnown now past s g
-  pub each : (g : Grant) → Has g s.grants → IsWell count slots extras delay now past transactions s g
+  pub each : (g : Grant) → Has g s.grants → IsWell count slots extras lag delay now past transactions s g
 
 -- the grants and what is listed for them
-pub record AreKept (count slots extras delay now : ℕ) (past : History) (transactions : List Transaction) (s : State) : Type 0 where
+pub record AreKept (count slots extras : ℕ) (lag : Lag) (delay now : ℕ) (past : History) (transactions : List Transaction) (s : State) : Type 0 where
   pub row : s.challenges ≤ past.challenged
   pub asked : (l : Listing) → Has l s.listed → IsAsked s.grants l
   pub size : length s.grants ≤ count
@@ -273,20 +286,23 @@ pub record AreKept (count slots extras delay now : ℕ) (past : History) (transa
   pub linked : AreRequests s.grants s.listed
   pub in_allocations : (g : Grant) → Has g s.grants → Room s.grants (family_of_grant g)
   pub known : (g : Grant) → Has g s.grants → IsKnown now past s g
-  pub each : (g : Grant) → Has g s.grants → IsWell count slots extras delay now past transactions s g
+  pub each : (g : Grant) → Has g s.grants → IsWell count slots extras lag delay now past transactions s g
 
 -- With other ones the rest stays as it is, if the same requests were made when they were.
-pub kept-changed : (count slots extras delay now : ℕ) (past later : History) (xs ys : List Transaction) (s : State)
+pub kept-changed : (count slots extras : ℕ) (lag : Lag) (delay now : ℕ) (past later : History) (xs ys : List Transaction) (s : State)
     → ((x : Transaction) → Has x s.transactions → later.made x.id ≡ past.made x.id) → IsSeldom extras s.config.refresh_ahead now later
-    → IsKept count slots extras delay now past xs s → (grants : List Grant) (listed : List Listing)
+    → IsKept count slots extras lag delay now past xs s → (grants : List Grant) (listed : List Listing)
     (events : List TurnEvent) (challenges : ℕ) (ids : Source) (closes : List SocketAddr)
     → let t = record s { grants = grants; listed = listed; events = events; challenges = challenges; ids = ids; closes = closes } in
-    AreKept count slots extras delay now later ys t → IsKept count slots extras delay now later ys t
-kept-changed count slots extras delay now past later xs ys s same seldom k grants listed events challenges ids closes are = record {
+    AreKept count slots extras lag delay now later ys t → IsKept count slots extras lag delay now later ys t
+kept-changed count slots extras lag delay now past later xs ys s same seldom k grants listed events challenges ids closes are = record {
   phase = k.phase;
   requests = k.requests;
   few = k.few;
   prompt = k.prompt;
+  paced = k.paced;
+  begins = k.begins;
+  behind = k.behind;
   pace = k.pace;
   sent = k.sent;
   aged = λ x h. let e = same x h in let old = k.aged x h in omega (arith, e, old);
@@ -306,24 +322,29 @@ kept-changed count slots extras delay now past later xs ys s same seldom k grant
 }
 
 -- packets may have left the queue, and transactions may have ended
-pub record IsLeft (count slots extras delay now : ℕ) (past : History) (transactions : List Transaction) (s t : State) : Type 0 where
+pub record IsLeft (count slots extras : ℕ) (lag : Lag) (since delay now : ℕ) (past : History) (transactions : List Transaction) (s t : State) : Type 0 where
+  pub begins : since ≤ now
+  pub behind : now ≤ since + lag.late
   pub requests : has_reply t ≡ false
   pub few : length t.queue ≤ slots
   pub sent : IfSome t.last_send (λ time. time ≤ now)
   pub awaited : (x : Transaction) → Has x t.transactions → Has x s.transactions
-  pub stands : (g : Grant) → Has g s.grants → Stands count slots extras delay now past transactions s g → Stands count slots extras delay now past transactions t g
+  pub stands : (g : Grant) → Has g s.grants → Stands count slots extras lag delay now past transactions s g → Stands count slots extras (taken since lag) delay now past transactions t g
 
 -- then the rest is kept, since grants and listings stay
-pub kept-rest : (count slots extras delay now : ℕ) (past : History) (transactions : List Transaction) (s : State)
-    → IsKept count slots extras delay now past transactions s → (queue : List Queued) (last_send : Option ℕ) (awaited : List Transaction)
+pub kept-rest : (count slots extras : ℕ) (lag : Lag) (delay now : ℕ) (past : History) (transactions : List Transaction) (s : State)
+    → IsKept count slots extras lag delay now past transactions s → (since : ℕ) (queue : List Queued) (last_send : Option ℕ) (awaited : List Transaction)
     (events : List TurnEvent) (ids : Source) (closes : List SocketAddr)
     → let t = record s { queue = queue; last_send = last_send; transactions = awaited; events = events; ids = ids; closes = closes } in
-    IsLeft count slots extras delay now past transactions s t → IsKept count slots extras delay now past transactions t
-kept-rest count slots extras delay now past transactions s k queue last_send awaited events ids closes left = record {
+    IsLeft count slots extras lag since delay now past transactions s t → IsKept count slots extras (taken since lag) delay now past transactions t
+kept-rest count slots extras lag delay now past transactions s k since queue last_send awaited events ids closes left = record {
   phase = k.phase;
   requests = left.requests;
   few = left.few;
   prompt = k.prompt;
+  paced = k.paced;
+  begins = left.begins;
+  behind = left.behind;
   pace = k.pace;
   sent = left.sent;
   aged = λ x h. k.aged x (left.awaited x h);
@@ -343,10 +364,10 @@ kept-rest count slots extras delay now past transactions s k queue last_send awa
 }
 
 -- neither what is reported counts, nor the transactions that have not ended
-pub stands-aside : (count slots extras delay now : ℕ) (past : History) (transactions awaited : List Transaction) (s : State)
-    (ids : Source) (events : List TurnEvent) (closes : List SocketAddr) (g : Grant) → Stands count slots extras delay now past transactions s g
-    → Stands count slots extras delay now past transactions (record s { transactions = awaited; ids = ids; events = events; closes = closes }) g
-stands-aside count slots extras delay now past transactions awaited s ids events closes g was = record {
+pub stands-aside : (count slots extras : ℕ) (lag : Lag) (delay now : ℕ) (past : History) (transactions awaited : List Transaction) (s : State)
+    (ids : Source) (events : List TurnEvent) (closes : List SocketAddr) (g : Grant) → Stands count slots extras lag delay now past transactions s g
+    → Stands count slots extras lag delay now past transactions (record s { transactions = awaited; ids = ids; events = events; closes = closes }) g
+stands-aside count slots extras lag delay now past transactions awaited s ids events closes g was = record {
   granted = was.granted;
   room = was.room;
   long = was.long;
@@ -425,13 +446,13 @@ paced-all : (c slots count extras e n due : ℕ) → n + 1 ≤ count → e ≤ e
 paced-all c slots count extras e n due few seldom = omega (arith, mul-le c (e + n + 1) c (count + extras) (omega arith) (omega (arith, few, seldom)))
 
 -- a grant that is idle is not counted among those that were served
-pub bound-le : (count slots extras delay now : ℕ) (past : History) (transactions : List Transaction) (s : State) (g : Grant) → IsKept count slots extras delay now past transactions s → Has g s.grants
-    → IsGranted g → IsIdle slots now past s g
-    → bound slots past s g ≤ due_of s g + (count + slots + extras) * s.config.request_cadence
-bound-le count slots extras delay now past transactions s g k there granted idle =
+pub bound-le : (count slots extras : ℕ) (lag : Lag) (delay now : ℕ) (past : History) (transactions : List Transaction) (s : State) (g : Grant) → IsKept count slots extras lag delay now past transactions s → Has g s.grants
+    → IsGranted g → IsIdle slots lag now past s g
+    → bound slots lag past s g ≤ due_of s g + (count + slots + extras) * lag.pace
+bound-le count slots extras lag delay now past transactions s g k there granted idle =
     let less = passes-less (is_served s (due_of s g)) g s.grants there (rw (not-waiting g (granted-active g granted), idle.unasked) (late (due_of s g))) in
     let few : served s (due_of s g) + 1 ≤ count = omega (arith, less, k.size) in
-    paced-all s.config.request_cadence slots count extras (extra_since (due_of s g) past) (served s (due_of s g)) (due_of s g) few (k.seldom (due_of s g) idle.near)
+    paced-all lag.pace slots count extras (extra_since (due_of s g) past) (served s (due_of s g)) (due_of s g) few (k.seldom (due_of s g) idle.near)
   where
     late : (r : ℕ) → leb (r + 150_000_000_000) r ≡ false
     late r = grind arith
@@ -443,20 +464,28 @@ pause-le now s h = by s.last_send h
     by None h = omega arith
     by (Some time) h = omega (arith, h)
 
+-- with the pace, in which the caller may be late
+pub pause-paced : (count slots extras : ℕ) (lag : Lag) (delay now : ℕ) (past : History) (transactions : List Transaction) (s : State)
+    → IsKept count slots extras lag delay now past transactions s → pause_end s ≤ now + lag.pace
+pause-paced count slots extras lag delay now past transactions s k = omega (arith, pause-le now s k.sent, k.paced)
+
+pub soon-by : (x c q bound : ℕ) → x + c * q ≤ bound → x ≤ bound
+soon-by x c q bound h = omega (arith, h)
+
 -- what is granted has not expired
-pub stands-early : (count slots extras delay now : ℕ) (past : History) (s : State) → IsKept count slots extras delay now past s.transactions s
-    → (g : Grant) → Has g s.grants → Stands count slots extras delay now past s.transactions s g
+pub stands-early : (count slots extras : ℕ) (lag : Lag) (delay now : ℕ) (past : History) (s : State) → IsKept count slots extras lag delay now past s.transactions s
+    → (g : Grant) → Has g s.grants → Stands count slots extras lag delay now past s.transactions s g
     → now < expiry_of g
-stands-early count slots extras delay now past s k g there stands = elim stands.either [
+stands-early count slots extras lag delay now past s k g there stands = elim stands.either [
   | inl a ↦ let late = k.heard a.transaction a.there in let t = a.made in omega (arith, late, t)
-  | inr idle ↦ omega (arith, idle.soon, bound-le count slots extras delay now past s.transactions s g k there stands.granted idle, stands.room, stands.long)
+  | inr idle ↦ omega (arith, k.behind, soon-by lag.since lag.pace (length s.queue) (bound slots lag past s g) idle.soon, bound-le count slots extras lag delay now past s.transactions s g k there stands.granted idle, stands.room, stands.long)
 ]
 
 -- no allocation is waiting, so each is granted
-pub allocation-stands : (count slots extras delay now : ℕ) (past : History) (transactions : List Transaction) (s : State)
-    → IsKept count slots extras delay now past transactions s → (a : Relay) → Has (Allocation a) s.grants
-    → Stands count slots extras delay now past transactions s (Allocation a)
-allocation-stands count slots extras delay now past transactions s k a there = elim (k.each (Allocation a) there) [
+pub allocation-stands : (count slots extras : ℕ) (lag : Lag) (delay now : ℕ) (past : History) (transactions : List Transaction) (s : State)
+    → IsKept count slots extras lag delay now past transactions s → (a : Relay) → Has (Allocation a) s.grants
+    → Stands count slots extras lag delay now past transactions s (Allocation a)
+allocation-stands count slots extras lag delay now past transactions s k a there = elim (k.each (Allocation a) there) [
   | inl waits ↦ absurd (let no : false ≡ true = waits.0 in cc)
   | inr (inl stands) ↦ stands
   | inr (inr loose) ↦ absurd (let no : false ≡ true = loose.0 in cc)

@@ -1,11 +1,11 @@
 -- What `poll_transmit` changes while no grant is lost.
 use Rattle.turn_client_laws.proofs.Common.{◌≡◌, ◌⊎◌, ℕ, ◌+◌, ◌*◌, ◌<◌, ◌≤◌, Bool, true, false, cond, not, ◌&&◌, ◌||◌, leb, List, [], ◌∷◌, length, drop, Option, Some, None, refl, inl, inr, ap, sym}
-use Rattle.turn_client_laws.proofs.Common.{subst, ◌∙◌, arith, filter, flat_map, slice_get, nat_le, if◌then◌else◌, list_any, option_map_or, and_parts, cases_Bool, cases_lt, eq-eqb, leb-true, lt-leb}
+use Rattle.turn_client_laws.proofs.Common.{subst, ◌∙◌, arith, filter, filter_map, is_some, flat_map, slice_get, nat_le, if◌then◌else◌, list_any, option_map_or, and_parts, cases_Bool, cases_lt, eq-eqb, leb-true, lt-leb}
 use Rattle.turn_client_laws.proofs.Common.{or_cases, or_left, or_right, list_any-append, none-some, same_Some, IpAddr}
 use Rattle.turn_client_laws.proofs.Machine.{Transmit, due, first_sent, State, agent_of, Queued, Grant, Allocation, Permission, Channel, Relay, Active, Pending, Reserved, Listing, Purpose, ForRefresh}
 use Rattle.turn_client_laws.proofs.Machine.{ForPermission, ForChannel, allocations, as_allocation, family_of, family_of_grant, has_request, is_for, same_ip, asked_lifetime, binding_indication}
 use Rattle.turn_client_laws.proofs.Machine.{fresh_id, id_used, request_for, to_server, has_reply, is_paused, is_refreshable, keepalive_times, refresh_time, is_due_in, is_refresh_due, keepalive_step}
-use Rattle.turn_client_laws.proofs.Machine.{next_refresh, queue_step, refresh_purpose, refreshes_in, refreshes_of_rank, reply_step, sent_at_once, transmit_step, without_first_reply, Has}
+use Rattle.turn_client_laws.proofs.Machine.{next_refresh, queue_step, refresh_purpose, refreshes_in, refreshes_of_rank, reply_in, reply_step, sent_at_once, transmit_step, without_first_reply, Has}
 use Rattle.turn_client_laws.proofs.Machine.{filter_map-has, first-has, has-filter, has-filter_map, has-flat_map, has-left, has-right}
 use Rattle.turn_client_laws.proofs.Laws.{same_family-self, IsReserved, no_reply-kept, not_due-transmit, no_reply-left}
 use Rattle.std.specs.Prelude.{option_and_then}
@@ -18,7 +18,7 @@ use Rattle.turn_client_runs.proofs.AppendLemmas.{has-last}
 use Rattle.turn_client_runs.proofs.LastingCounts.{passes, passes-more, passes-same}
 use Rattle.turn_client_runs.proofs.LastingHistory.{lone-more}
 use Rattle.turn_client_runs.proofs.LastingStands.{Goes, goes-more, granted-active, leased-active, kept-rest, requested-more, IsActive, IsAwaited, IsIdle, IsRequested, IsLoose, IsUnique, IsKept}
-use Rattle.turn_client_runs.proofs.LastingStands.{IsRefreshing, Stands, allocation-stands, stands-early, bound, bound-le, due_of, left-paced, one-paced, is_served, is_waiting, kind-due, not-waiting}
+use Rattle.turn_client_runs.proofs.LastingStands.{IsRefreshing, Stands, allocation-stands, stands-early, bound, bound-le, soon-by, Lag, taken, due_of, left-paced, one-paced, is_served, is_waiting, kind-due, not-waiting}
 use Rattle.turn_client_runs.proofs.LastingStands.{served, used}
 use Rattle.turn_client_runs.proofs.LastingSends.{due-sends, is-due, may-refresh, queue-idle}
 use Rattle.turn_client_runs.proofs.LastingListings.{requests-more}
@@ -110,7 +110,7 @@ or-false : (b : Bool) → (b || false) ≡ b
 or-false true = refl
 or-false false = refl
 
-module _ (count slots extras delay now : ℕ) (past : History) (s : State) (k : IsKept count slots extras delay now past s.transactions s) (empty : s.queue ≡ []) (p : Purpose) (next : IsNext now s p)
+module _ (count slots extras : ℕ) (lag : Lag) (delay now : ℕ) (past : History) (s : State) (k : IsKept count slots extras lag delay now past s.transactions s) (empty : s.queue ≡ []) (p : Purpose) (next : IsNext now s p)
     (active : IsActive next.grant) (fresh : past.made (fresh_id s) ≡ now) where
   abbrev id : ℕ
   id = fresh_id s
@@ -143,7 +143,7 @@ module _ (count slots extras delay now : ℕ) (past : History) (s : State) (k : 
   not-asked g e f = asked-more g ∙ rw (e, f) refl
 
   -- one grant more was served since then
-  serves-more : (g : Grant) → Has g s.grants → Stands count slots extras delay now past s.transactions s g → IsIdle slots now past s g → served s (due_of s g) + 1 ≤ served t (due_of s g)
+  serves-more : (g : Grant) → Has g s.grants → Stands count slots extras lag delay now past s.transactions s g → IsIdle slots lag now past s g → served s (due_of s g) + 1 ≤ served t (due_of s g)
   serves-more g there stands idle =
       passes-more (is_served s r) (is_served t r) next.grant s.grants still next.there (rw (not-waiting next.grant active, unasked.0, old) refl)
       (or_right (is_waiting next.grant) _ (or_left (has_request next.grant t) _ (now-asked next.grant refresh.1)))
@@ -163,27 +163,30 @@ module _ (count slots extras delay now : ℕ) (past : History) (s : State) (k : 
       old : leb (r + 150_000_000_000) (due_of s next.grant) ≡ false
       old =
           lt-leb (r + 150_000_000_000) (due_of s next.grant)
-          (omega (arith, unasked.1, idle.soon, bound-le count slots extras delay now past s.transactions s g k there stands.granted idle, k.pace))
+          (omega (arith, unasked.1, k.behind, soon-by lag.since lag.pace (length s.queue) (bound slots lag past s g) idle.soon, bound-le count slots extras lag delay now past s.transactions s g k there stands.granted idle, k.pace))
 
   none-left : length s.queue ≡ 0
   none-left = rw empty refl
 
-  later : (g : Grant) → Has g s.grants → Stands count slots extras delay now past s.transactions s g → IsIdle slots now past s g → now + s.config.request_cadence ≤ bound slots past t g
+  later : (g : Grant) → Has g s.grants → Stands count slots extras lag delay now past s.transactions s g → IsIdle slots lag now past s g → now + s.config.request_cadence ≤ bound slots lag past t g
   later g there stands idle = elim (cases_lt (due_of s g) now) [
     | inl late ↦
         let more = serves-more g there stands idle in
-        let soon : now + s.config.request_cadence * 0 ≤ due_of s g + s.config.request_cadence * (1 + slots + used past s (due_of s g)) = rw none-left at idle.soon in
-        one-paced s.config.request_cadence now (due_of s g) slots (used past s (due_of s g)) (used past t (due_of s g)) (omega (arith, more)) soon
-    | inr early ↦ omega (arith, early)
+        let soon : lag.since + lag.pace * 0 ≤ due_of s g + lag.pace * (1 + slots + used past s (due_of s g)) = rw none-left at idle.soon in
+        let whole = one-paced lag.pace lag.since (due_of s g) slots (used past s (due_of s g)) (used past t (due_of s g)) (omega (arith, more)) soon in
+        let paced = k.paced in
+        let behind = k.behind in
+        omega (arith, whole, paced, behind)
+    | inr early ↦ let paced = k.paced in omega (arith, early, paced)
   ]
 
   requested-old : (when : ℕ → Type 0) (g : Grant) → IsRequested when past s.transactions s.listed g → IsRequested when past t.transactions t.listed g
   requested-old when g = requested-more when past past s.transactions t.transactions s.listed t.listed g (λ x h. refl) (λ x h. has-left x s.transactions _ h) (λ l h for. has-left l s.listed _ h)
 
-  stands-sent : (g : Grant) → Has g s.grants → Stands count slots extras delay now past s.transactions s g → Stands count slots extras delay now past t.transactions t g
+  stands-sent : (g : Grant) → Has g s.grants → Stands count slots extras lag delay now past s.transactions s g → Stands count slots extras (taken now lag) delay now past t.transactions t g
   stands-sent g there was = record { granted = was.granted; room = was.room; long = was.long; either = by was.either }
     where
-      by : IsAwaited delay past s.transactions s.listed g ⊎ IsIdle slots now past s g → IsAwaited delay past t.transactions t.listed g ⊎ IsIdle slots now past t g
+      by : IsAwaited delay past s.transactions s.listed g ⊎ IsIdle slots lag now past s g → IsAwaited delay past t.transactions t.listed g ⊎ IsIdle slots (taken now lag) now past t g
       by (inl a) = inl (requested-old (λ made. made + delay < expiry_of g) g a)
       by (inr idle) = elim (cases_Bool (is_for p g)) [
         | inl for ↦ inl (record {
@@ -193,7 +196,7 @@ module _ (count slots extras delay now : ℕ) (past : History) (s : State) (k : 
           within = has-right listing s.listed (listing ∷ []) (inl refl);
           for = for;
           same = refl;
-          made = omega (arith, fresh, idle.soon, bound-early count slots extras delay now past s.transactions s g k there was idle);
+          made = omega (arith, fresh, k.behind, soon-by lag.since lag.pace (length s.queue) (bound slots lag past s g) idle.soon, bound-early count slots extras lag delay now past s.transactions s g k there was idle);
         })
         | inr other ↦
             let more = later g there was idle in
@@ -224,12 +227,15 @@ module _ (count slots extras delay now : ℕ) (past : History) (s : State) (k : 
   one-id l (inl e) = ap (λ (m : Listing). m.id) e
   one-id l (inr none) = absurd none
 
-  pub kept-sent : IsKept count slots extras delay now past t.transactions t
+  pub kept-sent : IsKept count slots extras (taken now lag) delay now past t.transactions t
   kept-sent = record {
     phase = k.phase;
     requests = k.requests;
     few = k.few;
     prompt = k.prompt;
+    paced = k.paced;
+    begins = omega arith;
+    behind = omega arith;
     pace = k.pace;
     sent = omega arith;
     aged = λ x h. elim (has-last x s.transactions (first_sent id s.remote now text) h) [
@@ -269,16 +275,16 @@ module _ (count slots extras delay now : ℕ) (past : History) (s : State) (k : 
 
 -- ---- what is queued
 
-module _ (count slots extras delay now : ℕ) (past : History) (s : State)
-    (k : IsKept count slots extras delay now past s.transactions s) (q : Queued) (qs : List Queued) (front : s.queue ≡ q ∷ qs) where
+module _ (count slots extras : ℕ) (lag : Lag) (delay now : ℕ) (past : History) (s : State)
+    (k : IsKept count slots extras lag delay now past s.transactions s) (q : Queued) (qs : List Queued) (front : s.queue ≡ q ∷ qs) where
   abbrev v : State
   v = record s { queue = drop 1 s.queue; last_send = Some now }
 
   one-left : length v.queue + 1 ≡ length s.queue
   one-left = rw front (omega arith)
 
-  stands-queued : (g : Grant) → Stands count slots extras delay now past s.transactions s g
-      → Stands count slots extras delay now past s.transactions (record s { queue = drop 1 s.queue; last_send = Some now }) g
+  stands-queued : (g : Grant) → Stands count slots extras lag delay now past s.transactions s g
+      → Stands count slots extras (taken now lag) delay now past s.transactions (record s { queue = drop 1 s.queue; last_send = Some now }) g
   stands-queued g was = record {
     granted = was.granted;
     room = was.room;
@@ -286,13 +292,17 @@ module _ (count slots extras delay now : ℕ) (past : History) (s : State)
     either = elim was.either [
       | inl a ↦ inl a
       | inr idle ↦
-          let (soon, paused) = left-paced s.config.request_cadence now (length v.queue) (length s.queue) (bound slots past s g) one-left idle.soon in
-          inr (record { unasked = idle.unasked; near = idle.near; soon = soon; paused = omega (arith, paused) })
+          let (soon, paused) = left-paced lag.pace lag.since (length v.queue) (length s.queue) (bound slots lag past s g) one-left idle.soon in
+          let paced = k.paced in
+          let behind = k.behind in
+          inr (record { unasked = idle.unasked; near = idle.near; soon = omega (arith, paused, paced, behind); paused = omega (arith, paused, paced, behind) })
     ];
   }
 
-  pub kept-queued : IsKept count slots extras delay now past s.transactions (record s { queue = drop 1 s.queue; last_send = Some now })
-  kept-queued = kept-rest count slots extras delay now past s.transactions s k (drop 1 s.queue) (Some now) s.transactions s.events s.ids s.closes (record {
+  pub kept-queued : IsKept count slots extras (taken now lag) delay now past s.transactions (record s { queue = drop 1 s.queue; last_send = Some now })
+  kept-queued = kept-rest count slots extras lag delay now past s.transactions s k now (drop 1 s.queue) (Some now) s.transactions s.events s.ids s.closes (record {
+    begins = omega arith;
+    behind = omega arith;
     requests = no_reply-left s.queue k.requests;
     few = let few = k.few in omega (arith, few, one-left);
     sent = omega arith;
@@ -303,27 +313,27 @@ module _ (count slots extras delay now : ℕ) (past : History) (s : State)
 -- ---- the path is kept alive
 
 -- With nothing to refresh, each refresh is still to come, so a pause that begins now delays none.
-module _ (count slots extras delay now : ℕ) (past : History) (s : State)
-    (k : IsKept count slots extras delay now past s.transactions s) (empty : s.queue ≡ []) (nothing : next_refresh now s ≡ None) where
+module _ (count slots extras : ℕ) (lag : Lag) (delay now : ℕ) (past : History) (s : State)
+    (k : IsKept count slots extras lag delay now past s.transactions s) (empty : s.queue ≡ []) (nothing : next_refresh now s ≡ None) where
   kept-in_use : (b : Relay) → Has (Allocation b) s.grants → b.is_expired ≡ false
-  kept-in_use b h = (allocation-stands count slots extras delay now past s.transactions s k b h).granted
+  kept-in_use b h = (allocation-stands count slots extras lag delay now past s.transactions s k b h).granted
 
-  still-early : (g : Grant) → Has g s.grants → Stands count slots extras delay now past s.transactions s g → IsIdle slots now past s g → now < due_of s g
+  still-early : (g : Grant) → Has g s.grants → Stands count slots extras lag delay now past s.transactions s g → IsIdle slots lag now past s g → now < due_of s g
   still-early g there stands idle = elim (cases_lt now (due_of s g)) [
     | inl early ↦ early
     | inr late ↦
         let (a, here, same) = k.in_allocations g there in
         let inside : Has a (allocations s) = filter_map-has as_allocation (Allocation a) a s.grants here refl in
         let is = is-due now s g (granted-active g stands.granted) (may-refresh s g kept-in_use stands.granted (k.in_allocations g there)) idle.unasked late in
-        let in_allocations = allocation-stands count slots extras delay now past s.transactions s k a here in
-        let goes_on : now ≤ a.expiry = let early = stands-early count slots extras delay now past s k (Allocation a) here in_allocations in omega (arith, early) in
-        let alive = stands-early count slots extras delay now past s k g there stands in
+        let in_allocations = allocation-stands count slots extras lag delay now past s.transactions s k a here in
+        let goes_on : now ≤ a.expiry = let early = stands-early count slots extras lag delay now past s k (Allocation a) here in_allocations in omega (arith, early) in
+        let alive = stands-early count slots extras lag delay now past s k g there stands in
         let some = due-sends now s g there (granted-active g stands.granted) is alive a inside (same_family-self (family_of_grant g) (family_of a.relayed) (sym same)) goes_on in
         absurd (let no : false ≡ true = rw nothing at some in cc)
   ]
 
-  stands-alive : (g : Grant) → Has g s.grants → Stands count slots extras delay now past s.transactions s g
-      → Stands count slots extras delay now past s.transactions (record s { ids = (id_used s).ids; last_send = Some now }) g
+  stands-alive : (g : Grant) → Has g s.grants → Stands count slots extras lag delay now past s.transactions s g
+      → Stands count slots extras (taken now lag) delay now past s.transactions (record s { ids = (id_used s).ids; last_send = Some now }) g
   stands-alive g there was = record {
     granted = was.granted;
     room = was.room;
@@ -333,12 +343,15 @@ module _ (count slots extras delay now : ℕ) (past : History) (s : State)
       | inr idle ↦
           let none : length s.queue ≡ 0 = rw empty refl in
           let early = still-early g there was idle in
-          inr (record { unasked = idle.unasked; near = idle.near; soon = idle.soon; paused = rw none (omega (arith, early)) })
+          let paced = k.paced in
+          inr (record { unasked = idle.unasked; near = idle.near; soon = rw none (omega (arith, early)); paused = rw none (omega (arith, early, paced)) })
     ];
   }
 
-  pub kept-alive : IsKept count slots extras delay now past s.transactions (record s { ids = (id_used s).ids; last_send = Some now })
-  kept-alive = kept-rest count slots extras delay now past s.transactions s k s.queue (Some now) s.transactions s.events (id_used s).ids s.closes (record {
+  pub kept-alive : IsKept count slots extras (taken now lag) delay now past s.transactions (record s { ids = (id_used s).ids; last_send = Some now })
+  kept-alive = kept-rest count slots extras lag delay now past s.transactions s k now s.queue (Some now) s.transactions s.events (id_used s).ids s.closes (record {
+    begins = omega arith;
+    behind = omega arith;
     requests = k.requests;
     few = k.few;
     sent = omega arith;
@@ -348,12 +361,18 @@ module _ (count slots extras delay now : ℕ) (past : History) (s : State)
 
 -- ---- poll_transmit
 
--- no grant changes
-abbrev pub KeepsOn : ℕ → ℕ → ℕ → ℕ → ℕ → History → State → State → Type 0
-KeepsOn count slots extras delay now past s t = IsKept count slots extras delay now past t.transactions t × Goes past past s.transactions t.transactions s t
+-- no grant changes, and a packet that is taken ends the lag
+abbrev pub KeepsOn : ℕ → ℕ → ℕ → Lag → ℕ → ℕ → History → State → Option (Transmit (List ℕ)) × State → Type 0
+KeepsOn count slots extras lag delay now past s z =
+    IsKept count slots extras (taken (cond (is_some z.0) now lag.since) lag) delay now past z.1.transactions z.1 × Goes past past s.transactions z.1.transactions s z.1
 
-empty-kept : (s : State) → has_reply s ≡ false → record s { queue = without_first_reply s.queue } ≡ s
-empty-kept s none = ap (λ (q : List Queued). record s { queue = q }) (no_reply-kept s.queue none)
+no-replies : (qs : List Queued) → list_any (λ q. not q.is_request) qs ≡ false → filter_map reply_in qs ≡ []
+no-replies [] none = refl
+no-replies (q ∷ qs) none =
+    elim (cases_Bool q.is_request) [ inl is ↦ rw is (no-replies qs (rw is at none)) | inr is ↦ let h : true ≡ false = rw is at none in cc ]
+
+empty-kept : (s : State) → has_reply s ≡ false → reply_step s ≡ (None, s)
+empty-kept s none = rw (no-replies s.queue none, no_reply-kept s.queue none) refl
 
 -- what is due is granted, and not waiting
 due-granted : (now : ℕ) (s : State) (g : Grant) → is_waiting g ≡ true → is_refresh_due now s g ≡ true → ⊥
@@ -367,33 +386,33 @@ unfolding is_refresh_due refresh_time
 due-unreserved now s (Channel number peer (Reserved until)) is e = cc
 due-unreserved now s g is e = absurd is
 
-pub transmit-kept : (count slots extras delay now : ℕ) (past : History) (s : State) → IsKept count slots extras delay now past s.transactions s → past.made (fresh_id s) ≡ now
-    → due (agent_of s) now ≡ None → KeepsOn count slots extras delay now past s (transmit_step now s).1
-transmit-kept count slots extras delay now past s k fresh none = rw (not_due-transmit now s none) (by (is_paused now s))
+pub transmit-kept : (count slots extras : ℕ) (lag : Lag) (delay now : ℕ) (past : History) (s : State) → IsKept count slots extras lag delay now past s.transactions s → past.made (fresh_id s) ≡ now
+    → due (agent_of s) now ≡ None → KeepsOn count slots extras lag delay now past s (transmit_step now s)
+transmit-kept count slots extras lag delay now past s k fresh none = rw (not_due-transmit now s none) (by (is_paused now s))
   where
-    Keeps : State → Type 0
-    Keeps t = KeepsOn count slots extras delay now past s t
+    Keeps : Option (Transmit (List ℕ)) × State → Type 0
+    Keeps z = KeepsOn count slots extras lag delay now past s z
 
-    same : (t : State) → t ≡ s → Keeps t
-    same t e = subst Keeps (sym e) (k, goes-more past s.transactions s.transactions s s refl (λ x h. h) (λ l h. h))
+    same : (z : Option (Transmit (List ℕ)) × State) → z ≡ (None, s) → Keeps z
+    same z e = subst Keeps (sym e) (k, goes-more past s.transactions s.transactions s s refl (λ x h. h) (λ l h. h))
 
     keeps : (b : Bool) → s.queue ≡ [] → next_refresh now s ≡ None
-        → Keeps (cond {A = Option (Transmit (List ℕ)) × State} b (Some (to_server s s.local (binding_indication (fresh_id s))), Rattle.turn_client_api.specs.Transmit.sent now (id_used s)) (None, s)).1
+        → Keeps (cond {A = Option (Transmit (List ℕ)) × State} b (Some (to_server s s.local (binding_indication (fresh_id s))), Rattle.turn_client_api.specs.Transmit.sent now (id_used s)) (None, s))
     keeps true empty e = (
-      kept-alive count slots extras delay now past s k empty e,
+      kept-alive count slots extras lag delay now past s k empty e,
       goes-more past s.transactions s.transactions s
           (record s { ids = (id_used s).ids; last_send = Some now }) refl (λ x h. h) (λ l h. h),
     )
     keeps false empty e = (k, goes-more past s.transactions s.transactions s s refl (λ x h. h) (λ l h. h))
 
-    sends : s.queue ≡ [] → (p : Purpose) (next : IsNext now s p) → IsActive next.grant → Keeps (sent_at_once (request_for s p (fresh_id s)) p now s).1
+    sends : s.queue ≡ [] → (p : Purpose) (next : IsNext now s p) → IsActive next.grant → Keeps (sent_at_once (request_for s p (fresh_id s)) p now s)
     sends empty p next active = (
-      kept-sent count slots extras delay now past s k empty p next active fresh,
-      goes-sent count slots extras delay now past s k empty p next active fresh,
+      kept-sent count slots extras lag delay now past s k empty p next active fresh,
+      goes-sent count slots extras lag delay now past s k empty p next active fresh,
     )
 
     refreshes : s.queue ≡ [] → (o : Option Purpose) → next_refresh now s ≡ o
-        → Keeps (option_map_or (λ purpose. sent_at_once (request_for s purpose (fresh_id s)) purpose now s) o (keepalive_step now s)).1
+        → Keeps (option_map_or (λ purpose. sent_at_once (request_for s purpose (fresh_id s)) purpose now s) o (keepalive_step now s))
     refreshes empty None e = keeps (list_any (λ time. nat_le time now) (keepalive_times s)) empty e
     refreshes empty (Some p) e =
         let next = next-of now s p e in
@@ -404,22 +423,22 @@ transmit-kept count slots extras delay now past s k fresh none = rw (not_due-tra
           | inr (inr (freed, inr (is, none))) ↦ absurd (due-unreserved now s next.grant is next.is_due)
         ]
 
-    queued : (queue : List Queued) → s.queue ≡ queue → Keeps (queue_step now s).1
+    queued : (queue : List Queued) → s.queue ≡ queue → Keeps (queue_step now s)
     queued [] e = rw (queue-idle now s e k.phase) (refreshes e (next_refresh now s) refl)
     queued (q ∷ qs) e =
-        let is : (queue_step now s).1 ≡ record s { queue = drop 1 s.queue; last_send = Some now } = front s.queue e in
+        let is : queue_step now s ≡ (Some q.packet, record s { queue = drop 1 s.queue; last_send = Some now }) = front s.queue e in
         subst Keeps (sym is) (
-          kept-queued count slots extras delay now past s k q qs e,
+          kept-queued count slots extras lag delay now past s k q qs e,
           goes-more past s.transactions s.transactions s (record s { queue = drop 1 s.queue; last_send = Some now }) refl
               (λ x h. h) (λ l h. h),
         )
       where
         front : (queue : List Queued) → queue ≡ q ∷ qs
             → (option_map_or (λ q. (Some q.packet, Rattle.turn_client_api.specs.Transmit.sent now (record s { queue = drop 1 s.queue }))) (slice_get queue 0)
-            (Rattle.turn_client_api.specs.Transmit.idle_step s.phase now s)).1
-            ≡ record s { queue = drop 1 s.queue; last_send = Some now }
+            (Rattle.turn_client_api.specs.Transmit.idle_step s.phase now s))
+            ≡ (Some q.packet, record s { queue = drop 1 s.queue; last_send = Some now })
         front queue e = rw e refl
 
-    by : (b : Bool) → Keeps (if b then reply_step s else queue_step now s).1
-    by true = same (reply_step s).1 (empty-kept s k.requests)
+    by : (b : Bool) → Keeps (if b then reply_step s else queue_step now s)
+    by true = same (reply_step s) (empty-kept s k.requests)
     by false = queued s.queue refl

@@ -21,7 +21,7 @@ use Rattle.turn_client_runs.specs.Short.{StreamsAreShort}
 use Rattle.turn_client_runs.proofs.HoldLemmas.{holds-found, reaches-behind}
 use Rattle.turn_client_runs.proofs.LastingParts.{lasts-through}
 use Rattle.turn_client_runs.specs.History.{no_history}
-use Rattle.turn_client_runs.specs.Lasting.{RunsSteadily}
+use Rattle.turn_client_runs.specs.Late.{RunsBehind}
 use Rattle.turn_client_runs.specs.LastingRuns.{GrantsLastInRuns}
 use Rattle.turn_client_runs.proofs.OfferRuns.{bound-are-offered}
 use Rattle.turn_client_runs.proofs.InOrderRuns.{inputs-follow}
@@ -105,9 +105,9 @@ module _ (transport : TransportType) (local remote : SocketAddr) (config : Confi
   run-short = streams-short transport local remote config seed calls
 
   pub run-lasts : GrantsLastInRuns first calls
-  run-lasts earlier middle later e = λ count slots extras delay now before after cut steady run.
+  run-lasts earlier middle later e = λ count slots extras late delay now before after cut steady run.
       let s = state_after_all first earlier in
-      lasts-through count slots extras delay now s before after steady (subst (RunsSteadily count slots extras delay now (no_history s) s) cut run)
+      lasts-through count slots extras late delay now s before after steady (subst (RunsBehind count slots extras late delay now now (no_history s) s) cut run)
 
   pub run-cuts : CutsAgree first calls
   run-cuts earlier middle later e = λ at pieces now tcp drained are. run-cut at pieces now (state_after_all first earlier) (quiet now tcp drained) middle are

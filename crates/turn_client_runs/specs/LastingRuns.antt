@@ -6,7 +6,8 @@ use Rattle.turn_client_api.specs.Steps.{state_after_all}
 use Rattle.turn_client_api.specs.declared.call.Call.{Call}
 use Rattle.turn_client_api.specs.declared.grant.Grant.{Grant}
 use Rattle.turn_client_runs.specs.History.{IsKeptBy, no_history}
-use Rattle.turn_client_runs.specs.Lasting.{HasStill, IsFresh, IsInForce, IsRequested, IsSteady, RunsSteadily}
+use Rattle.turn_client_runs.specs.Lasting.{HasStill, IsFresh, IsInForce, IsRequested}
+use Rattle.turn_client_runs.specs.Late.{IsSteadyBehind, RunsBehind}
 use Rattle.turn_client_runs.specs.OnTime.{time_of_all}
 use Rattle.turn_client_runs.specs.Promises.{InEachPart}
 
@@ -21,10 +22,18 @@ LastsThrough delay now s before after =
     → (IsInForce between g → IsKeptBy before now s g ⊎ IsFresh between middle g → HasStill g last (state_after_all middle after))
     × (IsRequested g → between + delay < last → HasStill g last (state_after_all middle after))
 
+-- So it is of each run that begins in a steady state, and in which the server answers within the delay and the caller is late
+-- by so much at most.
+abbrev pub GrantsLastBehind : Type 0
+GrantsLastBehind =
+    (count slots extras late delay now : ℕ) (s : State) (before after : List Call) → IsSteadyBehind count slots extras late delay now s
+    → RunsBehind count slots extras late delay now now (no_history s) s (before ++ after)
+    → LastsThrough delay now s before after
+
 -- In any part of a run that begins in a steady state, and in which the server answers within the delay and the
--- caller is on time, this is so from each of its calls to its end.
+-- caller is late by so much at most, this is so from each of its calls to its end.
 abbrev pub GrantsLastInRuns : State → List Call → Type 0
 GrantsLastInRuns = InEachPart (λ s middle.
-    (count slots extras delay now : ℕ) (before after : List Call) → middle ≡ before ++ after
-    → IsSteady count slots extras delay now s → RunsSteadily count slots extras delay now (no_history s) s middle
+    (count slots extras late delay now : ℕ) (before after : List Call) → middle ≡ before ++ after
+    → IsSteadyBehind count slots extras late delay now s → RunsBehind count slots extras late delay now now (no_history s) s middle
     → LastsThrough delay now s before after)

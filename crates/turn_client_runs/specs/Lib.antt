@@ -16,6 +16,7 @@ pub mod Lasting
 pub mod LastingPeers
 pub mod LastingRows
 pub mod LastingRuns
+pub mod Late
 pub mod Offers
 pub mod OnTime
 pub mod Peers

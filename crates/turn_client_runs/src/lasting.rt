@@ -1,5 +1,7 @@
 //! No grant is lost while the server answers and the caller sends what is due.
 
+ghost use Rattle.turn_client_runs.specs.Late.{OnTimeIsLateByNone};
+ghost use Rattle.turn_client_runs.specs.LastingRuns.{GrantsLastBehind};
 ghost use Rattle.turn_client_runs.specs.LastingPeers.{HasRoomAt5Ms, PeersLast};
 ghost use Rattle.turn_client_runs.specs.LastingRows.{RelayStaysUp};
 ghost use Rattle.turn_client_runs.specs.RelayRows.{RelayStaysUpFromFirst};
@@ -33,6 +35,8 @@ ghost use Rattle.turn_client_runs.specs.Lasting.{DatagramsAreMessages, GrantsLas
 pub fn grants_last_while_the_server_answers()
     ensures last { GrantsLast }
     ensures asked { RequestsSucceed }
+    ensures behind { GrantsLastBehind }
+    ensures on_time { OnTimeIsLateByNone }
     ensures ended { SuccessesEndRequests }
     ensures datagrams { DatagramsAreMessages }
 {}

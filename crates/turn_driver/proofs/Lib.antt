@@ -2,6 +2,7 @@ pub mod EndedLemmas
 pub mod RunLemmas
 pub mod DriverLemmas
 pub mod OnTimeLemmas
+pub mod LateLemmas
 pub mod RestWeights
 pub mod RestExpiry
 pub mod RestPolls

@@ -1,0 +1,64 @@
+-- No grant is lost either if the caller takes packets late, as long as it is late by little.
+use Rattle.std.specs.Prelude.{◌≡◌, ℕ, ◌+◌, ◌*◌, ◌^◌, ◌<◌, ◌≤◌, max, min, List, [], ◌∷◌, ◌++◌, None, All, is_some, if◌then◌else◌, ⊤}
+use Rattle.turn_client_api.specs.State.{State, seconds}
+use Rattle.turn_client_api.specs.Steps.{state_after}
+use Rattle.turn_client_api.specs.Transmit.{next_transmit}
+use Rattle.turn_client_api.specs.declared.call.Call.{Call}
+use Rattle.turn_client_api.specs.declared.call.Call.TheVariants.{PollTransmit}
+use Rattle.turn_client_runs.specs.History.{History, IsSeldom, no_history, with_call}
+use Rattle.turn_client_runs.specs.Lasting.{HoldsAtMost, IsQuiet, IsSteady, RunsSteadily, ahead_of}
+use Rattle.turn_client_runs.specs.OnTime.{time_of}
+
+-- ---- where it begins
+
+-- As `HasRoom`, where each packet may be taken so late.
+abbrev pub HasRoomBehind : ℕ → ℕ → ℕ → ℕ → ℕ → ℕ → ℕ → Type 0
+HasRoomBehind count slots extras late cadence delay ahead = (count + slots + extras) * (cadence + late) + delay + late < ahead
+
+-- as `IsSteady`, with room for a caller that is so late
+pub record IsSteadyBehind (count slots extras late delay now : ℕ) (s : State) : Type 0 where
+  pub steady : IsSteady count slots extras delay now s
+  pub room : All (λ g. HasRoomBehind count slots extras late s.config.request_cadence delay (ahead_of s.config.refresh_ahead g)) s.grants
+  pub room_for_more : HasRoomBehind count slots extras late s.config.request_cadence delay (min s.config.refresh_ahead (seconds 150))
+
+-- ---- the caller
+
+-- The call comes at most so late. What is to be sent now was so since `start` at the earliest: from the time on at which the
+-- last packet was taken, or at which a packet could last be waiting, until then there was none. (Before the call before this
+-- one the client was asked as it is after that one.)
+pub record IsLate (late since before start now : ℕ) (s : State) : Type 0 where
+  pub later : before ≤ now
+  pub in_range : now ≤ 2 ^ 62
+  pub from : since ≤ start
+  pub begun : start ≤ now
+  pub soon : now ≤ start + late
+  pub free : (time : ℕ) → since ≤ time → time < start → next_transmit (max time before) s ≡ None
+
+-- the caller is late by so much at most, and no request awaits its success for longer than the delay
+pub record AreAnswered (late delay since before start now : ℕ) (past : History) (s : State) : Type 0 where
+  pub caller : IsLate late since before start now s
+  pub answered : All (λ x. now ≤ past.made x.id + delay) s.transactions
+
+-- from when on the next packet may have been waiting: a packet that is taken is no longer late
+abbrev pub since_next : Call → State → ℕ → ℕ
+since_next (PollTransmit now) s start = if is_some (next_transmit now s) then now else start
+since_next call s start = start
+
+-- As `RunsSteadily`, with a caller that is so late.
+abbrev pub RunsBehind : ℕ → ℕ → ℕ → ℕ → ℕ → ℕ → ℕ → History → State → List Call → Type 0
+RunsBehind count slots extras late delay since before past s [] = ⊤
+RunsBehind count slots extras late delay since before past s (call ∷ calls) =
+    let now = time_of before call in
+    let next = state_after call s in
+    let later = with_call call now s past in
+    (start : ℕ) × AreAnswered late delay since before start now past s × IsQuiet call past s × HoldsAtMost count slots next × IsSeldom extras s.config.refresh_ahead now later
+    × RunsBehind count slots extras late delay (since_next call s start) now later next calls
+
+-- ---- what holds
+
+-- a caller that is on time is one that is late by nothing
+abbrev pub OnTimeIsLateByNone : Type 0
+OnTimeIsLateByNone =
+    (count slots extras delay now : ℕ) (s : State) (calls : List Call) → IsSteady count slots extras delay now s
+    → RunsSteadily count slots extras delay now (no_history s) s calls
+    → IsSteadyBehind count slots extras 0 delay now s × RunsBehind count slots extras 0 delay now now (no_history s) s calls
