@@ -4,7 +4,7 @@ use Rattle.turn_client_laws.proofs.Common.{list_any, cases_Bool, eqb-true, AllBy
 use Rattle.turn_client_laws.proofs.Machine.{Transaction, State, is_kept, pause_end, Grant, Allocation, Permission, Channel, Active, Pending, Listing, Purpose, ForPermission, ForChannel, has_request}
 use Rattle.turn_client_laws.proofs.Machine.{family_of_grant, is_for, same_ip, next_transmit, PollTransmit, state_after, state_after_all, Call, Has, all-has, has-all, same_ip-true}
 use Rattle.turn_client_laws.proofs.Laws.{room-of, is_double, contains-has, has-contains}
-use Rattle.turn_client_runs.specs.LastingRuns.{GrantsLastBehind, LastsThrough}
+use Rattle.turn_client_runs.specs.LastingRuns.{LastsThrough}
 use Rattle.turn_client_runs.specs.Late.{HasRoomBehind, IsSteadyBehind, OnTimeIsLateByNone, RunsBehind, since_next}
 use Rattle.turn_client_runs.specs.Lasting.{with_expiry, IsRequested, RequestsSucceed, as_granted, GrantsLast, HasRoom, HasStill, IsInForce, IsSteady, IsFresh, RunsSteadily, ahead_of, expiry_of}
 use Rattle.turn_client_runs.specs.OnTime.{time_of, time_of_all}
@@ -15,7 +15,7 @@ use Rattle.turn_client_runs.proofs.LastingCounts.{passes}
 use Rattle.turn_client_runs.proofs.LastingTransmits.{reserved-inactive}
 use Rattle.turn_client_runs.proofs.LastingExpiry.{reserved-waits}
 use Rattle.turn_client_runs.proofs.LastingSpared.{kept-spared, none-by, pending-spared, runs-alike, spared-none, sparing}
-use Rattle.turn_client_runs.proofs.LastingRuns.{Halves, KeepsAll, all-kept, halves, joined}
+use Rattle.turn_client_runs.proofs.LastingRuns.{KeepsAll, all-kept, halves, joined}
 use Rattle.turn_client_runs.proofs.GrantInputs.{IsLeased}
 
 -- ---- the first state
@@ -65,10 +65,10 @@ single-first (g ∷ gs) (apart, others) p unique = elim (cases_Bool (is_for p g)
 ]
 
 -- how a caller that is so late lags behind at first
-abbrev first_lag : ℕ → ℕ → State → Lag
+abbrev pub first_lag : ℕ → ℕ → State → Lag
 first_lag late now s = record { late = late; since = now; pace = s.config.request_cadence + late }
 
-steady-kept : (count slots extras late delay now : ℕ) (s : State) → IsSteadyBehind count slots extras late delay now s
+pub steady-kept : (count slots extras late delay now : ℕ) (s : State) → IsSteadyBehind count slots extras late delay now s
     → IsKept count slots extras (first_lag late now s) delay now (no_history s) s.transactions s
 steady-kept count slots extras late delay now s begins = record {
   phase = is.allocated;
@@ -177,44 +177,21 @@ fresh-stands count slots extras lag delay now past s k g there granted leased fr
     unasked false e = e
     unasked true e = let due = (k.known g there).1 leased e in absurd (omega (arith, due, fresh))
 
--- both parts of a run, of which the second one lets the grant go nowhere
-module _ (count slots extras late delay now : ℕ) (s : State) (earlier later : List Call) (steady : IsSteadyBehind count slots extras late delay now s)
-    (run : RunsBehind count slots extras late delay now now (no_history s) s (earlier ++ later))
-    (g : Grant) (there : Contains (state_after_all s earlier).grants g) (kept : IsKeptBy later (time_of_all now earlier) (state_after_all s earlier) g) where
-  abbrev between : ℕ
-  between = time_of_all now earlier
-
+-- the rest of a run, in which the grant is not let go
+module _ (count slots extras : ℕ) (lag : Lag) (delay between : ℕ) (mid_past : History) (mid : State) (kept-mid : IsKept count slots extras lag delay between mid_past mid.transactions mid) (later : List Call)
+    (run : RunsBehind count slots extras lag.late delay lag.since between mid_past mid later) (g : Grant) (here : Has g mid.grants) (kept : IsKeptBy later between mid g) where
   abbrev last : ℕ
   last = time_of_all between later
-
-  abbrev mid : State
-  mid = state_after_all s earlier
 
   abbrev end : State
   end = state_after_all mid later
 
-  -- what came before, then; without the grant; and at the end
-  abbrev mid_past : History
-  mid_past = with_calls earlier now s (no_history s)
-
+  -- what came before, without the grant; and at the end
   abbrev spared : History
   spared = sparing g mid_past
 
   abbrev end_past : History
   end_past = with_calls later between mid spared
-
-  parts : Halves count slots extras (first_lag late now s) delay now (no_history s) s earlier later
-  parts = halves count slots extras (first_lag late now s) delay now (no_history s) s earlier later (steady-kept count slots extras late delay now s steady) run
-
-  -- how the caller lags behind then
-  abbrev lag : Lag
-  lag = taken parts.since (first_lag late now s)
-
-  here : Has g mid.grants
-  here = contains-has g mid.grants there
-
-  kept-mid : IsKept count slots extras lag delay between mid_past mid.transactions mid
-  kept-mid = parts.kept
 
   end-spares : was_let_go end_past g ≡ false
   end-spares = none-by later between mid spared g (spared-none g mid_past) kept
@@ -226,25 +203,24 @@ module _ (count slots extras late delay now : ℕ) (s : State) (earlier later : 
   at-end : IsSure → (since : ℕ) × KeepsAll count slots extras (taken since lag) delay last spared end_past mid end
   at-end sure =
       all-kept count slots extras lag delay between spared mid later (kept-spared count slots extras lag delay between mid_past mid kept-mid g here sure)
-      (runs-alike count slots extras late delay parts.since between mid_past spared mid later (λ id. refl) refl refl parts.run)
+      (runs-alike count slots extras lag.late delay lag.since between mid_past spared mid later (λ id. refl) refl refl run)
 
-  -- how it lags behind at the end
+  -- how the caller lags behind at the end
   abbrev last_lag : IsSure → Lag
   last_lag sure = taken (at-end sure).0 lag
 
   kept-end : (sure : IsSure) → KeepsAll count slots extras (last_lag sure) delay last spared end_past mid end
   kept-end sure = (at-end sure).1
 
-  has-still : IsSure → (h : Grant) → Has h end.grants → with_expiry 0 h ≡ as_granted g → IsGranted h → HasStill g last (state_after_all s (earlier ++ later))
-  has-still sure h at_end same granted =
-      subst (HasStill g last) (sym (joined s earlier later)) (
-        h,
-        has-contains h end.grants at_end,
-        same,
-        granted-force last h granted (early-of count slots extras (last_lag sure) delay last end_past end (kept-end sure).0 h at_end granted (let_go-became end_past g h same ∙ end-spares)),
-      )
+  has-still : IsSure → (h : Grant) → Has h end.grants → with_expiry 0 h ≡ as_granted g → IsGranted h → HasStill g last end
+  has-still sure h at_end same granted = (
+    h,
+    has-contains h end.grants at_end,
+    same,
+    granted-force last h granted (early-of count slots extras (last_lag sure) delay last end_past end (kept-end sure).0 h at_end granted (let_go-became end_past g h same ∙ end-spares)),
+  )
 
-  lasts : IsInForce between g → IsKeptBy earlier now s g ⊎ IsFresh between mid g → HasStill g last (state_after_all s (earlier ++ later))
+  pub lasts : IsInForce between g → (was_let_go mid_past g ≡ false) ⊎ IsFresh between mid g → HasStill g last end
   lasts in_force counted = ends (stands (kept-mid.each g here))
     where
       granted : IsGranted g
@@ -259,25 +235,25 @@ module _ (count slots extras late delay now : ℕ) (s : State) (earlier later : 
         | inr fresh ↦ fresh-stands count slots extras lag delay between mid_past mid kept-mid g here granted leased fresh
       ]
 
-      ends : Stands count slots extras lag delay between mid_past mid.transactions mid g → HasStill g last (state_after_all s (earlier ++ later))
+      ends : Stands count slots extras lag delay between mid_past mid.transactions mid g → HasStill g last end
       ends is =
           let (h, at_end, same, still) = (kept-end (inl is)).1.remain g here granted end-spares in
           has-still (inl is) h at_end (same ∙ force-key between g in_force) still
 
-  succeeds : IsRequested g → between + delay < last → HasStill g last (state_after_all s (earlier ++ later))
-  succeeds requested late = by (kept-mid.each g here)
+  pub succeeds : IsRequested g → between + delay < last → HasStill g last end
+  succeeds requested after_delay = by (kept-mid.each g here)
     where
       waits : (is_waiting g ≡ true) × (is_kept g ≡ true)
       waits = requested-waits g requested
 
-      follows : Follows between end_past end.transactions g end → HasStill g last (state_after_all s (earlier ++ later))
-      follows (inl (remains, p)) = let heard = (kept-end (inr waits)).0.heard p.transaction p.there in let made = p.made in absurd (omega (arith, heard, made, late))
+      follows : Follows between end_past end.transactions g end → HasStill g last end
+      follows (inl (remains, p)) = let heard = (kept-end (inr waits)).0.heard p.transaction p.there in let made = p.made in absurd (omega (arith, heard, made, after_delay))
       follows (inr (h, at_end, same, granted)) = has-still (inr waits) h at_end same granted
 
-      active : IsActive g → HasStill g last (state_after_all s (earlier ++ later))
+      active : IsActive g → HasStill g last end
       active is = absurd (let no : false ≡ true = sym (not-waiting g is) ∙ waits.0 in cc)
 
-      by : IsWell count slots extras lag delay between mid_past mid.transactions mid g → HasStill g last (state_after_all s (earlier ++ later))
+      by : IsWell count slots extras lag delay between mid_past mid.transactions mid g → HasStill g last end
       by (inl (waiting, pending)) = follows ((kept-end (inr waits)).1.follow between g here waiting (pending-spared between mid_past mid.transactions mid.listed g g pending) end-spares)
       by (inr (inl stands)) = active (granted-active g stands.granted)
       by (inr (inr (freed, inl leased))) = active (leased-active g leased)
@@ -287,17 +263,12 @@ module _ (count slots extras late delay now : ℕ) (s : State) (earlier later : 
 pub lasts-through : (count slots extras late delay now : ℕ) (s : State) (before after : List Call) → IsSteadyBehind count slots extras late delay now s
     → RunsBehind count slots extras late delay now now (no_history s) s (before ++ after)
     → LastsThrough delay now s before after
-lasts-through count slots extras late delay now s before after steady run g there kept = (
-  λ in_force counted. ends (lasts count slots extras late delay now s before after steady run g there kept in_force counted),
-  λ requested after_delay. ends (succeeds count slots extras late delay now s before after steady run g there kept requested after_delay),
-)
-  where
-    ends : HasStill g (time_of_all (time_of_all now before) after) (state_after_all s (before ++ after))
-        → HasStill g (time_of_all (time_of_all now before) after) (state_after_all (state_after_all s before) after)
-    ends = subst (HasStill g (time_of_all (time_of_all now before) after)) (joined s before after)
-
-pub grants-last-behind : GrantsLastBehind
-grants-last-behind = lasts-through
+lasts-through count slots extras late delay now s before after steady run g there kept =
+    let parts = halves count slots extras (first_lag late now s) delay now (no_history s) s before after (steady-kept count slots extras late delay now s steady) run in
+    let here = contains-has g (state_after_all s before).grants there in (
+      lasts count slots extras (taken parts.since (first_lag late now s)) delay (time_of_all now before) (with_calls before now s (no_history s)) (state_after_all s before) parts.kept after parts.run g here kept,
+      succeeds count slots extras (taken parts.since (first_lag late now s)) delay (time_of_all now before) (with_calls before now s (no_history s)) (state_after_all s before) parts.kept after parts.run g here kept,
+    )
 
 -- ---- a caller that is on time
 
@@ -354,19 +325,21 @@ on-time-behind count slots extras delay now s calls steady run = (steady-behind 
 module _ (count slots extras delay now : ℕ) (s : State) (earlier later : List Call) (steady : IsSteady count slots extras delay now s)
     (run : RunsSteadily count slots extras delay now (no_history s) s (earlier ++ later))
     (g : Grant) (there : Contains (state_after_all s earlier).grants g) (kept : IsKeptBy later (time_of_all now earlier) (state_after_all s earlier) g) where
-  on-time-lasts : IsInForce (time_of_all now earlier) g → IsKeptBy earlier now s g ⊎ IsFresh (time_of_all now earlier) (state_after_all s earlier) g
-      → HasStill g (time_of_all (time_of_all now earlier) later) (state_after_all s (earlier ++ later))
-  on-time-lasts =
-      lasts count slots extras 0 delay now s earlier later (steady-behind count slots extras delay now s steady) (runs-behind count slots extras delay now (no_history s) s (earlier ++ later) run) g there kept
+  abbrev Ends : State → Type 0
+  Ends t = HasStill g (time_of_all (time_of_all now earlier) later) t
 
-  on-time-succeeds : IsRequested g → time_of_all now earlier + delay < time_of_all (time_of_all now earlier) later
-      → HasStill g (time_of_all (time_of_all now earlier) later) (state_after_all s (earlier ++ later))
-  on-time-succeeds =
-      succeeds count slots extras 0 delay now s earlier later (steady-behind count slots extras delay now s steady) (runs-behind count slots extras delay now (no_history s) s (earlier ++ later) run) g there kept
+  both : (IsInForce (time_of_all now earlier) g → IsKeptBy earlier now s g ⊎ IsFresh (time_of_all now earlier) (state_after_all s earlier) g → Ends (state_after_all (state_after_all s earlier) later))
+      × (IsRequested g → time_of_all now earlier + delay < time_of_all (time_of_all now earlier) later → Ends (state_after_all (state_after_all s earlier) later))
+  both = lasts-through count slots extras 0 delay now s earlier later (steady-behind count slots extras delay now s steady)
+      (runs-behind count slots extras delay now (no_history s) s (earlier ++ later) run) g there kept
+
+  ends : Ends (state_after_all (state_after_all s earlier) later) → Ends (state_after_all s (earlier ++ later))
+  ends = subst Ends (sym (joined s earlier later))
 
 pub grants-last : GrantsLast
-grants-last count slots extras delay now s earlier later steady run g there in_force counted kept = on-time-lasts count slots extras delay now s earlier later steady run g there kept in_force counted
+grants-last count slots extras delay now s earlier later steady run g there in_force counted kept =
+    ends count slots extras delay now s earlier later steady run g there kept ((both count slots extras delay now s earlier later steady run g there kept).0 in_force counted)
 
 pub requests-succeed : RequestsSucceed
 requests-succeed count slots extras delay now s earlier later steady run g there requested after_delay kept =
-    on-time-succeeds count slots extras delay now s earlier later steady run g there kept requested after_delay
+    ends count slots extras delay now s earlier later steady run g there kept ((both count slots extras delay now s earlier later steady run g there kept).1 requested after_delay)

@@ -499,7 +499,7 @@ module _ (count slots extras : ℕ) (lag : Lag) (delay before : ℕ) (past : His
   call-by c k seldom same within = same-kept c k seldom same
 
 -- a call that comes in time
-call-kept : (count slots extras : ℕ) (lag : Lag) (delay before : ℕ) (past : History) (s : State) (start : ℕ) (call : Call) → IsKept count slots extras lag delay before past s.transactions s
+pub call-kept : (count slots extras : ℕ) (lag : Lag) (delay before : ℕ) (past : History) (s : State) (start : ℕ) (call : Call) → IsKept count slots extras lag delay before past s.transactions s
     → AreAnswered lag.late delay lag.since before start (time_of before call) past s
     → IsQuiet call past s → HoldsAtMost count slots (state_after call s) → IsSeldom extras s.config.refresh_ahead (time_of before call) (with_call call (time_of before call) s past)
     → KeepsAll count slots extras (taken (since_next call s start) lag) delay (time_of before call) past (with_call call (time_of before call) s past) s (state_after call s)

@@ -41,6 +41,7 @@ pub mod LastingPolls
 pub mod LastingReplies
 pub mod LastingRowLemmas
 pub mod LastingRuns
+mod LastingSeen
 pub mod LastingSends
 pub mod LastingSpared
 pub mod LastingStands

@@ -1,10 +1,10 @@
 -- Each promise, of any run of a new client.
-use Rattle.turn_client_laws.proofs.Common.{◌≡◌, ℕ, List, None, Option, ap, subst, SocketAddr}
+use Rattle.turn_client_laws.proofs.Common.{◌++◌, ◌≡◌, ℕ, List, None, Option, ap, subst, SocketAddr}
 use Rattle.turn_client_laws.proofs.Machine.{TransportType, Config, State, initial, Call, poll_recv_step, Payload, Tcp, state_after_all}
 use Rattle.turn_client_laws.proofs.Laws.{HasDistinctNumbers, initial-numbers, leaves-apart, AreApart, call-apart, initial-apart, contains-has, handled}
 use Rattle.turn_client_runs.specs.Challenges.{IsWithinChallengeLimit}
 use Rattle.turn_client_runs.specs.Promises.{AfterEach, BoundHaveSuccess, CutsAgree, FewAreAnswered, GrantsHaveReplies, DeliversOnlyPermitted, NumbersAreDistinct, RealmIsAnswered, RealmStays}
-use Rattle.turn_client_runs.specs.Promises.{RepliesCountOnce}
+use Rattle.turn_client_runs.specs.Promises.{InEachPart, RepliesCountOnce}
 use Rattle.turn_client_runs.specs.Events.{EventsHaveCauses}
 use Rattle.turn_client_runs.specs.Offers.{BoundAreOffered}
 use Rattle.turn_client_runs.specs.InOrder.{InputsFollow}
@@ -19,10 +19,11 @@ use Rattle.turn_client_runs.proofs.ShortLemmas.{streams-short}
 use Rattle.turn_client_runs.specs.Sent.{PacketsGoOut}
 use Rattle.turn_client_runs.specs.Short.{StreamsAreShort}
 use Rattle.turn_client_runs.proofs.HoldLemmas.{holds-found, reaches-behind}
-use Rattle.turn_client_runs.proofs.LastingParts.{lasts-through}
+use Rattle.turn_client_runs.proofs.LastingRuns.{datagram-message, success-ended}
+use Rattle.turn_client_runs.proofs.LastingSeen.{grants-last-behind}
 use Rattle.turn_client_runs.specs.History.{no_history}
-use Rattle.turn_client_runs.specs.Late.{RunsBehind}
-use Rattle.turn_client_runs.specs.LastingRuns.{GrantsLastInRuns}
+use Rattle.turn_client_runs.specs.Late.{IsSteadyBehind, RunsBehind}
+use Rattle.turn_client_runs.specs.LastingRuns.{GrantsLastInRuns, Lasts}
 use Rattle.turn_client_runs.proofs.OfferRuns.{bound-are-offered}
 use Rattle.turn_client_runs.proofs.InOrderRuns.{inputs-follow}
 use Rattle.turn_client_runs.proofs.PeerLemmas.{received, reports-permitted}
@@ -105,9 +106,15 @@ module _ (transport : TransportType) (local remote : SocketAddr) (config : Confi
   run-short = streams-short transport local remote config seed calls
 
   pub run-lasts : GrantsLastInRuns first calls
-  run-lasts earlier middle later e = λ count slots extras late delay now before after cut steady run.
-      let s = state_after_all first earlier in
-      lasts-through count slots extras late delay now s before after steady (subst (RunsBehind count slots extras late delay now now (no_history s) s) cut run)
+  run-lasts = (lasts, λ earlier later packet now e. (success-ended packet now (state_after_all first earlier), datagram-message packet now (state_after_all first earlier)))
+    where
+      lasts : InEachPart (λ s middle.
+          (count slots extras late delay now : ℕ) (before after : List Call) → middle ≡ before ++ after
+          → IsSteadyBehind count slots extras late delay now s → RunsBehind count slots extras late delay now now (no_history s) s middle
+          → Lasts delay now s before after) first calls
+      lasts earlier middle later e = λ count slots extras late delay now before after cut steady run.
+          let s = state_after_all first earlier in
+          grants-last-behind count slots extras late delay now s before after steady (subst (RunsBehind count slots extras late delay now now (no_history s) s) cut run)
 
   pub run-cuts : CutsAgree first calls
   run-cuts earlier middle later e = λ at pieces now tcp drained are. run-cut at pieces now (state_after_all first earlier) (quiet now tcp drained) middle are

@@ -1,4 +1,5 @@
-use Rattle.turn_client_runs.proofs.LastingParts.{grants-last, grants-last-behind, on-time-behind, requests-succeed}
+use Rattle.turn_client_runs.proofs.LastingParts.{grants-last, on-time-behind, requests-succeed}
+use Rattle.turn_client_runs.proofs.LastingSeen.{grants-last-behind}
 use Rattle.turn_client_runs.proofs.LastingRuns.{datagram-message, success-ended}
 use Rattle.turn_client_runs.proofs.lasting.grants_last_while_the_server_answers.Goals as goal
 
