@@ -311,7 +311,7 @@ runs-behind count slots extras delay before past s (call ∷ calls) (in_time, qu
     };
     answered = in_time.answered;
   },
-  quiet,
+  inl quiet,
   within,
   seldom,
   subst (λ (since : ℕ). RunsBehind count slots extras 0 delay since (time_of before call) (with_call call (time_of before call) s past) (state_after call s) calls)

@@ -10,7 +10,7 @@ use Rattle.turn_client_runs.proofs.LastingStands.{IsKept, Lag, kept-rest, stands
 
 -- ---- no data connections
 
-filter_map-none : {X Y : Type 0} (f : X → Option Y) (xs : List X) → ((x : X) → Has x xs → f x ≡ None) → filter_map f xs ≡ []
+pub filter_map-none : {X Y : Type 0} (f : X → Option Y) (xs : List X) → ((x : X) → Has x xs → f x ≡ None) → filter_map f xs ≡ []
 filter_map-none f [] none = refl
 filter_map-none f (x ∷ xs) none = rw (none x (inl refl)) (filter_map-none f xs (λ y h. none y (inr h)))
 

@@ -1,6 +1,6 @@
 -- No grant is lost by a call.
-use Rattle.turn_client_laws.proofs.Common.{◌≡◌, ℕ, ◌+◌, ◌<◌, ◌≤◌, Bool, true, false, cond, not, ◌&&◌, eqb, List, [], ◌∷◌, ◌++◌, length, drop, Option, Some, None, refl, inl, inr, ap, sym, subst, ◌∙◌}
-use Rattle.turn_client_laws.proofs.Common.{arith, filter, is_some, IsSome, nat_lt, Result, Ok, Err, list_any, and_parts, eqb-true, eq-eqb, lt-leb, lt-ltb, or_right, option_map_or, SocketAddr, IpAddr}
+use Rattle.turn_client_laws.proofs.Common.{◌≡◌, ◌⊎◌, ℕ, ◌+◌, ◌<◌, ◌≤◌, Bool, true, false, cond, not, ◌&&◌, eqb, List, [], ◌∷◌, ◌++◌, length, drop, Option, Some, None, refl, inl, inr, ap, sym, subst, ◌∙◌}
+use Rattle.turn_client_laws.proofs.Common.{arith, filter, filter_map, not-true, is_some, IsSome, nat_lt, Result, Ok, Err, list_any, and_parts, eqb-true, eq-eqb, lt-leb, lt-ltb, or_right, option_map_or, SocketAddr, IpAddr}
 use Rattle.turn_client_laws.proofs.Machine.{TransportType, channel_kept_step, is_in_progress, is_open_to, keep_step, permission_kept_step, with_marks, send_to_step, id_of, Error, Success, Udp}
 use Rattle.turn_client_laws.proofs.Machine.{Transmit, IsValidated, validation_of, Validation, Validated, ResendRequest, Refused, due, is_outstanding, resent, Transaction, State, agent_of, auth_of}
 use Rattle.turn_client_laws.proofs.Machine.{Allocated, Relay, Grant, Allocation, Permission, Channel, Listing, Purpose, allocations, is_past, is_permission_of, same_transport, purposes_of, Challenged}
@@ -11,9 +11,16 @@ use Rattle.turn_client_laws.proofs.Machine.{SetPermissionKept, allocation-there,
 use Rattle.turn_client_laws.proofs.Laws.{any-has, has-any, purpose-with, send_to-by}
 use Rattle.turn_client_api.specs.declared.error.KeepError.{KeepError}
 use Rattle.turn_client_api.specs.declared.error.KeepError.TheVariants.{NotGranted}
-use Rattle.turn_client_runs.specs.Late.{AreAnswered, RunsBehind, since_next}
+use Rattle.turn_client_runs.specs.Late.{AreAnswered, IsCalm, IsGranting, IsMild, RunsBehind, since_next}
+use Rattle.std.specs.List.{AllByRecursion}
+use Rattle.turn_client_laws.proofs.Laws.{DiffersInStreams, Input, InputsLead, IsOverControl, TakesInput, calls-do, handled, processed}
+use Rattle.turn_client_laws.proofs.Machine.{PollRecv, Stream, as_connection, connection_gone, filter-none, is_message, without_stream}
+use Rattle.turn_client_laws.specs.LawsHandled.{IsStreamEnd}
+use Rattle.turn_client_runs.specs.Granted.{ComesIn}
+use Rattle.turn_client_runs.proofs.ComingLemmas.{inputs-come}
+use Rattle.turn_client_runs.proofs.LastingPolls.{filter_map-none}
 use Rattle.turn_client_runs.specs.Lasting.{IsAnsweredChallenge, Answers, DatagramsAreMessages, IsQuiet, IsSuccess, expiry_of, HoldsAtMost, SuccessesEndRequests}
-use Rattle.turn_client_runs.proofs.MadeLemmas.{success-ends}
+use Rattle.turn_client_runs.proofs.MadeLemmas.{control-made, success-ends}
 use Rattle.turn_client_runs.specs.OnTime.{IsFromServer, time_of, time_of_all}
 use Rattle.turn_client_runs.specs.History.{History, is_replied, IsSeldom, extra_since, is_extra, lost, was_let_go, with_call, with_calls}
 use Rattle.turn_client_runs.proofs.LastingStands.{allocation-stands, kept-changed, kept-rest, stands-aside, Goes, IsRequested, goes-more, goes-trans, IsKept, Lag, Stands, stands-early, taken}
@@ -25,7 +32,7 @@ use Rattle.turn_client_runs.proofs.LastingTime.{time-kept}
 use Rattle.turn_client_runs.proofs.LastingPolls.{ArePlain, kept-aside, polls}
 use Rattle.turn_client_runs.proofs.LastingTransmits.{transmit-kept}
 use Rattle.turn_client_runs.proofs.LastingExpiry.{goes-left, kept-left}
-use Rattle.turn_client_runs.proofs.LastingLeft.{IsTidy, is_lost, expired_at-passes}
+use Rattle.turn_client_runs.proofs.LastingLeft.{IsPlain, IsTidy, is_lost, expired_at-passes}
 use Rattle.turn_client_runs.proofs.LastingMarks.{goes-marked, kept-marked}
 use Rattle.turn_client_runs.proofs.LastingReplies.{IsAnswered, IsGiven, all-answered, all-known}
 
@@ -219,6 +226,184 @@ challenged packet now past s challenge p few is o = is.message ∙ ap (λ (z : O
 
     counted : challenge_step packet.payload challenge now s ≡ retry_step packet.payload challenge now s
     counted = rw (lt-ltb s.challenges s.config.max_stale_nonces few) refl
+
+-- ---- what streams bring
+
+-- the streams are nothing to what is kept
+stands-streams : (count slots extras : ℕ) (lag : Lag) (delay now : ℕ) (past : History) (xs : List Transaction) (s : State) (streams : List Stream) (g : Grant)
+    → Stands count slots extras lag delay now past xs s g → Stands count slots extras lag delay now past xs (record s { streams = streams }) g
+stands-streams count slots extras lag delay now past xs s streams g was = record {
+  granted = was.granted;
+  room = was.room;
+  long = was.long;
+  either = elim was.either [ inl a ↦ inl a | inr idle ↦ inr (record { unasked = idle.unasked; near = idle.near; soon = idle.soon; paused = idle.paused }) ];
+}
+
+kept-streams : (count slots extras : ℕ) (lag : Lag) (delay now : ℕ) (past : History) (xs : List Transaction) (s : State) (streams : List Stream)
+    → IsKept count slots extras lag delay now past xs s → IsKept count slots extras lag delay now past xs (record s { streams = streams })
+kept-streams count slots extras lag delay now past xs s streams k = record {
+  phase = k.phase;
+  requests = k.requests;
+  few = k.few;
+  prompt = k.prompt;
+  paced = k.paced;
+  begins = k.begins;
+  behind = k.behind;
+  pace = k.pace;
+  sent = k.sent;
+  aged = k.aged;
+  lone = k.lone;
+  begun = k.begun;
+  heard = k.heard;
+  seldom = k.seldom;
+  row = k.row;
+  asked = k.asked;
+  size = k.size;
+  single = k.single;
+  linked = k.linked;
+  in_range = k.in_range;
+  in_allocations = k.in_allocations;
+  known = k.known;
+  each = λ g there. elim (k.each g there) [
+    | inl waits ↦ inl waits
+    | inr (inl stands) ↦ inr (inl (stands-streams count slots extras lag delay now past xs s streams g stands))
+    | inr (inr loose) ↦ inr (inr loose)
+  ];
+}
+
+-- Challenges are counted anew, or as before, and then each request that is listed and awaits its reply awaits it still.
+abbrev SameRow : State → State → Type 0
+SameRow s t =
+    (t.challenges ≡ 0)
+    ⊎ ((t.challenges ≡ s.challenges) × (t.listed ≡ s.listed)
+    × ((id : ℕ) → list_any (λ l. eqb l.id id) s.listed ≡ true → is_outstanding id s.transactions ≡ true → is_outstanding id t.transactions ≡ true))
+
+row-trans : (s u t : State) → SameRow s u → SameRow u t → SameRow s t
+row-trans s u t first (inl none) = inl none
+row-trans s u t (inl none) (inr (same, ls, outs)) = inl (same ∙ none)
+row-trans s u t (inr (one, ks, before)) (inr (same, ls, outs)) =
+    inr (
+      same ∙ one,
+      ls ∙ ks,
+      λ id listed out. outs id (subst (λ (ls : List Listing). list_any (λ (l : Listing). eqb l.id id) ls ≡ true) (sym ks) listed) (before id listed out),
+    )
+
+module _ (count slots extras : ℕ) (lag : Lag) (delay now : ℕ) (past : History) where
+  abbrev Kept_at : State → Type 0
+  Kept_at s = IsKept count slots extras lag delay now past s.transactions s
+
+  -- no grant is lost between these
+  abbrev Leads : State → State → Type 0
+  Leads s t = Kept_at t × Goes past past s.transactions t.transactions s t × SameRow s t
+
+  leads-trans : (s u t : State) → Leads s u → Leads u t → Leads s t
+  leads-trans s u t (kept, goes, row) (last, as_well, same) = (last, goes-trans past past past s.transactions u.transactions t.transactions s u t goes as_well, row-trans s u t row same)
+
+  leads-streams : (s : State) (streams : List Stream) → Kept_at s → Leads s (record s { streams = streams })
+  leads-streams s streams k = (
+    kept-streams count slots extras lag delay now past s.transactions s streams k,
+    goes-same past s (record s { streams = streams }) refl refl refl,
+    inr (refl, refl, λ id listed out. out),
+  )
+
+  leads-differs : (s t : State) → Kept_at s → DiffersInStreams s t → Leads s t
+  leads-differs s t k differs = subst (Leads s) (sym differs.others) (leads-streams s t.streams k)
+
+  -- a success that is processed
+  module _ (message : List ℕ) (s : State) (k : Kept_at s) (answers : Answers message (purposes_of (id_of message) s)) where
+    abbrev after : State
+    after = (response_step true message now s).1
+
+    unlisted-row : list_any (λ (l : Listing). eqb l.id (id_of message)) s.listed ≡ false → SameRow s after
+    unlisted-row none = subst (SameRow s) (sym ends) (inr (refl, refl, outs))
+      where
+        of : ℕ
+        of = id_of message
+
+        other : (l : Listing) → Has l s.listed → eqb l.id (id_of message) ≡ false
+        other l h = by (eqb l.id (id_of message)) refl
+          where
+            by : (b : Bool) → eqb l.id (id_of message) ≡ b → eqb l.id (id_of message) ≡ false
+            by false e = e
+            by true e = let no : false ≡ true = sym none ∙ has-any (λ (l : Listing). eqb l.id (id_of message)) l s.listed h e in cc
+
+        no_listing : filter (λ (l : Listing). eqb l.id (id_of message)) s.listed ≡ []
+        no_listing = filter-none (λ (l : Listing). eqb l.id (id_of message)) s.listed other
+
+        ends : after ≡ transaction_ended (id_of message) s
+        ends = rw (no_listing, response_step) refl
+
+        outs : (id : ℕ) → list_any (λ l. eqb l.id id) s.listed ≡ true → is_outstanding id s.transactions ≡ true → is_outstanding id (transaction_ended (id_of message) s).transactions ≡ true
+        outs id listed out =
+            let (l, there, e) = any-has (λ (l : Listing). eqb l.id id) s.listed listed in
+            let (x, here, f) = any-has (λ (x : Transaction). eqb x.id id) s.transactions out in
+            has-any (λ (x : Transaction). eqb x.id id) x (transaction_ended (id_of message) s).transactions
+            (filter-has (λ (x : Transaction). not (eqb x.id (id_of message))) x s.transactions here
+            (apart l there (eqb-true l.id id e) x (eqb-true x.id id f) (eqb x.id (id_of message)) refl)) f
+          where
+            apart : (l : Listing) → Has l s.listed → l.id ≡ id → (x : Transaction) → x.id ≡ id → (b : Bool) → eqb x.id (id_of message) ≡ b → not (eqb x.id (id_of message)) ≡ true
+            apart l there e x f false g = rw g refl
+            apart l there e x f true g =
+                let same : l.id ≡ id_of message = e ∙ (sym f ∙ eqb-true x.id (id_of message) g) in
+                let no : false ≡ true = sym (other l there) ∙ eq-eqb l.id (id_of message) same in
+                cc
+
+    row-answered : SameRow s after
+    row-answered = by (list_any (λ (l : Listing). eqb l.id (id_of message)) s.listed) refl
+      where
+        by : (b : Bool) → list_any (λ (l : Listing). eqb l.id (id_of message)) s.listed ≡ b → SameRow s after
+        by true some = inl (reset-answered count slots extras lag delay now past s k message answers some)
+        by false none = unlisted-row none
+
+    leads-answered : Leads s after
+    leads-answered =
+        let (kept, goes) = kept-answered count slots extras lag delay now past s k message answers in
+        (kept, goes, row-answered)
+
+  leads-granting : (one : Input) → Kept_at one.before → one.time ≡ now → IsGranting one → Leads one.before (processed one).1
+  leads-granting one k at is = subst (Leads one.before) (sym made) (leads-answered one.bytes one.before k is.answers)
+    where
+      signed : signed_step true one.bytes now one.before ≡ response_step true one.bytes now one.before
+      signed = rw k.phase refl
+
+      judged : message_step one.bytes now one.before ≡ signed_step true one.bytes now one.before
+      judged = rw (success-judged one.bytes one.before k.phase is.success is.signed is.outstanding) refl
+
+      timed : message_step one.bytes one.time one.before ≡ message_step one.bytes now one.before
+      timed = ap (λ (time : ℕ). message_step one.bytes time one.before) at
+
+      made : (processed one).1 ≡ (response_step true one.bytes now one.before).1
+      made = ap (λ (z : Outcome × State). z.1) (control-made one is.over is.whole ∙ (timed ∙ (judged ∙ signed)))
+
+  leads-mild : (one : Input) → Kept_at one.before → one.time ≡ now → IsMild one → Leads one.before (processed one).1
+  leads-mild one k at (inl is) = leads-granting one k at is
+  leads-mild one k at (inr same) = subst (Leads one.before) (sym same) (k, goes-same past one.before one.before refl refl refl, inr (refl, refl, λ id listed out. out))
+
+  leads-all : (inputs : List Input) (s t : State) → Kept_at s → InputsLead inputs s t → AllByRecursion IsMild inputs → ((one : Input) → Has one inputs → one.time ≡ now) → Leads s t
+  leads-all [] s t k lead all times = leads-differs s t k lead
+  leads-all (one ∷ later) s t k (differs, lead) (mild, all) times =
+      let first = leads-differs s one.before k differs in
+      let next = leads-mild one first.0 (times one (inl refl)) mild in
+      leads-trans s one.before t first
+      (leads-trans one.before (processed one).1 t next (leads-all later (processed one).1 t next.0 lead all (λ x h. times x (inr h))))
+
+  -- the server closes a stream that is of no data connection
+  plain-connection : (g : Grant) → IsPlain g → as_connection g ≡ None
+  plain-connection (Allocation a) h = refl
+  plain-connection (Permission ip progress) h = refl
+  plain-connection (Channel number peer progress) h = refl
+  plain-connection g (inl h) = absurd (let no : false ≡ true = h in cc)
+  plain-connection g (inr (inl h)) = absurd h
+  plain-connection g (inr (inr h)) = absurd h
+
+  leads-end : (call : Call) (s t : State) → Kept_at s → IsStreamEnd call s t → Leads s t
+  leads-end call s t k end = subst (Leads s) (sym (end.gone ∙ ap (without_stream end.local) stays)) (leads-streams s (without_stream end.local s).streams k)
+    where
+      none : filter_map as_connection s.grants ≡ []
+      none = filter_map-none as_connection s.grants (λ g h. plain-connection g (all-plain count slots extras lag delay now past s k g h))
+
+      stays : connection_gone end.local s ≡ s
+      stays = rw none refl
 
 module _ (count slots extras : ℕ) (lag : Lag) (delay before : ℕ) (past : History) (s : State) where
   abbrev Kept : ℕ → History → Type 0
@@ -466,6 +651,65 @@ module _ (count slots extras : ℕ) (lag : Lag) (delay before : ℕ) (past : His
   channel-let_go transport peer false ok (Channel number other progress) is e = or_right (past.channel_let_go number other) _ (rw ok (and_parts (is_in_progress progress) _ is).1)
   channel-let_go transport peer false ok g is e = cc
 
+  -- ---- bytes that come, or are polled for
+
+  mild-kept : (c : Call) → TakesInput c → AllByRecursion IsMild (handled c s) → Kept (time_of before c) past → Seldom c → Keeps (time_of before c) past (onward c) (state_after c s)
+  mild-kept c takes all k seldom = (
+    kept-later count slots extras lag delay now middle later t (record { same = λ x h. refl; more = λ since. omega arith; let_go = λ g e. e }) leads.0.seldom (row c leads.0.row leads.2) leads.0,
+    goes-row past later s.challenges s.transactions t.transactions s t (goes-later past middle t.transactions s t on leads.1),
+  )
+    where
+      now : ℕ
+      now = time_of before c
+
+      later : History
+      later = onward c
+
+      -- the row of challenges is as it was until the inputs
+      middle : History
+      middle = record later { challenged = s.challenges }
+
+      t : State
+      t = state_after c s
+
+      on : GoesOn s.transactions past middle
+      on = let on = call-goes_on c now past s in record { same = on.same; more = on.more; let_go = on.let_go }
+
+      begun : IsKept count slots extras lag delay now middle s.transactions s
+      begun = kept-later count slots extras lag delay now past middle s on seldom (omega arith) k
+
+      at-now : (c : Call) (one : Input) → ComesIn c one → one.time ≡ time_of before c
+      at-now (Recv packet now) one comes = comes.0
+      at-now (PollRecv now) one comes = comes.0
+      at-now c one comes = absurd comes
+
+      leads : Leads count slots extras lag delay now middle s t
+      leads = elim (calls-do c s takes) [
+        | inl lead ↦ leads-all count slots extras lag delay now middle (handled c s) s t begun lead all (λ one h. at-now c one (inputs-come c s one h))
+        | inr end ↦ leads-end count slots extras lag delay now middle c s t begun end
+      ]
+
+      row : (c : Call) → (state_after c s).challenges ≤ s.challenges → SameRow s (state_after c s) → (state_after c s).challenges ≤ (onward c).challenged
+      row (Recv packet now) fewer same = by (is_extra (Recv packet now) s) (is_replied (id_of packet.payload) (Recv packet now) s) refl
+        where
+          after : State
+          after = state_after (Recv packet now) s
+
+          ended : is_replied (id_of packet.payload) (Recv packet now) s ≡ true → SameRow s after → after.challenges ≡ 0
+          ended e (inl none) = none
+          ended e (inr (as_many, listed, outs)) =
+              let some = list_any (λ (l : Listing). eqb l.id (id_of packet.payload)) s.listed in
+              let (both, gone) = and_parts (some && is_outstanding (id_of packet.payload) s.transactions) _ e in
+              let (is_listed, was) = and_parts some (is_outstanding (id_of packet.payload) s.transactions) both in
+              let no : false ≡ true = sym (not-true _ gone) ∙ outs (id_of packet.payload) is_listed was in
+              cc
+
+          by : (a b : Bool) → is_replied (id_of packet.payload) (Recv packet now) s ≡ b → after.challenges ≤ cond a (past.challenged + 1) (cond b 0 past.challenged)
+          by true b e = let old = k.row in omega (arith, old, fewer)
+          by false false e = let old = k.row in omega (arith, old, fewer)
+          by false true e = let none = ended e same in omega (arith, none)
+      row c fewer same = let old = k.row in omega (arith, old, fewer)
+
   call-by : (c : Call) → Kept (time_of before c) past → Seldom c → IsQuiet c past s → HoldsAtMost count slots (state_after c s)
       → KeepsAll count slots extras (taken (since_next c s lag.since) lag) delay (time_of before c) past (onward c) s (state_after c s)
   call-by (Poll now) k seldom quiet within = polled-kept now k seldom
@@ -498,14 +742,25 @@ module _ (count slots extras : ℕ) (lag : Lag) (delay before : ℕ) (past : His
   call-by (Recv packet now) k seldom (inr (inr same)) within = same-kept (Recv packet now) k seldom same
   call-by c k seldom same within = same-kept c k seldom same
 
+-- such a call takes no packet
+mild-by : (count slots extras : ℕ) (lag : Lag) (delay before : ℕ) (past : History) (s : State) (c : Call) → TakesInput c → AllByRecursion IsMild (handled c s)
+    → IsKept count slots extras lag delay (time_of before c) past s.transactions s → IsSeldom extras s.config.refresh_ahead (time_of before c) (with_call c (time_of before c) s past)
+    → KeepsAll count slots extras (taken (since_next c s lag.since) lag) delay (time_of before c) past (with_call c (time_of before c) s past) s (state_after c s)
+mild-by count slots extras lag delay before past s (Recv packet now) takes all k seldom = mild-kept count slots extras lag delay before past s (Recv packet now) takes all k seldom
+mild-by count slots extras lag delay before past s (PollRecv now) takes all k seldom = mild-kept count slots extras lag delay before past s (PollRecv now) takes all k seldom
+mild-by count slots extras lag delay before past s c takes all k seldom = absurd takes
+
 -- a call that comes in time
 pub call-kept : (count slots extras : ℕ) (lag : Lag) (delay before : ℕ) (past : History) (s : State) (start : ℕ) (call : Call) → IsKept count slots extras lag delay before past s.transactions s
     → AreAnswered lag.late delay lag.since before start (time_of before call) past s
-    → IsQuiet call past s → HoldsAtMost count slots (state_after call s) → IsSeldom extras s.config.refresh_ahead (time_of before call) (with_call call (time_of before call) s past)
+    → IsCalm call past s → HoldsAtMost count slots (state_after call s) → IsSeldom extras s.config.refresh_ahead (time_of before call) (with_call call (time_of before call) s past)
     → KeepsAll count slots extras (taken (since_next call s start) lag) delay (time_of before call) past (with_call call (time_of before call) s past) s (state_after call s)
-call-kept count slots extras lag delay before past s start call k in_time quiet within seldom =
+call-kept count slots extras lag delay before past s start call k in_time (inl quiet) within seldom =
     call-by count slots extras (taken start lag) delay before past s call
     (time-kept count slots extras lag delay before start (time_of before call) past s k in_time) seldom quiet within
+call-kept count slots extras lag delay before past s start call k in_time (inr (takes, mild)) within seldom =
+    mild-by count slots extras (taken start lag) delay before past s call takes mild
+    (time-kept count slots extras lag delay before start (time_of before call) past s k in_time) seldom
 
 pub all-kept : (count slots extras : ℕ) (lag : Lag) (delay before : ℕ) (past : History) (s : State) (calls : List Call) → IsKept count slots extras lag delay before past s.transactions s
     → RunsBehind count slots extras lag.late delay lag.since before past s calls

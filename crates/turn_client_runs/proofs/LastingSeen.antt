@@ -113,9 +113,11 @@ permission-waits transport ip now s = allocated (find_allocation_to transport ip
     step : Waits (permission_step ip now s)
     step = by (is_some (permission_state ip s)) (not (is_allocated s.phase))
       where
-        by : (b c : Bool) → Waits (cond b (Err Create.AlreadyExists, s) (cond c (Err Create.NoAllocation, s)
-            (Ok tt, requested (fresh_id s) (ForPermission ip) now
-            (with_grant (Permission ip (Pending true)) s))))
+        by : (b c : Bool) → Waits (cond b (Err Create.AlreadyExists, s) (cond c (Err Create.NoAllocation, s) (
+          Ok tt,
+          requested (fresh_id s) (ForPermission ip) now
+              (with_grant (Permission ip (Pending true)) s),
+        )))
         by true c e = absurd (let no : false ≡ true = ap creates_one e in cc)
         by false true e = absurd (let no : false ≡ true = ap creates_one e in cc)
         by false false e = has-right (Permission ip (Pending true)) s.grants (Permission ip (Pending true) ∷ []) (inl refl)
@@ -190,14 +192,14 @@ requested-granted count slots extras lag delay before past s (CreatePermission t
     let call = CreatePermission transport ip now in
     let (next, goes) = call-kept count slots extras lag delay before past s start call k in_time quiet within seldom in
     let (h, there, same, in_force) = succeeds count slots extras (taken (since_next call s start) lag) delay now (with_call call now s past) (state_after call s) next calls run (Permission ip (Pending true))
-        (permission-waits transport ip now s ok) kept refl late in
+    (permission-waits transport ip now s ok) kept refl late in
     (h, there, same-permission h ip same, in_force)
 requested-granted count slots extras lag delay before past s (BindChannel transport peer now ∷ calls) k (start, in_time, quiet, within, seldom, run) = λ ok kept late.
     let call = BindChannel transport peer now in
     let (next, goes) = call-kept count slots extras lag delay before past s start call k in_time quiet within seldom in
     let (number, there) = channel-waits transport peer now s ok in
     let (h, here, same, in_force) = succeeds count slots extras (taken (since_next call s start) lag) delay now (with_call call now s past) (state_after call s) next calls run (Channel number peer (Pending true))
-        there (kept number) refl late in
+    there (kept number) refl late in
     (h, here, same-channel h number peer same, in_force)
 requested-granted count slots extras lag delay before past s calls k run = tt
 

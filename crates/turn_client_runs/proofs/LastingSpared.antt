@@ -4,7 +4,7 @@ use Rattle.turn_client_laws.proofs.Common.{or_cases, or_left, or_right}
 use Rattle.turn_client_laws.proofs.Machine.{id_of, Transaction, is_kept, is_channel_of, is_for, is_permission_of, State, state_after, Call, Recv, Grant, Channel, Permission, Listing, Purpose}
 use Rattle.turn_client_laws.proofs.Machine.{ForChannel, ForPermission, Has, all-has, has-all}
 use Rattle.turn_client_runs.specs.History.{History, challenged_by, first_made, no_history, was_let_go, with_call, with_calls}
-use Rattle.turn_client_runs.specs.Late.{RunsBehind, since_next}
+use Rattle.turn_client_runs.specs.Late.{IsCalm, RunsBehind, since_next}
 use Rattle.turn_client_runs.specs.Lasting.{IsQuiet}
 use Rattle.turn_client_runs.specs.OnTime.{time_of}
 use Rattle.turn_client_runs.proofs.LastingCounts.{passes-same}
@@ -124,6 +124,10 @@ quiet-alike (Recv packet now) past other s row (inr (inl is)) = inr (inl (record
 quiet-alike (Recv packet now) past other s row (inr (inr same)) = inr (inr same)
 quiet-alike call past other s row quiet = quiet
 
+calm-alike : (call : Call) (past other : History) (s : State) → past.challenged ≡ other.challenged → IsCalm call past s → IsCalm call other s
+calm-alike call past other s row (inl quiet) = inl (quiet-alike call past other s row quiet)
+calm-alike call past other s row (inr mild) = inr mild
+
 -- when requests were made, which packets were extra, and how many challenges came, is all that counts
 pub runs-alike : (count slots extras late delay since before : ℕ) (past other : History) (s : State) (calls : List Call) → ((id : ℕ) → past.made id ≡ other.made id) → past.extra ≡ other.extra
     → past.challenged ≡ other.challenged → RunsBehind count slots extras late delay since before past s calls → RunsBehind count slots extras late delay since before other s calls
@@ -133,7 +137,7 @@ runs-alike count slots extras late delay since before past other s (call ∷ cal
     let more : (with_call call now s past).extra ≡ (with_call call now s other).extra = rw extra refl in (
       start,
       record { caller = in_time.caller; answered = all-has (λ (x : Transaction). now ≤ other.made x.id + delay) s.transactions answered },
-      quiet-alike call past other s row quiet,
+      calm-alike call past other s row quiet,
       within,
       λ since near. subst (λ (times : List ℕ). length (filter (λ time. nat_le since time) times) ≤ extras) more (seldom since near),
       runs-alike count slots extras late delay (since_next call s start) now (with_call call now s past) (with_call call now s other)

@@ -1,12 +1,22 @@
 -- No grant is lost either if the caller takes packets late, as long as it is late by little.
-use Rattle.std.specs.Prelude.{◌≡◌, ℕ, ◌+◌, ◌*◌, ◌^◌, ◌<◌, ◌≤◌, max, min, List, [], ◌∷◌, ◌++◌, None, All, is_some, if◌then◌else◌, ⊤}
-use Rattle.turn_client_api.specs.State.{State, seconds}
+use Rattle.std.specs.Prelude.{◌≡◌, ◌⊎◌, ℕ, ◌+◌, ◌*◌, ◌^◌, ◌<◌, ◌≤◌, max, min, true, List, [], ◌∷◌, None, All, is_some, if◌then◌else◌, ⊤}
+use Rattle.std.specs.List.{AllByRecursion}
+use Rattle.turn_stun.specs.Message.{id_of}
+use Rattle.turn_stun.specs.declared.message.header.MessageClass.TheVariants.{Success}
+use Rattle.turn_auth.specs.Validation.{IsValidated, validation_of}
+use Rattle.turn_agent.specs.Agent.{is_outstanding}
+use Rattle.turn_client_api.specs.Grants.{purposes_of}
+use Rattle.turn_client_api.specs.Judgement.{class_in}
+use Rattle.turn_client_api.specs.Payloads.{is_message}
+use Rattle.turn_client_laws.specs.Handled.{Input, handled, processed}
+use Rattle.turn_client_laws.specs.LawsHandled.{IsOverControl, TakesInput}
+use Rattle.turn_client_api.specs.State.{State, auth_of, seconds}
 use Rattle.turn_client_api.specs.Steps.{state_after}
 use Rattle.turn_client_api.specs.Transmit.{next_transmit}
 use Rattle.turn_client_api.specs.declared.call.Call.{Call}
 use Rattle.turn_client_api.specs.declared.call.Call.TheVariants.{PollTransmit}
 use Rattle.turn_client_runs.specs.History.{History, IsSeldom, no_history, with_call}
-use Rattle.turn_client_runs.specs.Lasting.{HoldsAtMost, IsQuiet, IsSteady, RunsSteadily, ahead_of}
+use Rattle.turn_client_runs.specs.Lasting.{Answers, HoldsAtMost, IsQuiet, IsSteady, RunsSteadily, ahead_of}
 use Rattle.turn_client_runs.specs.OnTime.{time_of}
 
 -- ---- where it begins
@@ -39,19 +49,42 @@ pub record AreAnswered (late delay since before start now : ℕ) (past : History
   pub caller : IsLate late since before start now s
   pub answered : All (λ x. now ≤ past.made x.id + delay) s.transactions
 
+-- ---- what comes in
+
+-- The input is a datagram, or a whole frame of the control connection: a signed success, which grants what an outstanding
+-- request requests (RFC 8489, section 9.2.5).
+pub record IsGranting (one : Input) : Type 0 where
+  pub over : IsOverControl one
+  pub whole : is_message one.bytes ≡ true
+  pub success : class_in one.bytes ≡ Success
+  pub signed : IsValidated (validation_of (auth_of one.before) one.bytes)
+  pub outstanding : is_outstanding (id_of one.bytes) one.before.transactions ≡ true
+  pub answers : Answers one.bytes (purposes_of (id_of one.bytes) one.before)
+
+-- It is one, or changes nothing: data of peers, what strangers send, a reply to no request.
+abbrev pub IsMild : Input → Type 0
+IsMild one = IsGranting one ⊎ ((processed one).1 ≡ one.before)
+
+-- As `IsQuiet`. Or bytes come, or are polled for, and what they complete is mild, however a stream is cut: a piece may complete
+-- no frame, or many, and so it is if the server closes a stream.
+abbrev pub IsCalm : Call → History → State → Type 0
+IsCalm call past s = IsQuiet call past s ⊎ (TakesInput call × AllByRecursion IsMild (handled call s))
+
+-- ---- the run
+
 -- from when on the next packet may have been waiting: a packet that is taken is no longer late
 abbrev pub since_next : Call → State → ℕ → ℕ
 since_next (PollTransmit now) s start = if is_some (next_transmit now s) then now else start
 since_next call s start = start
 
--- As `RunsSteadily`, with a caller that is so late.
+-- As `RunsSteadily`, with a caller that is so late, and streams that may be cut anywhere.
 abbrev pub RunsBehind : ℕ → ℕ → ℕ → ℕ → ℕ → ℕ → ℕ → History → State → List Call → Type 0
 RunsBehind count slots extras late delay since before past s [] = ⊤
 RunsBehind count slots extras late delay since before past s (call ∷ calls) =
     let now = time_of before call in
     let next = state_after call s in
     let later = with_call call now s past in
-    (start : ℕ) × AreAnswered late delay since before start now past s × IsQuiet call past s × HoldsAtMost count slots next × IsSeldom extras s.config.refresh_ahead now later
+    (start : ℕ) × AreAnswered late delay since before start now past s × IsCalm call past s × HoldsAtMost count slots next × IsSeldom extras s.config.refresh_ahead now later
     × RunsBehind count slots extras late delay (since_next call s start) now later next calls
 
 -- ---- what holds

@@ -28,14 +28,17 @@ module _ (late : ℕ) where
   }
 
   unreported : (since before now : ℕ) (s : State) → Comes since before now s → Comes since before now (state_after PollEvent s)
-  unreported since before now s (start, is) = (start, record {
-    later = is.later;
-    in_range = is.in_range;
-    from = is.from;
-    begun = is.begun;
-    soon = is.soon;
-    free = λ time after early. packet-same (max time before) s _ ∙ is.free time after early;
-  })
+  unreported since before now s (start, is) = (
+    start,
+    record {
+      later = is.later;
+      in_range = is.in_range;
+      from = is.from;
+      begun = is.begun;
+      soon = is.soon;
+      free = λ time after early. packet-same (max time before) s _ ∙ is.free time after early;
+    },
+  )
 
   -- after calls until this time the others go on
   abbrev Rests : ℕ → ℕ → ℕ → State → List Call → List Call → Type 0
@@ -109,15 +112,18 @@ module _ (late : ℕ) where
   )
 
   goes-on : (rest : Rest) (since now next : ℕ) (s : State) → since ≤ now → now ≤ since + late → now ≤ 2 ^ 62 → IsRestful rest now s → BeginsLate late rest now next → Comes since now next s
-  goes-on (Until deadline) since now next s from soon range (later, idle) (begins, until, in_range) = (min next deadline, record {
-    later = begins;
-    in_range = in_range;
-    from = omega (arith, from, begins, later);
-    begun = omega arith;
-    soon = omega (arith, until);
-    free = λ time after early.
-        ap (λ (p : Option (Transmit (List ℕ)) × State). p.0) (idle.sends_nothing (max time now) (omega arith) (omega (arith, early, later)));
-  })
+  goes-on (Until deadline) since now next s from soon range (later, idle) (begins, until, in_range) = (
+    min next deadline,
+    record {
+      later = begins;
+      in_range = in_range;
+      from = omega (arith, from, begins, later);
+      begun = omega arith;
+      soon = omega (arith, until);
+      free = λ time after early.
+          ap (λ (p : Option (Transmit (List ℕ)) × State). p.0) (idle.sends_nothing (max time now) (omega arith) (omega (arith, early, later)));
+    },
+  )
   goes-on Now since now next s from soon range restful same = subst (λ (t : ℕ). Comes since now t s) (sym same) (since, again since now s from soon range)
   goes-on Ended since now next s from soon range restful none = absurd none
 
