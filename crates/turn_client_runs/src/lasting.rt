@@ -29,6 +29,14 @@ ghost use Rattle.turn_client_runs.specs.Lasting.{DatagramsAreMessages, GrantsLas
 /// configured ones (`request_cadence`, and `refresh_ahead` or half of a lifetime). What strangers and peers send may come
 /// in between, as long as it changes nothing. Times are at most 2^62 ns.
 ///
+/// `behind` says the same of a caller that is late: what can be sent may wait for it for `late`, from the time at which it
+/// could first be sent, or at which the packet before it was taken. Each packet then needs `cadence + late`, and the last one
+/// leaves so much later: `(count + slots + extras) * (cadence + late) + delay + late` is less than that time. A stream may be
+/// cut anywhere, and a piece may complete any number of messages, each a success or one that changes nothing. It says in
+/// addition that a permission or a channel which `create_permission` or `bind_channel` accepted is in force once the delay is
+/// over, and that no `poll` returns that a client with an allocation has ended. A caller that is on time is one that is
+/// late by nothing (`on_time`).
+///
 /// It does not speak of errors, of `delete`, of data connections, or of memory allocations that fail. The other clauses are
 /// what makes it speak of the server alone: a success ends its request, and a datagram of the server is processed as one
 /// message.

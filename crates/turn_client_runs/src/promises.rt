@@ -21,7 +21,7 @@ ghost use Rattle.turn_client_runs.specs.Short.{StreamsAreShort};
 /// for a stream, in order. What goes out goes to the server, and data for a peer to that peer. Each event that is
 /// returned has its cause in the calls before. Streams that are polled to the end hold less than the longest
 /// frame, and the pieces of a stream return what their joined bytes return. In each part of a run in which the
-/// server answers and the caller is on time, no grant is lost that is kept. The clauses are laws of this crate, stated for one
+/// server answers and the caller is late by little, no grant is lost that is kept. The clauses are laws of this crate, stated for one
 /// run; `held`, `processed`, `events`, `short`, and what `heard` and `realm` say of each input, are proved here
 /// alone.
 pub fn runs_keep_their_promises()

@@ -89,9 +89,10 @@ pub struct Replayed {
 ///   them empty and each followed by `poll_recv` until it returns none, return the payloads of their joined
 ///   bytes, and leave the same client.
 /// - `lasts`: in each part of the run that begins with all grants in force and none of their refreshes late, and in which
-///   the server answers and the caller is on time, what is in force stays in force, and a permission or channel that is
-///   requested is in force after the server's delay, if no call lets it go (RFC 8656, sections 8, 9 and 12). The premises
-///   are those of `grants_last_while_the_server_answers`.
+///   the server answers and the caller is late by little, what is in force stays in force, and a permission or channel that
+///   is requested is in force after the server's delay, if no call lets it go. No `poll` of that part returns that a client
+///   with an allocation has ended (RFC 8656, sections 8, 9 and 12). The premises are those of
+///   `grants_last_while_the_server_answers` (`behind`). In the whole run a signed success that comes ends its request.
 /// - `alarm`: a caller that sleeps until the time that each `poll` returns misses no deadline, and no expiry of an
 ///   allocation, whether or not it is marked as expired.
 ///
