@@ -293,10 +293,11 @@ taken-now (PollTransmit now) before s = by (is_some (next_transmit now s))
     by false = refl
 taken-now call before s = refl
 
-runs-behind : (count slots extras delay before : ℕ) (past : History) (s : State) (calls : List Call) → RunsSteadily count slots extras delay before past s calls
-    → RunsBehind count slots extras 0 delay before before past s calls
-runs-behind count slots extras delay before past s [] run = tt
-runs-behind count slots extras delay before past s (call ∷ calls) (in_time, quiet, within, seldom, run) = (
+-- so it is with any lateness
+pub runs-behind : (count slots extras late delay before : ℕ) (past : History) (s : State) (calls : List Call) → RunsSteadily count slots extras delay before past s calls
+    → RunsBehind count slots extras late delay before before past s calls
+runs-behind count slots extras late delay before past s [] run = tt
+runs-behind count slots extras late delay before past s (call ∷ calls) (in_time, quiet, within, seldom, run) = (
   time_of before call,
   record {
     caller = record {
@@ -314,13 +315,13 @@ runs-behind count slots extras delay before past s (call ∷ calls) (in_time, qu
   inl quiet,
   within,
   seldom,
-  subst (λ (since : ℕ). RunsBehind count slots extras 0 delay since (time_of before call) (with_call call (time_of before call) s past) (state_after call s) calls)
+  subst (λ (since : ℕ). RunsBehind count slots extras late delay since (time_of before call) (with_call call (time_of before call) s past) (state_after call s) calls)
       (sym (taken-now call before s))
-      (runs-behind count slots extras delay (time_of before call) (with_call call (time_of before call) s past) (state_after call s) calls run),
+      (runs-behind count slots extras late delay (time_of before call) (with_call call (time_of before call) s past) (state_after call s) calls run),
 )
 
 pub on-time-behind : OnTimeIsLateByNone
-on-time-behind count slots extras delay now s calls steady run = (steady-behind count slots extras delay now s steady, runs-behind count slots extras delay now (no_history s) s calls run)
+on-time-behind count slots extras delay now s calls steady run = (steady-behind count slots extras delay now s steady, runs-behind count slots extras 0 delay now (no_history s) s calls run)
 
 module _ (count slots extras delay now : ℕ) (s : State) (earlier later : List Call) (steady : IsSteady count slots extras delay now s)
     (run : RunsSteadily count slots extras delay now (no_history s) s (earlier ++ later))
@@ -331,7 +332,7 @@ module _ (count slots extras delay now : ℕ) (s : State) (earlier later : List 
   both : (IsInForce (time_of_all now earlier) g → IsKeptBy earlier now s g ⊎ IsFresh (time_of_all now earlier) (state_after_all s earlier) g → Ends (state_after_all (state_after_all s earlier) later))
       × (IsRequested g → time_of_all now earlier + delay < time_of_all (time_of_all now earlier) later → Ends (state_after_all (state_after_all s earlier) later))
   both = lasts-through count slots extras 0 delay now s earlier later (steady-behind count slots extras delay now s steady)
-      (runs-behind count slots extras delay now (no_history s) s (earlier ++ later) run) g there kept
+      (runs-behind count slots extras 0 delay now (no_history s) s (earlier ++ later) run) g there kept
 
   ends : Ends (state_after_all (state_after_all s earlier) later) → Ends (state_after_all s (earlier ++ later))
   ends = subst Ends (sym (joined s earlier later))

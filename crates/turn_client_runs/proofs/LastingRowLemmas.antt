@@ -9,6 +9,11 @@ use Rattle.turn_client_laws.proofs.Machine.{all-has, has-all}
 use Rattle.turn_client_laws.proofs.Laws.{granted_at, ip_of_peer, peer, relayed_v4, poll-timely}
 use Rattle.turn_client_api.specs.declared.poll.TurnPollRet.TheVariants.{WaitUntil}
 use Rattle.turn_client_runs.specs.Lasting.{HasRoom, IsInForce, IsSteady, IsSuccess, HoldsAtMost, RunsSteadily, ahead_of, expiry_of}
+use Rattle.turn_client_runs.specs.Late.{HasRoomBehind, IsSteadyBehind, RunsBehind}
+use Rattle.turn_client_runs.specs.LateRows.{LateRelayStaysUp, late_calls}
+use Rattle.turn_client_runs.proofs.LastingParts.{runs-behind}
+use Rattle.turn_client_laws.proofs.Common.{is_some, max}
+use Rattle.turn_client_laws.proofs.Machine.{next_transmit}
 use Rattle.turn_client_runs.specs.LastingRows.{RelayStaysUp, with_allocation, calls_of_700_s, granted_call, refreshed_grants, served}
 use Rattle.turn_client_runs.specs.History.{History, IsSeldom, is_extra, lost, no_history, with_call}
 use Rattle.turn_client_runs.specs.OnTime.{IsOnTime}
@@ -562,3 +567,136 @@ relay-runs s some past none = (goes s some).0 past (none, all-none (λ (x : Tran
 
 pub relay-stays-up : RelayStaysUp
 relay-stays-up s some = record { begins = begins s some; runs = relay-runs s some (no_history (with_allocation s)) refl; refreshes = (goes s some).1 }
+
+-- ---- a caller that is late by 5 ms
+
+all-three : {X : Type 0} (P : X → Type 0) (a b c : X) → P a → P b → P c → All P (a ∷ b ∷ c ∷ [])
+all-three P a b c p q r = all-has P (a ∷ b ∷ c ∷ []) by
+  where
+    by : (x : _) → Has x (a ∷ b ∷ c ∷ []) → P x
+    by x (inl e) = subst P (sym e) p
+    by x (inr (inl e)) = subst P (sym e) q
+    by x (inr (inr (inl e))) = subst P (sym e) r
+    by x (inr (inr (inr none))) = absurd none
+
+module _ (s : State) (some : IsSome s.held) where
+  abbrev late1 : State
+  late1 = with_three 1_000_000_000 600_200_000_000 301_100_000_000 601_100_000_000 s.ids s
+
+  abbrev late2 : State
+  late2 = with_three 241_105_000_000 600_200_000_000 541_205_000_000 601_100_000_000 (behind_id s.ids) s
+
+  abbrev late_id : ℕ
+  late_id = fresh_id late1
+
+  abbrev late_text : List ℕ
+  late_text = request_for late1 (ForPermission ip_of_peer) late_id
+
+  abbrev late_sent : State
+  late_sent = requesting 241_105_000_000 late_id (ForPermission ip_of_peer) late_text late1
+
+  -- as of a caller that calls at this time
+  late-round : IsRound 241_105_000_000 241_105_000_000 late_id (ForPermission ip_of_peer) [] late_text late1 late_sent late2 late2
+  unfolding refresh_time is_refresh_due
+  late-round = refreshed 241_105_000_000 241_105_000_000 241_605_000_000 600_200_000_000 301_100_000_000 601_100_000_000 600_200_000_000 541_205_000_000 601_100_000_000 s.ids
+      (ForPermission ip_of_peer) s some 1_000_000_000 (at-once 241_105_000_000 late1 (omega arith)) refl refl (omega arith) (omega arith) (λ message is. rw (is.named, is.of_method, eqb-self late_id) refl)
+
+  waits-until : IsOnTime 1_100_000_000 241_100_000_000 late1
+  unfolding refresh_time
+  waits-until = three-on-time 1_100_000_000 241_100_000_000 241_100_000_000 1_000_000_000 600_200_000_000 301_100_000_000 601_100_000_000
+      s.ids s refl (omega arith) (omega arith) (omega arith) (omega arith)
+
+  due-before : IsSome (next_transmit 241_100_000_000 late1)
+  unfolding refresh_time is_refresh_due
+  due-before = refl
+
+  takes-one : is_some (next_transmit 241_105_000_000 late1) ≡ true
+  unfolding refresh_time is_refresh_due
+  takes-one = refl
+
+  late-begins : IsSteady 3 1 0 delay 1_100_000_000 late1
+  unfolding IsDistinct
+  late-begins = record {
+    allocated = refl;
+    none_queued = refl;
+    none_outstanding = refl;
+    none_listed = refl;
+    sent_before = omega arith;
+    in_force = all-three (IsInForce 1_100_000_000) _ _ _ (refl, omega arith) (refl, omega arith) (refl, omega arith);
+    none_late = all-three (λ g. 1_100_000_000 + ahead_of 60_000_000_000 g ≤ expiry_of g) _ _ _ (omega arith) (omega arith) (omega arith);
+    room = all-three (λ g. HasRoom 3 1 0 50_000_000 delay (ahead_of 60_000_000_000 g)) _ _ _ (omega arith) (omega arith) (omega arith);
+    room_for_more = omega arith;
+    within = (omega arith, omega arith);
+    distinct = ((refl, (refl, tt)), ((refl, tt), (tt, tt)));
+    in_allocations = three-in_allocations 1_000_000_000 600_200_000_000 301_100_000_000 601_100_000_000 s.ids s;
+    prompt = omega arith;
+    in_range = omega arith;
+  }
+
+  late-steady : IsSteadyBehind 3 1 0 5_000_000 delay 1_100_000_000 late1
+  late-steady = record {
+    steady = late-begins;
+    room = all-three (λ g. HasRoomBehind 3 1 0 5_000_000 50_000_000 delay (ahead_of 60_000_000_000 g)) _ _ _ (omega arith) (omega arith) (omega arith);
+    room_for_more = omega arith;
+  }
+
+  abbrev late_past : History
+  late_past = with_call (PollTransmit 241_105_000_000) 241_105_000_000 late1 (no_history late1)
+
+  late-reply : granted_call 241_205_000_000 late_sent ≡ reply 241_105_000_000 241_105_000_000 late_id 0 [] (ForPermission ip_of_peer) [] late_text late1 late_sent late2 late2 late-round
+  late-reply = reply-is 241_105_000_000 241_105_000_000 late_id 0 [] (ForPermission ip_of_peer) [] late_text late1 late_sent late2 late2 late-round
+
+  late-ends : state_after (granted_call 241_205_000_000 late_sent) late_sent ≡ late2
+  late-ends = after-reply 241_105_000_000 241_105_000_000 late_id 0 [] (ForPermission ip_of_peer) [] late_text late1 late_sent late2 late2 late-round
+
+  -- the reply comes in time
+  late-answered : RunsSteadily 3 1 0 delay 241_105_000_000 late_past late_sent (granted_call 241_205_000_000 late_sent ∷ [])
+  late-answered =
+      let next = with_call (granted_call 241_205_000_000 late_sent) 241_205_000_000 late_sent late_past in
+      let none = no-extra (granted_call 241_205_000_000 late_sent) 241_205_000_000 late_sent late_past refl
+      (calm 241_105_000_000 241_105_000_000 late_id 0 [] (ForPermission ip_of_peer) [] late_text late1 late_sent late2 late2 late-round) refl in (
+        record {
+          on_time = late-round.awaits;
+          answered = answered-in 241_205_000_000 late_past late_sent (
+            refl,
+            all-one (λ (x : Transaction). late_past.made x.id ≡ x.last_send) (first_sent late_id late_sent.remote 241_105_000_000 late_text) (call-made (PollTransmit 241_105_000_000) 241_105_000_000 (no_history late1) late1),
+          ) (waits-u 241_105_000_000 241_105_000_000 late_id 0 [] (ForPermission ip_of_peer) [] late_text late1 late_sent late2 late2 late-round);
+        },
+        inl (success 241_105_000_000 241_105_000_000 late_id 0 [] (ForPermission ip_of_peer) [] late_text late1 late_sent late2 late2 late-round),
+        subst (HoldsAtMost 3 1) (sym late-ends) (omega arith, omega arith),
+        seldom-none late_sent.config.refresh_ahead 241_205_000_000 next none,
+        tt,
+      )
+
+  late-runs : RunsBehind 3 1 0 5_000_000 delay 1_100_000_000 1_100_000_000 (no_history late1) late1 (late_calls late1)
+  late-runs = (
+    241_100_000_000,
+    record {
+      caller = record {
+        later = omega arith;
+        in_range = omega arith;
+        from = omega arith;
+        begun = omega arith;
+        soon = omega arith;
+        free = λ time after early. waits-until.punctual (max time 1_100_000_000) (omega arith) (omega (arith, early));
+      };
+      answered = all-none (λ (x : Transaction). 241_105_000_000 ≤ (no_history late1).made x.id + delay);
+    },
+    inl tt,
+    subst (HoldsAtMost 3 1) (sym late-round.sends) (omega arith, omega arith),
+    seldom-none late1.config.refresh_ahead 241_105_000_000 late_past refl,
+    subst (λ (since : ℕ). RunsBehind 3 1 0 5_000_000 delay since 241_105_000_000 late_past (state_after (PollTransmit 241_105_000_000) late1)
+        (granted_call 241_205_000_000 (state_after (PollTransmit 241_105_000_000) late1) ∷ [])) (sym (taken takes-one))
+        (subst (λ (t : State). RunsBehind 3 1 0 5_000_000 delay 241_105_000_000 241_105_000_000 late_past t (granted_call 241_205_000_000 t ∷ [])) (sym late-round.sends)
+        (runs-behind 3 1 0 5_000_000 delay 241_105_000_000 late_past late_sent (granted_call 241_205_000_000 late_sent ∷ []) late-answered)),
+  )
+    where
+      taken : {b : Bool} → b ≡ true → ◌≡◌ {A = ℕ} (cond b 241_105_000_000 241_100_000_000) 241_105_000_000
+      taken e = rw e refl
+
+  late-refreshed : (state_after_all late1 (late_calls late1)).grants ≡ late2.grants
+  late-refreshed =
+      subst (λ (t : State). (state_after (granted_call 241_205_000_000 t) t).grants ≡ late2.grants) (sym late-round.sends) (ap (λ (t : State). t.grants) late-ends)
+
+pub late-relay-stays-up : LateRelayStaysUp
+late-relay-stays-up s some = record { begins = late-steady s some; runs = late-runs s some; was_due = due-before s some; refreshes = late-refreshed s some }

@@ -17,6 +17,7 @@ pub mod LastingPeers
 pub mod LastingRows
 pub mod LastingRuns
 pub mod Late
+pub mod LateRows
 pub mod Offers
 pub mod OnTime
 pub mod Peers

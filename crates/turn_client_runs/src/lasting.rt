@@ -4,6 +4,7 @@ ghost use Rattle.turn_client_runs.specs.Late.{OnTimeIsLateByNone};
 ghost use Rattle.turn_client_runs.specs.LastingRuns.{GrantsLastBehind};
 ghost use Rattle.turn_client_runs.specs.LastingPeers.{HasRoomAt5Ms, PeersLast};
 ghost use Rattle.turn_client_runs.specs.LastingRows.{RelayStaysUp};
+ghost use Rattle.turn_client_runs.specs.LateRows.{LateRelayStaysUp};
 ghost use Rattle.turn_client_runs.specs.RelayRows.{RelayStaysUpFromFirst};
 ghost use Rattle.turn_client_runs.specs.Lasting.{DatagramsAreMessages, GrantsLast, RequestsSucceed, SuccessesEndRequests};
 
@@ -53,9 +54,11 @@ pub fn grants_last_while_the_server_answers()
 /// the run keeps all premises of `grants_last_while_the_server_answers`. The allocation, the permission and the channel
 /// are refreshed. So these premises can be met, and no grant stands only because it has not expired yet. The same holds of a
 /// whole run from the first packet on: a handshake as that of `a_handshake_succeeds`, and then these calls, until 700 s.
+/// A caller that sends a refresh 5 ms after it was due keeps those of `behind`, with that lateness.
 pub fn a_relay_stays_up()
     ensures lasts { RelayStaysUp }
     ensures from_first { RelayStaysUpFromFirst }
+    ensures though_late { LateRelayStaysUp }
 {}
 
 /// A cadence of 5 ms keeps 4,096 peers: with the default time ahead (`refresh_ahead`) a client over UDP that has a channel and a
