@@ -289,11 +289,11 @@ row-trans s u t (inr (one, ks, before)) (inr (same, ls, outs)) =
     )
 
 module _ (count slots extras : ℕ) (lag : Lag) (delay now : ℕ) (past : History) where
-  abbrev Kept_at : State → Type 0
+  abbrev pub Kept_at : State → Type 0
   Kept_at s = IsKept count slots extras lag delay now past s.transactions s
 
   -- no grant is lost between these
-  abbrev Leads : State → State → Type 0
+  abbrev pub Leads : State → State → Type 0
   Leads s t = Kept_at t × Goes past past s.transactions t.transactions s t × SameRow s t
 
   leads-trans : (s u t : State) → Leads s u → Leads u t → Leads s t
@@ -306,7 +306,7 @@ module _ (count slots extras : ℕ) (lag : Lag) (delay now : ℕ) (past : Histor
     inr (refl, refl, λ id listed out. out),
   )
 
-  leads-differs : (s t : State) → Kept_at s → DiffersInStreams s t → Leads s t
+  pub leads-differs : (s t : State) → Kept_at s → DiffersInStreams s t → Leads s t
   leads-differs s t k differs = subst (Leads s) (sym differs.others) (leads-streams s t.streams k)
 
   -- a success that is processed
@@ -360,8 +360,8 @@ module _ (count slots extras : ℕ) (lag : Lag) (delay now : ℕ) (past : Histor
         let (kept, goes) = kept-answered count slots extras lag delay now past s k message answers in
         (kept, goes, row-answered)
 
-  leads-granting : (one : Input) → Kept_at one.before → one.time ≡ now → IsGranting one → Leads one.before (processed one).1
-  leads-granting one k at is = subst (Leads one.before) (sym made) (leads-answered one.bytes one.before k is.answers)
+  pub granting-made : (one : Input) → Kept_at one.before → one.time ≡ now → IsGranting one → (processed one).1 ≡ (response_step true one.bytes now one.before).1
+  granting-made one k at is = ap (λ (z : Outcome × State). z.1) (control-made one is.over is.whole ∙ (timed ∙ (judged ∙ signed)))
     where
       signed : signed_step true one.bytes now one.before ≡ response_step true one.bytes now one.before
       signed = rw k.phase refl
@@ -372,10 +372,15 @@ module _ (count slots extras : ℕ) (lag : Lag) (delay now : ℕ) (past : Histor
       timed : message_step one.bytes one.time one.before ≡ message_step one.bytes now one.before
       timed = ap (λ (time : ℕ). message_step one.bytes time one.before) at
 
-      made : (processed one).1 ≡ (response_step true one.bytes now one.before).1
-      made = ap (λ (z : Outcome × State). z.1) (control-made one is.over is.whole ∙ (timed ∙ (judged ∙ signed)))
+  leads-granting : (one : Input) → Kept_at one.before → one.time ≡ now → IsGranting one → Leads one.before (processed one).1
+  leads-granting one k at is = subst (Leads one.before) (sym (granting-made one k at is)) (leads-answered one.bytes one.before k is.answers)
 
-  leads-mild : (one : Input) → Kept_at one.before → one.time ≡ now → IsMild one → Leads one.before (processed one).1
+  -- its request is all that is no longer outstanding
+  pub granting-ends : (one : Input) → Kept_at one.before → one.time ≡ now → IsGranting one → (processed one).1.transactions ≡ (transaction_ended (id_of one.bytes) one.before).transactions
+  granting-ends one k at is =
+      ap (λ (t : State). t.transactions) (granting-made one k at is) ∙ (done count slots extras lag delay now past one.before k one.bytes is.answers).outstanding
+
+  pub leads-mild : (one : Input) → Kept_at one.before → one.time ≡ now → IsMild one → Leads one.before (processed one).1
   leads-mild one k at (inl is) = leads-granting one k at is
   leads-mild one k at (inr same) = subst (Leads one.before) (sym same) (k, goes-same past one.before one.before refl refl refl, inr (refl, refl, λ id listed out. out))
 

@@ -18,6 +18,7 @@ use Rattle.turn_client_runs.specs.LastingRuns.{GrantsLastBehind, IsOneInForce, L
 use Rattle.turn_client_runs.specs.Late.{IsSteadyBehind, RunsBehind, since_next}
 use Rattle.turn_client_runs.specs.OnTime.{time_of, time_of_all}
 use Rattle.turn_client_runs.proofs.LastingParts.{first_lag, lasts-through, steady-kept, succeeds}
+use Rattle.turn_client_runs.proofs.LastingGranted.{granted-answered}
 use Rattle.turn_client_runs.proofs.LastingRuns.{all-kept, call-kept, halves}
 use Rattle.turn_client_runs.proofs.LastingStands.{IsKept, Lag, allocation-stands, taken}
 use Rattle.turn_client_runs.proofs.LastingTransmits.{same_ip-self}
@@ -205,8 +206,10 @@ requested-granted count slots extras lag delay before past s calls k run = tt
 
 -- ---- all of it
 
-pub grants-last-behind : GrantsLastBehind
-grants-last-behind count slots extras late delay now s before after steady run =
+behind-lasts : (count slots extras late delay now : ℕ) (s : State) (before after : List Call) → IsSteadyBehind count slots extras late delay now s
+    → RunsBehind count slots extras late delay now now (no_history s) s (before ++ after)
+    → Lasts delay now s before after
+behind-lasts count slots extras late delay now s before after steady run =
     let parts = halves count slots extras (first_lag late now s) delay now (no_history s) s before after (steady-kept count slots extras late delay now s steady) run in
     let lag = taken parts.since (first_lag late now s) in
     let past = with_calls before now s (no_history s) in record {
@@ -216,3 +219,8 @@ grants-last-behind count slots extras late delay now s before after steady run =
       open_on = λ a there.
           open-all count slots extras lag delay (time_of_all now before) past (state_after_all s before) after parts.kept parts.run a (contains-has (Allocation a) (state_after_all s before).grants there);
     }
+
+pub grants-last-behind : GrantsLastBehind
+grants-last-behind count slots extras late delay now s before after steady (inl run) = behind-lasts count slots extras late delay now s before after steady run
+grants-last-behind count slots extras late delay now s before after steady (inr run) =
+    behind-lasts count slots extras late delay now s before after steady (granted-answered count slots extras late delay now s (before ++ after) steady run)

@@ -21,8 +21,7 @@ use Rattle.turn_client_runs.specs.Short.{StreamsAreShort}
 use Rattle.turn_client_runs.proofs.HoldLemmas.{holds-found, reaches-behind}
 use Rattle.turn_client_runs.proofs.LastingRuns.{datagram-message, success-ended}
 use Rattle.turn_client_runs.proofs.LastingSeen.{grants-last-behind}
-use Rattle.turn_client_runs.specs.History.{no_history}
-use Rattle.turn_client_runs.specs.Late.{IsSteadyBehind, RunsBehind}
+use Rattle.turn_client_runs.specs.Late.{IsSteadyBehind, RunsAnswered}
 use Rattle.turn_client_runs.specs.LastingRuns.{GrantsLastInRuns, Lasts}
 use Rattle.turn_client_runs.proofs.OfferRuns.{bound-are-offered}
 use Rattle.turn_client_runs.proofs.InOrderRuns.{inputs-follow}
@@ -110,11 +109,11 @@ module _ (transport : TransportType) (local remote : SocketAddr) (config : Confi
     where
       lasts : InEachPart (λ s middle.
           (count slots extras late delay now : ℕ) (before after : List Call) → middle ≡ before ++ after
-          → IsSteadyBehind count slots extras late delay now s → RunsBehind count slots extras late delay now now (no_history s) s middle
+          → IsSteadyBehind count slots extras late delay now s → RunsAnswered count slots extras late delay now s middle
           → Lasts delay now s before after) first calls
       lasts earlier middle later e = λ count slots extras late delay now before after cut steady run.
           let s = state_after_all first earlier in
-          grants-last-behind count slots extras late delay now s before after steady (subst (RunsBehind count slots extras late delay now now (no_history s) s) cut run)
+          grants-last-behind count slots extras late delay now s before after steady (subst (RunsAnswered count slots extras late delay now s) cut run)
 
   pub run-cuts : CutsAgree first calls
   run-cuts earlier middle later e = λ at pieces now tcp drained are. run-cut at pieces now (state_after_all first earlier) (quiet now tcp drained) middle are

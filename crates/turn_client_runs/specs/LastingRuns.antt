@@ -18,9 +18,9 @@ use Rattle.turn_client_api.specs.declared.grant.Progress.TheVariants.{Pending}
 use Rattle.turn_client_api.specs.declared.grant.Relay.{Relay}
 use Rattle.turn_client_api.specs.declared.poll.TurnPollRet.TheVariants as TurnPollRet
 use Rattle.turn_client_api.specs.declared.state.Phase.TheVariants.{Allocated}
-use Rattle.turn_client_runs.specs.History.{IsKeptBy, no_history}
+use Rattle.turn_client_runs.specs.History.{IsKeptBy}
 use Rattle.turn_client_runs.specs.Lasting.{HasStill, IsFresh, IsInForce, IsOneMessage, IsRequested, IsSuccess}
-use Rattle.turn_client_runs.specs.Late.{IsSteadyBehind, RunsBehind}
+use Rattle.turn_client_runs.specs.Late.{IsSteadyBehind, RunsAnswered}
 use Rattle.turn_client_runs.specs.OnTime.{IsFromServer, time_of_all}
 use Rattle.turn_client_runs.specs.Promises.{InEachPart}
 
@@ -75,7 +75,7 @@ pub record Lasts (delay now : ℕ) (s : State) (before after : List Call) : Type
 abbrev pub GrantsLastBehind : Type 0
 GrantsLastBehind =
     (count slots extras late delay now : ℕ) (s : State) (before after : List Call) → IsSteadyBehind count slots extras late delay now s
-    → RunsBehind count slots extras late delay now now (no_history s) s (before ++ after)
+    → RunsAnswered count slots extras late delay now s (before ++ after)
     → Lasts delay now s before after
 
 -- A signed success that comes and grants what an outstanding request requests ends that request, which awaits no other reply
@@ -93,6 +93,6 @@ abbrev pub GrantsLastInRuns : State → List Call → Type 0
 GrantsLastInRuns first calls =
     InEachPart (λ s middle.
     (count slots extras late delay now : ℕ) (before after : List Call) → middle ≡ before ++ after
-    → IsSteadyBehind count slots extras late delay now s → RunsBehind count slots extras late delay now now (no_history s) s middle
+    → IsSteadyBehind count slots extras late delay now s → RunsAnswered count slots extras late delay now s middle
     → Lasts delay now s before after) first calls
     × HearsSuccesses first calls

@@ -1,10 +1,11 @@
 -- No grant is lost either if the caller takes packets late, as long as it is late by little.
-use Rattle.std.specs.Prelude.{◌≡◌, ◌⊎◌, ℕ, ◌+◌, ◌*◌, ◌^◌, ◌<◌, ◌≤◌, max, min, true, List, [], ◌∷◌, None, All, is_some, if◌then◌else◌, ⊤}
-use Rattle.std.specs.List.{AllByRecursion}
+use Rattle.std.specs.Prelude.{◌≡◌, ◌⊎◌, ℕ, ◌+◌, ◌*◌, ◌^◌, ◌<◌, ◌≤◌, max, min, true, false, List, [], ◌∷◌, None, All, is_some, if◌then◌else◌, ⊤}
+use Rattle.std.specs.List.{AllByRecursion, Contains}
 use Rattle.turn_stun.specs.Message.{id_of}
 use Rattle.turn_stun.specs.declared.message.header.MessageClass.TheVariants.{Success}
 use Rattle.turn_auth.specs.Validation.{IsValidated, validation_of}
 use Rattle.turn_agent.specs.Agent.{is_outstanding}
+use Rattle.turn_agent.specs.declared.transaction.Transaction.{Transaction}
 use Rattle.turn_client_api.specs.Grants.{purposes_of}
 use Rattle.turn_client_api.specs.Judgement.{class_in}
 use Rattle.turn_client_api.specs.Payloads.{is_message}
@@ -14,9 +15,9 @@ use Rattle.turn_client_api.specs.State.{State, auth_of, seconds}
 use Rattle.turn_client_api.specs.Steps.{state_after}
 use Rattle.turn_client_api.specs.Transmit.{next_transmit}
 use Rattle.turn_client_api.specs.declared.call.Call.{Call}
-use Rattle.turn_client_api.specs.declared.call.Call.TheVariants.{PollTransmit}
+use Rattle.turn_client_api.specs.declared.call.Call.TheVariants.{PollRecv, PollTransmit, Recv}
 use Rattle.turn_client_runs.specs.History.{History, IsSeldom, no_history, with_call}
-use Rattle.turn_client_runs.specs.Lasting.{Answers, HoldsAtMost, IsQuiet, IsSteady, RunsSteadily, ahead_of}
+use Rattle.turn_client_runs.specs.Lasting.{Answers, HoldsAtMost, IsQuiet, IsSteady, IsSuccess, RunsSteadily, ahead_of}
 use Rattle.turn_client_runs.specs.OnTime.{time_of}
 
 -- ---- where it begins
@@ -87,6 +88,50 @@ RunsBehind count slots extras late delay since before past s (call ∷ calls) =
     (start : ℕ) × AreAnswered late delay since before start now past s × IsCalm call past s × HoldsAtMost count slots next × IsSeldom extras s.config.refresh_ahead now later
     × RunsBehind count slots extras late delay (since_next call s start) now later next calls
 
+-- ---- a server that answers, by what comes from it
+
+-- one of these inputs is a success for the request with this ID
+abbrev pub IsGrantedAmong : ℕ → List Input → Type 0
+IsGrantedAmong id [] = ⊥
+IsGrantedAmong id (one ∷ later) = (IsGranting one × (id_of one.bytes ≡ id)) ⊎ IsGrantedAmong id later
+
+-- the call brings a success for the request with this ID
+abbrev pub IsGrantedIn : ℕ → Call → State → Type 0
+IsGrantedIn id (Recv packet now) s =
+    (IsSuccess packet now s × (id_of packet.payload ≡ id))
+    ⊎ (AllByRecursion IsMild (handled (Recv packet now) s) × IsGrantedAmong id (handled (Recv packet now) s))
+IsGrantedIn id (PollRecv now) s = AllByRecursion IsMild (handled (PollRecv now) s) × IsGrantedAmong id (handled (PollRecv now) s)
+IsGrantedIn id call s = ⊥
+
+-- a success for it comes by then, unless the run ends before
+abbrev pub IsGrantedBy : ℕ → ℕ → ℕ → State → List Call → Type 0
+IsGrantedBy id deadline before s [] = ⊤
+IsGrantedBy id deadline before s (call ∷ calls) =
+    (time_of before call ≤ deadline) × (IsGrantedIn id call s ⊎ IsGrantedBy id deadline (time_of before call) (state_after call s) calls)
+
+-- A success for each request that the call makes comes within the delay, also if it is one that is made again.
+abbrev pub AreGranted : ℕ → Call → ℕ → History → State → List Call → Type 0
+AreGranted delay call now later s calls =
+    (x : Transaction) → Contains (state_after call s).transactions x → is_outstanding x.id s.transactions ≡ false
+    → IsGrantedBy x.id (later.made x.id + delay) now (state_after call s) calls
+
+-- As `RunsBehind`: but what is said of the server is what it sends, and not what the client makes of it.
+abbrev pub RunsGranted : ℕ → ℕ → ℕ → ℕ → ℕ → ℕ → ℕ → History → State → List Call → Type 0
+RunsGranted count slots extras late delay since before past s [] = ⊤
+RunsGranted count slots extras late delay since before past s (call ∷ calls) =
+    let now = time_of before call in
+    let next = state_after call s in
+    let later = with_call call now s past in
+    (start : ℕ) × IsLate late since before start now s × IsCalm call past s × HoldsAtMost count slots next × IsSeldom extras s.config.refresh_ahead now later
+    × AreGranted delay call now later s calls × RunsGranted count slots extras late delay (since_next call s start) now later next calls
+
+-- A run from a steady state on, with a caller that is so late and a server that answers: none of the client's requests awaits its
+-- success for longer than the delay. So it is if a success for each comes in time (`GrantedAreAnswered`), and this is assumed of
+-- the server alone.
+abbrev pub RunsAnswered : ℕ → ℕ → ℕ → ℕ → ℕ → ℕ → State → List Call → Type 0
+RunsAnswered count slots extras late delay now s calls =
+    RunsBehind count slots extras late delay now now (no_history s) s calls ⊎ RunsGranted count slots extras late delay now now (no_history s) s calls
+
 -- ---- what holds
 
 -- a caller that is on time is one that is late by nothing
@@ -95,3 +140,10 @@ OnTimeIsLateByNone =
     (count slots extras delay now : ℕ) (s : State) (calls : List Call) → IsSteady count slots extras delay now s
     → RunsSteadily count slots extras delay now (no_history s) s calls
     → IsSteadyBehind count slots extras 0 delay now s × RunsBehind count slots extras 0 delay now now (no_history s) s calls
+
+-- if a success for each request comes in time, none awaits its success for longer
+abbrev pub GrantedAreAnswered : Type 0
+GrantedAreAnswered =
+    (count slots extras late delay now : ℕ) (s : State) (calls : List Call) → IsSteadyBehind count slots extras late delay now s
+    → RunsGranted count slots extras late delay now now (no_history s) s calls
+    → RunsBehind count slots extras late delay now now (no_history s) s calls

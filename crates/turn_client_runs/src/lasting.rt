@@ -1,6 +1,6 @@
 //! No grant is lost while the server answers and the caller sends what is due.
 
-ghost use Rattle.turn_client_runs.specs.Late.{OnTimeIsLateByNone};
+ghost use Rattle.turn_client_runs.specs.Late.{GrantedAreAnswered, OnTimeIsLateByNone};
 ghost use Rattle.turn_client_runs.specs.LastingRuns.{GrantsLastBehind};
 ghost use Rattle.turn_client_runs.specs.LastingPeers.{HasRoomAt5Ms, PeersLast};
 ghost use Rattle.turn_client_runs.specs.LastingRows.{RelayStaysUp};
@@ -36,7 +36,8 @@ ghost use Rattle.turn_client_runs.specs.Lasting.{DatagramsAreMessages, GrantsLas
 /// cut anywhere, and a piece may complete any number of messages, each a success or one that changes nothing. It says in
 /// addition that a permission or a channel which `create_permission` or `bind_channel` accepted is in force once the delay is
 /// over, and that no `poll` returns that a client with an allocation has ended. A caller that is on time is one that is
-/// late by nothing (`on_time`).
+/// late by nothing (`on_time`). Of the server it is enough to assume that a success for each request comes within the delay,
+/// whatever the client makes of it (`granted`).
 ///
 /// It does not speak of errors, of `delete`, of data connections, or of memory allocations that fail. The other clauses are
 /// what makes it speak of the server alone: a success ends its request, and a datagram of the server is processed as one
@@ -46,6 +47,7 @@ pub fn grants_last_while_the_server_answers()
     ensures asked { RequestsSucceed }
     ensures behind { GrantsLastBehind }
     ensures on_time { OnTimeIsLateByNone }
+    ensures granted { GrantedAreAnswered }
     ensures ended { SuccessesEndRequests }
     ensures datagrams { DatagramsAreMessages }
 {}
