@@ -6,7 +6,9 @@ use Rattle.turn_client_laws.proofs.Machine.{Has, all-has, has-all}
 use Rattle.turn_client_laws.proofs.Laws.{is_double, relayed_v4, contains-has}
 use Rattle.turn_client_runs.specs.History.{no_history, was_let_go}
 use Rattle.turn_client_runs.specs.Lasting.{HasRoom, IsInForce, IsSteady, ahead_of, expiry_of}
-use Rattle.turn_client_runs.specs.LastingPeers.{HasRoomAt5Ms, HaveOwnIps, PeersLast, grants_for, with_peers}
+use Rattle.turn_client_runs.specs.LastingPeers.{HasRoomAt5Ms, HaveOwnIps, PeersLast, grants_for, with_peers, HasRoomLateAt5Ms}
+use Rattle.turn_client_runs.specs.Late.{HasRoomBehind, IsSteadyBehind}
+use Rattle.turn_client_runs.proofs.LastingSeen.{grants-last-behind}
 use Rattle.turn_client_runs.proofs.LastingParts.{grants-last}
 
 -- ---- the formula
@@ -18,6 +20,14 @@ room-at-5-ms ahead (Channel number peer progress) more long = omega (arith, more
 room-at-5-ms ahead (Connect peer) more long = omega (arith, more)
 room-at-5-ms ahead (Offer offer) more long = omega (arith, more)
 room-at-5-ms ahead (Connection c) more long = omega (arith, more)
+
+pub room-late-at-5-ms : HasRoomLateAt5Ms
+room-late-at-5-ms ahead (Allocation a) more long = omega (arith, more, long)
+room-late-at-5-ms ahead (Permission ip progress) more long = omega (arith, more)
+room-late-at-5-ms ahead (Channel number peer progress) more long = omega (arith, more)
+room-late-at-5-ms ahead (Connect peer) more long = omega (arith, more)
+room-late-at-5-ms ahead (Offer offer) more long = omega (arith, more)
+room-late-at-5-ms ahead (Connection c) more long = omega (arith, more)
 
 -- ---- what the client has
 
@@ -111,6 +121,13 @@ module _ (peers : List SocketAddr) (s : State) (many : length peers ≡ 4096) (o
     in_range = omega arith;
   }
 
+  begins-late : IsSteadyBehind 8193 100 1000 900_000 5_000_000_000 0 t
+  begins-late = record {
+    steady = begins;
+    room = all-of (λ g. HasRoomBehind 8193 100 1000 900_000 5_000_000 5_000_000_000 (ahead_of 60_000_000_000 g)) 0x4000 peers (omega arith) (λ n peer there. omega arith) (λ peer there. omega arith);
+    room_for_more = omega arith;
+  }
+
   in-force : (g : Grant) → Has g t.grants → IsInForce 0 g
   in-force g there = has-all (IsInForce 0) g t.grants begins.in_force there
 
@@ -127,4 +144,8 @@ peers-last peers s many over_v4 own = record {
   lasts = λ calls run g there kept.
       grants-last 8193 100 1000 5_000_000_000 0 (with_peers peers s) [] calls (begins peers s many over_v4 own) run g there
       (in-force peers s many over_v4 own g (contains-has g (with_peers peers s).grants there)) (inl (none-let_go (with_peers peers s) g)) kept;
+  begins_late = begins-late peers s many over_v4 own;
+  lasts_late = λ calls run g there kept.
+      ((grants-last-behind 8193 100 1000 900_000 5_000_000_000 0 (with_peers peers s) [] calls (begins-late peers s many over_v4 own) run).grants g there kept).0
+      (in-force peers s many over_v4 own g (contains-has g (with_peers peers s).grants there)) (inl (none-let_go (with_peers peers s) g));
 }

@@ -14,6 +14,7 @@ use Rattle.turn_client_api.specs.declared.grant.Grant.TheVariants.{Allocation, C
 use Rattle.turn_client_laws.specs.LawsRows.{granted_at, pausing, relayed_v4}
 use Rattle.turn_client_runs.specs.History.{IsKeptBy, no_history}
 use Rattle.turn_client_runs.specs.Lasting.{HasRoom, HasStill, IsSteady, RunsSteadily, ahead_of}
+use Rattle.turn_client_runs.specs.Late.{HasRoomBehind, IsSteadyBehind, RunsAnswered}
 use Rattle.turn_client_runs.specs.OnTime.{time_of_all}
 
 -- ---- the client
@@ -46,11 +47,19 @@ abbrev pub HasRoomAt5Ms : Type 0
 HasRoomAt5Ms =
     (ahead : ℕ) (g : Grant) → seconds 60 ≤ ahead → IsLong g → HasRoom 8193 100 1000 5_000_000 5_000_000_000 (ahead_of ahead g)
 
+-- so does a caller that is late by 900 µs
+abbrev pub HasRoomLateAt5Ms : Type 0
+HasRoomLateAt5Ms =
+    (ahead : ℕ) (g : Grant) → seconds 60 ≤ ahead → IsLong g → HasRoomBehind 8193 100 1000 900_000 5_000_000 5_000_000_000 (ahead_of ahead g)
+
 -- The client has that many grants, and begins as no grant is lost. So each that is not let go is in force after any run that keeps the premises.
 pub record LastsWithPeers (s : State) : Type 0 where
   pub count : length s.grants ≡ 8193
   pub begins : IsSteady 8193 100 1000 5_000_000_000 0 s
   pub lasts : (calls : List Call) → RunsSteadily 8193 100 1000 5_000_000_000 0 (no_history s) s calls
+      → (g : Grant) → Contains s.grants g → IsKeptBy calls 0 s g → HasStill g (time_of_all 0 calls) (state_after_all s calls)
+  pub begins_late : IsSteadyBehind 8193 100 1000 900_000 5_000_000_000 0 s
+  pub lasts_late : (calls : List Call) → RunsAnswered 8193 100 1000 900_000 5_000_000_000 0 s calls
       → (g : Grant) → Contains s.grants g → IsKeptBy calls 0 s g → HasStill g (time_of_all 0 calls) (state_after_all s calls)
 
 -- whatever its 4,096 peers over IPv4 are, and its addresses, credentials and IDs

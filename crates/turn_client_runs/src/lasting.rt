@@ -2,7 +2,7 @@
 
 ghost use Rattle.turn_client_runs.specs.Late.{GrantedAreAnswered, OnTimeIsLateByNone};
 ghost use Rattle.turn_client_runs.specs.LastingRuns.{GrantsLastBehind};
-ghost use Rattle.turn_client_runs.specs.LastingPeers.{HasRoomAt5Ms, PeersLast};
+ghost use Rattle.turn_client_runs.specs.LastingPeers.{HasRoomAt5Ms, HasRoomLateAt5Ms, PeersLast};
 ghost use Rattle.turn_client_runs.specs.LastingRows.{RelayStaysUp};
 ghost use Rattle.turn_client_runs.specs.LateRows.{LateRelayStaysUp};
 ghost use Rattle.turn_client_runs.specs.RelayRows.{RelayStaysUpFromFirst};
@@ -68,8 +68,9 @@ pub fn a_relay_stays_up()
 /// grants, 100 queued requests, 1,000 extra packets and a delay of 5 s, also where all refreshes are due at one time. So each
 /// of the grants is in force after every run that keeps these premises and does not let it go. The room is there for any
 /// client with that cadence and so many grants, if it refreshes a minute ahead or more and its allocations were granted for
-/// two minutes or more.
+/// two minutes or more. All of this holds of a caller that is late by 900 µs at most, too.
 pub fn thousands_of_peers_stay_up()
     ensures room { HasRoomAt5Ms }
+    ensures room_late { HasRoomLateAt5Ms }
     ensures last { PeersLast }
 {}
