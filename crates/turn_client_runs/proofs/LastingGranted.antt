@@ -11,6 +11,7 @@ use Rattle.turn_client_runs.proofs.ComingLemmas.{inputs-come}
 use Rattle.turn_client_runs.proofs.LastingHistory.{call-goes_on}
 use Rattle.turn_client_runs.proofs.LastingParts.{first_lag, steady-kept}
 use Rattle.turn_client_runs.proofs.LastingRuns.{Kept_at, call-kept, granting-ends, leads-differs, leads-mild, success-ended}
+use Rattle.turn_client_runs.proofs.LastingNoise.{noise-changes-nothing}
 use Rattle.turn_client_runs.proofs.LastingStands.{IsKept, Lag, taken}
 use Rattle.turn_client_runs.proofs.LastingTime.{time-kept}
 
@@ -38,7 +39,8 @@ module _ (count slots extras : ℕ) (lag : Lag) (delay now : ℕ) (past : Histor
 
   none-mild : (one : Input) → Kept_in one.before → one.time ≡ now → IsMild one → MakesNone one.before (processed one).1
   none-mild one k at (inl is) = none-granting one k at is
-  none-mild one k at (inr same) = λ id none. ap (λ (x : State). is_outstanding id x.transactions) same ∙ none
+  none-mild one k at (inr (inl (over, noise))) = λ id none. ap (λ (x : State). is_outstanding id x.transactions) (noise-changes-nothing one k.phase over noise) ∙ none
+  none-mild one k at (inr (inr same)) = λ id none. ap (λ (x : State). is_outstanding id x.transactions) same ∙ none
 
   none-all : (inputs : List Input) (s t : State) → Kept_in s → InputsLead inputs s t → AllByRecursion IsMild inputs → ((one : Input) → Has one inputs → one.time ≡ now) → MakesNone s t
   none-all [] s t k lead all times = none-differs s t lead

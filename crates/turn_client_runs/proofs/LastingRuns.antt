@@ -19,6 +19,7 @@ use Rattle.turn_client_laws.specs.LawsHandled.{IsStreamEnd}
 use Rattle.turn_client_runs.specs.Granted.{ComesIn}
 use Rattle.turn_client_runs.proofs.ComingLemmas.{inputs-come}
 use Rattle.turn_client_runs.proofs.LastingPolls.{filter_map-none}
+use Rattle.turn_client_runs.proofs.LastingNoise.{noise-changes-nothing}
 use Rattle.turn_client_runs.specs.Lasting.{IsAnsweredChallenge, Answers, DatagramsAreMessages, IsQuiet, IsSuccess, expiry_of, HoldsAtMost, SuccessesEndRequests}
 use Rattle.turn_client_runs.proofs.MadeLemmas.{control-made, success-ends}
 use Rattle.turn_client_runs.specs.OnTime.{IsFromServer, time_of, time_of_all}
@@ -382,7 +383,9 @@ module _ (count slots extras : ℕ) (lag : Lag) (delay now : ℕ) (past : Histor
 
   pub leads-mild : (one : Input) → Kept_at one.before → one.time ≡ now → IsMild one → Leads one.before (processed one).1
   leads-mild one k at (inl is) = leads-granting one k at is
-  leads-mild one k at (inr same) = subst (Leads one.before) (sym same) (k, goes-same past one.before one.before refl refl refl, inr (refl, refl, λ id listed out. out))
+  leads-mild one k at (inr (inl (over, noise))) =
+      subst (Leads one.before) (sym (noise-changes-nothing one k.phase over noise)) (k, goes-same past one.before one.before refl refl refl, inr (refl, refl, λ id listed out. out))
+  leads-mild one k at (inr (inr same)) = subst (Leads one.before) (sym same) (k, goes-same past one.before one.before refl refl refl, inr (refl, refl, λ id listed out. out))
 
   leads-all : (inputs : List Input) (s t : State) → Kept_at s → InputsLead inputs s t → AllByRecursion IsMild inputs → ((one : Input) → Has one inputs → one.time ≡ now) → Leads s t
   leads-all [] s t k lead all times = leads-differs s t k lead

@@ -42,6 +42,7 @@ pub mod LastingReplies
 pub mod LastingRowLemmas
 pub mod LastingRuns
 mod LastingSeen
+mod LastingNoise
 mod LastingGranted
 pub mod LastingSends
 pub mod LastingSpared

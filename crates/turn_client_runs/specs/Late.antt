@@ -1,13 +1,15 @@
 -- No grant is lost either if the caller takes packets late, as long as it is late by little.
-use Rattle.std.specs.Prelude.{◌≡◌, ◌⊎◌, ℕ, ◌+◌, ◌*◌, ◌^◌, ◌<◌, ◌≤◌, max, min, true, false, List, [], ◌∷◌, None, All, is_some, if◌then◌else◌, ⊤}
+use Rattle.std.specs.Prelude.{◌≡◌, ◌⊎◌, ℕ, ◌+◌, ◌*◌, ◌==◌, ◌^◌, ◌<◌, ◌≤◌, max, min, true, false, List, [], ◌∷◌, None, All, is_some, if◌then◌else◌, ⊤}
 use Rattle.std.specs.List.{AllByRecursion, Contains}
 use Rattle.turn_stun.specs.Message.{id_of}
-use Rattle.turn_stun.specs.declared.message.header.MessageClass.TheVariants.{Success}
+use Rattle.turn_stun.specs.declared.message.header.MessageClass.TheVariants.{Error, Indication, Request, Success}
+use Rattle.turn_stun.specs.declared.message.header.MessageClass.{MessageClass}
 use Rattle.turn_auth.specs.Validation.{IsValidated, validation_of}
 use Rattle.turn_agent.specs.Agent.{is_outstanding}
 use Rattle.turn_agent.specs.declared.transaction.Transaction.{Transaction}
 use Rattle.turn_client_api.specs.Grants.{purposes_of}
-use Rattle.turn_client_api.specs.Judgement.{class_in}
+use Rattle.turn_client_api.specs.Judgement.{challenge_in, class_in, method_in}
+use Rattle.turn_client_api.specs.Requests.{connection_attempt_method}
 use Rattle.turn_client_api.specs.Payloads.{is_message}
 use Rattle.turn_client_laws.specs.Handled.{Input, handled, processed}
 use Rattle.turn_client_laws.specs.LawsHandled.{IsOverControl, TakesInput}
@@ -62,9 +64,28 @@ pub record IsGranting (one : Input) : Type 0 where
   pub outstanding : is_outstanding (id_of one.bytes) one.before.transactions ≡ true
   pub answers : Answers one.bytes (purposes_of (id_of one.bytes) one.before)
 
--- It is one, or changes nothing: data of peers, what strangers send, a reply to no request.
+-- the signature is not the server's
+abbrev pub IsUnsigned : List ℕ → State → Type 0
+IsUnsigned message s = IsValidated (validation_of (auth_of s) message) → ⊥
+
+-- the reply is to no request that awaits one, or not signed
+abbrev pub IsStray : List ℕ → State → Type 0
+IsStray message s = (is_outstanding (id_of message) s.transactions ≡ false) ⊎ IsUnsigned message s
+
+-- By its bytes it is nothing that the client acts on: no message, as data of peers in a channel; an indication or a request,
+-- but for an attempt of a peer to connect; a stray reply, but for a challenge.
+abbrev pub IsNoise : List ℕ → State → Type 0
+IsNoise bytes s = (is_message bytes ≡ false) ⊎ by (class_in bytes)
+  where
+    by : MessageClass → Type 0
+    by Indication = (method_in bytes == connection_attempt_method) ≡ false
+    by Request = (method_in bytes == connection_attempt_method) ≡ false
+    by Success = IsStray bytes s
+    by Error = (challenge_in s bytes ≡ None) × IsStray bytes s
+
+-- It is a success, or noise, or changes nothing.
 abbrev pub IsMild : Input → Type 0
-IsMild one = IsGranting one ⊎ ((processed one).1 ≡ one.before)
+IsMild one = IsGranting one ⊎ ((IsOverControl one × IsNoise one.bytes one.before) ⊎ ((processed one).1 ≡ one.before))
 
 -- As `IsQuiet`. Or bytes come, or are polled for, and what they complete is mild, however a stream is cut: a piece may complete
 -- no frame, or many, and so it is if the server closes a stream.
