@@ -1,10 +1,8 @@
 -- If a success for each request comes in time, no request awaits its success for longer.
-use Rattle.turn_client_laws.proofs.Common.{◌≡◌, ◌⊎◌, ℕ, ◌+◌, ◌≤◌, Bool, true, false, not, eqb, List, [], ◌∷◌, filter, refl, inl, inr, ap, sym, subst, ◌∙◌, AllByRecursion, eqb-true, eq-eqb}
+use Rattle.turn_client_laws.proofs.Common.{◌≡◌, ◌⊎◌, ℕ, ◌+◌, ◌≤◌, Bool, true, false, not, eqb, List, [], ◌∷◌, refl, inl, inr, ap, sym, subst, ◌∙◌, AllByRecursion, eqb-true, eq-eqb}
 use Rattle.turn_client_laws.proofs.Machine.{id_of, is_outstanding, is_outstanding-without, Transaction, transaction_ended, State, Call, PollRecv, Recv, state_after, Has, has-filter, all-has}
 use Rattle.turn_client_laws.proofs.Laws.{DiffersInStreams, Input, InputsLead, TakesInput, any-has, calls-do, handled, has-any, has-contains, processed}
-use Rattle.turn_client_laws.specs.LawsHandled.{IsStreamEnd}
-use Rattle.turn_client_runs.specs.Granted.{ComesIn}
-use Rattle.turn_client_runs.specs.History.{History, IsSeldom, no_history, with_call}
+use Rattle.turn_client_runs.specs.History.{History, no_history, with_call}
 use Rattle.turn_client_runs.specs.Late.{AreAnswered, AreGranted, GrantedAreAnswered, IsGrantedAmong, IsGrantedBy, IsGrantedIn, IsGranting, IsMild, RunsBehind, RunsGranted, since_next}
 use Rattle.turn_client_runs.specs.OnTime.{time_of}
 use Rattle.turn_client_runs.proofs.ComingLemmas.{inputs-come}

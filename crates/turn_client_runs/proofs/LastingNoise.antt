@@ -1,6 +1,6 @@
 -- What is noise by its bytes changes nothing.
-use Rattle.turn_client_laws.proofs.Common.{◌≡◌, ◌⊎◌, ℕ, Bool, true, false, cond, not, List, Option, Some, None, refl, inl, inr, ap, sym, ◌∙◌, eqb, none-some}
-use Rattle.turn_client_laws.proofs.Machine.{MessageClass, Error, Indication, Request, Success, id_of, is_outstanding, State, Allocated, Outcome, Stream, Control, IsValidated, Validation, Validated}
+use Rattle.turn_client_laws.proofs.Common.{◌≡◌, ℕ, Bool, true, false, cond, not, List, Option, Some, None, refl, inl, inr, ap, sym, ◌∙◌, eqb, none-some}
+use Rattle.turn_client_laws.proofs.Machine.{MessageClass, Error, Indication, Request, Success, State, Allocated, Outcome, Stream, Control, IsValidated, Validation, Validated}
 use Rattle.turn_client_laws.proofs.Machine.{ResendRequest, Refused, validation_of, auth_of, challenge_in, class_in, method_in, connection_attempt_method, data_method, is_channel_frame, is_message}
 use Rattle.turn_client_laws.proofs.Machine.{allocated_judgement, begins_message, Challenge, challenged_or, channel_sent, Ignored, Handled, Judgement, judgement_of, message_step, Unrelated}
 use Rattle.turn_client_laws.proofs.Laws.{Input, IsOverControl, processed}

@@ -2,7 +2,7 @@
 use Rattle.turn_client_laws.proofs.Common.{◌≡◌, ◌⊎◌, ℕ, ◌+◌, ◌*◌, ◌<◌, ◌≤◌, Bool, true, false, cond, not, ◌&&◌, ◌||◌, List, [], ◌∷◌, length, map, fold, refl, inl, inr, ap, sym, subst, ◌∙◌, arith}
 use Rattle.turn_client_laws.proofs.Common.{filter, length-append, length-map, list_any, and_from, and_parts, cases_Bool, cases_lt, eqb-true, le-leb, not-true, not_from_false, or_left, or_right}
 use Rattle.turn_client_laws.proofs.Common.{eq-eqb}
-use Rattle.turn_client_laws.proofs.Machine.{AddressFamily, Transaction, Config, State, Grant, Allocation, Permission, Channel, Active, Pending, Listing, Purpose, ForRefresh, ForPermission, ForChannel}
+use Rattle.turn_client_laws.proofs.Machine.{AddressFamily, Transaction, State, Grant, Allocation, Permission, Channel, Active, Pending, Listing, Purpose, ForRefresh, ForPermission, ForChannel}
 use Rattle.turn_client_laws.proofs.Machine.{family_of, family_of_grant, has_request, is_for, purposes_of, is_kept, pause_end, Queued, effect, same_ip-true, Has, filter-has, has-filter, has-left}
 use Rattle.turn_client_laws.proofs.Machine.{has-right, map-has, channel_bind_method, method_for, method_in, is_answered}
 use Rattle.turn_client_laws.proofs.Laws.{IsReserved, has-mapped, Room, any-has, has-any, room-more, same_family-true}

@@ -13,8 +13,8 @@ use Rattle.turn_client_api.specs.declared.error.KeepError.{KeepError}
 use Rattle.turn_client_api.specs.declared.error.KeepError.TheVariants.{NotGranted}
 use Rattle.turn_client_runs.specs.Late.{AreAnswered, IsCalm, IsGranting, IsMild, RunsBehind, since_next}
 use Rattle.std.specs.List.{AllByRecursion}
-use Rattle.turn_client_laws.proofs.Laws.{DiffersInStreams, Input, InputsLead, IsOverControl, TakesInput, calls-do, handled, processed}
-use Rattle.turn_client_laws.proofs.Machine.{PollRecv, Stream, as_connection, connection_gone, filter-none, is_message, without_stream}
+use Rattle.turn_client_laws.proofs.Laws.{DiffersInStreams, Input, InputsLead, TakesInput, calls-do, handled, processed}
+use Rattle.turn_client_laws.proofs.Machine.{PollRecv, Stream, as_connection, connection_gone, filter-none, without_stream}
 use Rattle.turn_client_laws.specs.LawsHandled.{IsStreamEnd}
 use Rattle.turn_client_runs.specs.Granted.{ComesIn}
 use Rattle.turn_client_runs.proofs.ComingLemmas.{inputs-come}

@@ -1,9 +1,9 @@
 -- What the caller sees while no grant is lost.
-use Rattle.turn_client_laws.proofs.Common.{◌≡◌, ℕ, ◌+◌, ◌<◌, Bool, true, false, cond, ◌||◌, List, [], ◌∷◌, ◌++◌, Option, Some, None, Result, Ok, Err, refl, inl, inr, ap, sym, subst, ◌∙◌}
-use Rattle.turn_client_laws.proofs.Common.{Contains, is_none, is_some, filter_map, list_any, map, not, option_map_or, socket_ip, IpAddr, SocketAddr}
-use Rattle.turn_client_laws.proofs.Machine.{TransportType, State, Phase, Allocated, Grant, Allocation, Channel, Connect, Connection, Offer, Permission, Active, Pending, Reserved, Lease, Relay, allocations}
-use Rattle.turn_client_laws.proofs.Machine.{as_allocation, Has, filter_map-has, has-left, has-right, has_event, has_reply, next_offer, offer_step, timed_out_step, timed_step, expired_at, DataOffer}
-use Rattle.turn_client_laws.proofs.Machine.{agent_of, answer_by, answer_step, timed_out_transaction, transaction_ended, Transaction, TurnPollRet, find_allocation_to, is_past, permission_state, is_allocated}
+use Rattle.turn_client_laws.proofs.Common.{◌≡◌, ℕ, ◌+◌, Bool, true, false, cond, ◌||◌, List, [], ◌∷◌, ◌++◌, Option, Some, None, Result, Ok, Err, refl, inl, inr, ap, sym, subst, ◌∙◌}
+use Rattle.turn_client_laws.proofs.Common.{is_some, filter_map, list_any, map, not, option_map_or, socket_ip, IpAddr, SocketAddr}
+use Rattle.turn_client_laws.proofs.Machine.{TransportType, State, Phase, Allocated, Grant, Allocation, Channel, Permission, Active, Pending, Reserved, Relay, allocations}
+use Rattle.turn_client_laws.proofs.Machine.{as_allocation, Has, filter_map-has, has-right, has_event, has_reply, next_offer, offer_step, timed_out_step, timed_step, expired_at, DataOffer}
+use Rattle.turn_client_laws.proofs.Machine.{agent_of, answer_by, timed_out_transaction, transaction_ended, Transaction, TurnPollRet, find_allocation_to, is_past, permission_state, is_allocated}
 use Rattle.turn_client_laws.proofs.Machine.{bound_by, channel_step, channels_to, in_allocation, is_in_progress, permission_step, reserved_from, free_number, missing_permission}
 use Rattle.turn_client_laws.proofs.Machine.{BindChannel, Call, CreatePermission, Poll, bind_channel_step, create_permission_step, is_open_to, is_permission_of, poll_step, state_after, state_after_all}
 use Rattle.turn_client_laws.proofs.Laws.{contains-has}
@@ -12,9 +12,9 @@ use Rattle.turn_client_api.specs.declared.error.BindChannelError.{BindChannelErr
 use Rattle.turn_client_api.specs.declared.error.BindChannelError.TheVariants as Bind
 use Rattle.turn_client_api.specs.declared.error.CreatePermissionError.{CreatePermissionError}
 use Rattle.turn_client_api.specs.declared.error.CreatePermissionError.TheVariants as Create
-use Rattle.turn_client_runs.specs.History.{History, IsKeptBy, no_history, with_call, with_calls}
-use Rattle.turn_client_runs.specs.Lasting.{HasStill, IsInForce, as_granted, with_expiry}
-use Rattle.turn_client_runs.specs.LastingRuns.{GrantsLastBehind, IsOneInForce, Lasts, RequestIsGranted, TellAllOpen, TellsOpen}
+use Rattle.turn_client_runs.specs.History.{History, no_history, with_call, with_calls}
+use Rattle.turn_client_runs.specs.Lasting.{as_granted, with_expiry}
+use Rattle.turn_client_runs.specs.LastingRuns.{GrantsLastBehind, Lasts, RequestIsGranted, TellAllOpen, TellsOpen}
 use Rattle.turn_client_runs.specs.Late.{IsSteadyBehind, RunsBehind, since_next}
 use Rattle.turn_client_runs.specs.OnTime.{time_of, time_of_all}
 use Rattle.turn_client_runs.proofs.LastingParts.{first_lag, lasts-through, steady-kept, succeeds}

@@ -5,7 +5,7 @@ use Rattle.turn_client_laws.proofs.Common.{or_cases, or_left, or_right, list_any
 use Rattle.turn_client_laws.proofs.Machine.{Transmit, due, first_sent, State, agent_of, Queued, Grant, Allocation, Permission, Channel, Relay, Active, Pending, Reserved, Listing, Purpose, ForRefresh}
 use Rattle.turn_client_laws.proofs.Machine.{ForPermission, ForChannel, allocations, as_allocation, family_of, family_of_grant, has_request, is_for, same_ip, asked_lifetime, binding_indication}
 use Rattle.turn_client_laws.proofs.Machine.{fresh_id, id_used, request_for, to_server, has_reply, is_paused, is_refreshable, keepalive_times, refresh_time, is_due_in, is_refresh_due, keepalive_step}
-use Rattle.turn_client_laws.proofs.Machine.{next_refresh, queue_step, refresh_purpose, refreshes_in, refreshes_of_rank, reply_in, reply_step, sent_at_once, transmit_step, without_first_reply, Has}
+use Rattle.turn_client_laws.proofs.Machine.{next_refresh, queue_step, refresh_purpose, refreshes_in, refreshes_of_rank, reply_in, reply_step, sent_at_once, transmit_step, Has}
 use Rattle.turn_client_laws.proofs.Machine.{filter_map-has, first-has, has-filter, has-filter_map, has-flat_map, has-left, has-right}
 use Rattle.turn_client_laws.proofs.Laws.{same_family-self, IsReserved, no_reply-kept, not_due-transmit, no_reply-left}
 use Rattle.std.specs.Prelude.{option_and_then}

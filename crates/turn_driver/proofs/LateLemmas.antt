@@ -1,5 +1,5 @@
 -- A loop that wakes up late.
-use Rattle.turn_client_laws.proofs.Common.{◌≡◌, ◌∙◌, ℕ, ◌+◌, ◌^◌, ◌<◌, ◌≤◌, max, min, Bool, true, false, cond, List, [], ◌∷◌, ◌++◌, Option, Some, None, ap, arith, inl, inr, is_some, refl, subst, sym}
+use Rattle.turn_client_laws.proofs.Common.{◌≡◌, ◌∙◌, ℕ, ◌+◌, ◌^◌, ◌≤◌, max, min, Bool, true, false, cond, List, [], ◌∷◌, ◌++◌, Option, Some, None, ap, arith, inl, inr, is_some, subst, sym}
 use Rattle.turn_client_laws.proofs.Common.{AllByRecursion}
 use Rattle.turn_client_laws.proofs.Machine.{Transmit, State, Call, Poll, PollEvent, PollRecv, PollTransmit, Recv, next_transmit, state_after, state_after_all}
 use Rattle.turn_client_runs.specs.Late.{IsLate, since_next}
