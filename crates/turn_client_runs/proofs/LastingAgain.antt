@@ -164,7 +164,8 @@ module _ (count slots extras : ℕ) (lag : Lag) (delay now : ℕ) (past later : 
     each = λ g there. elim (k.each g there) [
       | inl (waits, pending) ↦ inl (waits, requested-again (λ made. made ≤ now) g pending)
       | inr (inl stands) ↦ inr (inl (stands-again g stands))
-      | inr (inr (freed, kind)) ↦ inr (inr (on.let_go g freed, kind))
+      | inr (inr (inl (freed, leased))) ↦ inr (inr (inl (on.let_go g freed, leased)))
+      | inr (inr (inr reserved)) ↦ inr (inr (inr reserved))
     ];
   }
 
@@ -370,8 +371,8 @@ module _ (count slots extras : ℕ) (lag : Lag) (delay now : ℕ) (past later : 
     each = λ g there. elim (k.each g there) [
       | inl (waits, pending) ↦ inl (waits, requested-retried (λ made. made ≤ now) g pending)
       | inr (inl stands) ↦ inr (inl (stands-retried g stands))
-      | inr (inr (freed, inl leased)) ↦ inr (inr (on.let_go g freed, inl leased))
-      | inr (inr (freed, inr (is, none))) ↦ inr (inr (on.let_go g freed, inr (is, not-asked g none)))
+      | inr (inr (inl (freed, leased))) ↦ inr (inr (inl (on.let_go g freed, leased)))
+      | inr (inr (inr (is, none))) ↦ inr (inr (inr (is, not-asked g none)))
     ];
   }
 

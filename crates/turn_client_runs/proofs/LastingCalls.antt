@@ -121,8 +121,8 @@ module _ (count slots extras : ℕ) (lag : Lag) (delay now : ℕ) (past : Histor
 
   -- what is reserved is not asked for
   loose-asked : (g : Grant) → Has g s.grants → IsLoose past s g → IsLoose past t g
-  loose-asked g there (freed, inl leased) = (freed, inl leased)
-  loose-asked g there (freed, inr (is, none)) = (freed, inr (is, not-asked g there none))
+  loose-asked g there (inl freed) = inl freed
+  loose-asked g there (inr (is, none)) = inr (is, not-asked g there none)
 
   room-left : (family : AddressFamily) → Room s.grants family → Room t.grants family
   room-left = room-more s.grants t.grants (λ a there. has-left (Allocation a) s.grants news there)

@@ -7,8 +7,9 @@ use Rattle.turn_client_runs.specs.Lasting.{expiry_of}
 use Rattle.turn_client_runs.proofs.LastingCounts.{passes}
 use Rattle.turn_client_runs.proofs.LastingHistory.{GoesOn, known-later}
 use Rattle.turn_client_runs.proofs.LastingLeft.{IsGone, IsTidy, ExpiresInto, asked_in, is_lost, unasked-less}
-use Rattle.turn_client_runs.proofs.LastingStands.{Follows, Goes, IsAwaited, IsGranted, IsIdle, IsKept, IsKnown, IsPending, IsRequested, IsWell, Remains, Stands, asked-before, bound-le, due_of}
+use Rattle.turn_client_runs.proofs.LastingStands.{granted-active, Follows, Goes, IsAwaited, IsGranted, IsIdle, IsKept, IsKnown, IsPending, IsRequested, IsWell, Remains, Stands, asked-before, bound-le, due_of}
 use Rattle.turn_client_runs.proofs.LastingStands.{early-paced, is_waiting, kept-changed, pause-paced, soon-by, bound, Lag, requested-more, stands-early, still-paced, used}
+use Rattle.turn_client_runs.proofs.LastingTransmits.{reserved-inactive}
 use Rattle.turn_client_runs.proofs.GrantInputs.{IsLeased}
 
 -- what waits is not gone
@@ -52,12 +53,13 @@ module _ (count slots extras : ℕ) (lag : Lag) (delay now : ℕ) (past later : 
       let early = stands-early count slots extras lag delay now past s k g there stands in
       absurd (omega (arith, early, gone-late now g stands.granted gone))
 
-  -- what is gone was let go
-  gone-let_go : (g : Grant) → Has g s.grants → IsGone now g → was_let_go past g ≡ true
-  gone-let_go g there gone = elim (k.each g there) [
+  -- what is gone was let go, if it was granted
+  gone-let_go : (g : Grant) → Has g s.grants → IsGranted g → IsGone now g → was_let_go past g ≡ true
+  gone-let_go g there granted gone = elim (k.each g there) [
     | inl (waits, pending) ↦ absurd (waits-stays now g waits gone)
     | inr (inl stands) ↦ absurd (stands-stays g there stands gone)
-    | inr (inr loose) ↦ loose.0
+    | inr (inr (inl freed)) ↦ freed.0
+    | inr (inr (inr (is, none))) ↦ absurd (reserved-inactive g is (granted-active g granted))
   ]
 
   allocation-stays : (a : Relay) → Has (Allocation a) s.grants → Has (Allocation a) grants
@@ -107,14 +109,14 @@ module _ (count slots extras : ℕ) (lag : Lag) (delay now : ℕ) (past later : 
   well-old g there = elim (k.each g there) [
     | inl (waits, pending) ↦ inl (waits, requested-stays (λ made. made ≤ now) g there (waits-stays now g waits) pending)
     | inr (inl stands) ↦ inr (inl (stands-left g there stands))
-    | inr (inr (freed, inl leased)) ↦ inr (inr (on.let_go g freed, inl leased))
-    | inr (inr (freed, inr (is, none))) ↦ inr (inr (on.let_go g freed, inr (is, unasked-less s.listed listed expires_into.listed g none)))
+    | inr (inr (inl (freed, leased))) ↦ inr (inr (inl (on.let_go g freed, leased)))
+    | inr (inr (inr (is, none))) ↦ inr (inr (inr (is, unasked-less s.listed listed expires_into.listed g none)))
   ]
 
   well-left : (g : Grant) → Has g grants → IsWell count slots extras lag delay now later s.transactions t g
   well-left g h = elim (expires_into.came g h) [
     | inl old ↦ well-old g old
-    | inr takes ↦ inr (inr (on.let_go g (takes.let_go past ∙ gone-let_go takes.was takes.there takes.gone), inr (takes.is, takes.unasked)))
+    | inr takes ↦ inr (inr (inr (takes.is, takes.unasked)))
   ]
 
   known-left : (g : Grant) → Has g grants → IsKnown now later t g
@@ -152,7 +154,7 @@ module _ (count slots extras : ℕ) (lag : Lag) (delay now : ℕ) (past later : 
       remains g there granted none = (g, expires_into.stays g there not, refl, granted)
         where
           not : IsGone now g → ⊥
-          not gone = let no : false ≡ true = sym none ∙ on.let_go g (gone-let_go g there gone) in cc
+          not gone = let no : false ≡ true = sym none ∙ on.let_go g (gone-let_go g there granted gone) in cc
 
       follows : (until : ℕ) (g : Grant) → Has g s.grants → is_waiting g ≡ true → IsPending until past s.transactions s.listed g → was_let_go later g ≡ false → Follows until later s.transactions g t
       follows until g there waits pending none = inl (expires_into.stays g there (waits-stays now g waits), requested-stays (λ made. made ≤ until) g there (waits-stays now g waits) pending)

@@ -172,7 +172,8 @@ module _ (count slots extras : ℕ) (lag : Lag) (delay now : ℕ) (past later : 
   well-later : AreLetGo past later → (g : Grant) → IsWell count slots extras lag delay now past transactions s g → IsWell count slots extras lag delay now later transactions s g
   well-later let_go g (inl (waits, pending)) = inl (waits, requested-later (λ made. made ≤ now) g pending)
   well-later let_go g (inr (inl stands)) = inr (inl (stands-later g stands))
-  well-later let_go g (inr (inr (freed, kind))) = inr (inr (let_go g freed, kind))
+  well-later let_go g (inr (inr (inl (freed, leased)))) = inr (inr (inl (let_go g freed, leased)))
+  well-later let_go g (inr (inr (inr reserved))) = inr (inr (inr reserved))
 
 -- what waits is kept, or was let go: so it is in a longer history
 pub known-later : (past later : History) → AreLetGo past later → (g : Grant) → (is_kept g || was_let_go past g) ≡ true → (is_kept g || was_let_go later g) ≡ true

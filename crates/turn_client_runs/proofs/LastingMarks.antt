@@ -148,11 +148,9 @@ module _ (count slots extras : ℕ) (lag : Lag) (delay now : ℕ) (past : Histor
   }
 
   loose-marked : (g : Grant) → IsLoose past s g → IsLoose past t (mark g)
-  loose-marked g (freed, kind) = (for-mark (λ x. was_let_go past x ≡ true) g freed (λ e. marked-let_go past kept g ∙ freed), by kind)
-    where
-      by : IsLeased g ⊎ (IsReserved g × (has_request g s ≡ false)) → IsLeased (mark g) ⊎ (IsReserved (mark g) × (has_request (mark g) t ≡ false))
-      by (inl leased) = inl (for-mark IsLeased g leased (λ e. marked-leased kept g leased))
-      by (inr (is, none)) = inr (for-mark IsReserved g is (λ e. subst IsReserved (sym (marked-reserved kept g is)) is), mark-asked g ∙ none)
+  loose-marked g (inl (freed, leased)) =
+      inl (for-mark (λ x. was_let_go past x ≡ true) g freed (λ e. marked-let_go past kept g ∙ freed), for-mark IsLeased g leased (λ e. marked-leased kept g leased))
+  loose-marked g (inr (is, none)) = inr (for-mark IsReserved g is (λ e. subst IsReserved (sym (marked-reserved kept g is)) is), mark-asked g ∙ none)
 
   well-marked : (g : Grant) → Has g s.grants → IsWell count slots extras lag delay now past s.transactions t (mark g)
   well-marked g there = elim (k.each g there) [
@@ -170,7 +168,7 @@ module _ (count slots extras : ℕ) (lag : Lag) (delay now : ℕ) (past : Histor
       by stands true f e = same stands true (marked-kept g (granted-kept g stands.granted))
       by stands false f e = elim (marked-granted false g stands.granted) [
         | inl is ↦ same stands false is
-        | inr leased ↦ inr (marked-let_go past false g ∙ let_go g e f, inl (marked-leased false g leased))
+        | inr leased ↦ inr (inl (marked-let_go past false g ∙ let_go g e f, marked-leased false g leased))
       ]
 
   known-marked : (g : Grant) → Has g s.grants → IsKnown now past t (mark g)

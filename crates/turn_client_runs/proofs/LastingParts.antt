@@ -135,7 +135,8 @@ early-of : (count slots extras : ℕ) (lag : Lag) (delay now : ℕ) (past : Hist
 early-of count slots extras lag delay now past t k h here granted none = elim (k.each h here) [
   | inl (waits, pending) ↦ absurd (let no : false ≡ true = sym (not-waiting h (granted-active h granted)) ∙ waits in cc)
   | inr (inl stands) ↦ stands-early count slots extras lag delay now past t k h here stands
-  | inr (inr loose) ↦ absurd (let no : false ≡ true = sym none ∙ loose.0 in cc)
+  | inr (inr (inl freed)) ↦ absurd (let no : false ≡ true = sym none ∙ freed.0 in cc)
+  | inr (inr (inr (is, unasked))) ↦ absurd (reserved-inactive h is (granted-active h granted))
 ]
 
 force-key : (now : ℕ) (g : Grant) → IsInForce now g → with_expiry 0 g ≡ as_granted g
@@ -229,8 +230,8 @@ module _ (count slots extras : ℕ) (lag : Lag) (delay between : ℕ) (mid_past 
       stands : IsWell count slots extras lag delay between mid_past mid.transactions mid g → Stands count slots extras lag delay between mid_past mid.transactions mid g
       stands (inl (waits, pending)) = absurd (let no : false ≡ true = sym (not-waiting g (granted-active g granted)) ∙ waits in cc)
       stands (inr (inl is)) = is
-      stands (inr (inr (freed, inr (is, none)))) = absurd (reserved-inactive g is (granted-active g granted))
-      stands (inr (inr (freed, inl leased))) = elim counted [
+      stands (inr (inr (inr (is, none)))) = absurd (reserved-inactive g is (granted-active g granted))
+      stands (inr (inr (inl (freed, leased)))) = elim counted [
         | inl never ↦ absurd (let no : false ≡ true = sym never ∙ freed in cc)
         | inr fresh ↦ fresh-stands count slots extras lag delay between mid_past mid kept-mid g here granted leased fresh
       ]
@@ -256,8 +257,8 @@ module _ (count slots extras : ℕ) (lag : Lag) (delay between : ℕ) (mid_past 
       by : IsWell count slots extras lag delay between mid_past mid.transactions mid g → HasStill g last end
       by (inl (waiting, pending)) = follows ((kept-end (inr waits)).1.follow between g here waiting (pending-spared between mid_past mid.transactions mid.listed g g pending) end-spares)
       by (inr (inl stands)) = active (granted-active g stands.granted)
-      by (inr (inr (freed, inl leased))) = active (leased-active g leased)
-      by (inr (inr (freed, inr (is, none)))) = absurd (reserved-waits g is waits.0)
+      by (inr (inr (inl (freed, leased)))) = active (leased-active g leased)
+      by (inr (inr (inr (is, none)))) = absurd (reserved-waits g is waits.0)
 
 -- of the calls of the second part alone
 pub lasts-through : (count slots extras late delay now : ℕ) (s : State) (before after : List Call) → IsSteadyBehind count slots extras late delay now s

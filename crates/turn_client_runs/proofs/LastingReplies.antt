@@ -219,8 +219,8 @@ module _ (count slots extras : ℕ) (lag : Lag) (delay now : ℕ) (past : Histor
 
   -- what was let go is so still, and is requested no more
   loose-other : (t : State) → t.listed ≡ left p u → (g : Grant) → IsLoose past u g → IsLoose past t g
-  loose-other t ls g (freed, inl leased) = (freed, inl leased)
-  loose-other t ls g (freed, inr (is, none)) = (freed, inr (is, ap (λ (ls : List Listing). list_any (λ (l : Listing). is_for l.purpose g) ls) ls ∙ not-asked g none))
+  loose-other t ls g (inl freed) = inl freed
+  loose-other t ls g (inr (is, none)) = inr (is, ap (λ (ls : List Listing). list_any (λ (l : Listing). is_for l.purpose g) ls) ls ∙ not-asked g none)
 
   -- what was asked for since its refresh time is so, if at all
   known-other : (t : State) → t.config ≡ u.config → t.listed ≡ left p u → (g : Grant) → IsKnown now past u g → IsKnown now past t g
@@ -303,8 +303,8 @@ module _ (count slots extras : ℕ) (lag : Lag) (delay now : ℕ) (past : Histor
           by true f = elim (k.each g there) [
             | inl (waits, pending) ↦ or_left (is_waiting (with_expiry expiry g)) _ (ap is_waiting (with-waiting expiry g waits) ∙ waits)
             | inr (inl stands) ↦ serves-late g (granted-active g stands.granted) f
-            | inr (inr (freed, inl leased)) ↦ serves-late g (leased-active g leased) f
-            | inr (inr (freed, inr (is, none))) ↦ absurd (let no : false ≡ true = sym (reserved-unserved u since g is none) ∙ e in cc)
+            | inr (inr (inl (freed, leased))) ↦ serves-late g (leased-active g leased) f
+            | inr (inr (inr (is, none))) ↦ absurd (let no : false ≡ true = sym (reserved-unserved u since g is none) ∙ e in cc)
           ]
           by false f = serves-other count slots extras lag delay now past transactions u k p refreshing t refl refl since g f e
 
@@ -329,9 +329,9 @@ module _ (count slots extras : ℕ) (lag : Lag) (delay now : ℕ) (past : Histor
   unasked-renewed g there e = answered count slots extras lag delay now past transactions u k p refreshing g (with_expiry expiry g) there e (λ l was for. sym (with-for l.purpose expiry g) ∙ for)
 
   loose-renewed : (g : Grant) → IsLoose past u g → IsLoose past t (with_expiry expiry g)
-  loose-renewed g (freed, inl leased) = (let_go-with past expiry g ∙ freed, inl (with-leased expiry g leased))
-  loose-renewed g (freed, inr (is, none)) =
-      subst (IsLoose past t) (sym (with-reserved expiry g is)) (loose-other count slots extras lag delay now past transactions u k p refreshing t refl g (freed, inr (is, none)))
+  loose-renewed g (inl (freed, leased)) = inl (let_go-with past expiry g ∙ freed, with-leased expiry g leased)
+  loose-renewed g (inr (is, none)) =
+      subst (IsLoose past t) (sym (with-reserved expiry g is)) (loose-other count slots extras lag delay now past transactions u k p refreshing t refl g (inr (is, none)))
 
   renews-known : (g : Grant) → Has g u.grants → IsKnown now past t (renews p expiry g)
   renews-known g there = by (is_for p g) refl
@@ -470,7 +470,7 @@ module _ (count slots extras : ℕ) (lag : Lag) (delay now : ℕ) (past : Histor
           let minute = anew.minute in
           inl (stands-new count slots extras lag delay now past transactions u k p refreshing after refl refl refl new (kept-granted new anew.leased kept)
           (omega (arith, pace, minute)) anew.late new-unasked)
-      new-well false kept = inr (new-let_go kept, inl anew.leased)
+      new-well false kept = inr (inl (new-let_go kept, anew.leased))
 
   known-anew : (g : Grant) → Has g after.grants → IsKnown now past after g
   known-anew g h = elim (which g h) [
@@ -579,8 +579,8 @@ pub all-known : (count slots extras : ℕ) (lag : Lag) (delay now : ℕ) (past :
 all-known count slots extras lag delay now past transactions u k g there = elim (k.each g there) [
   | inl (waits, pending) ↦ inl waits
   | inr (inl stands) ↦ inr (inl (granted-active g stands.granted))
-  | inr (inr (freed, inl leased)) ↦ inr (inl (leased-active g leased))
-  | inr (inr (freed, inr reserved)) ↦ inr (inr reserved)
+  | inr (inr (inl (freed, leased))) ↦ inr (inl (leased-active g leased))
+  | inr (inr (inr reserved)) ↦ inr (inr reserved)
 ]
 
 module _ (count slots extras : ℕ) (lag : Lag) (delay now : ℕ) (past : History) (transactions : List Transaction) (u : State)

@@ -67,8 +67,9 @@ module _ (count slots extras : ℕ) (lag : Lag) (delay now : ℕ) (past : Histor
   well-spared h there = elim (k.each h there) [
     | inl (waits, pending) ↦ inl (waits, pending-spared now past s.transactions s.listed g h pending)
     | inr (inl stands) ↦ inr (inl (stands-spared h stands))
-    | inr (inr (freed, kind)) ↦ elim (others-spared g past h freed) [
-      | inl still ↦ inr (inr (still, kind))
+    | inr (inr (inr reserved)) ↦ inr (inr (inr reserved))
+    | inr (inr (inl (freed, leased))) ↦ elim (others-spared g past h freed) [
+      | inl still ↦ inr (inr (inl (still, leased)))
       | inr same ↦ subst (IsWell count slots extras lag delay now later s.transactions s) (sym (only h there same)) (by sure (k.each g here))
     ]
   ]
@@ -78,8 +79,8 @@ module _ (count slots extras : ℕ) (lag : Lag) (delay now : ℕ) (past : Histor
       by (inl stands) well = inr (inl (stands-spared g stands))
       by (inr waits) (inl (is, pending)) = inl (is, pending-spared now past s.transactions s.listed g g pending)
       by (inr waits) (inr (inl stands)) = inr (inl (stands-spared g stands))
-      by (inr waits) (inr (inr (freed, inl leased))) = absurd (let no : false ≡ true = sym (not-waiting g (leased-active g leased)) ∙ waits.0 in cc)
-      by (inr waits) (inr (inr (freed, inr (is, none)))) = absurd (reserved-waits g is waits.0)
+      by (inr waits) (inr (inr (inl (freed, leased)))) = absurd (let no : false ≡ true = sym (not-waiting g (leased-active g leased)) ∙ waits.0 in cc)
+      by (inr waits) (inr (inr (inr (is, none)))) = absurd (reserved-waits g is waits.0)
 
   known-spared : (h : Grant) → Has h s.grants → IsKnown now later s h
   known-spared h there = let (waits, due) = k.known h there in (

@@ -188,9 +188,9 @@ goes-more past xs ys u t e transactions listed = record {
   );
 }
 
--- It was let go, and may have been kept again, but too late. Or it is a channel that expired then, and is not requested.
+-- It was let go, and may have been kept again, but too late. Or it is a channel that is reserved, and is not requested.
 abbrev pub IsLoose : History → State → Grant → Type 0
-IsLoose past s g = (was_let_go past g ≡ true) × (IsLeased g ⊎ (IsReserved g × (has_request g s ≡ false)))
+IsLoose past s g = ((was_let_go past g ≡ true) × IsLeased g) ⊎ (IsReserved g × (has_request g s ≡ false))
 
 -- it is not granted yet, or will be refreshed in time, or was let go
 abbrev pub IsWell : ℕ → ℕ → ℕ → Lag → ℕ → ℕ → History → List Transaction → State → Grant → Type 0
@@ -488,7 +488,8 @@ pub allocation-stands : (count slots extras : ℕ) (lag : Lag) (delay now : ℕ)
 allocation-stands count slots extras lag delay now past transactions s k a there = elim (k.each (Allocation a) there) [
   | inl waits ↦ absurd (let no : false ≡ true = waits.0 in cc)
   | inr (inl stands) ↦ stands
-  | inr (inr loose) ↦ absurd (let no : false ≡ true = loose.0 in cc)
+  | inr (inr (inl freed)) ↦ absurd (let no : false ≡ true = freed.0 in cc)
+  | inr (inr (inr kept)) ↦ absurd kept.0
 ]
 
 pub unique-refreshing : (p : Purpose) → IsUnique p → IsRefreshing p

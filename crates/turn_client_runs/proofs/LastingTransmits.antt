@@ -214,8 +214,8 @@ module _ (count slots extras : ℕ) (lag : Lag) (delay now : ℕ) (past : Histor
 
   -- what is reserved is not asked for
   loose-sent : (g : Grant) → Has g s.grants → IsLoose past s g → IsLoose past t g
-  loose-sent g there (freed, inl leased) = (freed, inl leased)
-  loose-sent g there (freed, inr (is, none)) = (freed, inr (is, not-asked g none (by (is_for p g) refl)))
+  loose-sent g there (inl freed) = inl freed
+  loose-sent g there (inr (is, none)) = inr (is, not-asked g none (by (is_for p g) refl))
     where
       by : (b : Bool) → is_for p g ≡ b → is_for p g ≡ false
       by false e = e
@@ -419,8 +419,8 @@ transmit-kept count slots extras lag delay now past s k fresh none = rw (not_due
         elim (k.each next.grant next.there) [
           | inl waits ↦ absurd (due-granted now s next.grant waits.0 next.is_due)
           | inr (inl stands) ↦ sends empty p next (granted-active next.grant stands.granted)
-          | inr (inr (freed, inl leased)) ↦ sends empty p next (leased-active next.grant leased)
-          | inr (inr (freed, inr (is, none))) ↦ absurd (due-unreserved now s next.grant is next.is_due)
+          | inr (inr (inl (freed, leased))) ↦ sends empty p next (leased-active next.grant leased)
+          | inr (inr (inr (is, none))) ↦ absurd (due-unreserved now s next.grant is next.is_due)
         ]
 
     queued : (queue : List Queued) → s.queue ≡ queue → Keeps (queue_step now s)
