@@ -130,4 +130,4 @@ granted-behind count slots extras lag delay before past s (call ∷ calls) k gra
 pub granted-answered : GrantedAreAnswered
 granted-answered count slots extras late delay now s calls steady run =
     granted-behind count slots extras (first_lag late now s) delay now (no_history s) s calls (steady-kept count slots extras late delay now s steady)
-    (λ x h. absurd (subst (λ (xs : List Transaction). Has x xs) steady.steady.none_outstanding h)) run
+    (λ x h. absurd (subst (λ (xs : List Transaction). Has x xs) steady.none_outstanding h)) run

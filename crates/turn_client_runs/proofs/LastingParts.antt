@@ -5,9 +5,12 @@ use Rattle.turn_client_laws.proofs.Machine.{Transaction, State, is_kept, pause_e
 use Rattle.turn_client_laws.proofs.Machine.{family_of_grant, is_for, same_ip, next_transmit, PollTransmit, state_after, state_after_all, Call, Has, all-has, has-all, same_ip-true}
 use Rattle.turn_client_laws.proofs.Laws.{room-of, is_double, contains-has, has-contains}
 use Rattle.turn_client_runs.specs.LastingRuns.{LastsThrough}
-use Rattle.turn_client_runs.specs.Late.{HasRoomBehind, IsSteadyBehind, OnTimeIsLateByNone, RunsBehind, since_next}
+use Rattle.turn_client_runs.specs.Late.{HasRoomBehind, IsReady, IsReservedChannel, IsSteadyBehind, OnTimeIsLateByNone, RunsBehind, since_next}
 use Rattle.turn_client_runs.specs.Lasting.{with_expiry, IsRequested, RequestsSucceed, as_granted, GrantsLast, HasRoom, HasStill, IsInForce, IsSteady, IsFresh, RunsSteadily, ahead_of, expiry_of}
 use Rattle.turn_client_runs.specs.OnTime.{time_of, time_of_all}
+use Rattle.turn_client_laws.proofs.Laws.{IsReserved}
+use Rattle.turn_client_laws.proofs.Machine.{Reserved}
+use Rattle.turn_client_laws.proofs.Common.{All}
 use Rattle.turn_client_runs.specs.History.{History, IsKeptBy, no_history, was_let_go, with_call, with_calls}
 use Rattle.turn_client_runs.proofs.LastingStands.{due_of, early-paced, granted-active, leased-active, let_go-became, IsActive, Follows, IsWell, is_waiting, AreSingle, IsGranted, IsKept, IsUnique}
 use Rattle.turn_client_runs.proofs.LastingStands.{Lag, Stands, not-waiting, pause-le, pause-paced, stands-early, taken}
@@ -68,9 +71,13 @@ single-first (g ∷ gs) (apart, others) p unique = elim (cases_Bool (is_for p g)
 abbrev pub first_lag : ℕ → ℕ → State → Lag
 first_lag late now s = record { late = late; since = now; pace = s.config.request_cadence + late }
 
+reserved-is : (g : Grant) → IsReservedChannel g → IsReserved g
+reserved-is (Channel number peer (Reserved until)) h = tt
+reserved-is g h = grind arith
+
 pub steady-kept : (count slots extras late delay now : ℕ) (s : State) → IsSteadyBehind count slots extras late delay now s
     → IsKept count slots extras (first_lag late now s) delay now (no_history s) s.transactions s
-steady-kept count slots extras late delay now s begins = record {
+steady-kept count slots extras late delay now s is = record {
   phase = is.allocated;
   requests = rw is.none_queued refl;
   few = is.within.1;
@@ -78,7 +85,7 @@ steady-kept count slots extras late delay now s begins = record {
   paced = omega arith;
   begins = omega arith;
   behind = omega arith;
-  pace = begins.room_for_more;
+  pace = is.room_for_more;
   sent = is.sent_before;
   aged = λ x h. absurd (none-there x h);
   lone = λ x y h. absurd (none-there x h);
@@ -94,16 +101,20 @@ steady-kept count slots extras late delay now s begins = record {
   in_allocations = λ g there. room-of (family_of_grant g) s
       (has-all (λ g. is_some (Rattle.turn_client_api.specs.Grants.find_allocation (family_of_grant g) s) ≡ true) g s.grants is.in_allocations there);
   known = λ g there. (waits g there, λ leased asked. absurd (let no : false ≡ true = sym (unasked g s.listed is.none_listed) ∙ asked in cc));
-  each = λ g there. inr (inl (stands g there));
+  each = λ g there. elim (each g there) [
+    | inl reserved ↦ inr (inr (inr (reserved-is g reserved, unasked g s.listed is.none_listed)))
+    | inr ready ↦ inr (inl (stands g ready))
+  ];
 }
   where
-    is : IsSteady count slots extras delay now s
-    is = begins.steady
+    each : (g : Grant) → Has g s.grants → IsReservedChannel g ⊎ IsReady count slots extras late delay now s g
+    each g there = has-all (λ g. IsReservedChannel g ⊎ IsReady count slots extras late delay now s g) g s.grants is.grants there
 
     waits : (g : Grant) → Has g s.grants → is_waiting g ≡ true → (is_kept g || was_let_go (no_history s) g) ≡ true
-    waits g there w =
-        let granted = force-granted now g (has-all (IsInForce now) g s.grants is.in_force there) in
-        absurd (let no : false ≡ true = sym (not-waiting g (granted-active g granted)) ∙ w in cc)
+    waits g there w = elim (each g there) [
+      | inl reserved ↦ absurd (reserved-waits g (reserved-is g reserved) w)
+      | inr ready ↦ absurd (let no : false ≡ true = sym (not-waiting g (granted-active g (force-granted now g ready.in_force))) ∙ w in cc)
+    ]
 
     none-there : (x : Transaction) → Has x s.transactions → ⊥
     none-there x h = subst (λ (xs : List Transaction). Has x xs) is.none_outstanding h
@@ -114,12 +125,12 @@ steady-kept count slots extras late delay now s begins = record {
     none : length s.queue ≡ 0
     none = rw is.none_queued refl
 
-    stands : (g : Grant) → Has g s.grants → Stands count slots extras (first_lag late now s) delay now (no_history s) s.transactions s g
-    stands g there =
-        let early : now + ahead_of s.config.refresh_ahead g ≤ expiry_of g = has-all (λ g. now + ahead_of s.config.refresh_ahead g ≤ expiry_of g) g s.grants is.none_late there in
+    stands : (g : Grant) → IsReady count slots extras late delay now s g → Stands count slots extras (first_lag late now s) delay now (no_history s) s.transactions s g
+    stands g ready =
+        let early : now + ahead_of s.config.refresh_ahead g ≤ expiry_of g = ready.none_late in
         record {
-          granted = force-granted now g (has-all (IsInForce now) g s.grants is.in_force there);
-          room = has-all (λ g. HasRoomBehind count slots extras late s.config.request_cadence delay (ahead_of s.config.refresh_ahead g)) g s.grants begins.room there;
+          granted = force-granted now g ready.in_force;
+          room = ready.room;
           long = omega (arith, early);
           either = inr (record {
             unasked = unasked g s.listed is.none_listed;
@@ -273,14 +284,35 @@ lasts-through count slots extras late delay now s before after steady run g ther
 
 -- ---- a caller that is on time
 
-steady-behind : (count slots extras delay now : ℕ) (s : State) → IsSteady count slots extras delay now s → IsSteadyBehind count slots extras 0 delay now s
-steady-behind count slots extras delay now s is = record {
-  steady = is;
-  room = all-has (λ g. HasRoomBehind count slots extras 0 s.config.request_cadence delay (ahead_of s.config.refresh_ahead g)) s.grants (λ g h.
-      same (count + slots + extras) s.config.request_cadence (ahead_of s.config.refresh_ahead g)
-      (has-all (λ g. HasRoom count slots extras s.config.request_cadence delay (ahead_of s.config.refresh_ahead g)) g s.grants is.room h));
-  room_for_more = same (count + slots + extras) s.config.request_cadence (min s.config.refresh_ahead 150_000_000_000) is.room_for_more;
+-- with room for a caller that is so late
+pub behind-of : (count slots extras late delay now : ℕ) (s : State) → IsSteady count slots extras delay now s
+    → All (λ g. HasRoomBehind count slots extras late s.config.request_cadence delay (ahead_of s.config.refresh_ahead g)) s.grants
+    → HasRoomBehind count slots extras late s.config.request_cadence delay (min s.config.refresh_ahead 150_000_000_000) → IsSteadyBehind count slots extras late delay now s
+behind-of count slots extras late delay now s is room more = record {
+  allocated = is.allocated;
+  none_queued = is.none_queued;
+  none_outstanding = is.none_outstanding;
+  none_listed = is.none_listed;
+  sent_before = is.sent_before;
+  grants = all-has (λ g. IsReservedChannel g ⊎ IsReady count slots extras late delay now s g) s.grants (λ g h. inr (record {
+    in_force = has-all (IsInForce now) g s.grants is.in_force h;
+    none_late = has-all (λ g. now + ahead_of s.config.refresh_ahead g ≤ expiry_of g) g s.grants is.none_late h;
+    room = has-all (λ g. HasRoomBehind count slots extras late s.config.request_cadence delay (ahead_of s.config.refresh_ahead g)) g s.grants room h;
+  }));
+  room_for_more = more;
+  within = is.within;
+  distinct = is.distinct;
+  in_allocations = is.in_allocations;
+  prompt = is.prompt;
+  in_range = is.in_range;
 }
+
+steady-behind : (count slots extras delay now : ℕ) (s : State) → IsSteady count slots extras delay now s → IsSteadyBehind count slots extras 0 delay now s
+steady-behind count slots extras delay now s is = behind-of count slots extras 0 delay now s is
+    (all-has (λ g. HasRoomBehind count slots extras 0 s.config.request_cadence delay (ahead_of s.config.refresh_ahead g)) s.grants (λ g h.
+    same (count + slots + extras) s.config.request_cadence (ahead_of s.config.refresh_ahead g)
+    (has-all (λ g. HasRoom count slots extras s.config.request_cadence delay (ahead_of s.config.refresh_ahead g)) g s.grants is.room h)))
+    (same (count + slots + extras) s.config.request_cadence (min s.config.refresh_ahead 150_000_000_000) is.room_for_more)
   where
     same : (n cadence ahead : ℕ) → n * cadence + delay < ahead → n * (cadence + 0) + delay + 0 < ahead
     same n cadence ahead h = omega (arith, h)

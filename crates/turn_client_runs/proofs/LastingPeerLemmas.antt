@@ -8,6 +8,7 @@ use Rattle.turn_client_runs.specs.History.{no_history, was_let_go}
 use Rattle.turn_client_runs.specs.Lasting.{HasRoom, IsInForce, IsSteady, ahead_of, expiry_of}
 use Rattle.turn_client_runs.specs.LastingPeers.{HasRoomAt5Ms, HaveOwnIps, PeersLast, grants_for, with_peers, HasRoomLateAt5Ms}
 use Rattle.turn_client_runs.specs.Late.{HasRoomBehind, IsSteadyBehind}
+use Rattle.turn_client_runs.proofs.LastingParts.{behind-of}
 use Rattle.turn_client_runs.proofs.LastingSeen.{grants-last-behind}
 use Rattle.turn_client_runs.proofs.LastingParts.{grants-last}
 
@@ -122,11 +123,9 @@ module _ (peers : List SocketAddr) (s : State) (many : length peers ≡ 4096) (o
   }
 
   begins-late : IsSteadyBehind 8193 100 1000 900_000 5_000_000_000 0 t
-  begins-late = record {
-    steady = begins;
-    room = all-of (λ g. HasRoomBehind 8193 100 1000 900_000 5_000_000 5_000_000_000 (ahead_of 60_000_000_000 g)) 0x4000 peers (omega arith) (λ n peer there. omega arith) (λ peer there. omega arith);
-    room_for_more = omega arith;
-  }
+  begins-late = behind-of 8193 100 1000 900_000 5_000_000_000 0 t begins
+      (all-of (λ g. HasRoomBehind 8193 100 1000 900_000 5_000_000 5_000_000_000 (ahead_of 60_000_000_000 g)) 0x4000 peers (omega arith) (λ n peer there. omega arith) (λ peer there. omega arith))
+      (omega arith)
 
   in-force : (g : Grant) → Has g t.grants → IsInForce 0 g
   in-force g there = has-all (IsInForce 0) g t.grants begins.in_force there

@@ -11,7 +11,7 @@ use Rattle.turn_client_api.specs.declared.poll.TurnPollRet.TheVariants.{WaitUnti
 use Rattle.turn_client_runs.specs.Lasting.{HasRoom, IsInForce, IsSteady, IsSuccess, HoldsAtMost, RunsSteadily, ahead_of, expiry_of}
 use Rattle.turn_client_runs.specs.Late.{HasRoomBehind, IsSteadyBehind, RunsBehind}
 use Rattle.turn_client_runs.specs.LateRows.{LateRelayStaysUp, late_calls}
-use Rattle.turn_client_runs.proofs.LastingParts.{runs-behind}
+use Rattle.turn_client_runs.proofs.LastingParts.{behind-of, runs-behind}
 use Rattle.turn_client_laws.proofs.Common.{is_some, max}
 use Rattle.turn_client_laws.proofs.Machine.{next_transmit}
 use Rattle.turn_client_runs.specs.LastingRows.{RelayStaysUp, with_allocation, calls_of_700_s, granted_call, refreshed_grants, served}
@@ -634,11 +634,8 @@ module _ (s : State) (some : IsSome s.held) where
   }
 
   late-steady : IsSteadyBehind 3 1 0 5_000_000 delay 1_100_000_000 late1
-  late-steady = record {
-    steady = late-begins;
-    room = all-three (λ g. HasRoomBehind 3 1 0 5_000_000 50_000_000 delay (ahead_of 60_000_000_000 g)) _ _ _ (omega arith) (omega arith) (omega arith);
-    room_for_more = omega arith;
-  }
+  late-steady = behind-of 3 1 0 5_000_000 delay 1_100_000_000 late1 late-begins
+      (all-three (λ g. HasRoomBehind 3 1 0 5_000_000 50_000_000 delay (ahead_of 60_000_000_000 g)) _ _ _ (omega arith) (omega arith) (omega arith)) (omega arith)
 
   abbrev late_past : History
   late_past = with_call (PollTransmit 241_105_000_000) 241_105_000_000 late1 (no_history late1)

@@ -1,5 +1,5 @@
 -- No grant is lost either if the caller takes packets late, as long as it is late by little.
-use Rattle.std.specs.Prelude.{◌≡◌, ◌⊎◌, ℕ, ◌+◌, ◌*◌, ◌==◌, ◌^◌, ◌<◌, ◌≤◌, max, min, true, false, List, [], ◌∷◌, None, All, is_some, if◌then◌else◌, ⊤}
+use Rattle.std.specs.Prelude.{◌≡◌, ◌⊎◌, ℕ, ◌+◌, ◌*◌, ◌==◌, ◌^◌, ◌<◌, ◌≤◌, max, min, true, false, List, [], ◌∷◌, None, All, is_some, if◌then◌else◌, IfSome, ⊤}
 use Rattle.std.specs.List.{AllByRecursion, Contains}
 use Rattle.turn_stun.specs.Message.{id_of}
 use Rattle.turn_stun.specs.declared.message.header.MessageClass.TheVariants.{Error, Indication, Request, Success}
@@ -18,8 +18,15 @@ use Rattle.turn_client_api.specs.Steps.{state_after}
 use Rattle.turn_client_api.specs.Transmit.{next_transmit}
 use Rattle.turn_client_api.specs.declared.call.Call.{Call}
 use Rattle.turn_client_api.specs.declared.call.Call.TheVariants.{PollRecv, PollTransmit, Recv}
-use Rattle.turn_client_runs.specs.History.{History, IsSeldom, no_history, with_call}
-use Rattle.turn_client_runs.specs.Lasting.{Answers, HoldsAtMost, IsQuiet, IsSteady, IsSuccess, RunsSteadily, ahead_of}
+use Rattle.turn_client_runs.specs.History.{History, IsSeldom, all_waits, no_history, with_call}
+use Rattle.turn_client_api.specs.Alarm.{AllHaveAllocation}
+use Rattle.turn_client_api.specs.Config.{timers_of}
+use Rattle.turn_client_api.specs.declared.grant.Grant.{Grant}
+use Rattle.turn_client_api.specs.declared.grant.Grant.TheVariants.{Channel}
+use Rattle.turn_client_api.specs.declared.grant.Progress.TheVariants.{Reserved}
+use Rattle.turn_client_api.specs.declared.state.Phase.TheVariants.{Allocated}
+use Rattle.turn_client_laws.specs.LawsDoubles.{HasNoDoubles}
+use Rattle.turn_client_runs.specs.Lasting.{Answers, HoldsAtMost, IsInForce, IsQuiet, IsSteady, IsSuccess, RunsSteadily, ahead_of, expiry_of}
 use Rattle.turn_client_runs.specs.OnTime.{time_of}
 
 -- ---- where it begins
@@ -28,11 +35,31 @@ use Rattle.turn_client_runs.specs.OnTime.{time_of}
 abbrev pub HasRoomBehind : ℕ → ℕ → ℕ → ℕ → ℕ → ℕ → ℕ → Type 0
 HasRoomBehind count slots extras late cadence delay ahead = (count + slots + extras) * (cadence + late) + delay + late < ahead
 
--- as `IsSteady`, with room for a caller that is so late
+-- a channel that expired, whose number and peer are reserved
+abbrev pub IsReservedChannel : Grant → Type 0
+IsReservedChannel (Channel number peer (Reserved until)) = ⊤
+IsReservedChannel _ = ⊥
+
+-- the grant is in force, its refresh is not late, and there is room for all before it expires
+pub record IsReady (count slots extras late delay now : ℕ) (s : State) (g : Grant) : Type 0 where
+  pub in_force : IsInForce now g
+  pub none_late : now + ahead_of s.config.refresh_ahead g ≤ expiry_of g
+  pub room : HasRoomBehind count slots extras late s.config.request_cadence delay (ahead_of s.config.refresh_ahead g)
+
+-- As `IsSteady`, with room for a caller that is so late. Some channels may be reserved.
 pub record IsSteadyBehind (count slots extras late delay now : ℕ) (s : State) : Type 0 where
-  pub steady : IsSteady count slots extras delay now s
-  pub room : All (λ g. HasRoomBehind count slots extras late s.config.request_cadence delay (ahead_of s.config.refresh_ahead g)) s.grants
+  pub allocated : s.phase ≡ Allocated
+  pub none_queued : s.queue ≡ []
+  pub none_outstanding : s.transactions ≡ []
+  pub none_listed : s.listed ≡ []
+  pub sent_before : IfSome s.last_send (λ time. time ≤ now)
+  pub grants : All (λ g. IsReservedChannel g ⊎ IsReady count slots extras late delay now s g) s.grants
   pub room_for_more : HasRoomBehind count slots extras late s.config.request_cadence delay (min s.config.refresh_ahead (seconds 150))
+  pub within : HoldsAtMost count slots s
+  pub distinct : HasNoDoubles s
+  pub in_allocations : AllHaveAllocation s
+  pub prompt : delay < all_waits (timers_of s.config) s.transport
+  pub in_range : now ≤ 2 ^ 62
 
 -- ---- the caller
 

@@ -32,12 +32,12 @@ ghost use Rattle.turn_client_runs.specs.Lasting.{DatagramsAreMessages, GrantsLas
 ///
 /// `behind` says the same of a caller that is late: what can be sent may wait for it for `late`, from the time at which it
 /// could first be sent, or at which the packet before it was taken. Each packet then needs `cadence + late`, and the last one
-/// leaves so much later: `(count + slots + extras) * (cadence + late) + delay + late` is less than that time. A stream may be
-/// cut anywhere, and a piece may complete any number of messages, each a success, or noise by its bytes. It says in
-/// addition that a permission or a channel which `create_permission` or `bind_channel` accepted is in force once the delay is
-/// over, and that no `poll` returns that a client with an allocation has ended. A caller that is on time is one that is
-/// late by nothing (`on_time`). Of the server it is enough to assume that a success for each request comes within the delay,
-/// whatever the client makes of it (`granted`).
+/// leaves so much later: `(count + slots + extras) * (cadence + late) + delay + late` is less than that time. Channels may be
+/// reserved where it begins. A stream may be cut anywhere, and a piece may complete any number of messages, each a success, or
+/// noise by its bytes. It says in addition that a permission or a channel which `create_permission` or `bind_channel`
+/// accepted is in force once the delay is over, and that no `poll` returns that a client with an allocation has ended. A
+/// caller that is on time is one that is late by nothing (`on_time`). Of the server it is enough to assume that a success for
+/// each request comes within the delay, whatever the client makes of it (`granted`).
 ///
 /// It does not speak of errors, of `delete`, of data connections, or of memory allocations that fail. The other clauses are
 /// what makes it speak of the server alone: a success ends its request, and a datagram of the server is processed as one
