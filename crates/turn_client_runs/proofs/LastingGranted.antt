@@ -3,7 +3,7 @@ use Rattle.turn_client_laws.proofs.Common.{◌≡◌, ◌⊎◌, ℕ, ◌+◌, �
 use Rattle.turn_client_laws.proofs.Machine.{id_of, is_outstanding, is_outstanding-without, Transaction, transaction_ended, State, Call, PollRecv, Recv, state_after, Has, has-filter, all-has}
 use Rattle.turn_client_laws.proofs.Laws.{DiffersInStreams, Input, InputsLead, TakesInput, any-has, calls-do, handled, has-any, has-contains, processed}
 use Rattle.turn_client_runs.specs.History.{History, no_history, with_call}
-use Rattle.turn_client_runs.specs.Late.{AreAnswered, AreGranted, GrantedAreAnswered, IsGrantedAmong, IsGrantedBy, IsGrantedIn, IsGranting, IsMild, RunsBehind, RunsGranted, since_next}
+use Rattle.turn_client_runs.specs.Late.{AreAnswered, AreGranted, GrantedAreAnswered, IsChallengedIn, IsGrantedAmong, IsGrantedBy, IsGrantedIn, IsGranting, IsMild, RunsBehind, RunsGranted, since_next}
 use Rattle.turn_client_runs.specs.OnTime.{time_of}
 use Rattle.turn_client_runs.proofs.ComingLemmas.{inputs-come}
 use Rattle.turn_client_runs.proofs.LastingHistory.{call-goes_on}
@@ -79,6 +79,10 @@ module _ (count slots extras : ℕ) (lag : Lag) (delay now : ℕ) (past : Histor
 
 -- ---- the run
 
+challenged-ends : (id : ℕ) (c : Call) (s : State) → IsChallengedIn id c s → is_outstanding id (state_after c s).transactions ≡ false
+challenged-ends id (Recv packet now) s is = is.3
+challenged-ends id c s none = absurd none
+
 -- a request that is outstanding after the call was so before it, and has no success in it, or the call made it
 next-granted : (count slots extras : ℕ) (lag : Lag) (delay before : ℕ) (past : History) (s : State) (call : Call) (calls : List Call) → IsKept count slots extras lag delay (time_of before call) past s.transactions s
     → ((x : Transaction) → Has x s.transactions → IsGrantedBy x.id (past.made x.id + delay) before s (call ∷ calls))
@@ -93,13 +97,16 @@ next-granted count slots extras lag delay before past s call calls k granted new
     Goal : ℕ → Type 0
     Goal id = IsGrantedBy id ((with_call call (time_of before call) s past).made id + delay) (time_of before call) (state_after call s) calls
 
-    rest : (y : Transaction) → Has y s.transactions → y.id ≡ x.id
-        → IsGrantedIn y.id call s ⊎ IsGrantedBy y.id (past.made y.id + delay) (time_of before call) (state_after call s) calls → Goal x.id
-    rest y there same (inl done) =
-        let gone = ends-in count slots extras lag delay (time_of before call) past y.id before call s refl k done in
+    over : (y : Transaction) → y.id ≡ x.id → is_outstanding y.id (state_after call s).transactions ≡ false → Goal x.id
+    over y same gone =
         let still = has-any (λ (z : Transaction). eqb z.id y.id) x (state_after call s).transactions h (eq-eqb x.id y.id (sym same)) in
         absurd (let no : false ≡ true = sym gone ∙ still in cc)
-    rest y there same (inr later) =
+
+    rest : (y : Transaction) → Has y s.transactions → y.id ≡ x.id
+        → IsGrantedIn y.id call s ⊎ (IsChallengedIn y.id call s ⊎ IsGrantedBy y.id (past.made y.id + delay) (time_of before call) (state_after call s) calls) → Goal x.id
+    rest y there same (inl done) = over y same (ends-in count slots extras lag delay (time_of before call) past y.id before call s refl k done)
+    rest y there same (inr (inl again)) = over y same (challenged-ends y.id call s again)
+    rest y there same (inr (inr later)) =
         subst Goal same (subst (λ (made : ℕ). IsGrantedBy y.id (made + delay) (time_of before call) (state_after call s) calls) (sym ((call-goes_on call (time_of before call) past s).same y there)) later)
 
     by : (b : Bool) → is_outstanding x.id s.transactions ≡ b → Goal x.id

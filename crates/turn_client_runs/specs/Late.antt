@@ -1,5 +1,5 @@
 -- No grant is lost either if the caller takes packets late, as long as it is late by little.
-use Rattle.std.specs.Prelude.{◌≡◌, ◌⊎◌, ℕ, ◌+◌, ◌*◌, ◌==◌, ◌^◌, ◌<◌, ◌≤◌, max, min, true, false, List, [], ◌∷◌, None, All, is_some, if◌then◌else◌, IfSome, ⊤}
+use Rattle.std.specs.Prelude.{◌≡◌, ◌⊎◌, ℕ, ◌+◌, ◌*◌, ◌==◌, ◌^◌, ◌<◌, ◌≤◌, max, min, true, false, List, [], ◌∷◌, None, All, is_some, if◌then◌else◌, IfSome, IsSome, ⊤}
 use Rattle.std.specs.List.{AllByRecursion, Contains}
 use Rattle.turn_stun.specs.Message.{id_of}
 use Rattle.turn_stun.specs.declared.message.header.MessageClass.TheVariants.{Error, Indication, Request, Success}
@@ -151,13 +151,22 @@ IsGrantedIn id (Recv packet now) s =
 IsGrantedIn id (PollRecv now) s = AllByRecursion IsMild (handled (PollRecv now) s) × IsGrantedAmong id (handled (PollRecv now) s)
 IsGrantedIn id call s = ⊥
 
--- a success for it comes by then, unless the run ends before
+-- the call brings a challenge for it, by which it is made again under another ID, and is outstanding under this one no more
+abbrev pub IsChallengedIn : ℕ → Call → State → Type 0
+IsChallengedIn id (Recv packet now) s =
+    (class_in packet.payload ≡ Error) × IsSome (challenge_in s packet.payload) × (id_of packet.payload ≡ id)
+    × (is_outstanding id (state_after (Recv packet now) s).transactions ≡ false)
+IsChallengedIn id call s = ⊥
+
+-- a success for it comes by then, or a challenge, unless the run ends before
 abbrev pub IsGrantedBy : ℕ → ℕ → ℕ → State → List Call → Type 0
 IsGrantedBy id deadline before s [] = ⊤
 IsGrantedBy id deadline before s (call ∷ calls) =
-    (time_of before call ≤ deadline) × (IsGrantedIn id call s ⊎ IsGrantedBy id deadline (time_of before call) (state_after call s) calls)
+    (time_of before call ≤ deadline)
+    × (IsGrantedIn id call s ⊎ (IsChallengedIn id call s ⊎ IsGrantedBy id deadline (time_of before call) (state_after call s) calls))
 
--- A success for each request that the call makes comes within the delay, also if it is one that is made again.
+-- A success for each request that the call makes comes within the delay, or a challenge does, and then the request that is made
+-- again has its success within the same delay.
 abbrev pub AreGranted : ℕ → Call → ℕ → History → State → List Call → Type 0
 AreGranted delay call now later s calls =
     (x : Transaction) → Contains (state_after call s).transactions x → is_outstanding x.id s.transactions ≡ false
