@@ -4,12 +4,14 @@ from __future__ import annotations
 import base64
 import hashlib
 import hmac
+import inspect
 import time
 from typing import Awaitable, Callable, NamedTuple, Optional, Tuple, TypeVar, Union
 
 from .settings import credential
 
-__all__ = ["Credentials", "CredentialsLike", "Text", "ask", "check_source", "one_source", "rest_credentials"]
+__all__ = ["Credentials", "CredentialsLike", "Text", "ask", "asked", "check_source", "checked_pair", "one_source",
+           "rest_credentials"]
 
 Text = Union[str, bytes]
 _Source = TypeVar("_Source")
@@ -25,7 +27,7 @@ class Credentials(NamedTuple):
         return f"Credentials(user={self.user!r}, password=..)"
 
 
-CredentialsLike = Union[Tuple[Text, Text], Callable[[], Awaitable[Tuple[Text, Text]]]]
+CredentialsLike = Union[Tuple[Text, Text], Callable[[], Union[Tuple[Text, Text], Awaitable[Tuple[Text, Text]]]]]
 
 
 def rest_credentials(secret: Text, user: str = "", ttl: float = 86_400) -> Credentials:
@@ -45,13 +47,25 @@ def rest_credentials(secret: Text, user: str = "", ttl: float = 86_400) -> Crede
 
 
 def check_source(source: object) -> None:
-    """`TypeError` where this is neither a pair of texts nor a function."""
-    if callable(source):
+    """`TypeError` where this is neither a pair of texts nor a function without arguments."""
+    if not callable(source):
+        checked_pair(source)
         return
-    if not isinstance(source, tuple) or len(source) != 2:
-        raise TypeError("credentials is a user and a password, or an async function that returns them")
-    for name, value in zip(("user", "password"), source):
+    try:
+        inspect.signature(source).bind()
+    except ValueError:
+        pass  # A function that is not written in Python may not say what its arguments are.
+    except TypeError as error:
+        raise TypeError(f"credentials is called without arguments: {error}") from None
+
+
+def checked_pair(found: object) -> Credentials:
+    """User and password, as a source has given them. `TypeError` where it is no pair of texts."""
+    if not isinstance(found, tuple) or len(found) != 2:
+        raise TypeError("credentials is a user and a password, or a function, async or not, that returns them")
+    for name, value in zip(("user", "password"), found):
         credential(name, value)
+    return Credentials(*found)
 
 
 def one_source(user: Optional[Text], password: Optional[Text], credentials: Optional[_Source]) -> Union[Tuple[Text, Text], _Source]:
@@ -67,8 +81,12 @@ def one_source(user: Optional[Text], password: Optional[Text], credentials: Opti
     return user, password
 
 
+async def asked(source: CredentialsLike) -> object:
+    """What a source gives, which is called where it is a function, async or not. What that raises is passed on."""
+    found = source() if callable(source) else source
+    return await found if inspect.isawaitable(found) else found
+
+
 async def ask(source: CredentialsLike) -> Credentials:
-    """The credentials of a source, which is asked where it is a function. What that raises is passed on."""
-    found = await source() if callable(source) else source
-    check_source(found)
-    return Credentials(*found)
+    """The credentials of a source. `TypeError` where it gives something else."""
+    return checked_pair(await asked(source))

@@ -47,6 +47,8 @@ class Lifetime:
         self._server, self._inbox, self._redirects = server, inbox, Redirects(redirects)
         self._phase: Union[NotOpened, Connecting, Failed, Session] = NotOpened()
         self._rest: Optional[asyncio.Future[None]] = None
+        # How often a server has shown that it is there: by a connection, or else by an answer.
+        self._signs = 0
 
     def _session_over(self, link: Link) -> Session:
         """A new session over this link."""
@@ -129,6 +131,7 @@ class Lifetime:
             try:
                 if not link.is_stream:  # A stream has answered when it was connected.
                     await session.heard()
+                self._signs += 1
             except BaseException:
                 await _discard(session)
                 raise

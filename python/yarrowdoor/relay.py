@@ -40,8 +40,9 @@ class Relay(Told):
 
     When its client ends for a reason that a new one may mend (nothing answers, the server was restarted or no longer knows the
     address, this host has another address, a stream broke), another one is tried: at once, and then after the waits of `backoff`,
-    each for under four seconds. It asks for the same permissions and channels, and then the relay is up. `on_state` is called with
-    each change, `Up` or `Down`, and `states` gives them. Peers have to be told the new address: `Up.is_new` says so.
+    each until the server is silent for four seconds. The waits begin anew after a relay that was up for a minute. It asks for the
+    same permissions and channels, and then the relay is up. `on_state` is called with each change, `Up` or `Down`, and `states`
+    gives them. Peers have to be told the new address: `Up.is_new` says so.
 
     Meanwhile `sendto` drops data, which `unsent` counts. So does `send`, or with `waits=True` it waits until the relay is up.
     Requests wait. `lost` and `on_lost` tell what the server did not grant again. `credentials` is as for a `TurnClient`, and asked

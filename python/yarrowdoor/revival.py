@@ -9,7 +9,7 @@ from .errors import ChannelFailed, Ended, PermissionFailed, Refused, WrongCreden
 from .inbox import Inbox
 from .notices import Lost, Notices
 from .states import Down, State, States, Up
-from .tries import Tries, Watched
+from .tries import HELD, Tries, Watched
 from .vigil import UNSURE, Vigil
 
 __all__ = ["Revival"]
@@ -78,6 +78,7 @@ class Revival:
 
     async def _serve(self, client: Watched) -> Exception:
         """Has a client until it ends, and says why."""
+        loop, since = asyncio.get_running_loop(), None  # type: asyncio.AbstractEventLoop, Optional[float]
         vigil = self._vigil = Vigil(client, self._probe)
         gone, restoring = asyncio.ensure_future(vigil.until_gone()), asyncio.ensure_future(self._restore(client, vigil))
         client.on_lost = lambda lost: self._lost(client, vigil, lost)
@@ -89,9 +90,12 @@ class Revival:
                 restoring.result()
                 self.client = client
                 self._tries.failures.clear()
+                since = loop.time()
                 self._set(Up(client.address, self._states.address))
             return await gone
         finally:
+            if since is not None and loop.time() - since >= HELD:
+                self._tries.renew()
             for task in (gone, restoring):
                 task.cancel()
 

@@ -8,22 +8,27 @@ from typing import Callable, List, Optional, Tuple, Type
 from .asked import About
 from .backoff import Backoff
 from .counters import Counters
-from .credentials import Credentials, CredentialsLike, ask
+from .credentials import Credentials, CredentialsLike, asked, checked_pair
 from .errors import AllocationFailed, LibraryError, WrongCredentials, because
 from .journal import Watcher
 from .link import Link
 from .session import Session
 from .settings import Times
 from .turn import TurnClient
+from .within import within
 
-__all__ = ["Failures", "TIMES", "Tries", "Watched"]
+__all__ = ["Failures", "HELD", "TIMES", "Tries", "Watched"]
 
 _log = logging.getLogger("yarrowdoor")
 
-# How long a request waits, and a whole try, so that one that begins while the network is away is soon over. In seconds, a request
-# is sent after 0, 0.5, 1, 1.5, 2 and 2.5, and fails after 3.
+# How long a request waits, and a try for the first sign of the server, and then for the relayed address, so that one that begins
+# while the network is away is soon over, and one over a slow path is not given up. In seconds, a request is sent after 0, 0.5, 1,
+# 1.5, 2 and 2.5, and fails after 3.
 TIMES = Times(initial=500_000_000, longest=500_000_000, last=500_000_000, count=6)
 TRY = 3.9
+# So long a relay has to be up that the next try is made at once, and the waits begin anew, in seconds. One that breaks sooner is
+# one more failure: a server may grant addresses that last for no time.
+HELD = 60.0
 # How long the function that has the credentials may take, in seconds.
 ASKING = 30.0
 # The least time between the end of a try and the next one, in seconds.
@@ -54,6 +59,11 @@ class Watched(TurnClient):
     def heard(self) -> int:
         """How much has come from the server. `Ended` where the client has ended."""
         return self._session().count
+
+    @property
+    def signs(self) -> int:
+        """How often a server has shown that it is there, while the client is opened."""
+        return self._signs
 
     def watch(self, watcher: Optional[Watcher]) -> None:
         """Has each answer of the server told."""
@@ -90,31 +100,37 @@ class Tries:
 
     def __init__(self, make: Callable[[Credentials], Watched], source: CredentialsLike, backoff: Backoff) -> None:
         self._make, self._source, self._backoff = make, source, backoff
+        self._waits = backoff.waits()
+        # When the next try may begin, as a time of the event loop.
+        self._due = 0.0
         self.failures = Failures()
+
+    def renew(self) -> None:
+        """The relay was up for `HELD` seconds."""
+        self._due, self._waits = 0.0, self._backoff.waits()
 
     async def client(self, tell: Callable[[Exception], None], leave: Callable[[Watched], None]) -> Watched:
         """A client that is open. Raises what no other try would mend; of all else it tells, and tries again. `leave` closes the
         clients that are not opened in time."""
-        loop, waits = asyncio.get_running_loop(), self._backoff.waits()
+        loop = asyncio.get_running_loop()
         while True:
-            began = loop.time()
+            if self._due > loop.time():
+                await asyncio.sleep(self._due - loop.time())
+            self._due = loop.time() + next(self._waits)
             try:
                 return await self._try(leave)
             except Exception as error:
                 if self.failures.is_final(error):
                     raise
                 tell(error.with_traceback(None))  # which names this frame: who clears what it names would end this loop
-                wait = max(next(waits) - (loop.time() - began), REST)
-                _log.warning("no relayed address: %s. The next try is in %.1f s", error, wait)
-            await asyncio.sleep(wait)
+                self._due = max(self._due, loop.time() + REST)
+                _log.warning("no relayed address: %s. The next try is in %.1f s", error, self._due - loop.time())
 
     async def _try(self, leave: Callable[[Watched], None]) -> Watched:
         client = self._make(await self._ask())
         opening = asyncio.ensure_future(client.open())
         try:
-            await asyncio.wait([opening], timeout=TRY)
-            if not opening.done():
-                raise AllocationFailed(f"no relayed address from {client.uri} in {TRY} s")
+            await self._opened(client, opening)
             opening.result()
             return client
         except BaseException:
@@ -122,10 +138,22 @@ class Tries:
             leave(client)
             raise
 
+    async def _opened(self, client: Watched, opening: asyncio.Future[None]) -> None:
+        """Waits while the server shows within `TRY` seconds each that it is there."""
+        loop, seen = asyncio.get_running_loop(), -1
+        began = loop.time()
+        while not opening.done():
+            if client.signs == seen:
+                raise AllocationFailed(f"no relayed address from {client.uri} in {loop.time() - began:.1f} s")
+            seen = client.signs
+            await asyncio.wait([opening], timeout=TRY)
+
     async def _ask(self) -> Credentials:
-        """The credentials. What their function raises is no error of ours: it may ask a server that is away, too."""
+        """The credentials. What their function raises is no error of ours: it may ask a server that is away, too. What it returns
+        is: a `TypeError`, which is final."""
         try:
-            return await asyncio.wait_for(ask(self._source), ASKING)
+            found = await within(asked(self._source), ASKING)
         except Exception as error:
             why = f"{ASKING:.0f} s" if isinstance(error, asyncio.TimeoutError) else f"{type(error).__name__}: {error}"
             raise because(AllocationFailed(f"no credentials: {why}"), error)
+        return checked_pair(found)

@@ -48,7 +48,7 @@ class TurnClient(Told, Lifetime):
     seconds before they expire. `anonymous` hides the user name (RFC 8489, section 14.4): `"required"` always, `"disabled"` never,
     and `"auto"` never so far. `max_stale_nonces` is how many challenges in a row are answered. It should be greater than the
     number of permissions and channels: their refreshes may all be challenged at once, and that of the relayed address too. In
-    place of user and password `credentials` is both, or an async function that returns both: it is asked when the client is
+    place of user and password `credentials` is both, or a function that returns both, async or not: it is called when the client is
     opened. A peer that was neither sent to nor heard from for `idle` seconds is released, and kept again when it is; by default
     none is. Where the server names another one (RFC 8489, section 10), that one is asked in its place, up to `redirects` times,
     over TLS with a certificate for the name in `uri`. Nobody has signed that answer: anyone who sees the first request may send

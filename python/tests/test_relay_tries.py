@@ -1,0 +1,147 @@
+"""How often a relay that comes back tries, how long a try may take, and who is asked for credentials."""
+import asyncio
+import functools
+import itertools
+import unittest
+from typing import Any, Callable, Dict, Iterator, List, Tuple
+
+from yarrowdoor import Backoff, Relay, Times, TurnClient, rest_credentials
+from yarrowdoor.tries import HELD
+
+from .leaps import LoopClock, run
+from .network import Endpoint, StreamEndpoint
+from .server import ALLOCATE, Server, Where
+from .test_relay import PEER, Case, Restarting
+
+
+class Breaking(StreamEndpoint):
+    """A server that breaks each connection some time after its grant."""
+
+    lasts: Callable[[], float]
+
+    def send(self, packets: List[Tuple[bytes, Where]], client: Where) -> None:
+        super().send(packets, client)
+        if any(data[:2] == (ALLOCATE | 0x0100).to_bytes(2, "big") for data, _ in packets):
+            asyncio.get_running_loop().call_later(self.lasts(), self.writer.close)
+
+
+class Late(Endpoint):
+    """A server whose answers come late, in seconds."""
+
+    delay = 2.0
+
+    def datagram_received(self, data: bytes, source: Where) -> None:
+        asyncio.get_running_loop().call_later(self.delay, self.answer, data, source)
+
+    def answer(self, data: bytes, source: Where) -> None:
+        if not self.transport.is_closing():
+            super().datagram_received(data, source)
+
+
+class Granting(Restarting):
+    """A server that notes when it is asked."""
+
+    def __init__(self) -> None:
+        super().__init__()
+        self.times: List[float] = []
+
+    def allocate(self, message: Any, source: Where, allocation: Any, now: float) -> bytes:
+        self.times.append(now)
+        self.allocations.clear()
+        return super().allocate(message, source, allocation, now)
+
+
+class Tries(unittest.TestCase):
+    async def broken(self, lasts: Iterator[float], seconds: float) -> List[float]:
+        """When a server is asked whose connections last so long, one after the other."""
+        endpoint: Any = await Breaking.start(Granting())
+        endpoint.lasts = lambda: next(lasts)
+        async with Relay(endpoint.uri, "user", "pass", clock=LoopClock(), probe=None, backoff=Backoff(jitter=0)):
+            await asyncio.sleep(seconds)
+        endpoint.close()
+        return [round(it, 1) for it in endpoint.server.times]
+
+    def test_relays_that_break_soon(self) -> None:
+        """Each counts as one more failure, although it came up."""
+        self.assertEqual(run(self.broken(itertools.repeat(0.02), 20)), [0.0, 0.5, 1.5, 3.5, 7.5, 11.5, 15.5, 19.5])
+
+    def test_a_relay_that_holds(self) -> None:
+        """One that was up for a minute begins the waits anew; each that is past its wait is followed at once."""
+        for held, wait in ((HELD + 1, 0.5), (HELD - 1, 4.0)):
+            lasts = itertools.chain([0.02, 0.02, held], itertools.repeat(0.02))
+            times = run(self.broken(lasts, 1.5 + held + wait + 0.3))
+            self.assertEqual(times[:3], [0.0, 0.5, 1.5])
+            self.assertEqual([round(it - times[3], 1) for it in times[4:]], [wait])
+            self.assertAlmostEqual(times[3], 1.5 + held, delta=0.3)
+
+    def test_a_slow_path(self) -> None:
+        """An answer after 2 s is one: it is there after two of them."""
+        async def opened(settings: Dict[str, Any]) -> float:
+            endpoint: Any = await Late.start(Server())
+            loop = asyncio.get_running_loop()
+            relay = Relay(endpoint.uri, "user", "pass", clock=LoopClock(), **settings)
+            opening = asyncio.ensure_future(relay.open())
+            await asyncio.wait([opening], timeout=40)
+            took = loop.time()
+            await relay.close()
+            endpoint.close()
+            self.assertTrue(opening.done() and not opening.exception(), "it is not up")
+            return took
+
+        choices: List[Dict[str, Any]] = [{}, {"times": Times()}]
+        for settings in choices:
+            self.assertAlmostEqual(run(opened(settings)), 4.0, delta=0.5)
+
+
+class Asked(Case):
+    async def test_closing_just_when_credentials_come(self) -> None:
+        """The cancellation is not lost, as by `asyncio.wait_for` up to Python 3.11."""
+        endpoint = await self.serve(Restarting())
+        calls: List[Callable[[], Any]] = []
+
+        async def credentials() -> Tuple[str, str]:
+            await asyncio.sleep(0)
+            calls[0]()
+            return "user", "pass"
+
+        relay = Relay(endpoint.uri, credentials=credentials)
+        opening = asyncio.ensure_future(relay.open())
+        await asyncio.sleep(0)
+        running: Any = relay._revival._running
+        calls.append(running.cancel)  # as `close` does
+        await asyncio.wait([running], timeout=5)
+        ended = running.done()
+        running.cancel()
+        await asyncio.wait([opening], timeout=5)
+        self.assertTrue(ended, "it goes on")
+        self.assertTrue(relay.closed)
+        self.assertIsNotNone(opening.exception())
+        self.assertEqual(endpoint.server.allocations, {})
+
+    async def test_a_function_that_is_not_async(self) -> None:
+        endpoint = await self.serve(Restarting())
+        kinds: List[Any] = [TurnClient, Relay]
+        for kind in kinds:
+            relay = kind(endpoint.uri, credentials=lambda: ("user", "pass"))
+            await asyncio.wait_for(relay.open(), 5)
+            await relay.send(b"x", PEER)
+            await relay.close()
+            with self.assertRaisesRegex(TypeError, "^credentials is called without arguments: "):
+                kind(endpoint.uri, credentials=functools.partial(rest_credentials))
+
+    async def test_a_function_that_returns_none(self) -> None:
+        """That is a mistake of the program, and no other try would mend it."""
+        async def nothing() -> None:
+            pass
+
+        endpoint = await self.serve(Restarting())
+        wrong: List[Any] = [nothing, lambda: None, lambda: "user:pass", lambda: lambda: ("user", "pass")]
+        kinds: List[Any] = [TurnClient, Relay]
+        for kind in kinds:
+            for function in wrong:
+                with self.assertRaisesRegex(TypeError, "^credentials is a user and a password, or a function"):
+                    await asyncio.wait_for(kind(endpoint.uri, credentials=function).open(), 5)
+
+
+if __name__ == "__main__":
+    unittest.main()
