@@ -76,6 +76,46 @@ class Checks(unittest.IsolatedAsyncioTestCase):
                 await asyncio.sleep(0.01)
             self.assertFalse(relay.closed)
 
+    async def test_a_server_that_answers_no_binding_and_is_idle(self) -> None:
+        """It answers signed requests, so that the relay is well."""
+        endpoint = await self.serve()
+        endpoint.server.answers_bindings = False
+        async with TurnClient(endpoint.uri, "user", "pass", probe=1, clock=Clock(rate=40)) as relay:
+            while endpoint.server.bindings < 15:  # five checks
+                self.assertFalse(relay.closed)
+                await asyncio.sleep(0.01)
+            endpoint.server.is_dead = True
+            with self.assertRaisesRegex(Ended, "to 3 checks in a row$"):
+                await asyncio.wait_for(relay.receive(), 30)
+
+    async def test_a_nat_with_another_mapping(self) -> None:
+        """The first check that tells it leads to a request that only a server which knows the relayed address grants."""
+        for is_probed in (True, False):
+            endpoint = await self.serve()
+            server = endpoint.server
+            relay = TurnClient(endpoint.uri, "user", "pass", probe=0.1 if is_probed else None)
+            async with relay:
+                mapped, server.mapped = server.mapped, lambda message, source: mapped(message, ("192.0.2.7", 9))
+                asked = len(server.answered)
+                self.assertTrue((await relay.check()).is_answered)
+                while len(server.answered) == asked:  # It still knows it: all is well.
+                    await asyncio.sleep(0.01)
+                server.mapped = lambda message, source: mapped(message, ("192.0.2.8", 9))
+                server.allocations.clear()
+                if not is_probed:
+                    await relay.check()
+                with self.assertRaisesRegex(Ended, "^the server no longer knows the relayed address: .*437"):
+                    await asyncio.wait_for(relay.receive(), 5)
+
+    async def test_the_same_mapping_asks_for_nothing(self) -> None:
+        endpoint = await self.serve()
+        async with TurnClient(endpoint.uri, "user", "pass") as relay:
+            asked = len(endpoint.server.answered)
+            for _ in range(3):
+                await relay.check()
+            await asyncio.sleep(0.1)
+            self.assertEqual(len(endpoint.server.answered), asked)
+
     @unittest.skipUnless(coturn_server.IS_HERE, coturn_server.WHY)
     async def test_coturn(self) -> None:
         for options, is_answered in (((), True), (("--no-stun",), False)):

@@ -137,6 +137,18 @@ class Returns(Case):
             endpoint.server.is_dead = False
             await self.until(lambda: isinstance(relay.state, Up))
 
+    async def test_a_nat_with_another_mapping(self) -> None:
+        """A check tells it, and the server does not know the relayed address from there."""
+        endpoint = await self.serve(Restarting())
+        relay, states = self.relay(endpoint, probe=0.1)
+        async with relay:
+            await relay.permit(PEER[0])
+            mapped, endpoint.server.mapped = endpoint.server.mapped, lambda message, source: mapped(message, ("192.0.2.7", 9))
+            endpoint.server.forget()
+            await self.until(lambda: len(states) == 3, 10)
+            self.assertRegex(str(states[1].reason), "^the server no longer knows the relayed address: .*437")
+            await self.echo(relay)
+
     async def test_an_error_that_means_nothing(self) -> None:
         endpoint = await self.serve(Restarting())
         relay, states = self.relay(endpoint)

@@ -10,6 +10,8 @@ from typing import TYPE_CHECKING, Dict, NamedTuple, Optional
 from . import reasons
 from .address import Address
 from .link import Link
+from .phases import Open
+from .standing import Standing
 
 if TYPE_CHECKING:
     from .session import Session
@@ -31,8 +33,8 @@ class Check(NamedTuple):
     is_answered: bool
     """whether the server has answered. One that answers no Binding request, as coturn with `--no-stun`, never does"""
     mapped: Optional[Address]
-    """this client's own address as the server sees it now, if it says that. Where it is another one than `mapped_address`, a NAT
-    has forgotten the client: the relayed address is lost (RFC 8656, section 3.2)"""
+    """this client's own address as the server sees it now, if it says that. Where it is another one than before, a NAT has forgotten
+    the client, and the relayed address is lost (RFC 8656, section 3.2): the client asks the server for it, and ends"""
 
 
 def route_error(link: Link) -> Optional[OSError]:
@@ -55,7 +57,11 @@ class Path:
 
     def __init__(self, session: Session) -> None:
         self._session = session
+        self.standing = Standing(session)
         self._checks: Dict[bytes, asyncio.Future[Optional[Address]]] = {}
+        # The mapped address that the last check has told, and what asks for the relayed address.
+        self._mapped: Optional[Address] = None
+        self._asking: Optional[asyncio.Future[bool]] = None
         self._errors = 0
         self._suspicion: Optional[asyncio.Future[None]] = None
         self._probing: Optional[asyncio.Future[None]] = None
@@ -85,10 +91,38 @@ class Path:
             return False
         if not answer.done():
             answer.set_result(message.mapped)
+            self._compare(message.mapped)
         return True
 
+    def _compare(self, mapped: Optional[Address]) -> None:
+        """Asks for the relayed address where the mapped one has changed. Nobody has to have signed that."""
+        before = self._mapped or self._session.mapped
+        self._mapped = mapped or self._mapped
+        if None not in (before, mapped) and mapped != before:
+            self.ask()
+
+    def ask(self) -> asyncio.Future[bool]:
+        """Asks the server whether it still knows the relayed address; where it does not, the session ends. Gives whether it has
+        answered."""
+        if self._asking is None or self._asking.done():
+            self._asking = asyncio.ensure_future(self._ask())
+        return self._asking
+
+    async def _ask(self) -> bool:
+        failed = await self.standing.failure()
+        if failed is not None and failed.code is not None and isinstance(self._session.state, Open):
+            self._session.breaks(f"the server no longer knows the relayed address: {failed}", failed)
+        return failed is None
+
+    async def _answers(self) -> bool:
+        """Whether the server answers a signed request, as fast as a check. One may answer no check."""
+        asking, seconds = self.ask(), self._session.clock.real(sum(WAITS))
+        await asyncio.wait([asking, self._session.over], timeout=seconds, return_when=asyncio.FIRST_COMPLETED)
+        return asking.done() and asking.result()
+
     def probe(self, every: float) -> None:
-        """Checks the path by itself, every so many seconds. The relay ends when `RUN` checks in a row have no answer."""
+        """Checks the path by itself, every so many seconds. The relay ends when `RUN` checks in a row have no answer, nor have signed
+        requests."""
         self._probing = asyncio.ensure_future(self._probe(every))
 
     async def _probe(self, every: float) -> None:
@@ -98,7 +132,7 @@ class Path:
             due = max(due + session.clock.real(every), loop.time())
             await asyncio.sleep(due - loop.time())
             seen = session.count
-            is_answered = (await self.check()).is_answered or session.count != seen
+            is_answered = (await self.check()).is_answered or session.count != seen or await self._answers()
             unanswered = 0 if is_answered else unanswered + 1
         why = f"no answer from {session.server.uri} to {RUN} checks in a row"
         session.breaks(f"the connection to the server has ended: {why}", None)
@@ -134,6 +168,6 @@ class Path:
 
     def end(self) -> None:
         """Nothing is checked any more."""
-        for task in (self._probing, self._suspicion, self._watching):
+        for task in (self._probing, self._suspicion, self._watching, self._asking):
             if task is not None:
                 task.cancel()

@@ -9,7 +9,7 @@ from .asked import About
 from .backoff import Backoff
 from .counters import Counters
 from .credentials import Credentials, CredentialsLike, asked, checked_pair
-from .errors import AllocationFailed, LibraryError, WrongCredentials, because
+from .errors import AllocationFailed, Ended, LibraryError, PermissionFailed, WrongCredentials, because
 from .journal import Watcher
 from .link import Link
 from .session import Session
@@ -54,6 +54,13 @@ class Watched(TurnClient):
     def link(self) -> Link:
         """The socket to the server. `Ended` where the client has ended."""
         return self._session().link
+
+    async def standing(self) -> Optional[PermissionFailed]:
+        """What `Standing.failure` gives. None where the client has ended."""
+        try:
+            return await self._session().path.standing.failure()
+        except Ended:
+            return None
 
     @property
     def heard(self) -> int:

@@ -4,14 +4,14 @@ from __future__ import annotations
 import asyncio
 import contextlib
 import errno
-import itertools
 from typing import Optional, Set
 
 from . import reasons
 from .asked import Key
-from .errors import Ended, PermissionFailed, WrongCredentials, YarrowdoorError, because
+from .errors import Ended, WrongCredentials, because
 from .link import Link
 from .path import route_error
+from .standing import UNKNOWN
 from .tries import Watched
 
 __all__ = ["UNSURE", "Vigil"]
@@ -22,12 +22,8 @@ LOOK = 1.0
 PAUSE, RUN = 1.0, 3
 # How long a signed answer may still come after a second 401, in seconds.
 GRACE = 1.0
-# What a server answers that does not know the relayed address: 437, and coturn 400 (docs/REAL-SERVERS.md).
-UNKNOWN = (400, 437)
 # Errors of a request after which one cannot be sure of the relayed address: these, refused credentials, and no answer.
 UNSURE = (*UNKNOWN, 401, None)
-# Addresses that no host has (RFC 5737, RFC 3849). A permission for one of them lets nobody in.
-NOWHERE = {4: "192.0.2.{}", 6: "2001:db8::{:x}"}
 
 
 def has_address(link: Link) -> bool:
@@ -40,8 +36,7 @@ class Vigil:
     """Watches a client that is open, until its relayed address is gone. Every `probe` seconds it checks the path, or never.
 
     A server that was restarted answers such a check as before, and drops data; others never answer one. So after an error of the
-    socket, a refused renewal, or a check without an answer, a permission is asked for that is of no use: only a server that knows
-    the relayed address grants or denies it.
+    socket, a refused renewal, or a check without an answer, it is asked by a signed request (`Standing`).
     """
 
     def __init__(self, client: Watched, probe: Optional[float]) -> None:
@@ -51,7 +46,6 @@ class Vigil:
         self._is_doubted = False
         self._refused = 0
         self._grace: Optional[asyncio.TimerHandle] = None
-        self._numbers = itertools.cycle(range(1, 255))
         client.watch(self._answered)
 
     async def until_gone(self) -> Exception:
@@ -123,18 +117,11 @@ class Vigil:
     async def _question(self) -> Optional[Exception]:
         """Why the relayed address is gone, or None where the server still knows it."""
         for _ in range(RUN):
-            ip = NOWHERE[6 if ":" in self._client.address.host else 4].format(next(self._numbers))
-            try:
-                await self._client.permit(ip)
-                self._client.release(ip)
+            failed = await self._client.standing()
+            if failed is None:
                 return None
-            except PermissionFailed as failed:
-                if failed.code in UNKNOWN:
-                    return because(Ended(f"the server no longer knows the relayed address: {failed}"), failed)
-                if failed.code is not None:
-                    return None  # It is denied, or the server has no room, but there is an allocation.
-            except YarrowdoorError:
-                return None  # It has ended meanwhile, which is told in another way.
+            if failed.code is not None:
+                return because(Ended(f"the server no longer knows the relayed address: {failed}"), failed)
         return Ended(f"the server answers no signed request: {RUN} in a row")
 
     def _tell(self, why: Exception) -> None:
