@@ -218,6 +218,27 @@ class LettingGo(unittest.TestCase):
             self.assertEqual((told, list(relay.lost)), ([], []))
         endpoint.close()
 
+    def test_what_is_asked_for_again(self) -> None:
+        run(self.asked_again())
+
+    async def asked_again(self) -> None:
+        """A request of what was released keeps it again, at once, whether it is granted or has just ended."""
+        for seconds in (200.0, 299.99, 305.0):
+            endpoint: Any = await serve(Server())
+            async with TurnClient(endpoint.uri, "user", "pass", clock=LoopClock()) as relay:
+                await relay.bind(PEER)
+                await relay.permit(PEER[0])
+                relay.release(PEER)
+                relay.release(PEER[0])
+                await asyncio.sleep(seconds)
+                await relay.permit(PEER[0])
+                await relay.bind(PEER)
+                await asyncio.sleep(700)
+                await self.echo(relay, PEER)
+                self.assertEqual(endpoint.packets[-1][1][0], 0x40)
+                self.assertEqual(list(relay.lost), [])
+            endpoint.close()
+
     def test_what_was_never_granted(self) -> None:
         run(self.never_granted())
 

@@ -182,6 +182,25 @@ class Idle(unittest.TestCase):
             self.assertEqual(list(relay.lost), [])
         endpoint.close()
 
+    def test_one_that_is_asked_for_again(self) -> None:
+        run(self.asked_again())
+
+    async def asked_again(self) -> None:
+        """It is kept as long as a new one."""
+        endpoint: Any = await Watched.start(Server())
+        async with TurnClient(endpoint.uri, "user", "pass", clock=LoopClock(), idle=60) as relay:
+            loop = asyncio.get_running_loop()
+            calls: List[Any] = [(relay.permit, "10.1.0.5", "10.1.0.5"), (relay.bind, ("10.1.0.6", 9), "10.1.0.6")]
+            for call, about, ip in calls:
+                await call(about)
+                await asyncio.sleep(290)  # it is released after 60
+                await call(about)
+                (client, allocation), = endpoint.server.allocations.items()
+                await asyncio.sleep(59)
+                self.assertGreater(allocation.permissions[ip], loop.time() + 200)
+                self.assertNotIn(ip, relay._session().grants.released())
+        endpoint.close()
+
     def test_closing(self) -> None:
         run(self.closes())
 

@@ -251,6 +251,20 @@ class Returns(Case):
             await self.until(lambda: len(states) == 3)
             self.assertEqual({ip for _, ip in endpoint.server.asked}, {PEER[0]})
 
+    async def test_what_is_released_and_asked_for_again(self) -> None:
+        endpoint = await self.serve(Restarting(), StreamEndpoint)
+        relay, states = self.relay(endpoint)
+        async with relay:
+            for _ in range(2):
+                await relay.permit(OTHER[0])
+                relay.release(OTHER[0])
+            await relay.permit(OTHER[0])
+            endpoint.server.forget()
+            endpoint.server.asked.clear()
+            endpoint.end(resets=True)
+            await self.until(lambda: len(states) == 3)
+            self.assertEqual({ip for _, ip in endpoint.server.asked}, {OTHER[0]})
+
     async def test_what_is_not_granted_again_is_told_once(self) -> None:
         endpoint = await self.serve(Restarting(), StreamEndpoint)
         told: List[Lost] = []

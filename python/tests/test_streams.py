@@ -10,7 +10,7 @@ import unittest
 import unittest.mock
 from typing import Any, Iterator, List
 
-from yarrowdoor import PermissionFailed, TurnClient, reasons
+from yarrowdoor import Clock, PermissionFailed, TurnClient, reasons
 from yarrowdoor.aioice import create_turn_endpoint
 
 from . import coturn as coturn_server
@@ -172,6 +172,32 @@ class ToPeers(unittest.IsolatedAsyncioTestCase):
         await relay.open()
         _, writer = await asyncio.wait_for(relay.connect(peers.sockets[0].getsockname()), 10)
         return writer
+
+    async def echo(self, reader: asyncio.StreamReader, writer: asyncio.StreamWriter) -> None:
+        """Serves a peer that sends back what it gets."""
+        with contextlib.suppress(ConnectionError):
+            while data := await reader.read(1000):
+                writer.write(data)
+        writer.close()
+
+    async def test_a_stream_is_used_and_outlives_its_permission(self) -> None:
+        """What is written and read is a use of the peer; where the user has released it, the stream goes on."""
+        with coturn_server.coturn() as at:
+            peers = await asyncio.start_server(self.echo, "127.0.0.1", 0)
+            self.addCleanup(peers.close)
+            for releases in (False, True):
+                async with TurnClient(at.uri("turn:127.0.0.1:{port}?transport=tcp"), "user", "pass", relay="tcp", clock=Clock(60),
+                                      idle=None if releases else 60) as relay:
+                    reader, writer = await asyncio.wait_for(relay.connect(peers.sockets[0].getsockname()), 10)
+                    if releases:
+                        relay.release("127.0.0.1")
+                    client = relay._session().client
+                    for number in range(66):  # 396 s of the client
+                        writer.write(b"%2d" % number)
+                        self.assertEqual(await asyncio.wait_for(reader.readexactly(2), 10), b"%2d" % number)
+                        await asyncio.sleep(0.1)
+                    self.assertEqual(client.have_permission("127.0.0.1"), not releases)
+                    writer.close()
 
     async def test_streams_end_with_the_relay(self) -> None:
         """What waits in a connection to a server that has stopped is dropped when the relay is closed."""

@@ -1,6 +1,7 @@
 """Permissions and channels: asked for, granted, and lost."""
 from __future__ import annotations
 
+import contextlib
 from dataclasses import dataclass
 from typing import AbstractSet, Callable, Dict, Set
 
@@ -41,7 +42,7 @@ class Grants:
         self._rests: Dict[str, _Rest] = {}
 
     async def permit(self, ip: str) -> None:
-        """Asks for a permission, unless there is one, and waits for the answer."""
+        """Asks for a permission, unless there is one, and waits for the answer. One that was released is kept again."""
         def make() -> Made:
             client = self._open_client()
             try:
@@ -53,8 +54,16 @@ class Grants:
             self._drive()
             return Made.UNSENT
 
+        self._keep_again(permission(ip))
         if not self._open_client().have_permission(ip):
             await self._requests.ask(permission(ip), make)
+
+    def _keep_again(self, key: Key) -> None:
+        if key in self._released:
+            self._drive()  # It may have ended by now.
+        if key in self._released and key.about is not None:
+            with contextlib.suppress(Refused):
+                self.set_kept(key.about, True)
 
     async def permit_to_send(self, ip: str) -> None:
         """The same, for data that is to be sent: a peer that was refused is left alone for a while."""
@@ -65,7 +74,8 @@ class Grants:
         await self.permit(ip)
 
     async def bind(self, peer: Address) -> None:
-        """Asks for a channel, and with it for a permission, and waits for the answer."""
+        """Asks for a channel, and with it for a permission, and waits for the answer. Where they were released they are kept
+        again."""
         def make() -> Made:
             try:
                 self._open_client().bind_channel(peer, self._clock.now())
@@ -76,6 +86,8 @@ class Grants:
             self._drive()
             return Made.UNSENT
 
+        for key in (channel(peer), permission(peer.host)):
+            self._keep_again(key)
         await self._requests.ask(channel(peer), make)
         if not self._open_client().have_permission(peer.host):
             await self.permit(peer.host)  # The channel is an older one, whose permission is gone: a refresh does not bring it back.
@@ -102,6 +114,7 @@ class Grants:
             client.set_channel_kept(about, is_kept)
         if is_kept:
             self._released.discard(key)
+            self._drive()  # Its refresh may be due.
         else:
             self._released.add(key)
 

@@ -46,14 +46,20 @@ class Idle:
                     self._released.discard(about)
                     self._set_kept(about, True)
 
+    def ask(self, about: About) -> None:
+        """The user asks for a grant: it is not let go sooner than if it were new."""
+        self._used[about] = self._clock.now()
+        self._released.discard(about)
+
     def _look(self) -> None:
+        # First, so that an error, as want of memory, does not end the looks.
+        self._timer = asyncio.get_running_loop().call_later(self._clock.real(self._every), self._look)
         granted, now = self._grants.granted(), self._clock.now()
         self._used = {about: self._used.get(about, now) for about in granted}
         self._released &= self._grants.released()  # The others have ended.
         for about in granted - self._grants.released():
             if now - self._used[about] >= self._life and self._set_kept(about, False):
                 self._released.add(about)
-        self._timer = asyncio.get_running_loop().call_later(self._clock.real(self._every), self._look)
 
     def _set_kept(self, about: About, is_kept: bool) -> bool:
         """Says whether there is still such a grant."""

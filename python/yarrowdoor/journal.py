@@ -69,6 +69,10 @@ class Journal:
         """A permission or a channel is renewed."""
         self._say(logging.DEBUG, "refreshed: %s %s", _NAMES.get(key.method, "answer to"), key.about)
 
+    def wants_memory(self) -> None:
+        """A memory allocation of the client has failed."""
+        self._say(logging.WARNING, "there is no memory: what is due is tried again")
+
     def ended(self, why: Union[Ended, None]) -> None:
         """The client has ended."""
         self._say(logging.INFO if why is None else logging.WARNING, "ended: %s", why or "the client was closed")

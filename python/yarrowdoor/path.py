@@ -5,7 +5,7 @@ from __future__ import annotations
 import asyncio
 import os
 import socket
-from typing import TYPE_CHECKING, Dict, NamedTuple, Optional
+from typing import TYPE_CHECKING, Any, Dict, NamedTuple, Optional, Set
 
 from . import reasons
 from .address import Address
@@ -33,8 +33,8 @@ class Check(NamedTuple):
     is_answered: bool
     """whether the server has answered. One that answers no Binding request, as coturn with `--no-stun`, never does"""
     mapped: Optional[Address]
-    """this client's own address as the server sees it now, if it says that. Where it is another one than before, a NAT has forgotten
-    the client, and the relayed address is lost (RFC 8656, section 3.2): the client asks the server for it, and ends"""
+    """this client's own address as the server sees it now, if it says that. Where it is another one than before, a NAT has
+    forgotten the client, and the relayed address is lost (RFC 8656, section 3.2): the client asks the server for it, and ends"""
 
 
 def route_error(link: Link) -> Optional[OSError]:
@@ -116,13 +116,14 @@ class Path:
 
     async def _answers(self) -> bool:
         """Whether the server answers a signed request, as fast as a check. One may answer no check."""
-        asking, seconds = self.ask(), self._session.clock.real(sum(WAITS))
-        await asyncio.wait([asking, self._session.over], timeout=seconds, return_when=asyncio.FIRST_COMPLETED)
+        asking, session = self.ask(), self._session
+        either: Set[asyncio.Future[Any]] = {asking, session.over}
+        await asyncio.wait(either, timeout=session.clock.real(sum(WAITS)), return_when=asyncio.FIRST_COMPLETED)
         return asking.done() and asking.result()
 
     def probe(self, every: float) -> None:
-        """Checks the path by itself, every so many seconds. The relay ends when `RUN` checks in a row have no answer, nor have signed
-        requests."""
+        """Checks the path by itself, every so many seconds. The relay ends when `RUN` checks in a row have no answer, nor have
+        signed requests."""
         self._probing = asyncio.ensure_future(self._probe(every))
 
     async def _probe(self, every: float) -> None:

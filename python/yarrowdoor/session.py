@@ -32,6 +32,8 @@ __all__ = ["Leaving", "Over", "Session"]
 
 # How long a signed answer may still come after one that said, unsigned, why it fails, in seconds.
 GRACE = 1.0
+# After want of memory what is due is tried again so much later, in nanoseconds.
+MEMORY_WAIT = 100_000_000
 # How long the server's answer to a delete is waited for, in seconds.
 DELETE_WAIT = 2.0
 
@@ -164,23 +166,31 @@ class Session(LinkUser):
             return
         self._is_driving = True
         try:
-            while not isinstance(self.state, Over):
-                now = self.clock.now()
-                self._transmit(now)
-                self._take_events()
-                rest = self.client.poll(now)
-                if isinstance(rest, WaitUntil):
-                    if rest.time > now:
-                        return self._alarm.set(rest.time)
-                elif isinstance(rest, AllocateTcpSocket):
-                    self.requests.spawn(self.streams.open(rest))
-                elif isinstance(rest, TcpClose):
-                    self.streams.drop(rest.local)
-                else:
-                    self._take_events()
-                    self.end(None if isinstance(self.state, Leaving) else self.diagnosis.ended())
+            self._do_all()
+        except MemoryError:
+            # The client is valid, and what was due stays due: without a timer nothing would be done any more.
+            if not isinstance(self.state, Over):
+                self.journal.wants_memory()
+                self._alarm.set(self.clock.now() + MEMORY_WAIT)
         finally:
             self._is_driving = False
+
+    def _do_all(self) -> None:
+        while not isinstance(self.state, Over):
+            now = self.clock.now()
+            self._transmit(now)
+            self._take_events()
+            rest = self.client.poll(now)
+            if isinstance(rest, WaitUntil):
+                if rest.time > now:
+                    return self._alarm.set(rest.time)
+            elif isinstance(rest, AllocateTcpSocket):
+                self.requests.spawn(self.streams.open(rest))
+            elif isinstance(rest, TcpClose):
+                self.streams.drop(rest.local)
+            else:
+                self._take_events()
+                self.end(None if isinstance(self.state, Leaving) else self.diagnosis.ended())
 
     def _transmit(self, now: int) -> None:
         while not isinstance(self.state, Over) and (packet := self.client.poll_transmit(now)) is not None:

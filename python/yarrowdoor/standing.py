@@ -26,8 +26,8 @@ class Standing:
         self._session, self._numbers = session, itertools.cycle(NUMBERS)
 
     async def failure(self) -> Optional[PermissionFailed]:
-        """Why the server does not know the relayed address: with a `code` of `UNKNOWN`, or with None where it has not answered. None
-        where it knows it, and where the client has ended meanwhile."""
+        """Why the server does not know the relayed address: with a `code` of `UNKNOWN`, or with None where it has not answered.
+        None where it knows it, and where the client has ended meanwhile."""
         grants = self._session.grants
         try:
             ip = self._unused()

@@ -124,8 +124,20 @@ class Streams(LinkUser):
         return self._session.address
 
     def packet_to(self, peer: Address, data: memoryview) -> bytes:
-        """What carries data to a peer."""
-        return self._session.open_client().send_to(peer, data, self._session.clock.now()).data
+        """What carries data to a peer. A data connection stays when the permission of its peer ends (RFC 6062, section 4.4), and
+        data goes over it as it is (section 5)."""
+        client = self._session.open_client()
+        self._use(peer)
+        try:
+            return client.send_to(peer, data, self._session.clock.now()).data
+        except Refused as refusal:
+            if refusal.reason != "no-permission":
+                raise
+            return bytes(data)
+
+    def _use(self, peer: Address) -> None:
+        if self._session.idle is not None:
+            self._session.idle.use(peer)
 
     async def connect(self, peer: Address) -> Pair:
         """Has the server connect to a peer. A connection that the server closed before it was bound is tried once more:
@@ -218,6 +230,7 @@ class Streams(LinkUser):
         """Takes data of a peer."""
         stream = self._by_peer.get(peer)
         if stream is not None:
+            self._use(peer)
             stream.feed(data)
 
     def link_at(self, local: SocketAddress) -> Optional[StreamLink]:

@@ -43,8 +43,8 @@ class TurnClient(Told, Lifetime):
     most `queue` packets of peers wait to be taken; a further one is dropped and counted. With `receiver` there is no queue: it is
     called with data and peer, in the event loop, and must not block. What it raises goes to the event loop's exception handler.
     `probe` is how often the path to the server is checked, in seconds: three checks in a row without an answer, nor one to a
-    signed request, end the relay. By default none is made. When nothing was sent for `keepalive` seconds, something is, so that a NAT in between keeps its mapping;
-    with 0 never. Between two requests lies a `pause` in seconds, and permissions and channels are refreshed `refresh_ahead`
+    signed request, end the relay. By default none is made. When nothing was sent for `keepalive` seconds, something is, so that a
+    NAT in between keeps its mapping; with 0 never. Between two requests lies a `pause` in seconds, and permissions and channels are refreshed `refresh_ahead`
     seconds before they expire. `anonymous` hides the user name (RFC 8489, section 14.4): `"required"` always, `"disabled"` never,
     and `"auto"` never so far. `max_stale_nonces` is how many challenges in a row are answered. It should be greater than the
     number of permissions and channels: their refreshes may all be challenged at once, and that of the relayed address too. In
@@ -165,13 +165,16 @@ class TurnClient(Told, Lifetime):
     # Requests
 
     async def permit(self, ip: str) -> None:
-        """Lets an IP address send to the relayed address, and get data (RFC 8656, section 9). It is renewed until the end.
+        """Lets an IP address send to the relayed address, and get data (RFC 8656, section 9). It is renewed until the end, also
+        where it was released before.
 
         Waits for the server's answer. `PermissionFailed`, `Ended`; `ValueError` where it is no IP address; `Refused`
         (`no-allocation`) where it has another family than the relayed address.
         """
         host, session = checked_ip(ip), self._session()
         self._check_family(host)
+        if session.idle is not None:
+            session.idle.ask(host)
         await session.grants.permit(host)
 
     async def bind(self, peer: AddressLike) -> None:
@@ -183,6 +186,9 @@ class TurnClient(Told, Lifetime):
         """
         where, session = checked_peer(peer), self._session()
         self._check_family(where.host)
+        if session.idle is not None:
+            session.idle.ask(where)
+            session.idle.ask(where.host)
         await session.grants.bind(where)
 
     def release(self, peer: Union[str, AddressLike]) -> None:
