@@ -10,7 +10,7 @@ import unittest
 import unittest.mock
 from typing import Any, Iterator, List
 
-from yarrowdoor import Clock, PermissionFailed, TurnClient, reasons
+from yarrowdoor import Clock, PermissionFailed, TurnClient, lingering, open_connection, reasons
 from yarrowdoor.aioice import create_turn_endpoint
 
 from . import coturn as coturn_server
@@ -198,6 +198,68 @@ class ToPeers(unittest.IsolatedAsyncioTestCase):
                         await asyncio.sleep(0.1)
                     self.assertEqual(client.have_permission("127.0.0.1"), not releases)
                     writer.close()
+
+    async def test_a_peer_gets_all_that_was_written(self) -> None:
+        """What coturn has not passed on when a data connection is closed, or the relayed address deleted, it drops."""
+        came: asyncio.Queue[int] = asyncio.Queue()
+
+        async def count(reader: asyncio.StreamReader, writer: asyncio.StreamWriter) -> None:
+            size = 0
+            with contextlib.suppress(ConnectionError):
+                while data := await reader.read(65_536):
+                    size += len(data)
+            came.put_nowait(size)
+            writer.close()
+
+        with coturn_server.coturn() as at:
+            peers = await asyncio.start_server(count, "127.0.0.1", 0)
+            self.addCleanup(peers.close)
+            where, uri = peers.sockets[0].getsockname(), at.uri("turn:127.0.0.1:{port}?transport=tcp")
+            for size in (100_000, 2_000_000):
+                _, writer = await open_connection(uri, *where, credentials=("user", "pass"))
+                writer.write(bytes(size))
+                await writer.drain()
+                writer.close()
+                writer.write(b"this comes too late")
+                await writer.wait_closed()
+                self.assertEqual(await asyncio.wait_for(came.get(), 20), size)
+                async with TurnClient(uri, "user", "pass", relay="tcp") as relay:
+                    _, writer = await relay.connect(where)
+                    writer.write(bytes(size))
+                    await writer.drain()
+                self.assertEqual(await asyncio.wait_for(came.get(), 20), size)
+
+    async def test_when_a_stream_is_closed(self) -> None:
+        """Some time after its last byte has left, and at once where there was none, or that time has passed."""
+        loop = asyncio.get_running_loop()
+        with coturn_server.coturn() as at:
+            for wait, least, most in ((None, 0.0, 0.5), (0.0, lingering.LINGER - 0.01, 30.0), (0.6, 0.3, 30.0), (1.5, 0.0, 0.5)):
+                relay = TurnClient(at.uri("turn:127.0.0.1:{port}?transport=tcp"), "user", "pass", relay="tcp")
+                writer = await self.connect(relay)
+                if wait is not None:
+                    writer.write(b"x")
+                    await asyncio.sleep(wait)
+                began = loop.time()
+                writer.close()
+                self.assertTrue(writer.is_closing())
+                await asyncio.wait_for(writer.wait_closed(), 30)
+                self.assertTrue(least <= loop.time() - began <= most, loop.time() - began)
+                await relay.close()
+
+    async def test_leaving_that_is_cancelled_deletes_the_address(self) -> None:
+        """Also while a stream is not closed yet."""
+        with coturn_server.coturn() as at:
+            relay = TurnClient(at.uri("turn:127.0.0.1:{port}?transport=tcp"), "user", "pass", relay="tcp")
+            writer = await self.connect(relay)
+            writer.write(b"x")
+            session = relay._session()
+            closing = asyncio.ensure_future(relay.close())
+            await asyncio.sleep(0.1)
+            self.assertFalse(session.journal.is_leaving)
+            closing.cancel()
+            await asyncio.wait([closing])
+            self.assertTrue(session.journal.is_leaving)
+            self.assertTrue(relay.closed)
 
     async def test_streams_end_with_the_relay(self) -> None:
         """What waits in a connection to a server that has stopped is dropped when the relay is closed."""

@@ -59,8 +59,6 @@ class Grants:
             await self._requests.ask(permission(ip), make)
 
     def _keep_again(self, key: Key) -> None:
-        if key in self._released:
-            self._drive()  # It may have ended by now.
         if key in self._released and key.about is not None:
             with contextlib.suppress(Refused):
                 self.set_kept(key.about, True)

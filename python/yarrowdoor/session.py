@@ -36,6 +36,8 @@ GRACE = 1.0
 MEMORY_WAIT = 100_000_000
 # How long the server's answer to a delete is waited for, in seconds.
 DELETE_WAIT = 2.0
+# The part of that time in which streams are closed before.
+CLOSING = 0.75
 
 
 class Session(LinkUser):
@@ -265,14 +267,27 @@ class Session(LinkUser):
             before, self.state = self.state, Leaving()
             if isinstance(before, Opening):
                 fail(before, AllocationFailed("the client was closed"))
+            elif (closing := self.streams.close()):
+                self.requests.spawn(self._delete_after(closing))
             else:
-                self.streams.close()
                 self._delete()
             self.drive()
         try:
             await asyncio.wait([self.over], timeout=DELETE_WAIT)
         finally:
+            self._delete_now()
             self.end(None)
+
+    async def _delete_after(self, closing: List[asyncio.Future[None]]) -> None:
+        """Deletes the relayed address when its streams are gone: a server ends those that there are with it."""
+        await asyncio.wait(closing, timeout=CLOSING * DELETE_WAIT)
+        self._delete_now()
+
+    def _delete_now(self) -> None:
+        """Deletes the relayed address, unless it was done."""
+        if isinstance(self.state, Leaving) and self.address is not None and not self.journal.is_leaving:
+            self._delete()
+            self.drive()
 
     def _delete(self) -> None:
         self.journal.is_leaving = True

@@ -10,6 +10,7 @@ from .address import Address, ScopedAddress, SocketAddress
 from .answers import AllocateTcpSocket, Ignored, PeerData
 from .asked import Key
 from .errors import ConnectFailed, Ended, Refused, because
+from .lingering import linger
 from .link import Link, LinkUser, StreamLink
 from .requests import Made
 
@@ -38,26 +39,31 @@ class PeerTransport(asyncio.Transport):
         self._streams, self.link, self.peer = streams, link, peer
         # Whether `connect` asked for it, whether the server has bound it, and whether `connect` has returned it.
         self.is_own, self.is_bound, self.is_taken = is_own, False, False
+        self.lost: asyncio.Future[None] = streams.loop.create_future()
+        """set when the data connection is gone"""
+        self._has_written, self._lingering = False, None  # type: bool, Optional[asyncio.Future[None]]
         reader = asyncio.StreamReader(loop=streams.loop)
         self._protocol = asyncio.StreamReaderProtocol(reader, loop=streams.loop)
         self._protocol.connection_made(self)
         self.pair: Pair = reader, asyncio.StreamWriter(self, self._protocol, reader, streams.loop)
-        self._is_lost = False
 
     def feed(self, data: bytes) -> None:
         """Takes data of the peer."""
-        self._protocol.data_received(data)
+        if not self.is_closing():
+            self._protocol.data_received(data)
 
     def lose(self, error: Optional[Exception]) -> None:
         """The data connection is gone."""
-        if not self._is_lost:
-            self._is_lost = True
+        if not self.lost.done():
+            self.lost.set_result(None)
+            self._end_lingering()
             self._protocol.connection_lost(error)
 
     def write(self, data: Any) -> None:
         view = memoryview(data).cast("B")
-        if self.link.is_over:
+        if self.is_closing():
             return  # as asyncio's own transports do
+        self._has_written = True
         for place in range(0, len(view), PIECE):
             self.link.send(self._streams.packet_to(self.peer, view[place:place + PIECE]))
 
@@ -66,13 +72,27 @@ class PeerTransport(asyncio.Transport):
         return False
 
     def close(self) -> None:
-        self.link.close()
+        """Closes the data connection `lingering.LINGER` seconds after the last byte that was written has left."""
+        if not self._has_written:
+            self.link.close()
+        elif not self.is_closing():
+            self._lingering = asyncio.ensure_future(linger(self.link))
+            self._lingering.add_done_callback(self._lingered)
+
+    def _lingered(self, lingering: asyncio.Future[None]) -> None:
+        if not lingering.cancelled():
+            self.link.close()
 
     def abort(self) -> None:
+        self._end_lingering()
         self.link.abort()
 
+    def _end_lingering(self) -> None:
+        if self._lingering is not None:
+            self._lingering.cancel()
+
     def is_closing(self) -> bool:
-        return self.link.is_over
+        return self._lingering is not None or self.link.is_over
 
     def pause_reading(self) -> None:
         self.link.transport.pause_reading()
@@ -241,10 +261,12 @@ class Streams(LinkUser):
         """Closes a data connection that the client has no use for."""
         self._forget(self.link_at(local))
 
-    def close(self) -> None:
-        """Closes all streams, when what was written has left them."""
-        for link in self._links:
-            link.close()
+    def close(self) -> List[asyncio.Future[None]]:
+        """Closes all streams, each some time after what was written has left it, and gives what is set when one is gone."""
+        streams = [*self._by_peer.values()]
+        for stream in streams:
+            stream.close()
+        return [it.lost for it in streams]
 
     def end(self) -> None:
         """Closes all streams at once, since the client has ended: the server no longer takes what waits in them."""

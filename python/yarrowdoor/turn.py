@@ -44,8 +44,8 @@ class TurnClient(Told, Lifetime):
     called with data and peer, in the event loop, and must not block. What it raises goes to the event loop's exception handler.
     `probe` is how often the path to the server is checked, in seconds: three checks in a row without an answer, nor one to a
     signed request, end the relay. By default none is made. When nothing was sent for `keepalive` seconds, something is, so that a
-    NAT in between keeps its mapping; with 0 never. Between two requests lies a `pause` in seconds, and permissions and channels are refreshed `refresh_ahead`
-    seconds before they expire. `anonymous` hides the user name (RFC 8489, section 14.4): `"required"` always, `"disabled"` never,
+    NAT in between keeps its mapping; with 0 never. Between two requests lies a `pause` in seconds, and permissions and channels are
+    refreshed `refresh_ahead` seconds before they expire. `anonymous` hides the user name (RFC 8489, section 14.4): `"required"` always, `"disabled"` never,
     and `"auto"` never so far. `max_stale_nonces` is how many challenges in a row are answered. It should be greater than the
     number of permissions and channels: their refreshes may all be challenged at once, and that of the relayed address too. In
     place of user and password `credentials` is both, or a function that returns both, async or not: it is called when the client is
