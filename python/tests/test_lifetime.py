@@ -125,6 +125,25 @@ class Opening(unittest.IsolatedAsyncioTestCase):
         with self.assertRaisesRegex(Ended, "^the client was closed$"):
             await relay.receive()
 
+    async def test_a_waiter_that_is_cancelled_while_it_is_closed(self) -> None:
+        """Its cancellation is not taken for the end of the client: a task that is cancelled ends as one."""
+        endpoint = await self.serve()
+        receive = endpoint.server.receive
+        # A challenge, and no answer to the signed request.
+        endpoint.server.receive = lambda data, *it: [] if data[:2] == b"\0\3" and len(data) > 60 else receive(data, *it)
+        relay = TurnClient(endpoint.uri, "user", "pass")
+        opening = asyncio.ensure_future(relay.open())
+        await asyncio.sleep(0.1)
+        with unittest.mock.patch("yarrowdoor.session.DELETE_WAIT", 1.0):
+            closing = asyncio.ensure_future(relay.close())
+            await asyncio.sleep(0.1)
+            self.assertFalse(opening.done() or closing.done())
+            opening.cancel()
+            await asyncio.wait([opening, closing], timeout=10)
+        self.assertTrue(opening.cancelled())
+        self.assertTrue(closing.done())
+        self.assertTrue(relay.closed)
+
     async def test_closing_while_it_connects(self) -> None:
         endpoint = await StreamEndpoint.start(Server())
         self.addCleanup(endpoint.listener.close)

@@ -2,6 +2,7 @@
 import asyncio
 import contextlib
 import socket
+import threading
 import time
 import unittest
 import unittest.mock
@@ -56,6 +57,45 @@ class Names(unittest.IsolatedAsyncioTestCase):
                 self.assertEqual(relay.address, ("10.9.9.9", 40000))
                 self.assertEqual(relay.mapped_address, relay.local_address)
         self.assertLess(time.monotonic() - start, 20)  # and not the 39.5 s of a request
+
+    async def test_a_first_address_that_is_silent_from_a_port_of_ones_own(self) -> None:
+        """A port is used by one attempt at a time, and the next one has it when the first one is given up."""
+        port = port_of((await self.serve()).uri)
+        self.hole("127.0.0.2", port)
+        with socket.socket(type=socket.SOCK_DGRAM) as free:
+            free.bind(("127.0.0.1", 0))
+            own = free.getsockname()
+        with resolving("127.0.0.2", "127.0.0.1"):
+            for times in (SHORT, None):
+                async with TurnClient(f"turn:turn.example.org:{port}", "user", "pass", local_addr=own, times=times) as relay:
+                    self.assertEqual(relay.local_address, own)
+
+    async def test_silent_name_servers(self) -> None:
+        """They hold no thread of the program, and one look-up of a name serves all who ask for it."""
+        real, answers, asked = socket.getaddrinfo, threading.Event(), []  # type: Any, threading.Event, List[str]
+        self.addCleanup(answers.set)
+
+        def silent(host: str, *it: Any, **options: Any) -> Any:
+            if not host.endswith(".example.org"):
+                return real(host, *it, **options)
+            if options.get("flags"):
+                raise socket.gaierror(socket.EAI_NONAME, "Name or service not known")
+            asked.append(host)
+            answers.wait(60)
+            raise socket.gaierror(socket.EAI_AGAIN, "Temporary failure in name resolution")
+
+        with unittest.mock.patch("socket.getaddrinfo", silent):
+            names = [f"{number}.example.org" for number in range(40)]
+            opening = [asyncio.ensure_future(TurnClient(f"turn:{it}", "user", "pass").open()) for it in 2 * names]
+            while len(asked) < len(names):
+                await asyncio.sleep(0.01)
+            loop = asyncio.get_running_loop()
+            await asyncio.wait_for(loop.run_in_executor(None, time.monotonic), 5)
+            answers.set()
+            failed = await asyncio.wait_for(asyncio.gather(*opening, return_exceptions=True), 10)
+        self.assertEqual(sorted(asked), sorted(names))
+        self.assertEqual({type(it) for it in failed}, {AllocationFailed})
+        self.assertEqual(len({id(it.__cause__) for it in failed if isinstance(it, Exception)}), len(failed))
 
     async def test_no_address_answers(self) -> None:
         with socket.socket(type=socket.SOCK_DGRAM) as one:

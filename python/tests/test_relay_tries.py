@@ -2,10 +2,11 @@
 import asyncio
 import functools
 import itertools
+import socket
 import unittest
 from typing import Any, Callable, Dict, Iterator, List, Tuple
 
-from yarrowdoor import Backoff, Relay, Times, TurnClient, rest_credentials
+from yarrowdoor import Backoff, Clock, Down, Ended, Refused, Relay, Times, TurnClient, Up, rest_credentials
 from yarrowdoor.tries import HELD
 
 from .leaps import LoopClock, run
@@ -91,6 +92,79 @@ class Tries(unittest.TestCase):
         choices: List[Dict[str, Any]] = [{}, {"times": Times()}]
         for settings in choices:
             self.assertAlmostEqual(run(opened(settings)), 4.0, delta=0.5)
+
+
+class Places(Case):
+    async def test_a_port_of_ones_own(self) -> None:
+        """The server still knows the allocation of that port, which is lost: the next one is from another port."""
+        endpoint = await self.serve(Server())
+        with socket.socket(type=socket.SOCK_DGRAM) as free:
+            free.bind(("127.0.0.1", 0))
+            own = free.getsockname()
+        relay, states = self.relay(endpoint, local_addr=own)
+        async with relay:
+            self.assertEqual(relay.local_address, own)
+            client: Any = relay._revival.client
+            client._session().breaks("the path is gone", None)
+            await self.until(lambda: len(states) == 3, 20)
+            self.assertNotEqual(relay.local_address, own)
+            self.assertEqual(relay.local_address[0], own[0])
+            endpoint.server.allocations.clear()
+            client = relay._revival.client
+            client._session().breaks("the path is gone", None)
+            await self.until(lambda: len(states) == 5, 20)
+            self.assertEqual(relay.local_address, own)
+
+    async def test_a_quota_of_one(self) -> None:
+        """The server counts the allocation that was lost as long as that may live: it is no end of the relay."""
+        endpoint = await self.serve(Restarting())
+        endpoint.server.refused = lambda message, life: 486 if endpoint.server.allocations else None
+        relay, states = self.relay(endpoint, clock=Clock(rate=60))
+        async with relay:
+            client: Any = relay._revival.client
+            old = tuple(client.local_address)
+            receive = endpoint.server.receive
+            endpoint.server.receive = lambda data, source, now: [] if source == old else receive(data, source, now)
+            client._session().breaks("this host has the address no longer", None)
+            await self.until(lambda: endpoint.server.asks > 8, 30)
+            self.assertFalse(relay.closed)
+            endpoint.server.allocations.clear()  # It has expired.
+            await self.until(lambda: isinstance(relay.state, Up), 30)
+
+    async def test_a_quota_that_others_use(self) -> None:
+        """When an allocation of one's own cannot live any more, or was deleted, it is final."""
+        for is_deleted in (False, True):
+            endpoint = await self.serve(Restarting())
+            relay, states = self.relay(endpoint, clock=Clock(rate=600))
+            async with relay:
+                client: Any = relay._revival.client
+                endpoint.server.refused = lambda message, life: 486
+                if is_deleted:
+                    await client.close()
+                else:
+                    endpoint.server.is_dead = True
+                    client._session().breaks("the path is gone", None)
+                    await asyncio.sleep(0.2)
+                    endpoint.server.is_dead = False
+                with self.assertRaisesRegex(Ended, "486"):
+                    await asyncio.wait_for(relay.wait_closed(), 30)
+
+    async def test_addresses(self) -> None:
+        endpoint = await self.serve(Restarting())
+        relay, states = self.relay(endpoint)
+        for name in ("addresses", "address", "local_address"):
+            with self.assertRaises(Ended):
+                getattr(relay, name)
+        async with relay:
+            self.assertEqual(relay.addresses, [relay.address])
+            self.assertEqual(relay.mapped_address, relay.local_address)
+            endpoint.server.refused = lambda message, life: 500
+            client: Any = relay._revival.client
+            client._session().breaks("the path is gone", None)
+            await self.until(lambda: isinstance(relay.state, Down), 20)
+            self.assertEqual((relay.addresses, relay.mapped_address), ([relay.address], None))
+            with self.assertRaisesRegex(Refused, "the relay is down"):
+                relay.local_address
 
 
 class Asked(Case):

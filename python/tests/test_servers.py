@@ -176,6 +176,15 @@ class Redirects(Case):
     def place(self, places: List[Any], at: int) -> Any:
         return places[at].transport.get_extra_info("sockname")
 
+    async def test_from_a_port_of_ones_own(self) -> None:
+        """The first socket is closed before the next one has its port."""
+        endpoints = await self.chain(2)
+        with socket.socket(type=socket.SOCK_DGRAM) as free:
+            free.bind(("127.0.0.1", 0))
+            own = free.getsockname()
+        async with TurnClient(endpoints[0].uri, *BOTH, redirects=2, local_addr=own) as relay:
+            self.assertEqual(relay.local_address, own)
+
     async def test_no_loop(self) -> None:
         places: List[Any] = []
         for at in (1, 0):

@@ -8,8 +8,8 @@ from typing import Callable, NamedTuple, Tuple, Union
 from . import layout as c
 from .kept import Kept
 
-__all__ = ["Address", "AddressLike", "ScopedAddress", "SocketAddress", "checked_ip", "checked_peer", "of_socket", "packed",
-           "packed_ip", "peer_of", "socket_address"]
+__all__ = ["Address", "AddressLike", "ScopedAddress", "SocketAddress", "canonical", "checked_ip", "checked_peer", "of_socket",
+           "packed", "packed_ip", "peer_of", "socket_address"]
 
 
 class Address(NamedTuple):
@@ -80,6 +80,15 @@ def socket_address(address: bytes) -> SocketAddress:
     _, flow, scope, _, _, _ = c.ADDRESS.unpack(address)
     found = peer_of(address)
     return ScopedAddress(found.host, found.port, flow, scope) if flow or scope else found
+
+
+def canonical(host: str) -> str:
+    """An IPv6 address in the one form in which addresses are compared (RFC 5952), with its zone; anything else as it is."""
+    ip, percent, zone = host.partition("%")
+    try:
+        return socket.inet_ntop(socket.AF_INET6, socket.inet_pton(socket.AF_INET6, ip)) + percent + zone
+    except (OSError, ValueError):
+        return host
 
 
 def checked_peer(peer: AddressLike) -> Address:

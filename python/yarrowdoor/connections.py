@@ -10,6 +10,7 @@ from typing import Any, Awaitable, Callable, Iterable, Optional, Set, Tuple, Typ
 from .address import Address
 from .credentials import CredentialsLike
 from .errors import ConnectFailed, Ended, because
+from .lookup import look_up
 from .streams import Pair
 from .turn import TurnClient
 from .uri import TurnUri
@@ -149,7 +150,7 @@ async def _resolved(host: str, port: int, family: int) -> Tuple[str, int]:
     """The first address of a name. `ConnectFailed` where it has none."""
     kind = socket.AF_INET6 if family == 6 else socket.AF_INET
     try:
-        found = await asyncio.get_running_loop().getaddrinfo(host, port, family=kind, type=socket.SOCK_STREAM)
+        found = await look_up(host, port, type=socket.SOCK_STREAM, family=kind)
     except (OSError, UnicodeError) as error:
         raise because(ConnectFailed(f"no connection to {host}:{port}: {error}"), error)
     return str(found[0][4][0]), port

@@ -11,7 +11,7 @@ from .errors import AllocationFailed, Ended, because
 from .inbox import Inbox
 from .link import Link
 from .redirect import Redirects
-from .servers import NoneSucceeded, Server, first_of
+from .servers import ALONE, NoneSucceeded, Server, first_of
 from .session import Leaving, Over, Session
 
 __all__ = ["Lifetime"]
@@ -82,16 +82,28 @@ class Lifetime:
         task = asyncio.ensure_future(self._connect())
         self._phase = Connecting(task)
         try:
-            await task
-        except asyncio.CancelledError:
-            if task.cancelled() and isinstance(self._phase, Failed):
-                raise AllocationFailed("the client was closed") from None  # by `close`, and not who waits for this
-            if isinstance(self._phase, Session):  # cancelled when it had just been opened
-                await self._phase.leave()
-            elif isinstance(self._phase, Connecting):
-                self._phase = Failed(Ended("the client was closed"), None)
-                self._inbox.end()
+            await asyncio.wait([task])
+        except asyncio.CancelledError:  # of who waits for this
+            await self._give_up(task)
             raise
+        if task.cancelled():
+            if isinstance(self._phase, Failed):
+                raise AllocationFailed("the client was closed")  # by `close`
+            await self._give_up(task)
+        task.result()
+
+    async def _give_up(self, task: asyncio.Future[None]) -> None:
+        """Ends what opens the client, unless `close` does, and gives back what it has got."""
+        if not isinstance(self._phase, Failed):
+            task.cancel()
+        await asyncio.wait([task])
+        if not task.cancelled():
+            task.exception()
+        if isinstance(self._phase, Session):  # It had just been opened.
+            await self._phase.leave()
+        elif isinstance(self._phase, Connecting):
+            self._phase = Failed(Ended("the client was closed"), None)
+            self._inbox.end()
 
     async def _connect(self) -> None:
         try:
@@ -121,6 +133,8 @@ class Lifetime:
                 other = self._redirects.next(self._server, error) if isinstance(error, AllocationFailed) else None
                 if other is None:
                     raise
+                if other.has_own_port:
+                    await asyncio.wait([self._rest])  # It has the port.
                 self._server = other
 
     async def _first_session(self) -> Session:
@@ -139,7 +153,7 @@ class Lifetime:
 
         hosts = await self._server.addresses()
         try:
-            return await first_of(hosts, attempt, _discard)
+            return await first_of(hosts, attempt, _discard, ALONE if self._server.has_own_port else None)
         except NoneSucceeded as none:
             failures = none.failures
         raise self._unreachable(failures)

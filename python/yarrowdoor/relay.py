@@ -5,9 +5,9 @@ import copy
 import functools
 import warnings
 from types import TracebackType
-from typing import Any, AsyncIterator, Awaitable, Callable, Dict, Optional, Tuple, Type, Union
+from typing import Any, AsyncIterator, Awaitable, Callable, Dict, List, Optional, Tuple, Type, Union
 
-from .address import Address, AddressLike, checked_ip, checked_peer
+from .address import Address, AddressLike, SocketAddress, checked_ip, checked_peer
 from .backoff import Backoff
 from .client import Buffer, Times
 from .counters import Counters
@@ -26,7 +26,10 @@ from .vigil import UNSURE
 __all__ = ["Relay"]
 
 
-def _client(counters: Counters, uri: Union[str, TurnUri], settings: Dict[str, Any], credentials: Credentials) -> Watched:
+def _client(counters: Counters, uri: Union[str, TurnUri], settings: Dict[str, Any], credentials: Credentials,
+            leaves_port: bool = False) -> Watched:
+    if leaves_port and settings.get("local_addr") is not None:
+        settings = {**settings, "local_addr": (settings["local_addr"][0], 0)}
     client = Watched(uri, credentials=credentials, **settings)
     client.count_in(counters)
     return client
@@ -142,6 +145,24 @@ class Relay(Told):
         if self._states.address is None:
             raise self._revival.ending()
         return self._states.address
+
+    @property
+    def addresses(self) -> List[Address]:
+        """All relayed addresses, as `TurnClient.addresses`, or the last ones while the relay is down. `Ended` where there never was
+        one."""
+        if not self._revival.addresses:
+            raise self._revival.ending()
+        return list(self._revival.addresses)
+
+    @property
+    def mapped_address(self) -> Optional[Address]:
+        """This client's own address, as `TurnClient.mapped_address`. None while the relay is down."""
+        return self._revival.client.mapped_address if self._revival.client is not None else None
+
+    @property
+    def local_address(self) -> SocketAddress:
+        """The address of the socket to the server. `Ended` where the relay has ended, and `Refused` while it is down."""
+        return self._revival.current().local_address
 
     @property
     def unsent(self) -> int:

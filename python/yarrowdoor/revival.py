@@ -2,8 +2,9 @@
 from __future__ import annotations
 
 import asyncio
-from typing import Any, Optional, Set
+from typing import Any, List, Optional, Set
 
+from .address import Address
 from .asked import About
 from .errors import ChannelFailed, Ended, PermissionFailed, Refused, WrongCredentials, because
 from .inbox import Inbox
@@ -26,6 +27,8 @@ class Revival:
         self.why: Optional[Exception] = None
         """what has ended it, if it has ended by itself"""
         self.is_over = False
+        self.addresses: List[Address] = []
+        """all addresses of the client that is up, or of the last one"""
         self._vigil: Optional[Vigil] = None
         # Whose permissions and channels the next client asks for.
         self._wanted: Set[About] = set()
@@ -90,7 +93,7 @@ class Revival:
                 restoring.result()
                 self.client = client
                 self._tries.failures.clear()
-                since = loop.time()
+                since, self.addresses = loop.time(), client.addresses
                 self._set(Up(client.address, self._states.address))
             return await gone
         finally:
@@ -102,6 +105,7 @@ class Revival:
     def _drop(self, client: Watched) -> None:
         self.client = self._vigil = None
         self._wanted.update(client.kept())
+        self._tries.failures.leaves(client.lease)
         self._notices.unsent += client.unsent
         client.on_pause = None
         self._leave(client)

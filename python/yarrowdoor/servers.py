@@ -11,13 +11,16 @@ from typing import Awaitable, Callable, Dict, Iterable, List, Optional, Tuple, T
 from .address import Address
 from .errors import AllocationFailed, YarrowdoorError, because
 from .link import DatagramLink, Link, StreamLink
+from .lookup import look_up
 from .uri import TurnUri
 from .wire import Wire, connect_stream, connect_udp
 
-__all__ = ["NoneSucceeded", "Server", "first_of", "interleaved"]
+__all__ = ["ALONE", "NoneSucceeded", "Server", "first_of", "interleaved"]
 
 # How long an attempt is alone before one with the next address begins beside it, in seconds (RFC 8305, section 5).
 STAGGER = 0.25
+# How long an attempt takes before it is given up for the next one, where both would use the same local port, in seconds.
+ALONE = 1.5
 
 _Found = TypeVar("_Found")
 
@@ -40,6 +43,11 @@ class Server:
         self._ssl = (ssl or tls.create_default_context()) if uri.secure else None
         self._local_addr, self._family, self._name = local_addr, family, name or uri.host
 
+    @property
+    def has_own_port(self) -> bool:
+        """Whether sockets to the server have a port of the user's, so that there is one at a time."""
+        return self._local_addr is not None and self._local_addr[1] != 0
+
     def redirected(self, to: Address) -> Server:
         """The server at another address, over the same transport, and with a certificate for the same name."""
         uri = dataclasses.replace(self.uri, host=to.host, port=to.port)
@@ -51,7 +59,7 @@ class Server:
             return [_scoped(self._socket.getpeername())]
         kind = socket.SOCK_DGRAM if self.uri.transport == "udp" else socket.SOCK_STREAM
         try:
-            found = await asyncio.get_running_loop().getaddrinfo(self.uri.host, self.uri.port, type=kind, family=self._family)
+            found = await look_up(self.uri.host, self.uri.port, type=kind, family=self._family)
         except (OSError, UnicodeError) as error:
             raise because(AllocationFailed(f"no connection to {self.uri}: {error}"), error)
         return interleaved(_scoped(it[4]) for it in found)
@@ -153,11 +161,11 @@ class NoneSucceeded(Exception):
         self.failures = failures
 
 
-async def first_of(
-        hosts: List[str], attempt: Callable[[str], Awaitable[_Found]], discard: Callable[[_Found], Awaitable[None]]) -> _Found:
+async def first_of(hosts: List[str], attempt: Callable[[str], Awaitable[_Found]], discard: Callable[[_Found], Awaitable[None]],
+                   alone: Optional[float] = None) -> _Found:
     """Attempts one address after the other, each `STAGGER` after the last one began, or at once where that one has failed. Gives
     what the first one found that succeeds; the other attempts are cancelled, and what one of them finds meanwhile is discarded.
-    `NoneSucceeded` where all fail."""
+    With `alone` there is one at a time: all but the last one are given up after so many seconds. `NoneSucceeded` where all fail."""
     failures: Dict[str, Exception] = {}
     running: Dict[asyncio.Future[_Found], str] = {}
     waiting = list(reversed(hosts))
@@ -166,7 +174,8 @@ async def first_of(
             if waiting:
                 host = waiting.pop()
                 running[asyncio.ensure_future(attempt(host))] = host
-            done, _ = await asyncio.wait(running, timeout=STAGGER if waiting else None, return_when=asyncio.FIRST_COMPLETED)
+            limit = None if not waiting else STAGGER if alone is None else alone
+            done, _ = await asyncio.wait(running, timeout=limit, return_when=asyncio.FIRST_COMPLETED)
             for task in done:
                 host = running.pop(task)
                 error = task.exception()
@@ -175,10 +184,20 @@ async def first_of(
                 if not isinstance(error, (OSError, YarrowdoorError)):
                     raise error  # which is not about this address
                 failures[host] = error
+            if alone is not None and running:
+                failures.update((host, AllocationFailed(f"no answer in {alone} s")) for host in running.values())
+                await _cancel(running, discard)
         raise NoneSucceeded(failures)
     finally:
-        for task in running:
-            task.cancel()
-        for found in await asyncio.gather(*running, return_exceptions=True):
-            if not isinstance(found, BaseException):
-                await discard(found)
+        await _cancel(running, discard)
+
+
+async def _cancel(running: Dict[asyncio.Future[_Found], str], discard: Callable[[_Found], Awaitable[None]]) -> None:
+    """Ends attempts, and discards what they have found."""
+    tasks = [*running]
+    for task in tasks:
+        task.cancel()
+    for found in await asyncio.gather(*tasks, return_exceptions=True):
+        if not isinstance(found, BaseException):
+            await discard(found)
+    running.clear()

@@ -14,12 +14,13 @@ from .answers import (
 from .asked import Key, channel, permission
 from .client import Client
 from .clock import Alarm, Clock
-from .diagnosis import ALLOCATE, Diagnosis, refusal
+from .diagnosis import ALLOCATE, REFRESH, Diagnosis, refusal
 from .errors import AllocationFailed, Ended, Refused, because
 from .grants import Grants
 from .idle import Idle
 from .inbox import Inbox
 from .journal import Journal
+from .lease import Lease
 from .link import Link, LinkUser
 from .notices import Notices
 from .path import Path
@@ -56,6 +57,7 @@ class Session(LinkUser):
         """all relayed addresses: one for each family that was asked for and granted"""
         self._refused_families, self._families = 0, len(families)
         self.mapped: Optional[Address] = None
+        self.lease = Lease(clock)
         self.count = 0
         """how many packets, or pieces of the stream, have come"""
         self._has_streams = relay == "tcp"
@@ -123,6 +125,8 @@ class Session(LinkUser):
         self.diagnosis.hears(message, packet, is_ignored)
         self.journal.answered(key, self.requests.last(key), message, is_ignored, self.clock.now())
         self.grants.answered(key, message.error is None and not is_ignored)
+        if key in (ALLOCATE, REFRESH) and message.error is None and not is_ignored:
+            self._renewed(key)
         if isinstance(self.state, Opening):
             settle(self.state.heard, None)
         if key != ALLOCATE:
@@ -131,6 +135,14 @@ class Session(LinkUser):
             self._fail_soon(refusal(message.error))
         elif message.mapped is not None and not is_ignored:
             self.mapped = message.mapped
+
+    def _renewed(self, key: Key) -> None:
+        """The server has granted the relayed address, for a time that may be none."""
+        asked = self.requests.last(key)
+        if self.journal.is_leaving:
+            self.lease.end()
+        else:
+            self.lease.renew(asked.lifetime if asked is not None else None)
 
     def refused(self, link: Link, error: Exception) -> None:
         if isinstance(self.state, Over):

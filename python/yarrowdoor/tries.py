@@ -11,6 +11,7 @@ from .counters import Counters
 from .credentials import Credentials, CredentialsLike, asked, checked_pair
 from .errors import AllocationFailed, Ended, LibraryError, PermissionFailed, WrongCredentials, because
 from .journal import Watcher
+from .lease import Lease
 from .link import Link
 from .session import Session
 from .settings import Times
@@ -38,6 +39,8 @@ REST = 0.2
 FINAL = (300, 403, 440, 442)
 # So many of these in a row are the end. Nobody has to have signed the packet that says that credentials are wrong.
 MAX_WRONG, MAX_QUOTA, QUOTA = 2, 3, 486
+# The server still keeps an allocation of this port: another port is to be used (RFC 8656, section 7.5).
+MISMATCH = 437
 # What is wrong with the arguments, or the installation.
 OUR_OWN: Tuple[Type[Exception], ...] = (ValueError, TypeError, LibraryError)
 
@@ -54,6 +57,11 @@ class Watched(TurnClient):
     def link(self) -> Link:
         """The socket to the server. `Ended` where the client has ended."""
         return self._session().link
+
+    @property
+    def lease(self) -> Optional[Lease]:
+        """How long the server may keep the relayed address, if there was one."""
+        return self._phase.lease if isinstance(self._phase, Session) else None
 
     async def standing(self) -> Optional[PermissionFailed]:
         """What `Standing.failure` gives. None where the client has ended."""
@@ -87,6 +95,12 @@ class Failures:
 
     def __init__(self) -> None:
         self._wrong = self._quota = 0
+        # Those of the allocations that were left.
+        self._leases: List[Lease] = []
+
+    def leaves(self, lease: Optional[Lease]) -> None:
+        """A client is left, whose allocation the server may keep for a while."""
+        self._leases = [it for it in (*self._leases, lease) if it is not None and it.is_running]
 
     def clear(self) -> None:
         """The relay is up."""
@@ -98,18 +112,22 @@ class Failures:
             self._wrong += 1
             return self._wrong >= MAX_WRONG
         code = error.code if isinstance(error, AllocationFailed) else None
-        self._quota = self._quota + 1 if code == QUOTA else 0
+        self.leaves(None)
+        # While the server may keep an allocation of this relay, that one may be what is one too many.
+        self._quota = self._quota + 1 if code == QUOTA and not self._leases else 0
         return code in FINAL or self._quota >= MAX_QUOTA or isinstance(error, OUR_OWN)
 
 
 class Tries:
     """Makes clients, and opens them."""
 
-    def __init__(self, make: Callable[[Credentials], Watched], source: CredentialsLike, backoff: Backoff) -> None:
+    def __init__(self, make: Callable[[Credentials, bool], Watched], source: CredentialsLike, backoff: Backoff) -> None:
         self._make, self._source, self._backoff = make, source, backoff
         self._waits = backoff.waits()
         # When the next try may begin, as a time of the event loop.
         self._due = 0.0
+        # Whether the next try is from another port than the user has given.
+        self._leaves_port = False
         self.failures = Failures()
 
     def renew(self) -> None:
@@ -125,16 +143,18 @@ class Tries:
                 await asyncio.sleep(self._due - loop.time())
             self._due = loop.time() + next(self._waits)
             try:
-                return await self._try(leave)
+                client, self._leaves_port = await self._try(leave), False
+                return client
             except Exception as error:
                 if self.failures.is_final(error):
                     raise
                 tell(error.with_traceback(None))  # which names this frame: who clears what it names would end this loop
+                self._leaves_port = isinstance(error, AllocationFailed) and error.code == MISMATCH
                 self._due = max(self._due, loop.time() + REST)
                 _log.warning("no relayed address: %s. The next try is in %.1f s", error, self._due - loop.time())
 
     async def _try(self, leave: Callable[[Watched], None]) -> Watched:
-        client = self._make(await self._ask())
+        client = self._make(await self._ask(), self._leaves_port)
         opening = asyncio.ensure_future(client.open())
         try:
             await self._opened(client, opening)

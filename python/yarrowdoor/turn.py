@@ -42,19 +42,19 @@ class TurnClient(Told, Lifetime):
     `turns:` URIs, by default `ssl.create_default_context()`. `times` says how long a request waits for its answer (`Times`). At
     most `queue` packets of peers wait to be taken; a further one is dropped and counted. With `receiver` there is no queue: it is
     called with data and peer, in the event loop, and must not block. What it raises goes to the event loop's exception handler.
-    `probe` is how often the path to the server is checked, in seconds: three checks in a row without an answer, nor one to a
-    signed request, end the relay. By default none is made. When nothing was sent for `keepalive` seconds, something is, so that a
-    NAT in between keeps its mapping; with 0 never. Between two requests lies a `pause` in seconds, and permissions and channels are
-    refreshed `refresh_ahead` seconds before they expire. `anonymous` hides the user name (RFC 8489, section 14.4): `"required"` always, `"disabled"` never,
-    and `"auto"` never so far. `max_stale_nonces` is how many challenges in a row are answered. It should be greater than the
-    number of permissions and channels: their refreshes may all be challenged at once, and that of the relayed address too. In
-    place of user and password `credentials` is both, or a function that returns both, async or not: it is called when the client is
-    opened. A peer that was neither sent to nor heard from for `idle` seconds is released, and kept again when it is; by default
-    none is. Where the server names another one (RFC 8489, section 10), that one is asked in its place, up to `redirects` times,
-    over TLS with a certificate for the name in `uri`. Nobody has signed that answer: anyone who sees the first request may send
-    it. `local_addr` and `socket_family` are those of the socket to the server, as asyncio has `local_addr` and `family`. With
-    `sock`, a connected socket over what the URI says, the name is not looked up: the client uses this socket from `open` on, and
-    closes it.
+    `probe` is how often the path to the server is checked, in seconds: three checks in a row without an answer, nor one to a signed
+    request, end the relay. By default none is made. When nothing was sent for `keepalive` seconds, something is, so that a NAT in
+    between keeps its mapping; with 0 never. Between two requests lies a `pause` in seconds, and permissions and channels are
+    refreshed `refresh_ahead` seconds before they expire. `anonymous` hides the user name (RFC 8489, section 14.4): `"required"`
+    always, `"disabled"` never, and `"auto"` never so far. `max_stale_nonces` is how many challenges in a row are answered. It
+    should be greater than the number of permissions and channels: their refreshes may all be challenged at once, and that of the
+    relayed address too. In place of user and password `credentials` is both, or a function that returns both, async or not: it is
+    called when the client is opened. A peer that was neither sent to nor heard from for `idle` seconds is released, and kept again
+    when it is; by default none is. Where the server names another one (RFC 8489, section 10), that one is asked in its place, up to
+    `redirects` times, over TLS with a certificate for the name in `uri`. Nobody has signed that answer: anyone who sees the first
+    request may send it. `local_addr` and `socket_family` are those of the socket to the server, as asyncio has `local_addr` and
+    `family`. With `sock`, a connected socket over what the URI says, the name is not looked up: the client uses this socket from
+    `open` on, and closes it.
 
     Peers are IP addresses with ports; names are not resolved. What is counted and told:
 

@@ -6,6 +6,8 @@ import re
 import urllib.parse
 from dataclasses import dataclass
 
+from .address import canonical
+
 __all__ = ["TurnUri", "parse"]
 
 _FORM = re.compile(r"(?P<scheme>turns?):(?P<host>\[[^][/?#@]*\]|[^][/?#@:]+)(:(?P<port>[0-9]+))?"
@@ -23,8 +25,15 @@ class TurnUri:
     transport: str = "udp"
     secure: bool = False
 
+    def __post_init__(self) -> None:
+        object.__setattr__(self, "host", canonical(self.host))
+
     def __str__(self) -> str:
-        host = f"[{self.host}]" if ":" in self.host else urllib.parse.quote(self.host, safe="!$&'()*+,;=")
+        if ":" in self.host:
+            ip, percent, zone = self.host.partition("%")
+            host = f"[{ip}%25{urllib.parse.quote(zone)}]" if percent else f"[{ip}]"
+        else:
+            host = urllib.parse.quote(self.host, safe="!$&'()*+,;=")
         return f"turn{'s' * self.secure}:{host}:{self.port}?transport={self.transport}"
 
 
@@ -34,6 +43,8 @@ def parse(text: str) -> TurnUri:
     `ValueError` where it is no such URI, and for what is not supported: TURN over DTLS, that is `turns` over UDP.
     """
     found = _FORM.fullmatch(text)
+    if not found and "@" in text:
+        raise ValueError("a URI of TURN has no user and no password, and no other @ (RFC 7065): pass them as arguments")
     if not found:
         raise ValueError(f"{text!r} has not the form turn:HOST[:PORT][?transport=udp|tcp], or turns: for TLS (RFC 7065)")
     secure = found["scheme"].lower() == "turns"
@@ -50,8 +61,11 @@ def parse(text: str) -> TurnUri:
 
 def _host(text: str, host: str) -> str:
     if host.startswith("["):
+        ip, percent, zone = host[1:-1].partition("%")
+        if zone.startswith("25") and len(zone) > 2:  # A zone stands behind an escaped percent sign (RFC 6874).
+            zone = urllib.parse.unquote(zone[2:])
         try:
-            return str(ipaddress.IPv6Address(host[1:-1]))
+            return str(ipaddress.IPv6Address(ip + percent + zone))
         except ValueError:
             raise ValueError(f"{text!r}: {host} is no IPv6 address") from None
     if not _NAME.fullmatch(host):
