@@ -5,7 +5,7 @@ import asyncio
 import warnings
 from dataclasses import dataclass
 from types import TracebackType
-from typing import Dict, Optional, Type, TypeVar, Union
+from typing import Any, Dict, NoReturn, Optional, Type, TypeVar, Union
 
 from .errors import AllocationFailed, Ended, because
 from .inbox import Inbox
@@ -43,7 +43,8 @@ class Failed:
 class Lifetime:
     """A client that is opened once, and closed. A `Session` does its work, from the time when there is a relayed address."""
 
-    def __init__(self, server: Server, inbox: Inbox, redirects: int = 0) -> None:
+    def __init__(self, server: Server, inbox: Inbox, redirects: int = 0, open_timeout: Optional[float] = None) -> None:
+        self._open_timeout = open_timeout
         self._server, self._inbox, self._redirects = server, inbox, Redirects(redirects)
         self._phase: Union[NotOpened, Connecting, Failed, Session] = NotOpened()
         self._rest: Optional[asyncio.Future[None]] = None
@@ -56,6 +57,15 @@ class Lifetime:
 
     async def _prepare(self) -> None:
         """Gets what a session needs."""
+
+    def __repr__(self) -> str:
+        phase = self._phase
+        words = {NotOpened: "not opened", Connecting: "connecting", Failed: "closed"}
+        what = words[type(phase)] if not isinstance(phase, Session) else repr(phase)
+        return f"<{type(self).__name__} of {self._server.uri}: {what}>"
+
+    def __reduce_ex__(self, protocol: Any) -> NoReturn:
+        raise TypeError(f"a {type(self).__name__} is not copied: it has a socket, and the relayed address is deleted with it")
 
     async def __aenter__(self: _Self) -> _Self:
         await self.open()
@@ -73,7 +83,8 @@ class Lifetime:
                           stacklevel=2, source=self)
 
     async def open(self) -> None:
-        """Connects to the server, and waits for a relayed address: what entering does. It is called once.
+        """Connects to the server, and waits for a relayed address, for up to `open_timeout` seconds: what entering does. It is
+        called once.
 
         Where it is cancelled it gives back what the server may have granted, which takes up to two seconds.
         """
@@ -82,10 +93,15 @@ class Lifetime:
         task = asyncio.ensure_future(self._connect())
         self._phase = Connecting(task)
         try:
-            await asyncio.wait([task])
+            await asyncio.wait([task], timeout=self._open_timeout)
+            if not task.done():
+                await self._give_up(task)
+                raise AllocationFailed(f"no relayed address from {self._server.uri} in {self._open_timeout} s")
         except asyncio.CancelledError:  # of who waits for this
             await self._give_up(task)
             raise
+        finally:
+            self._server.close_unused()
         if task.cancelled():
             if isinstance(self._phase, Failed):
                 raise AllocationFailed("the client was closed")  # by `close`
@@ -133,8 +149,6 @@ class Lifetime:
                 other = self._redirects.next(self._server, error) if isinstance(error, AllocationFailed) else None
                 if other is None:
                     raise
-                if other.has_own_port:
-                    await asyncio.wait([self._rest])  # It has the port.
                 self._server = other
 
     async def _first_session(self) -> Session:

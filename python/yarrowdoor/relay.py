@@ -1,11 +1,12 @@
 """A relayed address that comes back: after an outage, another address of this host, or a restart of the server."""
 from __future__ import annotations
 
+import asyncio
 import copy
 import functools
 import warnings
 from types import TracebackType
-from typing import Any, AsyncIterator, Awaitable, Callable, Dict, List, Optional, Tuple, Type, Union
+from typing import Any, AsyncIterator, Awaitable, Callable, Dict, List, NoReturn, Optional, Tuple, Type, Union
 
 from .address import Address, AddressLike, SocketAddress, checked_ip, checked_peer
 from .backoff import Backoff
@@ -18,10 +19,11 @@ from .notices import Notices, Told
 from .path import Check
 from .revival import Revival
 from .settings import check_seconds
-from .states import State, States
+from .states import Down, State, States, Up
 from .tries import TIMES, Tries, Watched
 from .uri import TurnUri
 from .vigil import UNSURE
+from .within import within
 
 __all__ = ["Relay"]
 
@@ -65,18 +67,22 @@ class Relay(Told):
     def __init__(self, uri: Union[str, TurnUri], user: Optional[Text] = None, password: Optional[Text] = None, *,
                  credentials: Optional[CredentialsLike] = None, backoff: Backoff = Backoff(), waits: bool = False,
                  on_state: Optional[Callable[[State], None]] = None, probe: Optional[float] = 5.0, times: Times = TIMES,
-                 queue: int = 1024, receiver: Optional[Receiver] = None, **settings: Any) -> None:
+                 queue: int = 1024, receiver: Optional[Receiver] = None, open_timeout: Optional[float] = None,
+                 **settings: Any) -> None:
         Told.__init__(self, Inbox(queue, receiver), Notices())
         if settings.get("relay", "udp") != "udp":
             raise ValueError("a Relay has no streams: use a TurnClient with relay='tcp'")
         if settings.get("sock") is not None:
             raise ValueError("a Relay makes a socket for each try, so that none is given")
         check_seconds(above_zero={"probe": probe}, from_zero={})
-        self._uri, self._waits, self._states = uri, waits, States(on_state)
+        check_seconds(above_zero={"open_timeout": open_timeout}, from_zero={})
+        self._uri, self._waits, self._states, self._open_timeout = uri, waits, States(on_state), open_timeout
         settings.update(times=times, receiver=self._inbox.put)
         # Nothing of this goes back to the relay, so that one that nobody has any more is collected.
         make = functools.partial(_client, self._notices.counters, uri, settings)
-        make(Credentials("", ""))  # says what is wrong with the arguments
+        client = make(Credentials("", ""))  # says what is wrong with the arguments
+        if client.ssl is not None:
+            settings["ssl"] = client.ssl  # To make one takes 0.1 s.
         tries = Tries(make, one_source(user, password, credentials), backoff)
         self._revival = Revival(tries, self._states, self._inbox, self._notices, probe)
 
@@ -86,6 +92,14 @@ class Relay(Told):
             revival.abandon()
             why = f"unclosed Relay of {self._uri}: use `async with`, or `close`"
             warnings.warn(why, ResourceWarning, stacklevel=2, source=self)
+
+    def __repr__(self) -> str:
+        if self._revival.is_over or not self._revival.is_begun:
+            return f"<Relay of {self._uri}: {'closed' if self._revival.is_over else 'not opened'}>"
+        return f"<Relay of {self._uri}: {f'up at {self.address}' if isinstance(self.state, Up) else 'down'}>"
+
+    def __reduce_ex__(self, protocol: Any) -> NoReturn:
+        raise TypeError("a Relay is not copied: it has a socket, and the relayed address is deleted with it")
 
     # From opening to the end
 
@@ -98,13 +112,17 @@ class Relay(Told):
         await self.close()
 
     async def open(self) -> None:
-        """Tries until the relay is up for the first time: what entering does. It is called once. `asyncio.wait_for` limits it.
+        """Tries until the relay is up for the first time, or for `open_timeout` seconds: what entering does. It is called once.
 
         Raises what ends a relay: `WrongCredentials`, `AllocationFailed`. `RuntimeError` where it was called before.
         """
         self._revival.start()
         try:
-            await self._revival.up()
+            await (self._revival.up() if self._open_timeout is None else within(self._revival.up(), self._open_timeout))
+        except asyncio.TimeoutError:
+            await self._revival.stop()
+            reason = f": {self.state.reason}" if isinstance(self.state, Down) else ""
+            raise AllocationFailed(f"no relayed address from {self._uri} in {self._open_timeout} s{reason}") from None
         except Ended as ended:
             why = self._revival.why or AllocationFailed(str(ended))
             raise because(copy.copy(why), why.__cause__)
@@ -182,8 +200,15 @@ class Relay(Told):
         await self._ask(lambda client: client.bind(where))
 
     async def check(self) -> Check:
-        """Asks the server for a sign of life, as `TurnClient.check`."""
-        return await (await self._revival.up()).check()
+        """Asks the server for a sign of life, as `TurnClient.check`. While the relay is down there is none."""
+        self._revival.check()
+        client = self._revival.client
+        try:
+            if client is not None:
+                return await client.check()
+        except Ended:
+            self._revival.check()
+        return Check(False, None)
 
     async def _ask(self, ask: Callable[[Watched], Awaitable[None]]) -> None:
         while True:

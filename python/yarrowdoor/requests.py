@@ -2,11 +2,13 @@
 from __future__ import annotations
 
 import asyncio
+import copy
 import enum
 from typing import Awaitable, Callable, Dict, Optional, Set
 
 from .asked import Key, Record
 from .counters import Counters
+from .errors import YarrowdoorError
 
 __all__ = ["Made", "Requests", "settle"]
 
@@ -34,12 +36,16 @@ class Requests(Record):
         self._tasks: Set[asyncio.Future[None]] = set()
 
     async def ask(self, key: Key, make: Callable[[], Made]) -> None:
-        """Makes a request, and waits until `settle` says how it went. Who asks for one that is under way waits for that one."""
+        """Makes a request, and waits until `settle` says how it went. Who asks for one that is under way waits for that one. Each
+        who waits gets an error of its own."""
         waiter = self._waiters.get(key)
         if waiter is None or waiter.done():
             waiter = self._waiters[key] = asyncio.get_running_loop().create_future()
             self.spawn(self._make(key, waiter, make))
-        await asyncio.shield(waiter)
+        try:
+            await asyncio.shield(waiter)
+        except YarrowdoorError as error:
+            raise copy.copy(error) from error.__cause__
 
     async def _make(self, key: Key, waiter: asyncio.Future[None], make: Callable[[], Made]) -> None:
         try:

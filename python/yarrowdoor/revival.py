@@ -148,6 +148,8 @@ class Revival:
         """Why there is no client any more, as a new error for each call."""
         if self._running is None:
             return Ended("the relay was closed" if self.is_over else "the relay was not opened")
+        if not self.is_over:
+            return Ended("there is no relayed address yet")
         return because(Ended(f"the relay has ended: {self.why}"), self.why) if self.why else Ended("the relay was closed")
 
     def check(self) -> None:

@@ -44,6 +44,17 @@ class Server:
         self._local_addr, self._family, self._name = local_addr, family, name or uri.host
 
     @property
+    def ssl(self) -> Optional[tls.SSLContext]:
+        """The context of TLS, where that is used."""
+        return self._ssl
+
+    def close_unused(self) -> None:
+        """Closes the socket that was given, if it was not used."""
+        given, self._socket = self._socket, None
+        if given is not None:
+            given.close()
+
+    @property
     def has_own_port(self) -> bool:
         """Whether sockets to the server have a port of the user's, so that there is one at a time."""
         return self._local_addr is not None and self._local_addr[1] != 0

@@ -45,7 +45,9 @@ class Session(LinkUser):
     """A client over a link to the server, which asks for a relayed address at once."""
 
     def __init__(self, client: Client, link: Link, server: Server, relay: str, max_stale_nonces: int, clock: Clock, inbox: Inbox,
-                 notices: Notices, families: Sequence[int] = (4,), idle: Optional[float] = None) -> None:
+                 notices: Notices, families: Sequence[int] = (4,), idle: Optional[float] = None,
+                 leave_wait: Optional[float] = None) -> None:
+        self._leave_wait = leave_wait
         self._loop = asyncio.get_running_loop()
         self.client, self.link, self.server, self.clock, self.notices = client, link, server, clock, notices
         self.state: State = Opening(self._loop.create_future(), self._loop.create_future())
@@ -75,6 +77,11 @@ class Session(LinkUser):
         self.path = Path(self)
         link.user = self
         self.drive()
+
+    def __repr__(self) -> str:
+        if isinstance(self.state, Over):
+            return "closed" if self.state.why is None else f"ended, {self.state.why}"
+        return "closing" if isinstance(self.state, Leaving) else f"open at {self.address}"
 
     # The link
 
@@ -285,14 +292,18 @@ class Session(LinkUser):
                 self._delete()
             self.drive()
         try:
-            await asyncio.wait([self.over], timeout=DELETE_WAIT)
+            await asyncio.wait([self.over], timeout=self._patience())
         finally:
             self._delete_now()
             self.end(None)
 
+    def _patience(self) -> float:
+        """How long leaving may take, in seconds."""
+        return DELETE_WAIT if self._leave_wait is None else self._leave_wait
+
     async def _delete_after(self, closing: List[asyncio.Future[None]]) -> None:
         """Deletes the relayed address when its streams are gone: a server ends those that there are with it."""
-        await asyncio.wait(closing, timeout=CLOSING * DELETE_WAIT)
+        await asyncio.wait(closing, timeout=CLOSING * self._patience())
         self._delete_now()
 
     def _delete_now(self) -> None:

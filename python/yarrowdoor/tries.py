@@ -3,6 +3,7 @@ from __future__ import annotations
 
 import asyncio
 import logging
+import ssl as tls
 from typing import Callable, List, Optional, Tuple, Type
 
 from .asked import About
@@ -57,6 +58,11 @@ class Watched(TurnClient):
     def link(self) -> Link:
         """The socket to the server. `Ended` where the client has ended."""
         return self._session().link
+
+    @property
+    def ssl(self) -> Optional[tls.SSLContext]:
+        """The context of TLS, where that is used."""
+        return self._server.ssl
 
     @property
     def lease(self) -> Optional[Lease]:

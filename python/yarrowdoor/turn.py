@@ -64,11 +64,12 @@ class TurnClient(Told, Lifetime):
       called with each.
     - `on_error`, if it is set, is called with each error of a socket over UDP that does not end it, as when a network goes.
 
-    Entering it raises `AllocationFailed` where there is no relayed address, and `WrongCredentials` where it is for user name
-    or password. Both have `code` and `phrase`, what an error response said. `times` limits the wait for each answer. Over TCP
-    and TLS the connection comes before: the system gives up on it after about two minutes, and asyncio on the handshake of TLS
-    after 60 s. `asyncio.wait_for(client.open(), seconds)` limits it all. It is used in one event loop. Where the server's name has
-    several addresses, an attempt with the next one begins after 250 ms (RFC 8305), and the first one that answers is used.
+    Entering it raises `AllocationFailed` where there is no relayed address, and `WrongCredentials` where it is for user name or
+    password. Both have `code` and `phrase`, what an error response said. `times` limits the wait for each answer. Over TCP and TLS
+    the connection comes before: the system gives up on it after about two minutes, and asyncio on the handshake of TLS after 60 s.
+    `open_timeout` seconds limit it all, and `close_timeout` how long `close` waits for the server. It is used in one event loop.
+    Where the server's name has several addresses, an attempt with the next one begins after 250 ms (RFC 8305), and the first one
+    that answers is used.
 
     Over UDP the relay ends when the system refuses several packets in a row. A server that is silent is told by `on_lost`, at most
     five minutes after the last renewal of a permission, and `closed` becomes True when the relayed address expires, up to half an
@@ -86,6 +87,7 @@ class TurnClient(Told, Lifetime):
                  pause: float = 0.005, refresh_ahead: float = 150.0, anonymous: str = "auto", max_stale_nonces: int = 256,
                  idle: Optional[float] = None, redirects: int = 0, sock: Optional[socket.socket] = None,
                  local_addr: Optional[Tuple[str, int]] = None, socket_family: int = socket.AF_UNSPEC,
+                 open_timeout: Optional[float] = None, close_timeout: Optional[float] = None,
                  clock: Optional[Clock] = None) -> None:
         self.uri = parse(uri) if isinstance(uri, str) else uri
         if relay not in ("udp", "tcp"):
@@ -93,19 +95,19 @@ class TurnClient(Told, Lifetime):
         if relay == "tcp" and self.uri.transport != "tcp":
             raise ValueError("relay='tcp' needs a server over TCP: turn:HOST?transport=tcp, or turns:HOST (RFC 6062, section 4.1)")
         self._families = checked_families(family)
-        check_seconds(above_zero={"probe": probe, "idle": idle},
+        check_seconds(above_zero={"probe": probe, "idle": idle, "open_timeout": open_timeout, "close_timeout": close_timeout},
                       from_zero={"keepalive": keepalive, "pause": pause, "refresh_ahead": refresh_ahead})
         if not 0 <= redirects < 100:
             raise ValueError(f"redirects is a number from 0 to 99, and not {redirects!r}")
         check_times(times)
         server = Server(self.uri, ssl, sock, local_addr=local_addr, family=socket_family)
-        Lifetime.__init__(self, server, Inbox(queue, receiver), redirects)
+        Lifetime.__init__(self, server, Inbox(queue, receiver), redirects, open_timeout)
         Told.__init__(self, self._inbox, Notices())
         self._source: CredentialsLike = one_source(user, password, credentials)
         self._credentials: Optional[Credentials] = None
         self._times, self._anonymous, self._max_stale_nonces = times, anonymous, max_stale_nonces
         self._pause, self._keepalive, self._refresh_ahead = (int(it * 1e9) for it in (pause, keepalive, refresh_ahead))
-        self._relay, self._probe, self._idle = relay, probe, idle
+        self._relay, self._probe, self._idle, self._close_timeout = relay, probe, idle, close_timeout
         self._clock = clock or Clock()
         # How much had come when `send` was called last.
         self._count = -1
@@ -124,7 +126,7 @@ class TurnClient(Told, Lifetime):
             link.close()
             raise
         session = Session(client, link, self._server, self._relay, self._max_stale_nonces, self._clock, self._inbox, self._notices,
-                          self._families, self._idle)
+                          self._families, self._idle, self._close_timeout)
         if self._probe is not None:
             session.path.probe(self._probe)
         return session
