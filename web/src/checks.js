@@ -6,7 +6,7 @@ import { SIGNERS, canSign, integrityOf, keyOf } from "./integrity.js";
 import { ATTRIBUTE, CLASS, METHOD } from "./names.js";
 import { requestsBefore, signerOf } from "./requests.js";
 import { hasEnded, hasPermission } from "./state.js";
-import { linesUpTo } from "./story.js";
+import { madeUpTo } from "./story.js";
 
 /**
  * A rule: whether it is met, or undefined where that cannot be told; what was found; and the section that has the rule.
@@ -97,7 +97,7 @@ function attempt({ method, title }) {
 }
 
 /** Data of a peer (RFC 8656, section 11.6): its last peer counts, and the client itself says whether that has a permission. */
-function indication(frame, step, story, library) {
+function indication(frame, step, story, timeline) {
     if (frame.method !== METHOD.DATA) {
         return [attempt(frame)];
     }
@@ -107,7 +107,7 @@ function indication(frame, step, story, library) {
     if (peer === undefined || peer.startsWith("malformed")) {
         return [check(false, "it names no peer", section), data];
     }
-    const isPermitted = hasPermission(library, story, linesUpTo(story, step.index - 1), peer);
+    const isPermitted = hasPermission(timeline, madeUpTo(story, step.index - 1), story.head, peer);
     return [check(isPermitted, `its peer, ${peer}, has ${isPermitted ? "a" : "no"} permission`, section),
         data.isMet ? data : check(false, "it carries neither data nor an ICMP report", section)];
 }
@@ -142,7 +142,7 @@ export function crc32(bytes) {
     return (~sum ^ 0x5354554e) >>> 0;
 }
 
-async function frameChecks(packet, frame, step, story, library) {
+async function frameChecks(packet, frame, step, story, timeline) {
     if (frame.fault) {
         return [check(false, frame.fault, "RFC 8489, 5")];
     }
@@ -153,7 +153,7 @@ async function frameChecks(packet, frame, step, story, library) {
         return [];
     }
     if (frame.messageClass === CLASS.INDICATION) {
-        return indication(frame, step, story, library);
+        return indication(frame, step, story, timeline);
     }
     if (frame.messageClass === CLASS.REQUEST) {
         return [attempt(frame)];
@@ -163,18 +163,18 @@ async function frameChecks(packet, frame, step, story, library) {
 
 /**
  * What the page finds of a packet that was passed in.
- * @param {import("../yarrowdoor/src/library.js").Library} library
+ * @param {import("./timeline.js").Timeline} timeline that of the story
  * @param {import("./story.js").Story} story
  * @param {number} index
  * @returns {Promise<Check[]>}
  */
-export async function checksOf(library, story, index) {
+export async function checksOf(timeline, story, index) {
     const step = story.steps[index], { packet } = step;
     if (!packet?.isReceived || step.isDropped) {
         return [];
     }
-    const isOver = hasEnded(library, story, linesUpTo(story, index - 1), step.time);
+    const isOver = hasEnded(timeline, madeUpTo(story, index - 1), step.time);
     const over = check(false, "the client had ended before: it takes no message any more", "docs/MACHINE.md");
-    const frames = await Promise.all(packet.frames.map((frame) => frameChecks(packet, frame, step, story, library)));
+    const frames = await Promise.all(packet.frames.map((frame) => frameChecks(packet, frame, step, story, timeline)));
     return [...(isOver ? [over] : []), source(packet, story), ...frames.flat()];
 }

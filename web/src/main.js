@@ -13,8 +13,18 @@ async function list() {
     return response.json();
 }
 
+/** Two libraries of one module: one for the runs, and one for the client that is asked about its state. */
+async function libraries() {
+    const response = await fetch("yarrowdoor/yarrowdoor.wasm");
+    if (!response.ok) {
+        throw new Error(`the module cannot be read: ${response.status}`);
+    }
+    const source = await WebAssembly.compile(await response.arrayBuffer());
+    return Promise.all([Library.load({ source }), Library.load({ source })]);
+}
+
 async function start() {
-    const [library, runs] = await Promise.all([Library.shared(), list()]), page = new Page(library, runs, new RunsView(runs));
+    const [[library, other], runs] = await Promise.all([libraries(), list()]), page = new Page(library, other, runs, new RunsView(runs));
     showQuestions(QUESTIONS, (question) => page.ask(question));
     byId("skip").addEventListener("click", () => byId("ladder").focus());
     byId("all-runs").open = matchMedia(WIDE).matches;

@@ -19,7 +19,8 @@ import { asked } from "./questions.js";
 import { requestsBefore, signerOf } from "./requests.js";
 import { showState } from "./state-view.js";
 import { stateAfter } from "./state.js";
-import { linesUpTo, tell } from "./story.js";
+import { linesUpTo, madeUpTo, tell } from "./story.js";
+import { Timeline } from "./timeline.js";
 import { sentence } from "./words.js";
 
 /** The run that is shown where the address names none. */
@@ -28,6 +29,9 @@ const FIRST = "exchange/data_is_delivered_and_answered";
 /** The page, over the module and the list of runs. */
 export class Page {
     #library;
+    #asked;
+    /** @type {Timeline | undefined} */
+    #timeline;
     #runs;
     #list;
     /** @type {{ name: string, title: string, about: string, cases: import("./story.js").Case[] }} */
@@ -46,11 +50,13 @@ export class Page {
 
     /**
      * @param {import("../yarrowdoor/src/library.js").Library} library
+     * @param {import("../yarrowdoor/src/library.js").Library} asked that of the client which is asked about its state
      * @param {import("./runs-view.js").Listed[]} runs
      * @param {import("./runs-view.js").RunsView} list
      */
-    constructor(library, runs, list) {
-        [this.#library, this.#runs, this.#list] = [library, new Map(runs.map((run) => [run.name, run])), list];
+    constructor(library, asked, runs, list) {
+        [this.#library, this.#asked, this.#list] = [library, asked, list];
+        this.#runs = new Map(runs.map((run) => [run.name, run]));
         byId("undo").addEventListener("click", () => this.#turn(() => this.#history.undo()));
         byId("redo").addEventListener("click", () => this.#turn(() => this.#history.redo()));
         byId("reset").addEventListener("click", () => this.#turn(() => this.#history.reset()));
@@ -119,6 +125,8 @@ export class Page {
 
     /** Shows the run anew, after an edit. */
     #show() {
+        this.#timeline?.close();
+        this.#timeline = undefined;
         const { steps, differs, isOriginal } = this.#story, edits = steps.filter((step) => step.isEdited || step.isDropped).length;
         this.#step = Math.min(this.#step, steps.length - 1);
         byId("summary").replaceChildren(isOriginal ? `${steps.length} steps, as recorded.`
@@ -157,10 +165,11 @@ export class Page {
     }
 
     async #showMore(story, index, isStill) {
-        const state = stateAfter(this.#library, story.head, story.settings, linesUpTo(story, index), possibleEnds(story, index));
+        const timeline = (this.#timeline ??= new Timeline(this.#asked, story.head, linesUpTo(story, story.steps.length)));
+        const state = stateAfter(timeline, madeUpTo(story, index), possibleEnds(story, index));
         const phase = phaseAfter(story, index, state), outstanding = outstandingAfter(story, index);
         showState(byId("state"), state, { phase, outstanding, now: story.steps[index].time });
-        const checks = await checksOf(this.#library, story, index);
+        const checks = await checksOf(timeline, story, index);
         if (isStill()) {
             checks.length && this.#packet.show(story.steps[index], checks);
             byId("state").dataset.step = String(index);

@@ -36,7 +36,7 @@ export function outstandingAfter(story, index) {
 const LIFETIMES = Object.freeze({ 3: {}, 4: {}, 8: { permission: 300 }, 9: { permission: 300, channel: 600 } });
 
 /**
- * Times at which grants may end, the last first, from what the server answered (RFC 8656, sections 3.2, 9 and 12).
+ * Times at which grants may end, from what the server answered (RFC 8656, sections 3.2, 9 and 12).
  * @param {import("./story.js").Story} story
  * @param {number} index
  */
@@ -47,9 +47,9 @@ export function possibleEnds(story, index) {
             const lifetime = attributeOf(frame, ATTRIBUTE.LIFETIME), of = LIFETIMES[frame.method] ?? {};
             const allocation = lifetime && parseInt(lifetime.value, 10);
             for (const [kind, seconds] of Object.entries({ ...of, allocation })) {
-                found[kind].unshift(...(seconds ? [time + BigInt(seconds) * 1_000_000_000n] : []));
+                found[kind].push(...(seconds ? [time + BigInt(seconds) * 1_000_000_000n] : []));
             }
         }
     }
-    return Object.fromEntries(Object.entries(found).map(([kind, times]) => [kind, [...new Set(times)].slice(0, 12)]));
+    return found;
 }

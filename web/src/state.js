@@ -1,12 +1,11 @@
-// What a client has after a step. It is asked of copies: further clients of the module that have made the same calls, so that
-// asking changes nothing of the run. A copy lists what is granted, is refused what is pending, and is taken ahead in time to see
+// What a client has after a step. It is asked of a client of the timeline, which has made the same calls, and is as before after each
+// use: so asking changes nothing of the run. It lists what is granted, is refused what is pending, and is taken ahead in time to see
 // when a grant ends.
 import { Refused } from "../yarrowdoor/src/errors.js";
 import { addressText, hostText, lineOf, packetLine } from "./answers.js";
 import { parseCall, parseHead } from "./lines.js";
-import { clientAfter } from "./replay.js";
 
-/** How often a copy is polled at one time, and how many grants are listed. */
+/** How often a client is polled at one time, and how many grants are listed. */
 const MOST_POLLS = 5_000, MOST_LISTED = 24, SECOND = 1_000_000_000n, MAX_TIME = 2n ** 62n;
 /** The least number of a channel, and how many more are tried than there are peers, since those of others may be reserved. */
 const FIRST_CHANNEL = 0x4000, MORE_CHANNELS = 4;
@@ -49,7 +48,7 @@ function refusal(call) {
     }
 }
 
-/** The peers of active channels, with the numbers: a copy takes ChannelData of each number that may be bound. */
+/** The peers of active channels, with the numbers: the client takes ChannelData of each number that may be bound. */
 function channelsOf(client, peers, now) {
     const found = new Map();
     for (let number = FIRST_CHANNEL; number < FIRST_CHANNEL + peers.length + MORE_CHANNELS; number++) {
@@ -67,7 +66,7 @@ const hasChannel = (peer, transport) => (client, now) => (
     refusal(() => client.bindChannel(peer, now, { transport }))?.reason === "already-exists");
 const hasConnection = (peer, now) => (client) => !refusal(() => client.sendTo(peer, Uint8Array.of(0), now, { transport: "tcp" }));
 
-/** What is active, each with how another copy, at another time, is asked whether it is still there. */
+/** What is active, each with how the client, at another time, is asked whether it is still there. */
 function activeGrants(client, { peers, ips }, now) {
     const found = new Map(), add = (kind, text, detail, isThere) => found.set(`${kind} ${text}`, { kind, text, detail, isThere });
     for (const { transport, address } of client.relayedAddresses()) {
@@ -85,7 +84,7 @@ function activeGrants(client, { peers, ips }, now) {
     return found;
 }
 
-/** What is requested and not answered, or reserved: a copy refuses to request it again. It is used up by that. */
+/** What is requested and not answered, or reserved: the client refuses to request it again. */
 function otherGrants(client, { peers, ips }, active, now) {
     const found = [];
     const permissions = ips.filter(({ ip }) => !active.has(`permission ${hostText(ip)}`));
@@ -110,8 +109,8 @@ function otherGrants(client, { peers, ips }, active, now) {
 function settle(client, now) {
     const events = [], packets = [];
     for (let count = 0; ; count++) {
-        events.push(...Array.from(client.events(), lineOf));
-        packets.push(...Array.from(client.packets(now), packetLine));
+        events.push(...client.events());
+        packets.push(...client.packets(now));
         const answer = client.poll(now);
         if (answer.kind !== "wait-until" || answer.until > now || count >= MOST_POLLS) {
             return { events, packets, answer };
@@ -119,55 +118,46 @@ function settle(client, now) {
     }
 }
 
-/** Copies of the client after some lines, each for one use. */
-class Copies {
-    constructor(library, head, lines) {
-        Object.assign(this, { library, head, lines });
-    }
-
-    /** What a use of a copy gives. */
-    use(ask) {
-        const { client } = clientAfter(this.library, this.head, this.lines);
-        try {
-            return ask(client);
-        } finally {
-            client.close();
+/**
+ * Whether the grant at a place of a list is there once all that is due at a time is done. One use of the client tells it of all grants
+ * of the list.
+ */
+function thereAt(grants, use) {
+    const known = new Map();
+    return (at, time) => {
+        if (!known.has(time)) {
+            known.set(time, use((client) => (settle(client, time), grants.map(({ isThere }) => isThere?.(client, time)))));
         }
-    }
-
-    /** Whether a grant is there once all that is due at a time is done. */
-    has(grant, time) {
-        return this.use((client) => (settle(client, time), grant.isThere(client, time)));
-    }
+        return known.get(time)[at];
+    };
 }
 
 /**
- * Whether the client has ended, once it has done all that is due at a time.
- * @param {import("../yarrowdoor/src/library.js").Library} library
- * @param {{ head: string }} story
- * @param {readonly string[]} lines
+ * Whether the client has ended after so many calls, once it has done all that is due at a time.
+ * @param {import("./timeline.js").Timeline} timeline
+ * @param {number} count
  * @param {bigint} now
  */
-export function hasEnded(library, { head }, lines, now) {
-    return new Copies(library, head, lines).use((client) => settle(client, now).answer.kind === "closed");
+export function hasEnded(timeline, count, now) {
+    return timeline.use(count, (client) => settle(client, now).answer.kind === "closed");
 }
 
 /**
- * Whether the client says that a peer has a permission.
- * @param {import("../yarrowdoor/src/library.js").Library} library
- * @param {{ head: string }} story
- * @param {readonly string[]} lines
+ * Whether the client says after so many calls that a peer has a permission.
+ * @param {import("./timeline.js").Timeline} timeline
+ * @param {number} count
+ * @param {string} head the first line of the run
  * @param {string} peer an address of the lines
  */
-export function hasPermission(library, { head }, lines, peer) {
+export function hasPermission(timeline, count, head, peer) {
     const { ip, transport } = parseCall(`0 have ${head.split(" ")[3]} ${peer.slice(0, peer.lastIndexOf(":"))}`, parseHead(head));
-    return new Copies(library, head, lines).use(hasIp(ip, transport));
+    return timeline.use(count, hasIp(ip, transport));
 }
 
 /** The first time at which a grant is no longer there, or undefined where it never ends. */
-function endOf(grant, copies, now) {
+function endOf(isThere, now) {
     let there = now, gone = now + SECOND;
-    for (let step = SECOND; copies.has(grant, gone); gone += step) {
+    for (let step = SECOND; isThere(gone); gone += step) {
         there = gone;
         step *= 2n;
         if (gone + step > MAX_TIME) {
@@ -176,37 +166,50 @@ function endOf(grant, copies, now) {
     }
     while (gone - there > 1n) {
         const middle = (there + gone) / 2n;
-        [there, gone] = copies.has(grant, middle) ? [middle, gone] : [there, middle];
+        [there, gone] = isThere(middle) ? [middle, gone] : [there, middle];
     }
     return gone;
 }
 
-/** The same, where one of the given times may be it. */
-function guessedEnd(grant, copies, now, guesses) {
-    const right = guesses.filter((time) => time > now && time <= MAX_TIME)
-        .find((time) => copies.has(grant, time - 1n) && !copies.has(grant, time));
-    return right ?? endOf(grant, copies, now);
+/** The same, where one of the given times, in order, may be it. */
+function guessedEnd(isThere, now, guesses) {
+    let [first, end] = [0, guesses.length];
+    while (first < end) {
+        const middle = (first + end) >> 1;
+        [first, end] = isThere(guesses[middle]) ? [middle + 1, end] : [first, middle];
+    }
+    const found = guesses[first];
+    return found !== undefined && isThere(found - 1n) ? found : endOf(isThere, now);
+}
+
+/** The times that come later, each once and in order. */
+function laterOnes(times, now) {
+    const found = [...new Set(times)].filter((time) => time > now && time <= MAX_TIME);
+    return found.sort((one, other) => (one < other ? -1 : 1));
 }
 
 /**
- * The state after these lines, which are calls. `guesses` are times at which grants of a kind may end: they make it quicker, and
- * nothing else.
- * @param {import("../yarrowdoor/src/library.js").Library} library
- * @param {string} head
- * @param {ReturnType<typeof import("./lines.js").parseHead>} settings
- * @param {readonly string[]} lines
+ * The state after so many calls of a run. `guesses` are times at which grants of a kind may end: they make it quicker, and nothing
+ * else.
+ * @param {import("./timeline.js").Timeline} timeline
+ * @param {number} count
  * @param {Record<string, bigint[]>} guesses
  * @returns {State}
  */
-export function stateAfter(library, head, settings, lines, guesses) {
-    const all = lines.map((line) => parseCall(line, settings)), calls = named(all), now = all.at(-1)?.now ?? 0n;
-    const copies = new Copies(library, head, lines), active = copies.use((client) => activeGrants(client, calls, now));
-    const other = copies.use((client) => otherGrants(client, calls, active, now));
-    const { events, packets, answer } = copies.use((client) => settle(client, now)), isClosed = answer.kind === "closed";
-    const listed = [...active.values()].slice(0, MOST_LISTED), grants = listed.map(({ kind, text, detail, isThere }) => ({
-        kind, text, detail, progress: "active",
-        until: isClosed || !isThere ? undefined : guessedEnd({ isThere }, copies, now, guesses[kind] ?? []),
-    }));
-    return { grants: [...grants, ...other], more: active.size - listed.length, isClosed, next: lineOf(answer),
-        wakeUp: answer.kind === "wait-until" ? answer.until : undefined, events, packets };
+export function stateAfter(timeline, count, guesses) {
+    const all = timeline.calls(count), calls = named(all), now = all.at(-1)?.now ?? 0n;
+    return timeline.useOften(count, (use) => {
+        const active = use((client) => activeGrants(client, calls, now));
+        const other = use((client) => otherGrants(client, calls, active, now));
+        const { events, packets, answer } = use((client) => settle(client, now)), isClosed = answer.kind === "closed";
+        const listed = [...active.values()].slice(0, MOST_LISTED), isThere = thereAt(listed, use);
+        const later = Object.fromEntries(Object.entries(guesses).map(([kind, times]) => [kind, laterOnes(times, now)]));
+        const grants = listed.map(({ kind, text, detail, isThere: ends }, at) => ({
+            kind, text, detail, progress: "active",
+            until: isClosed || !ends ? undefined : guessedEnd((time) => isThere(at, time), now, later[kind] ?? []),
+        }));
+        return { grants: [...grants, ...other], more: active.size - listed.length, isClosed, next: lineOf(answer),
+            wakeUp: answer.kind === "wait-until" ? answer.until : undefined,
+            events: events.map(lineOf), packets: packets.map(packetLine) };
+    });
 }

@@ -81,3 +81,12 @@ export function tell(library, original, edits) {
 export function linesUpTo({ steps }, index) {
     return steps.slice(0, index + 1).filter((step) => !step.isDropped).map((step) => step.line);
 }
+
+/**
+ * How many calls are made, up to a step and with it.
+ * @param {Story} story
+ * @param {number} index
+ */
+export function madeUpTo(story, index) {
+    return linesUpTo(story, index).length;
+}

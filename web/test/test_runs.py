@@ -23,6 +23,30 @@ for (const [run, number] of places) {
 done(found);
 """
 
+# Chooses each step of the run by a click, in an order that goes forth and back, and gives the milliseconds until the state after it is
+# shown: the least of some tries, since other work delays them.
+CHOOSE = """
+const done = arguments[0], state = document.getElementById("state"), found = [];
+const count = document.querySelectorAll("#ladder [role=option]").length;
+const later = () => new Promise((resolve) => {
+    const { port1, port2 } = new MessageChannel();
+    port1.onmessage = () => (port1.close(), resolve());
+    port2.postMessage(0);
+});
+for (let at = 0; at < count; at++) {
+    const step = (at * 101) % count;
+    let least = Infinity;
+    for (let tries = 0; tries < 12 && least >= 100; tries++) {
+        const begin = performance.now();
+        document.getElementById(`step-${step}`).dispatchEvent(new MouseEvent("click", { bubbles: true }));
+        while (state.dataset.step !== String(step)) { await later(); }
+        least = Math.min(least, performance.now() - begin);
+    }
+    found.push([least, step]);
+}
+done(found.sort(([one], [other]) => other - one));
+"""
+
 
 class Runs(unittest.TestCase):
     def test_each_run_gets_the_answers_of_its_transcript(self):
@@ -52,6 +76,16 @@ class Runs(unittest.TestCase):
                 break
         self.assertLess(least, 1_000)
         self.assertEqual(len(page.rows()), 12)
+
+    def test_each_step_of_the_longest_run_is_shown_within_100_ms(self):
+        page = browser()
+        longest = max(tool("web").runs(), key=lambda run: len(run["cases"][0]["calls"]))
+        page.open(f"#run={longest['name']}")
+        found = page.driver.execute_async_script(CHOOSE)
+        self.assertEqual(len(found), len(longest["cases"][0]["calls"]))
+        self.assertGreater(len(found), 250)
+        self.assertLess(found[0][0], 100, found[:5])
+        self.assertEqual(page.errors(), [])
 
     def test_the_list_has_each_transcript_whose_lines_are_calls(self):
         page = browser()
