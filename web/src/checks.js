@@ -4,6 +4,7 @@ import { attributeOf } from "./decode.js";
 import { toHex } from "./hex.js";
 import { SIGNERS, canSign, integrityOf, keyOf } from "./integrity.js";
 import { ATTRIBUTE, CLASS, METHOD } from "./names.js";
+import { codeOf } from "./notes.js";
 import { requestsBefore, signerOf } from "./requests.js";
 import { hasEnded, hasPermission } from "./state.js";
 import { madeUpTo } from "./story.js";
@@ -64,7 +65,7 @@ async function integrity(packet, frame, { realm, algorithm }, settings) {
 function challengeIn(frame) {
     const value = (type) => attributeOf(frame, type)?.attribute.value;
     const [error, realm, nonce] = [ATTRIBUTE.ERROR_CODE, ATTRIBUTE.REALM, ATTRIBUTE.NONCE].map(value);
-    const code = error?.length >= 4 ? (error[2] & 7) * 100 + error[3] : 0;
+    const code = codeOf(error);
     const isOne = frame.messageClass === CLASS.ERROR && (code === 401 || code === 438) && realm?.length && nonce?.length;
     return isOne ? { code, realm } : undefined;
 }

@@ -1,6 +1,7 @@
 // What the bytes of a packet say, field by field, with the place of each. It verifies nothing.
 import { joined, toHex } from "./hex.js";
-import { ATTRIBUTE, attributeName, typeName } from "./names.js";
+import { ATTRIBUTE, CLASS, attributeName, typeName } from "./names.js";
+import { dataNote, errorNote } from "./notes.js";
 import { readValue } from "./values.js";
 
 /**
@@ -11,8 +12,9 @@ import { readValue } from "./values.js";
  */
 /**
  * A frame: a STUN message (`message`), ChannelData (`channel`), or bytes that are neither (`bytes`) with what is wrong with them.
- * @typedef {{ kind: "message" | "channel" | "bytes", title: string, start: number, end: number, fields: Field[], fault?: string,
- *     method?: number, messageClass?: number, id?: Uint8Array, channel?: number }} Frame
+ * `note` says what a reader wants to know of it beside its title: the code of an error, or its data.
+ * @typedef {{ kind: "message" | "channel" | "bytes", title: string, note?: string, start: number, end: number, fields: Field[],
+ *     fault?: string, method?: number, messageClass?: number, id?: Uint8Array, channel?: number }} Frame
  */
 
 const HEADER = 20, COOKIE = "2112a442";
@@ -61,7 +63,18 @@ function messageFrame(bytes, start, len) {
     ];
     const broken = isWhole ? [] : [{ name: "Bytes", value: "no whole attribute", section: "RFC 8489, 14", start: rest, end }];
     const fault = isWhole ? undefined : "an attribute runs past the end of the message";
-    return { kind: "message", title: name, start, end, fields: [...header, ...fields, ...broken], fault, method, messageClass, id };
+    return { kind: "message", title: name, note: noteOf(messageClass, fields), start, end, fields: [...header, ...fields, ...broken], fault,
+        method, messageClass, id };
+}
+
+/** What a message says beside its name: the code of an error response, or the data of an indication. */
+function noteOf(messageClass, fields) {
+    const value = (type) => fields.find(({ attribute }) => attribute?.counts && attribute.type === type)?.attribute.value;
+    if (messageClass === CLASS.ERROR) {
+        return errorNote(value(ATTRIBUTE.ERROR_CODE));
+    }
+    const data = messageClass === CLASS.INDICATION ? value(ATTRIBUTE.DATA) : undefined;
+    return data ? dataNote(data) : "";
 }
 
 function channelFrame(bytes, start, len, end) {
@@ -72,7 +85,7 @@ function channelFrame(bytes, start, len, end) {
         { name: "Data", value: readValue("text", data, data), section, start: start + 4, end: start + 4 + len },
     ];
     const padding = { name: "Padding", value: `${end - start - 4 - len} bytes`, section: "RFC 8656, 12.5", start: start + 4 + len, end };
-    return { kind: "channel", title: `ChannelData ${fields[0].value}`, start, end, channel,
+    return { kind: "channel", title: `ChannelData ${fields[0].value}`, note: dataNote(data), start, end, channel,
         fields: end > start + 4 + len ? [...fields, padding] : fields };
 }
 
@@ -130,7 +143,7 @@ function pieces(bytes, skip) {
  */
 export function decode(bytes, { transport, skip = 0, isData = false }) {
     if (isData) {
-        return [bytesFrame(bytes, 0, bytes.length, "data of the peer")];
+        return [{ ...bytesFrame(bytes, 0, bytes.length, "data of the peer"), note: dataNote(bytes) }];
     }
     if (transport === "tcp") {
         return bytes.length ? pieces(bytes, skip) : [bytesFrame(bytes, 0, 0, "the end of the stream")];

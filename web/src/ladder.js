@@ -40,6 +40,16 @@ function shortened(text, width) {
     return text.length > most ? `${text.slice(0, most - 1)}…` : text;
 }
 
+/**
+ * What happened and what came of it, in a width. Where there is not room for both, what came of it stays, unless it is only that the
+ * packet was handled: most are.
+ */
+function labelText(what, answer, width) {
+    const isLong = (what.length + answer.length) * TEXT_WIDTH > width, end = isLong && answer === " → handled" ? "" : answer;
+    const room = width - end.length * TEXT_WIDTH;
+    return room > width / 3 ? `${shortened(what, room)}${end}` : shortened(`${what}${end}`, width);
+}
+
 function tip(x, y, isLeft) {
     const by = isLeft ? 8 : -8;
     return draw("path", { class: "tip", d: `M${x} ${y}l${by} -4v8z` });
@@ -67,10 +77,10 @@ function arrow(step, y, columns) {
 }
 
 function label(step, y, columns) {
-    const { what, answer } = stepText(step), x = columns.client + 8, text = answer ? `${what} → ${answer}` : what;
+    const { what, answer } = stepText(step), x = columns.client + 8;
     const isBad = /^(ignored|refused)/.test(step.answer ?? ""), isSoft = !step.packet && /^(none|wait)/.test(step.answer ?? "");
     const kind = `${isBad ? "bad" : isSoft ? "soft" : ""} ${step.isDropped ? "gone" : ""}`;
-    return draw("text", { x, y, class: kind }, shortened(text, columns.end - x - 4));
+    return draw("text", { x, y, class: kind }, labelText(what, answer && ` → ${answer}`, columns.end - x - 4));
 }
 
 function row(step, before, columns) {

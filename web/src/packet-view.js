@@ -3,7 +3,7 @@ import { BytesView } from "./bytes-view.js";
 import { withValue } from "./decode.js";
 import { make } from "./dom.js";
 import { toHex } from "./hex.js";
-import { answerText, readable, shortened, signsOf } from "./words.js";
+import { answerText, lineText, readable, signsOf } from "./words.js";
 import { typedValue, writeValue } from "./values.js";
 
 /** Where a section of an RFC is to be read. */
@@ -44,7 +44,7 @@ export class PacketView {
     }
 
     #answer(step) {
-        const way = step.packet, call = shortened(step.words.slice(1).join(" ")), answer = answerText(step.answer);
+        const way = step.packet, call = lineText(step.words.slice(1)), answer = answerText(step.answer);
         return [
             make("p", {}, make("code", {}, call), way && !way.isReceived && `: ${way.bytes.length} bytes to ${readable(way.to)}`),
             make("p", { class: "answer" }, "Answer: ", make("span", { class: step.answer === "ignored" ? "bad" : "" }, answer)),
@@ -88,7 +88,7 @@ export class PacketView {
             element.addEventListener("pointerleave", () => mark(this.#shown.at));
             element.querySelector("th")?.addEventListener("click", () => view.choose(rows[place].field.start, false));
         });
-        const titles = packet.frames.map(({ title, fault }) => (fault ? `${title} (${fault})` : title));
+        const titles = packet.frames.map(({ title, note, fault }) => `${title}${note ? ` ${note}` : ""}${fault ? ` (${fault})` : ""}`);
         const head = make("thead", {}, make("tr", {}, ["Field", "Value"].map((name) => make("th", { scope: "col" }, name))));
         const table = make("div", { class: "scroll" }, make("table", {}, head, make("tbody", {}, elements)));
         return [make("h3", {}, titles.join(", ") || "no bytes"), table, ...view.elements];

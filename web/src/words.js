@@ -1,9 +1,11 @@
 // A step in words, for the ladder and for screen readers.
 import { seconds } from "./dom.js";
+import { fromField } from "./hex.js";
+import { dataNote } from "./notes.js";
 
-/** What frames a packet has: `Allocate success`, `2 frames: ..`. */
+/** What frames a packet has, each with its note: `Allocate success`, `2 frames: ..`. */
 function framesText({ frames }) {
-    const titles = frames.map(({ title }) => title);
+    const titles = frames.map(({ title, note }) => (note ? `${title} ${note}` : title));
     return titles.length > 1 ? `${titles.length} frames: ${titles.join(", ")}` : titles[0] ?? "";
 }
 
@@ -20,13 +22,22 @@ export function shortened(text) {
     return readable(text).replace(/\b[0-9a-f]{25,}\b/g, (digits) => `(${digits.length / 2} bytes)`);
 }
 
-/** An answer in words: times in seconds, long bytes as their count. */
+/**
+ * A call or an answer in words, with data of peers as text where it is text.
+ * @param {string[]} words a call without its time, or an answer
+ */
+export function lineText(words) {
+    const isData = words.length === 4 && (words[0] === "send" || words[0] === "data"), data = isData && fromField(words[3]);
+    return data ? `${shortened(words.slice(0, 3).join(" "))} ${dataNote(data)}` : shortened(words.join(" "));
+}
+
+/** An answer in words: times in seconds, data as text where it is text, long bytes as their count. */
 export function answerText(answer) {
     if (answer === undefined) {
         return "not made";
     }
-    const [kind, ...rest] = answer.split(" ");
-    return kind === "wait" ? `wait until ${seconds(BigInt(rest[0]))}` : shortened(answer);
+    const words = answer.split(" ");
+    return words[0] === "wait" ? `wait until ${seconds(BigInt(words[1]))}` : lineText(words);
 }
 
 /**
@@ -40,7 +51,7 @@ export function stepText({ name, packet, words, answer, isDropped }) {
     if (packet) {
         return { what: `${name === "send" ? "send: " : ""}${framesText(packet)}`, answer: "" };
     }
-    return { what: shortened(words.slice(1).join(" ")), answer: isDropped ? "left out" : answerText(answer) };
+    return { what: lineText(words.slice(1)), answer: isDropped ? "left out" : answerText(answer) };
 }
 
 /**
@@ -62,6 +73,6 @@ export function signsOf({ isEdited, isDropped, before, origin }) {
 export function sentence(step) {
     const { what, answer } = stepText(step), { packet } = step;
     const way = !packet ? "" : packet.isReceived ? `received from ${readable(packet.from)}: ` : `sent to ${readable(packet.to)}: `;
-    const signs = signsOf(step).map(([, words]) => words).join(", ");
+    const signs = signsOf(step).map(([, words]) => words).filter((words) => words !== answer).join(", ");
     return [`Step ${step.index + 1}, at ${seconds(step.time)}`, `${way}${what}`, answer, signs].filter(Boolean).join("; ");
 }

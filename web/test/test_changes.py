@@ -1,6 +1,7 @@
 """What a reader does to a run, and what the client answers then."""
 import hashlib
 import hmac
+import re
 import unittest
 
 from web.test.browser import browser
@@ -196,6 +197,22 @@ class Changes(unittest.TestCase):
         self.page.settle()
         message = self.page.rows()[GRANT][0].split(" ")[-1]
         self.assertEqual((self.page.answers()[GRANT], message[4:8], len(message)), ("ignored", "0014", 80))
+
+    def test_codes_and_text_are_said_in_words(self):
+        labels = self.page.driver.execute_script("""
+            return [...document.querySelectorAll("#ladder [role=option]")].map((row) => [row.querySelector("text:last-of-type").textContent,
+                row.getAttribute("aria-label")]);
+        """)
+        # RFC 8489, section 14.8, has the name of the code; 68656c6c6f is ASCII.
+        self.assertIn("Allocate error 401 Unauthenticated: prove who you are", labels[CHALLENGE][0])
+        self.assertIn("Allocate error 401 Unauthenticated: prove who you are; handled", labels[CHALLENGE][1])
+        self.assertIn('Data indication "hello" → data udp 10.0.0.3:9000 "hello"', labels[DATA][0])
+        self.assertIn('Send indication "hello"', labels[DATA + 1][0])
+        self.page.choose(DATA + 1)
+        self.assertIn('send udp 10.0.0.3:9000 "hello"', self.page.text("packet"))
+        self.page.open("#run=channels/a_channel_carries_data_both_ways")
+        carried = [row.get_attribute("aria-label") for row in self.page.driver.find_elements("css selector", "#ladder [role=option]")]
+        self.assertTrue(any(re.search(r'ChannelData 4000 "\w+"', label) for label in carried), carried)
 
     def test_the_first_difference_is_found(self):
         self.flip(PERMITTED, 40, 3)

@@ -80,6 +80,27 @@ class Parts(unittest.TestCase):
         (frame,) = call("decode", "decode", bytes.fromhex("000100042112a442" + "00" * 12 + "000d0008"), {"transport": "udp"})
         self.assertIn("past the end", frame["fault"])
 
+    def test_codes_have_the_names_of_the_standards(self):
+        # RFC 8489, section 14.8; RFC 8656, section 19; RFC 6062, section 6.3.
+        names = {
+            300: "Try Alternate", 400: "Bad Request", 401: "Unauthenticated", 403: "Forbidden", 420: "Unknown Attribute",
+            437: "Allocation Mismatch", 438: "Stale Nonce", 440: "Address Family not Supported", 441: "Wrong Credentials",
+            442: "Unsupported Transport Protocol", 443: "Peer Address Family Mismatch", 446: "Connection Already Exists",
+            447: "Connection Timeout or Failure", 486: "Allocation Quota Reached", 500: "Server Error", 508: "Insufficient Capacity",
+        }
+        for code, name in names.items():
+            self.assertRegex(call("notes", "errorNote", bytes([0, 0, code // 100, code % 100])), f"^{code} {name}: [a-z]")
+        self.assertEqual(call("notes", "errorNote", bytes([0, 0, 6, 99])), "699")
+        self.assertEqual([call("notes", "errorNote", bytes(it)) for it in ([], [0, 0, 4])], ["", ""])
+
+    def test_data_is_text_where_it_is_text(self):
+        shown = {
+            b"hello": '"hello"', b"": "no data", b"\0\1": "0001", b"caf\xc3\xa9": "636166c3a9", b"\xff" * 9: "(9 bytes)",
+            b"a" * 32: '"' + "a" * 32 + '"', b"a" * 33: '"' + "a" * 32 + '…"', b"\x7f": "7f", b"<b>": '"<b>"',
+        }
+        for data, text in shown.items():
+            self.assertEqual(call("notes", "dataNote", data), text)
+
     def test_values_are_read_as_they_were_written(self):
         ident = bytes(range(12))
         for kind, text in (("address", "203.0.113.66:6666"), ("address", "[2001:db8::1]:65535"), ("seconds", "4294967295"),
