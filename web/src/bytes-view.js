@@ -31,6 +31,7 @@ export class BytesView {
     #cell(byte, at) {
         return make("span", {
             role: "gridcell", tabindex: -1, "aria-selected": "false", "aria-label": `byte ${at}: ${toHex([byte])}`,
+            "data-focus": `byte ${at}`,
             onclick: () => this.choose(at, true), onpointerenter: () => this.#look(at, false),
             onpointerleave: () => this.#look(undefined, false),
         }, toHex([byte]));
@@ -92,12 +93,12 @@ export class BytesView {
             return;
         }
         const bits = [7, 6, 5, 4, 3, 2, 1, 0].map((bit) => make("button", {
-            type: "button", "aria-pressed": String(Boolean(byte & (1 << bit))), "data-bit": bit,
+            type: "button", "aria-pressed": String(Boolean(byte & (1 << bit))), "data-bit": bit, "data-focus": `bit ${bit}`,
             "aria-label": `flip bit ${bit} of byte ${at}, which is ${(byte >> bit) & 1}`,
             onclick: () => this.#set(at, byte ^ (1 << bit)),
         }, String((byte >> bit) & 1)));
         const isByte = (text) => /^[0-9a-f]{2}$/i.test(text), input = make("input", {
-            class: "code", value: toHex([byte]), size: 2, maxlength: 2, "aria-label": `byte ${at}, two hexadecimal digits`,
+            class: "code", value: toHex([byte]), size: 2, maxlength: 2, "data-focus": "digits", "aria-label": `byte ${at}, two hexadecimal digits`,
             onchange: () => (isByte(input.value) ? this.#set(at, parseInt(input.value, 16)) : (input.value = toHex([byte]))),
         });
         this.#form.replaceChildren(make("span", {}, `Byte ${at}:`), input, make("span", {}, "flip a bit:"), ...bits);

@@ -12,19 +12,19 @@ const TEMPLATES = Object.freeze({
 
 const MILLISECOND = 1_000_000n;
 
-function number(label, value, most) {
-    const input = make("input", { type: "number", value, min: 1, max: most, step: 1 });
+function number(label, value, most, name) {
+    const input = make("input", { type: "number", value, min: 1, max: most, step: 1, "data-focus": `${name}, ${label}` });
     return { input, element: make("label", {}, label, input) };
 }
 
 /** A form with one number, and a button that passes it on where it is one. */
 function numberForm(name, label, value, most, done) {
-    const { input, element } = number(label, value, most);
+    const { input, element } = number(label, value, most, name);
     const submit = (event) => {
         event.preventDefault();
         input.reportValidity() && done(BigInt(input.value));
     };
-    return make("form", { onsubmit: submit }, element, make("button", {}, name));
+    return make("form", { onsubmit: submit }, element, make("button", { "data-focus": name }, name));
 }
 
 /** The part of the page for changes. */
@@ -50,8 +50,8 @@ export class ChangeView {
         const isPiece = packet?.isReceived && packet.transport === "tcp" && packet.bytes.length > 1;
         const isMessage = packet?.isReceived && packet.frames.length === 1 && packet.frames[0].kind === "message";
         const { edit, silence } = this.#deeds, size = packet?.bytes.length ?? 0;
-        const sign = make("button", { type: "button", id: "sign", disabled: !isMessage || isDropped, onclick: () => this.#deeds.sign() },
-            "Sign it as the server");
+        const onclick = () => this.#deeds.sign(), isSignable = isMessage && !isDropped;
+        const sign = make("button", { type: "button", id: "sign", "data-focus": "sign", disabled: !isSignable, onclick }, "Sign it as the server");
         this.#element.replaceChildren(
             make("div", { class: "bar" }, this.#button("Leave it out", `drop ${index}`, isDropped),
                 this.#button("Repeat it", `repeat ${index}`, isDropped, index + 1),
@@ -63,7 +63,8 @@ export class ChangeView {
     }
 
     #button(name, edit, isDisabled, choose) {
-        return make("button", { type: "button", disabled: isDisabled, onclick: () => this.#deeds.edit(edit, choose) }, name);
+        const onclick = () => this.#deeds.edit(edit, choose);
+        return make("button", { type: "button", "data-focus": name, disabled: isDisabled, onclick }, name);
     }
 
     /** The form for a call behind the step. */
@@ -71,13 +72,15 @@ export class ChangeView {
         const [WAY, LOCAL, REMOTE, TRANSPORT] = head.split(" "), words = { WAY, LOCAL, REMOTE, TRANSPORT };
         const lineOf = (name) => `${time} ${name} ${TEMPLATES[name] ?? ""}`.replace(/[A-Z]{3,}/g, (word) => words[word]).trim();
         const options = Object.keys(CALLS).map((name) => make("option", {}, name));
-        const select = make("select", { id: "call", onchange: () => (input.value = lineOf(select.value)) }, options);
-        const input = make("input", { id: "call-line", class: "code", value: lineOf("poll"), spellcheck: "false", autocomplete: "off" });
+        const select = make("select", { id: "call", "data-focus": "call", onchange: () => (input.value = lineOf(select.value)) }, options);
+        const input = make("input", {
+            id: "call-line", class: "code", value: lineOf("poll"), spellcheck: "false", autocomplete: "off", "data-focus": "line",
+        });
         const submit = (event) => {
             event.preventDefault();
             this.#deeds.edit(`add ${index + 1} ${input.value.trim()}`, index + 1);
         };
         const labels = [make("label", {}, "A call behind it", select), make("label", { class: "wide" }, "Its line", input)];
-        return make("form", { onsubmit: submit }, labels, make("button", {}, "Add"));
+        return make("form", { onsubmit: submit }, labels, make("button", { "data-focus": "add" }, "Add"));
     }
 }

@@ -31,6 +31,21 @@ export function draw(tag, attributes = {}, ...children) {
     return filled(document.createElementNS(SVG, tag), attributes, children);
 }
 
+/**
+ * Does what replaces or disables elements, and gives the focus back to what stands where the element with the focus stood: the one
+ * with the same `data-focus`. Without one that can take it, `other` gets it.
+ * @param {() => void} replace
+ * @param {HTMLElement} other
+ */
+export function keepFocus(replace, other) {
+    const before = document.activeElement, name = before?.dataset.focus;
+    replace();
+    if (before && before !== document.body && (!before.isConnected || before.disabled)) {
+        const found = [...document.querySelectorAll("[data-focus]")].find((it) => it.dataset.focus === name && !it.disabled);
+        (found ?? other).focus({ preventScroll: true });
+    }
+}
+
 /** The element of this ID. */
 export const byId = (id) => document.getElementById(id);
 

@@ -118,7 +118,8 @@ export class Ladder {
 
     /**
      * @param {HTMLElement} box
-     * @param {(index: number) => void} choose is called with the step that a reader chooses
+     * @param {(index: number, isPassing: boolean) => void} choose is called with the step that a reader chooses, and whether a key is
+     *     held down that goes on to others
      */
     constructor(box, choose) {
         this.#box = box;
@@ -128,7 +129,7 @@ export class Ladder {
             const option = event.target.closest("[role=option]");
             if (option) {
                 box.focus({ preventScroll: true });
-                choose(Number(option.dataset.index));
+                choose(Number(option.dataset.index), false);
             }
         });
         new ResizeObserver(() => this.#draw()).observe(box);
@@ -186,7 +187,7 @@ export class Ladder {
         const by = { ArrowUp: -1, ArrowDown: 1, PageUp: -page, PageDown: page, Home: -last, End: last }[event.key];
         if (by !== undefined && last >= 0 && !event.ctrlKey && !event.altKey && !event.metaKey) {
             event.preventDefault();
-            this.#choose(Math.min(last, Math.max(0, this.#chosen + by)));
+            this.#choose(Math.min(last, Math.max(0, this.#chosen + by)), event.repeat);
         }
     }
 }

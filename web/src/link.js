@@ -38,3 +38,20 @@ export function fragmentOf({ run, number, groups, step }) {
     groups.forEach((group) => words.append("edit", group.join(";")));
     return `#run=${run}${words.size ? `&${words}` : ""}`;
 }
+
+/**
+ * Puts a place into the address of the page, over the one before or as a new one, from which the browser leads back.
+ * @param {Place} place
+ * @param {{ isNew: boolean, asked: string }} how `asked` is kept with the place: the question that led there
+ */
+export function remember(place, { isNew, asked }) {
+    const fragment = fragmentOf(place), isOther = new URL(fragment, location.href).hash !== location.hash;
+    try {
+        history[isNew && isOther ? "pushState" : "replaceState"]({ asked }, "", fragment);
+    } catch (error) {
+        // Engines refuse more than some hundred places in half a minute; a later one is put there again.
+        if (error.name !== "SecurityError") {
+            throw error;
+        }
+    }
+}

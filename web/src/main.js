@@ -29,9 +29,11 @@ async function start() {
     byId("skip").addEventListener("click", () => byId("ladder").focus());
     byId("all-runs").open = matchMedia(WIDE).matches;
     await page.openAddress();
+    byId("unstarted").remove();
 }
 
 start().catch((error) => {
+    byId("unstarted")?.remove();
     byId("alert").replaceChildren(`The page cannot start: ${error.message}`);
     byId("alert").hidden = false;
     throw error;

@@ -22,6 +22,7 @@ export class PacketView {
     #edit;
     /** The step that is shown, so that the same byte stays chosen when it changes. */
     #shown = { index: -1, at: 0 };
+    #checks = make("div", { class: "found" });
 
     /**
      * @param {HTMLElement} element
@@ -33,14 +34,26 @@ export class PacketView {
     }
 
     /**
+     * Shows a step. `canChange` says whether what comes in can be changed.
      * @param {import("./story.js").Shown} step
-     * @param {import("./checks.js").Check[]} checks
+     * @param {boolean} canChange
      */
-    show(step, checks) {
+    show(step, canChange) {
         if (this.#shown.index !== step.index) {
             this.#shown = { index: step.index, at: 0 };
         }
-        this.#element.replaceChildren(...this.#answer(step), ...this.#checks(step, checks), ...(step.packet ? this.#packet(step) : []));
+        this.#checks.replaceChildren();
+        const packet = step.packet ? this.#packet(step, canChange && step.packet.isReceived) : [];
+        this.#element.replaceChildren(...this.#answer(step), this.#checks, ...packet);
+    }
+
+    /**
+     * Shows what was found of the step that is shown, which takes longer.
+     * @param {import("./story.js").Shown} step
+     * @param {import("./checks.js").Check[]} checks
+     */
+    showChecks(step, checks) {
+        this.#checks.replaceChildren(...this.#found(step, checks));
     }
 
     #answer(step) {
@@ -52,7 +65,7 @@ export class PacketView {
         ];
     }
 
-    #checks(step, checks) {
+    #found(step, checks) {
         if (checks.length === 0) {
             return [];
         }
@@ -67,9 +80,9 @@ export class PacketView {
         return [make("h3", {}, title), make("ul", { class: "checks" }, ordered.map(item)), make("p", { class: "soft" }, note)];
     }
 
-    #packet({ index, packet }) {
+    #packet({ index, packet }, canChange) {
         const rows = packet.frames.flatMap((frame) => frame.fields.map((field) => ({ frame, field })));
-        const elements = rows.map(({ frame, field }) => this.#row(index, packet, frame, field));
+        const elements = rows.map(({ frame, field }, place) => this.#row(index, packet, frame, field, canChange && `${field.name} ${place}`));
         const mark = (at) => {
             const found = rows.findIndex(({ field }) => at !== undefined && at >= field.start && at < field.end);
             elements.forEach((element, place) => element.classList.toggle("marked", place === found));
@@ -81,7 +94,7 @@ export class PacketView {
                 this.#shown.at = isChosen ? at : this.#shown.at;
                 mark(at ?? this.#shown.at);
             },
-            set: packet.isReceived ? (at, value) => this.#edit(`set ${index} ${at} ${toHex([value])}`) : undefined,
+            set: canChange ? (at, value) => this.#edit(`set ${index} ${at} ${toHex([value])}`) : undefined,
         });
         elements.forEach((element, place) => {
             element.addEventListener("pointerenter", () => mark(rows[place].field.start));
@@ -94,21 +107,25 @@ export class PacketView {
         return [make("h3", {}, titles.join(", ") || "no bytes"), table, ...view.elements];
     }
 
-    #row(index, packet, frame, field) {
+    /** A field. `name` is that of the button for changes, which is there where it can be changed. */
+    #row(index, packet, frame, field, name) {
         const { attribute } = field, note = attribute && !attribute.counts ? " (behind the integrity: it does not count)" : "";
         const value = make("td", { class: "long" }, readable(field.value) + note);
-        if (attribute && packet.isReceived) {
-            const change = () => this.#form(value, index, packet, frame, field);
-            value.append(" ", make("button", { type: "button", "aria-label": `Change ${field.name}`, onclick: change }, "Change"));
+        if (attribute && name) {
+            const attributes = { type: "button", "aria-label": `Change ${field.name}`, "data-focus": name };
+            const onclick = () => this.#form(value, index, packet, frame, field, name);
+            value.append(" ", make("button", { ...attributes, onclick }, "Change"));
         }
         const section = field.section && make("small", {}, sectionLink(field.section));
         return make("tr", {}, make("th", { scope: "row" }, field.name, section), value);
     }
 
     /** What a reader types in place of a value. */
-    #form(cell, index, packet, frame, field) {
+    #form(cell, index, packet, frame, field, name) {
         const { kind, value } = field.attribute, { text, hint } = typedValue(kind, value, frame.id);
-        const input = make("input", { class: "code", value: text, "aria-label": `${field.name}: ${hint}`, spellcheck: "false" });
+        const focus = { "data-focus": name }, input = make("input", {
+            class: "code", value: text, "aria-label": `${field.name}: ${hint}`, spellcheck: "false", ...focus,
+        });
         const said = make("span", { class: "bad", role: "alert" });
         const put = (bytes) => this.#edit(`bytes ${index} ${toHex(withValue(packet.bytes, frame, field, bytes))}`);
         const submit = (event) => {
@@ -116,8 +133,8 @@ export class PacketView {
             const bytes = writeValue(kind, input.value, frame.id);
             bytes ? put(bytes) : said.replaceChildren(`That is not ${hint}.`);
         };
-        cell.replaceChildren(make("form", { class: "bits", onsubmit: submit }, input, make("button", {}, "Set"),
-            make("button", { type: "button", onclick: () => put(undefined) }, "Leave out"), said));
+        cell.replaceChildren(make("form", { class: "bits", onsubmit: submit }, input, make("button", focus, "Set"),
+            make("button", { type: "button", onclick: () => put(undefined), ...focus }, "Leave out"), said));
         input.focus();
     }
 }

@@ -2,24 +2,20 @@
 // the fragment of the address.
 import { ChangeView } from "./change-view.js";
 import { captureOf } from "./capture.js";
-import { linesOfSilence } from "./caller.js";
+import { signingEdit, silenceEdits } from "./changes.js";
 import { checksOf } from "./checks.js";
-import { attributeOf } from "./decode.js";
-import { WIDE, byId, make } from "./dom.js";
+import { WIDE, byId, keepFocus, make } from "./dom.js";
 import { BadEdit } from "./edits.js";
-import { toHex } from "./hex.js";
 import { History } from "./history.js";
-import { SIGNERS, canSign, keyOf, signed } from "./integrity.js";
 import { Ladder } from "./ladder.js";
 import { BadLine } from "./lines.js";
-import { fragmentOf, placeOf } from "./link.js";
+import { placeOf, remember } from "./link.js";
 import { PacketView } from "./packet-view.js";
 import { outstandingAfter, phaseAfter, possibleEnds } from "./phase.js";
-import { asked } from "./questions.js";
-import { requestsBefore, signerOf } from "./requests.js";
 import { showState } from "./state-view.js";
 import { stateAfter } from "./state.js";
 import { linesUpTo, madeUpTo, tell } from "./story.js";
+import { summaryOf } from "./summary.js";
 import { Timeline } from "./timeline.js";
 import { sentence } from "./words.js";
 
@@ -41,11 +37,16 @@ export class Page {
     /** @type {import("./story.js").Story} */
     #story;
     #step = 0;
-    #ladder = new Ladder(byId("ladder"), (index) => this.choose(index));
+    /** The question that led to the run, in words, or none. */
+    #question = "";
+    /** What is being done to the run: one thing after the other. */
+    #last = Promise.resolve();
+    #ladder = new Ladder(byId("ladder"), (index, isPassing) => this.choose(index, { isNew: !isPassing }));
     #packet = new PacketView(byId("packet"), (edit) => this.edit([edit]));
     #change = new ChangeView(byId("change"), {
-        edit: (edit, step) => this.edit([edit], step), sign: () => this.#guard(() => this.#sign()),
-        silence: (time) => this.#guard(() => this.#silence(time)),
+        edit: (edit, step) => this.edit([edit], step),
+        sign: () => this.#changeBy(async (story, at) => ({ edits: [await signingEdit(story, at)] })),
+        silence: (time) => this.#changeBy((story, at) => silenceEdits(this.#library, story, at, time)),
     });
 
     /**
@@ -61,7 +62,8 @@ export class Page {
         byId("redo").addEventListener("click", () => this.#turn(() => this.#history.redo()));
         byId("reset").addEventListener("click", () => this.#turn(() => this.#history.reset()));
         byId("next").addEventListener("click", () => this.#nextDifference());
-        byId("case").addEventListener("change", () => this.#open(this.#run, Number(byId("case").value), [], 0));
+        byId("case").addEventListener("change", () => this.#do(() => (
+            this.#open(this.#run, { number: Number(byId("case").value), groups: [], step: 0 }, { isNew: true }))));
         byId("copy-lines").addEventListener("click", () => this.#copy(byId("lines").value, "The lines are copied."));
         byId("copy-link").addEventListener("click", () => this.#copy(location.href, "The link is copied."));
         byId("capture").addEventListener("click", () => this.#saveCapture());
@@ -71,14 +73,26 @@ export class Page {
 
     /** Shows what the address names. */
     async openAddress() {
-        await this.#guard(async () => {
+        await this.#do(async () => {
             const { hash } = location, place = placeOf(hash), isKnown = place && this.#runs.has(place.run);
-            const { run, number, groups, step } = isKnown ? place : { run: FIRST, number: 0, groups: [], step: 0 };
-            this.#open(await this.#fetch(run), number, groups, step);
+            const { run, ...at } = isKnown ? place : { run: FIRST, number: 0, groups: [], step: 0 };
+            if (this.#isShown(run, at)) {
+                this.#question = history.state?.asked ?? "";
+                this.#complain("");
+                this.choose(Math.min(at.step, this.#story.steps.length - 1), { isNew: false });
+            } else {
+                await this.#open(await this.#fetch(run), at, { isNew: false, asked: history.state?.asked });
+            }
             if (hash.length > 1 && !isKnown) {
                 this.#complain("The address names no run of this page.");
             }
         });
+    }
+
+    /** Whether a run is shown, with the same edits: then only another step is chosen. */
+    #isShown(run, { number, groups }) {
+        const isSame = this.#run?.name === run && this.#number === number && !this.#history.canRedo;
+        return isSame && JSON.stringify(groups) === JSON.stringify(this.#history.groups);
     }
 
     async #fetch(name) {
@@ -89,26 +103,31 @@ export class Page {
         return response.json();
     }
 
-    /** Shows a run with edits. Where one of them does not fit, the run is shown without any, and why is said. */
-    #open(run, number, groups, step) {
-        this.#run = run;
-        this.#number = run.cases[number] ? number : 0;
-        this.#history = new History(groups);
-        this.#complain("");
+    /**
+     * Shows a run with edits. Where one of them does not fit, the run is shown without any, and why is said.
+     * @param {object} run
+     * @param {{ number: number, groups: string[][], step: number }} place
+     * @param {{ isNew: boolean, asked?: string }} how
+     */
+    async #open(run, { number, groups, step }, { isNew, asked = "" }) {
+        const at = run.cases[number] ? number : 0;
+        let past = new History(groups), complaint = "", story;
         try {
-            this.#story = tell(this.#library, this.#case(), this.#history.edits);
+            story = await this.#told(past.edits, run, at);
         } catch (error) {
-            this.#complain(`The link has an edit that does not fit: ${reason(error)}`);
-            this.#history = new History();
-            this.#story = tell(this.#library, this.#case(), []);
+            complaint = `The link has an edit that does not fit: ${reason(error)}`;
+            past = new History();
+            story = await this.#told([], run, at);
         }
-        this.#step = step;
+        [this.#run, this.#number, this.#history, this.#story, this.#step, this.#question] = [run, at, past, story, step, asked];
+        this.#complain(complaint);
         this.#showRun();
-        this.#show();
+        this.#show(isNew);
     }
 
-    #case() {
-        return this.#run.cases[this.#number];
+    /** A case of a run with these edits. BadEdit. */
+    #told(edits, run = this.#run, number = this.#number) {
+        return tell(this.#library, run.cases[number], edits);
     }
 
     #showRun() {
@@ -116,48 +135,52 @@ export class Page {
         document.title = `${title}: See it think`;
         byId("title").replaceChildren(title);
         byId("about").replaceChildren(about);
-        byId("asked").hidden = true;
         byId("case-line").hidden = cases.length < 2;
         byId("case").replaceChildren(...cases.map((_, at) => (
             make("option", { value: at, selected: at === this.#number }, `${at + 1} of ${cases.length}`))));
         this.#list.mark(name);
     }
 
-    /** Shows the run anew, after an edit. */
-    #show() {
+    /** Shows the run anew, after an edit; as a new place of the address, or over the one before. */
+    #show(isNew = false) {
         this.#timeline?.close();
         this.#timeline = undefined;
-        const { steps, differs, isOriginal } = this.#story, edits = steps.filter((step) => step.isEdited || step.isDropped).length;
+        const { steps, differs } = this.#story;
         this.#step = Math.min(this.#step, steps.length - 1);
-        byId("summary").replaceChildren(isOriginal ? `${steps.length} steps, as recorded.`
-            : `${counted(edits, "step is", "steps are")} changed; ${counted(differs, "answer differs", "answers differ")} from the original.`);
-        byId("undo").disabled = byId("reset").disabled = !this.#history.canUndo;
-        byId("redo").disabled = !this.#history.canRedo;
-        byId("next").disabled = differs === 0;
+        byId("summary").replaceChildren(summaryOf(this.#story));
         byId("lines").value = [this.#story.head, ...linesUpTo(this.#story, steps.length)].join("\n").concat("\n");
         this.#ladder.show(this.#story, this.#step);
-        this.choose(this.#step);
+        keepFocus(() => {
+            byId("undo").disabled = byId("reset").disabled = !this.#history.canUndo;
+            byId("redo").disabled = !this.#history.canRedo;
+            byId("next").disabled = differs === 0;
+            this.choose(this.#step, { isNew });
+        }, byId("ladder"));
         byId("main").dataset.run = this.#run.name;
         byId("main").dataset.case = String(this.#number);
         byId("main").dataset.edits = String(this.#history.edits.length);
-        byId("main").setAttribute("aria-busy", "false");
     }
 
     /**
      * Chooses a step: shows its packet, and the state after it.
      * @param {number} index
+     * @param {{ isNew: boolean }} how whether the browser leads back from there to the step that was chosen before
      */
-    choose(index) {
+    choose(index, { isNew }) {
         this.#step = index;
         const step = this.#story.steps[index];
         const place = { run: this.#run.name, number: this.#number, groups: this.#history.groups, step: index };
-        history.replaceState(null, "", fragmentOf(place));
+        remember(place, { isNew, asked: this.#question });
+        byId("asked").replaceChildren(this.#question);
+        byId("asked").hidden = !this.#question;
         this.#ladder.choose(index);
         byId("packet-title").replaceChildren(`Step ${index + 1}`);
         byId("state-title").replaceChildren(`State after step ${index + 1}`);
         byId("status").replaceChildren(sentence(step));
-        this.#change.show(this.#story, step);
-        this.#packet.show(step, []);
+        keepFocus(() => {
+            this.#change.show(this.#story, step);
+            this.#packet.show(step, true);
+        }, byId("ladder"));
         byId("state").dataset.step = "";
         // What takes longer comes once the step is on the screen, and not for one that was passed over.
         const story = this.#story, isStill = () => this.#story === story && this.#step === index;
@@ -171,20 +194,26 @@ export class Page {
         showState(byId("state"), state, { phase, outstanding, now: story.steps[index].time });
         const checks = await checksOf(timeline, story, index);
         if (isStill()) {
-            checks.length && this.#packet.show(story.steps[index], checks);
+            this.#packet.showChecks(story.steps[index], checks);
             byId("state").dataset.step = String(index);
         }
     }
 
     /**
      * Makes edits that one undo takes back.
-     * @param {string[]} group
+     * @param {string[]} edits
      * @param {number} [step] the step to choose then
      */
-    edit(group, step = this.#step) {
-        this.#guard(() => {
-            this.#story = tell(this.#library, this.#case(), [...this.#history.edits, ...group]);
-            this.#history.make(group);
+    edit(edits, step) {
+        this.#changeBy(() => ({ edits, step }));
+    }
+
+    /** Makes the edits that a function gives for the run as it is then, and for the step that is chosen then. */
+    #changeBy(how) {
+        this.#do(async () => {
+            const { edits, step = this.#step } = await how(this.#story, this.#step);
+            this.#story = await this.#told([...this.#history.edits, ...edits]);
+            this.#history.make(edits);
             this.#step = step;
             this.#complain("");
             this.#show();
@@ -193,9 +222,9 @@ export class Page {
 
     /** Undoes, or makes again. */
     #turn(how) {
-        this.#guard(() => {
+        this.#do(async () => {
             how();
-            this.#story = tell(this.#library, this.#case(), this.#history.edits);
+            this.#story = await this.#told(this.#history.edits);
             this.#show();
         });
     }
@@ -205,38 +234,25 @@ export class Page {
      * @param {import("./questions.js").Question} question
      */
     async ask(question) {
-        await this.#guard(async () => {
-            const run = await this.#fetch(question.run), { edits, step } = await asked(question, this.#library, run.cases[0]);
-            this.#open(run, 0, [edits], step);
-            byId("asked").replaceChildren(`${question.name}: ${question.about}`);
-            byId("asked").hidden = false;
+        await this.#do(async () => {
+            const run = await this.#fetch(question.run), told = async (edits) => this.#told(edits, run, 0);
+            const { edits, step } = await question.ask(await told([]), told, this.#library);
+            const asked = [`${question.name}: ${question.about}`, question.why].filter(Boolean).join(" ");
+            await this.#open(run, { number: 0, groups: [edits], step }, { isNew: true, asked });
             byId("ladder").focus({ preventScroll: true });
-            // In one column the questions fill the window: the answer is below them.
-            byId("title").scrollIntoView({ block: matchMedia(WIDE).matches ? "nearest" : "start" });
+            this.#bringIntoView(byId("title"));
+            byId(`step-${step}`).scrollIntoView({ block: "nearest" });
         });
     }
 
-    async #sign() {
-        const { packet, index } = this.#story.steps[this.#step], signer = signerOf(requestsBefore(this.#story, index));
-        if (!signer || !canSign()) {
-            throw new BadEdit(signer ? "this page signs only over https or from this machine"
-                : "no key is known before the client has signed a request");
-        }
-        const key = await keyOf(this.#story.settings, signer.realm, signer.algorithm);
-        const field = attributeOf(packet.frames[0], SIGNERS[signer.algorithm].type);
-        this.edit([`bytes ${index} ${toHex(await signed(packet.bytes, field?.start, key, signer.algorithm))}`]);
-    }
-
-    #silence(duration) {
-        const { time, index } = this.#story.steps[this.#step], before = linesUpTo(this.#story, index);
-        const lines = linesOfSilence(this.#library, this.#story.head, before, time, duration);
-        const later = index + 1 < this.#story.steps.length ? [`later ${index + 1} ${duration}`] : [];
-        this.edit([...later, ...lines.map((line, at) => `add ${index + 1 + at} ${line}`)], index + lines.length);
+    /** In one column the questions fill the window: what they show is below them. */
+    #bringIntoView(element) {
+        element.scrollIntoView({ block: matchMedia(WIDE).matches ? "nearest" : "start" });
     }
 
     #nextDifference() {
         const found = this.#story.steps.filter(({ before }) => before !== undefined).map(({ index }) => index);
-        this.choose(found.find((index) => index > this.#step) ?? found[0]);
+        this.choose(found.find((index) => index > this.#step) ?? found[0], { isNew: true });
     }
 
     async #copy(text, said) {
@@ -270,6 +286,16 @@ export class Page {
         byId("alert").hidden = !text;
     }
 
+    /** Does something to the run, once all before is done. */
+    #do(deed) {
+        byId("main").setAttribute("aria-busy", "true");
+        const done = this.#last.then(() => this.#guard(deed)), rest = done.catch(() => {}).then(() => {
+            this.#last === rest && byId("main").setAttribute("aria-busy", "false");
+        });
+        this.#last = rest;
+        return done;
+    }
+
     /** Does something, and says why where it cannot be done. What is no fault of the reader's is thrown on. */
     async #guard(deed) {
         try {
@@ -282,9 +308,6 @@ export class Page {
         }
     }
 }
-
-/** So many of something, in words for one and for many. */
-const counted = (count, one, many) => `${count} ${count === 1 ? one : many}`;
 
 /** What an error says, as a sentence. */
 function reason(error) {

@@ -1,17 +1,18 @@
 // Starting points: questions to a client, each as a run, edits of it and the step to look at.
 import { linesOfSilence } from "./caller.js";
-import { toHex, joined } from "./hex.js";
+import { toHex } from "./hex.js";
 import { keyOf, signed } from "./integrity.js";
+import { attribute, message, textBytes } from "./messages.js";
 import { ATTRIBUTE, CLASS, METHOD } from "./names.js";
 import { signerOf, requestsBefore } from "./requests.js";
-import { linesUpTo, tell } from "./story.js";
+import { linesUpTo } from "./story.js";
 import { writeValue } from "./values.js";
 import { withBytes } from "./edits.js";
 
 /**
- * `ask` gives the edits, and the step that shows the answer.
- * @typedef {{ name: string, about: string, run: string,
- *     ask(story: import("./story.js").Story, told: (edits: string[]) => import("./story.js").Story,
+ * `ask` gives the edits, and the step that shows the answer; `why` is said of the answer.
+ * @typedef {{ name: string, about: string, why?: string, run: string,
+ *     ask(story: import("./story.js").Story, told: (edits: string[]) => Promise<import("./story.js").Story>,
  *         library: import("../yarrowdoor/src/library.js").Library): Promise<{ edits: string[], step: number }> }} Question
  */
 
@@ -24,15 +25,6 @@ function received({ steps }, method, messageClass) {
         && packet.frames.some((frame) => frame.method === method && frame.messageClass === messageClass));
 }
 
-const attribute = (type, value) => joined([type >> 8, type & 255, 0, value.length], value, new Uint8Array(-value.length & 3));
-
-/** A message that nobody has signed. */
-function message(type, id, ...attributes) {
-    const body = joined(...attributes);
-    return joined([type >> 8, type & 255, body.length >> 8, body.length & 255, 0x21, 0x12, 0xa4, 0x42], id, body);
-}
-
-const text = (words) => new TextEncoder().encode(words);
 const idOf = (step) => step.packet.frames[0].id;
 
 async function forge(story) {
@@ -52,7 +44,7 @@ const flip = (method) => async (story) => {
 /** Another seed is another day: the challenge is today's, and the reply behind it yesterday's, signed with the same key. */
 async function yesterday(story, told) {
     const edits = [`seed ${"07".repeat(32)}`], challenge = received(story, METHOD.ALLOCATE, CLASS.ERROR);
-    const today = told(edits).steps.find(({ packet }) => packet && !packet.isReceived);
+    const today = (await told(edits)).steps.find(({ packet }) => packet && !packet.isReceived);
     edits.push(`set ${challenge.index} 8 ${toHex(idOf(today))}`);
     return { edits, step: received(story, METHOD.ALLOCATE, CLASS.SUCCESS).index };
 }
@@ -62,10 +54,10 @@ async function stale(story, told) {
     const { realm, algorithm } = signerOf(requestsBefore(story, reply.index));
     const error = attribute(ATTRIBUTE.ERROR_CODE, writeValue("error", "438 Stale Nonce", idOf(reply)));
     const challenge = message(METHOD.CREATE_PERMISSION | CLASS.ERROR, idOf(reply), error, attribute(ATTRIBUTE.REALM, realm),
-        attribute(ATTRIBUTE.NONCE, text("fresh")));
+        attribute(ATTRIBUTE.NONCE, textBytes("fresh")));
     const at = reply.index, then = reply.time + LATER;
     const edits = [`add ${at} ${withBytes(reply.line, challenge)}`, `later ${at + 2} ${LATER}`, `add ${at + 2} ${then} transmit`];
-    const again = told(edits).steps[at + 2], key = await keyOf(story.settings, realm, algorithm);
+    const again = (await told(edits)).steps[at + 2], key = await keyOf(story.settings, realm, algorithm);
     const grant = await signed(message(METHOD.CREATE_PERMISSION | CLASS.SUCCESS, idOf(again)), undefined, key, algorithm);
     edits.push(`add ${at + 3} ${withBytes(`${then}${reply.line.slice(reply.line.indexOf(" "))}`, grant)}`);
     return { edits, step: at };
@@ -75,7 +67,7 @@ async function silence(story, told, library) {
     const reply = received(story, METHOD.ALLOCATE, CLASS.SUCCESS);
     const rest = story.steps.slice(reply.index).map(({ index }) => `drop ${index}`);
     const lines = linesOfSilence(library, story.head, linesUpTo(story, reply.index - 1), reply.time, MINUTE);
-    const edits = [...rest, ...lines.map((line, at) => `add ${story.steps.length + at} ${line}`)], failed = told(edits).steps;
+    const edits = [...rest, ...lines.map((line, at) => `add ${story.steps.length + at} ${line}`)], failed = (await told(edits)).steps;
     const end = failed.find(({ answer }) => answer === "closed" || answer?.startsWith("allocate-failed"));
     return { edits, step: end.index };
 }
@@ -88,7 +80,7 @@ async function elsewhere(story) {
 async function stranger(story) {
     const data = received(story, METHOD.DATA, CLASS.INDICATION), id = idOf(data);
     const peer = attribute(ATTRIBUTE.XOR_PEER_ADDRESS, writeValue("address", "203.0.113.66:6666", id));
-    const sent = message(METHOD.DATA | CLASS.INDICATION, id, peer, attribute(ATTRIBUTE.DATA, text("let me in")));
+    const sent = message(METHOD.DATA | CLASS.INDICATION, id, peer, attribute(ATTRIBUTE.DATA, textBytes("let me in")));
     return { edits: [`add ${data.index} ${withBytes(data.line, sent)}`], step: data.index };
 }
 
@@ -104,7 +96,10 @@ export const QUESTIONS = Object.freeze([
     { name: "Flip one bit", run: EXCHANGE, ask: flip(METHOD.CREATE_PERMISSION),
         about: "The last bit of the server's success for a permission arrives as the other one." },
     { name: "Spoil the allocation", run: EXCHANGE, ask: flip(METHOD.ALLOCATE),
-        about: "The same for the success of the allocation: nothing is granted either, and the client gives up." },
+        about: "The same for the success of the allocation: nothing is granted either, and the client ends.",
+        why: "That ending is our choice. RFC 8489, section 9.2.5, would have the client discard the reply and wait for another. But nothing "
+            + "is granted yet, and so the caller learns at once, and not after 39.5 s, that a reply was spoilt or the key is another one. The "
+            + "price: whoever spoils one datagram ends the client (docs/SECURITY.md)." },
     { name: "Replay yesterday's reply", run: EXCHANGE, ask: yesterday,
         about: "A reply that the server signed with the same key, in a session of the day before." },
     { name: "Let the nonce go stale", run: EXCHANGE, ask: stale,
@@ -118,14 +113,3 @@ export const QUESTIONS = Object.freeze([
     { name: "Cut a stream", run: STREAM, ask: pieces,
         about: "Over TCP a reply comes in two pieces. The client waits for the rest, and then does the same." },
 ]);
-
-/**
- * The edits of a question, for the run that it is about.
- * @param {Question} question
- * @param {import("../yarrowdoor/src/library.js").Library} library
- * @param {import("./story.js").Case} original
- */
-export async function asked(question, library, original) {
-    const told = (edits) => tell(library, original, edits);
-    return question.ask(told([]), told, library);
-}

@@ -94,6 +94,85 @@ class Everybody(unittest.TestCase):
         self.page.settle()
         self.assertEqual(self.page.answers()[7], "handled")
 
+    def test_the_focus_stays_where_it_was_after_an_edit(self):
+        self.page.load(EXCHANGE + "&step=7")
+        focus = "document.querySelector(arguments[0]).focus()"
+        said = "const it = document.activeElement; return it.dataset.bit ?? it.getAttribute('aria-label') ?? it.id ?? it.textContent"
+        kept = (
+            # What is pressed or typed, and what has the focus then.
+            ("[data-bit='3']", (Keys.SPACE,), "flip bit 3 of byte 0, which is "),
+            (".bits input", (Keys.END, Keys.BACKSPACE, Keys.BACKSPACE, "0", "1", Keys.ENTER), "byte 0, two hexadecimal digits"),
+            ("button[aria-label='Change MESSAGE-INTEGRITY']", (Keys.ENTER, "00", Keys.ENTER), "Change MESSAGE-INTEGRITY"),
+        )
+        for selector, keys, label in kept:
+            with self.subTest(selector):
+                edits = int(self.page.find("#main").get_attribute("data-edits"))
+                self.page.driver.execute_script(focus, selector)
+                self.page.keys(*keys)
+                self.page.settle()
+                self.assertEqual(int(self.page.find("#main").get_attribute("data-edits")), edits + 1)
+                label_of = "return document.activeElement.getAttribute('aria-label')"
+                self.assertIn(label, self.page.driver.execute_script(label_of) or self.page.driver.execute_script(said))
+
+    def test_the_focus_goes_to_the_ladder_where_a_button_can_do_no_more(self):
+        self.page.load(EXCHANGE + "&step=7")
+        for text in ("Repeat it", "Leave it out", "Undo", "Undo"):
+            button = [it for it in self.page.driver.find_elements("css selector", "#main button") if it.text == text][0]
+            self.page.driver.execute_script("arguments[0].focus()", button)
+            self.page.keys(Keys.ENTER)
+            self.page.settle()
+            tag, ident, focused = self.page.focused()
+            button = [it for it in self.page.driver.find_elements("css selector", "#main button") if it.text == text][0]
+            if button.is_enabled():
+                self.assertEqual((tag, focused), ("button", text))
+            else:
+                self.assertEqual(ident, "ladder", text)
+
+    def test_what_is_found_of_a_packet_later_leaves_a_form_as_it_is(self):
+        self.page.load(EXCHANGE + "&step=2")
+        # The step is chosen, and the form opened, before the page has looked for reasons.
+        typed = self.page.driver.execute_async_script("""
+            const done = arguments[0];
+            document.getElementById("step-3").dispatchEvent(new MouseEvent("click", { bubbles: true }));
+            document.querySelector("button[aria-label='Change LIFETIME']").click();
+            const input = document.activeElement;
+            const state = document.getElementById("state"), again = () => {
+                state.dataset.step === "3" ? done([input.isConnected, document.activeElement === input]) : setTimeout(again, 4);
+            };
+            again();
+        """)
+        self.assertEqual(typed, [True, True])
+        self.assertIn("it is signed with the key", self.page.text("packet"))
+
+    def test_a_page_that_gets_no_scripts_says_what_to_do(self):
+        self.page.load()
+        self.assertEqual(self.page.driver.find_elements("id", "unstarted"), [])
+        try:
+            self.page.driver.get((self.page.folder / "index.html").as_uri())
+            self.page.until("return document.getElementById('unstarted').checkVisibility({ visibilityProperty: true })")
+            self.assertIn("Run tools/web --serve, and open http://127.0.0.1:8656/", self.page.text("unstarted"))
+            self.page.driver.execute_cdp_cmd("Emulation.setScriptExecutionDisabled", {"value": True})
+            self.page.driver.get(self.page.url)
+            shown = [it.text for it in self.page.driver.find_elements("css selector", "noscript p")]
+            self.assertEqual(len(shown), 1)
+            self.assertIn("This page needs JavaScript", shown[0])
+        finally:
+            self.page.driver.execute_cdp_cmd("Emulation.setScriptExecutionDisabled", {"value": False})
+            self.page.errors()
+            self.page.load()
+
+    def test_what_scrolls_can_be_scrolled_by_keyboard(self):
+        for width in (390, 1024, 1440):
+            self.page.size(width)
+            self.page.open(EXCHANGE + "&step=9")
+            script = """
+                const scrolls = (it) => /auto|scroll/.test(getComputedStyle(it).overflow) && it.checkVisibility()
+                    && (it.scrollWidth > it.clientWidth + 1 || it.scrollHeight > it.clientHeight + 1);
+                const isReached = (it) => it.tabIndex >= 0 || it.querySelector("a, button, input, [tabindex='0']");
+                return [...document.querySelectorAll("main *, nav *")].filter((it) => scrolls(it) && !isReached(it)).map((it) => it.outerHTML);
+            """
+            self.assertEqual(self.page.driver.execute_script(script), [])
+
     def test_keys_go_through_the_ladder(self):
         self.page.open(EXCHANGE)
         self.page.find("#ladder").click()
@@ -157,7 +236,8 @@ class Everybody(unittest.TestCase):
             self.page.open()
             for question in ("Forge a success", "Let the nonce go stale"):
                 with self.subTest(scheme, question=question):
-                    self.page.ask(question)
+                    self.page.press(question)
+                    self.page.until("return document.getElementById('main').getAttribute('aria-busy') === 'false'")
                     self.page.driver.execute_script("document.querySelectorAll('details').forEach((it) => (it.open = true))")
                     found = self.page.driver.execute_script(CONTRAST)
                     self.assertGreater(len(found), 100)
@@ -170,23 +250,25 @@ class Everybody(unittest.TestCase):
             with self.subTest(width=width):
                 self.page.size(width)
                 self.page.open()
-                self.page.ask("Forge a success")
-                self.page.driver.execute_script("document.querySelectorAll('details').forEach((it) => (it.open = true))")
-                self.assertEqual(self.page.driver.execute_script(OUTSIDE), [False, []])
-                drawn = self.page.driver.execute_script("return document.querySelector('#ladder svg').getBoundingClientRect().width")
-                self.assertLessEqual(drawn, width)
+                for question in ("Forge a success",):
+                    self.page.press(question)
+                    self.page.driver.execute_script("document.querySelectorAll('details').forEach((it) => (it.open = true))")
+                    self.assertEqual(self.page.driver.execute_script(OUTSIDE), [False, []])
+                    drawn = self.page.driver.execute_script("return document.querySelector('#ladder svg').getBoundingClientRect().width")
+                    self.assertLessEqual(drawn, width)
 
     def test_the_answer_to_a_question_is_in_sight(self):
-        for width, height in ((360, 640), (500, 800), (1300, 780)):
-            with self.subTest(width=width):
-                self.page.size(width, height)
-                self.page.load()
-                self.page.ask("Forge a success")
-                row = self.page.driver.execute_script("""
-                    const box = document.querySelector("#ladder [aria-selected=true]").getBoundingClientRect();
-                    return [box.top, box.bottom];
-                """)
-                self.assertTrue(0 <= row[0] < row[1] <= height, row)
+        for width, height in ((360, 640), (390, 844), (500, 800), (1024, 800), (1300, 780)):
+            self.page.size(width, height)
+            for question in ("Forge a success", "Spoil the allocation"):
+                with self.subTest(width=width, question=question):
+                    self.page.load()
+                    self.page.ask(question)
+                    row = self.page.driver.execute_script("""
+                        const box = document.querySelector("#ladder [aria-selected=true]").getBoundingClientRect();
+                        return [box.top, box.bottom];
+                    """)
+                    self.assertTrue(0 <= row[0] < row[1] <= height, row)
 
     def test_pictures_show_the_page(self):
         with tempfile.TemporaryDirectory() as folder:

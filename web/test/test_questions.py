@@ -41,6 +41,13 @@ class Questions(unittest.TestCase):
                 page.ask(name)
                 check_by_replay(self)
 
+    def test_an_ending_that_no_standard_asks_for_is_said_to_be_our_choice(self):
+        page = browser()
+        page.open()
+        page.ask("Spoil the allocation")
+        self.assertIn("That ending is our choice. RFC 8489, section 9.2.5, would have the client discard the reply", page.text("asked"))
+        self.assertEqual(page.answers()[-1], "closed")
+
     def test_the_true_success_counts_behind_the_forged_one(self):
         page = browser()
         page.open()

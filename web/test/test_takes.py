@@ -44,6 +44,74 @@ class Takes(unittest.TestCase):
                 self.page.open("#" + self.page.driver.current_url.split("#", 1)[1])
                 self.assertEqual((self.page.rows(), self.page.chosen(), self.page.text("state")), wanted)
 
+    def back(self, script="history.back()", run=EXCHANGE):
+        """Goes back as a reader does, and waits until the run is shown."""
+        before = self.page.driver.execute_script("document.getElementById('state').dataset.step = ''; return location.href")
+        self.page.driver.execute_script(script)
+        self.page.until("return location.href !== arguments[0]", before)
+        self.page.until("return document.getElementById('main').dataset.run === arguments[0]", run)
+        self.page.settle()
+
+    def test_back_leads_to_the_step_that_was_chosen_before(self):
+        self.page.load(f"#run={EXCHANGE}")
+        length = self.page.driver.execute_script("return history.length")
+        for step in (3, 7):
+            self.page.choose(step)
+        self.page.find("#ladder").send_keys("\ue010")
+        self.page.settle()
+        self.assertEqual(self.page.driver.execute_script("return history.length"), length + 3)
+        for step in (7, 3, 0):
+            self.back()
+            self.assertEqual((self.page.chosen(), self.page.text("packet-title")), (step, f"Step {step + 1}"))
+        self.back("history.forward()")
+        self.assertEqual(self.page.chosen(), 3)
+
+    def test_a_key_that_is_held_down_leads_to_one_place(self):
+        self.page.load(f"#run={EXCHANGE}")
+        length = self.page.driver.execute_script("return history.length")
+        self.page.driver.execute_script("""
+            for (const repeat of [false, true, true, true]) {
+                document.getElementById("ladder").dispatchEvent(new KeyboardEvent("keydown", { key: "ArrowDown", repeat, bubbles: true }));
+            }
+        """)
+        self.page.settle()
+        self.assertEqual(self.page.chosen(), 4)
+        self.assertEqual(self.page.driver.execute_script("return history.length"), length + 1)
+        self.back()
+        self.assertEqual(self.page.chosen(), 0)
+
+    def test_a_step_that_is_chosen_again_is_no_other_place(self):
+        self.page.load(f"#run={EXCHANGE}&step=3")
+        length = self.page.driver.execute_script("return history.length")
+        self.page.choose(3)
+        self.assertEqual(self.page.driver.execute_script("return history.length"), length)
+
+    def test_back_leads_from_a_question_to_the_run_before(self):
+        self.page.load(f"#run={EXCHANGE}&step=5")
+        before = self.page.answers()
+        self.page.ask("Flip one bit")
+        self.page.ask("Cut a stream")
+        self.back()
+        self.assertTrue(self.page.text("asked").startswith("Flip one bit"))
+        self.assertEqual(self.page.answers()[self.page.chosen()], "ignored")
+        self.back()
+        self.assertEqual((self.page.chosen(), self.page.answers(), self.page.text("asked")), (5, before, ""))
+        self.back("history.forward()")
+        self.assertTrue(self.page.text("asked").startswith("Flip one bit"))
+
+    def test_an_edit_is_no_other_place(self):
+        self.page.load(f"#run={EXCHANGE}")
+        self.page.choose(3)
+        length = self.page.driver.execute_script("return history.length")
+        self.page.press("Leave it out")
+        self.page.press("Undo")
+        self.page.press("Redo")
+        self.assertEqual(self.page.driver.execute_script("return history.length"), length)
+        self.back()
+        self.assertEqual((self.page.chosen(), self.page.text("summary")), (0, "12 steps, as recorded."))
+        self.back("history.forward()")
+        self.assertEqual((self.page.chosen(), self.page.answers()[3]), (3, None))
+
     def test_a_link_that_is_none_is_refused_and_shows_the_run(self):
         none = "The address names no run of this page."
         bad = {
