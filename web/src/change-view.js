@@ -46,6 +46,10 @@ export class ChangeView {
      * @param {import("./story.js").Shown} step
      */
     show(story, step) {
+        if (story.isLive) {
+            this.#showLive(step);
+            return;
+        }
         const { index, packet, isDropped } = step, isLast = story.steps.slice(index + 1).every((other) => other.isDropped);
         const isPiece = packet?.isReceived && packet.transport === "tcp" && packet.bytes.length > 1;
         const isMessage = packet?.isReceived && packet.frames.length === 1 && packet.frames[0].kind === "message";
@@ -60,6 +64,15 @@ export class ChangeView {
             numberForm("Be silent behind it", "Seconds", 60, 100_000, (value) => silence(value * 1_000n * MILLISECOND)),
             isPiece ? numberForm("Cut it", "Behind so many bytes", size >> 1, size - 1, (value) => edit(`cut ${index} ${value}`)) : "",
             this.#adding(story, step));
+    }
+
+    /** In a run with the page's server packets are lost, and nothing else is changed. */
+    #showLive({ number, isLost }) {
+        const text = number === undefined ? "This step is no packet. Choose one, and leave it out: the server and the client do the rest."
+            : isLost ? "This packet is lost: it left, and did not arrive. Undo it, or leave another one out."
+                : "Leave this packet out: it is lost on its way, and the server and the client do the rest.";
+        this.#element.replaceChildren(make("p", {}, text),
+            make("div", { class: "bar" }, this.#button("Leave it out", `lose ${number}`, number === undefined || isLost)));
     }
 
     #button(name, edit, isDisabled, choose) {

@@ -68,18 +68,19 @@ function farPeer({ packet, answer, name, words }) {
 }
 
 function arrow(step, y, columns) {
-    const { client, server } = columns, isIgnored = step.answer === "ignored" || step.isDropped, peer = farPeer(step);
-    const x = peer === undefined ? undefined : columns.peer(peer), isReceived = step.packet.isReceived;
+    const { client, server } = columns, isReceived = step.packet.isReceived, isOutLost = step.isLost && !isReceived;
+    const isIgnored = step.answer === "ignored" || step.isDropped || isOutLost, peer = isOutLost ? undefined : farPeer(step);
+    const x = peer === undefined ? undefined : columns.peer(peer);
     const way = draw("line", { class: `way ${isIgnored ? "lost" : ""}`, x1: client, x2: server, y1: y, y2: y });
     const far = x === undefined ? [] : [draw("line", { class: "way far", x1: server, x2: x, y1: y, y2: y })];
     const end = x === undefined || isReceived ? [] : [tip(x, y, false)];
-    return [way, ...far, ...end, isIgnored ? cross(client + 12, y) : tip(isReceived ? client : server, y, isReceived)];
+    return [way, ...far, ...end, isIgnored ? cross(isOutLost ? server - 12 : client + 12, y) : tip(isReceived ? client : server, y, isReceived)];
 }
 
 function label(step, y, columns) {
     const { what, answer } = stepText(step), x = columns.client + 8;
-    const isBad = /^(ignored|refused)/.test(step.answer ?? ""), isSoft = !step.packet && /^(none|wait)/.test(step.answer ?? "");
-    const kind = `${isBad ? "bad" : isSoft ? "soft" : ""} ${step.isDropped ? "gone" : ""}`;
+    const isBad = step.isLost || /^(ignored|refused)/.test(step.answer ?? ""), isSoft = !step.packet && /^(none|wait)/.test(step.answer ?? "");
+    const kind = `${isBad ? "bad" : isSoft ? "soft" : ""} ${step.isDropped && !step.isLost ? "gone" : ""}`;
     return draw("text", { x, y, class: kind }, labelText(what, answer && ` → ${answer}`, columns.end - x - 4));
 }
 

@@ -1,4 +1,4 @@
-// STUN messages that the page makes itself: those of somebody else on the network.
+// STUN messages that the page makes itself: those of somebody else on the network, and those of the server in the page.
 import { joined } from "./hex.js";
 
 /**
@@ -19,6 +19,14 @@ export function message(type, id, ...attributes) {
     const body = joined(...attributes);
     return joined([type >> 8, type & 255, body.length >> 8, body.length & 255, 0x21, 0x12, 0xa4, 0x42], id, body);
 }
+
+/**
+ * The type of a message: its method, and between the bits of the method those of its class (RFC 8489, section 5). Methods of TURN
+ * have fewer than five bits.
+ * @param {number} method
+ * @param {number} messageClass
+ */
+export const typeOf = (method, messageClass) => method | messageClass;
 
 /** A text as bytes. */
 export const textBytes = (text) => new TextEncoder().encode(text);

@@ -10,11 +10,12 @@ import { History } from "./history.js";
 import { Ladder } from "./ladder.js";
 import { BadLine } from "./lines.js";
 import { placeOf, remember } from "./link.js";
+import { LIVE } from "./live.js";
 import { PacketView } from "./packet-view.js";
 import { outstandingAfter, phaseAfter, possibleEnds } from "./phase.js";
 import { showState } from "./state-view.js";
 import { stateAfter } from "./state.js";
-import { linesUpTo, madeUpTo, tell } from "./story.js";
+import { linesUpTo, madeUpTo, tell, tellLive } from "./story.js";
 import { summaryOf } from "./summary.js";
 import { Timeline } from "./timeline.js";
 import { sentence } from "./words.js";
@@ -39,7 +40,7 @@ export class Page {
     #step = 0;
     /** The question that led to the run, in words, or none. */
     #question = "";
-    /** What is being done to the run: one thing after the other. */
+    /** What is being done to the run: one thing after the other, since the page's server takes its time. */
     #last = Promise.resolve();
     #ladder = new Ladder(byId("ladder"), (index, isPassing) => this.choose(index, { isNew: !isPassing }));
     #packet = new PacketView(byId("packet"), (edit) => this.edit([edit]));
@@ -74,7 +75,7 @@ export class Page {
     /** Shows what the address names. */
     async openAddress() {
         await this.#do(async () => {
-            const { hash } = location, place = placeOf(hash), isKnown = place && this.#runs.has(place.run);
+            const { hash } = location, place = placeOf(hash), isKnown = place && (place.run === LIVE.name || this.#runs.has(place.run));
             const { run, ...at } = isKnown ? place : { run: FIRST, number: 0, groups: [], step: 0 };
             if (this.#isShown(run, at)) {
                 this.#question = history.state?.asked ?? "";
@@ -96,6 +97,9 @@ export class Page {
     }
 
     async #fetch(name) {
+        if (name === LIVE.name) {
+            return LIVE;
+        }
         const response = await fetch(`runs/${name}.json`);
         if (!response.ok) {
             throw new Error(`The run ${name} cannot be read: ${response.status}`);
@@ -127,7 +131,7 @@ export class Page {
 
     /** A case of a run with these edits. BadEdit. */
     #told(edits, run = this.#run, number = this.#number) {
-        return tell(this.#library, run.cases[number], edits);
+        return run.isLive ? tellLive(this.#library, edits) : tell(this.#library, run.cases[number], edits);
     }
 
     #showRun() {
@@ -179,7 +183,7 @@ export class Page {
         byId("status").replaceChildren(sentence(step));
         keepFocus(() => {
             this.#change.show(this.#story, step);
-            this.#packet.show(step, true);
+            this.#packet.show(step, !this.#story.isLive);
         }, byId("ladder"));
         byId("state").dataset.step = "";
         // What takes longer comes once the step is on the screen, and not for one that was passed over.

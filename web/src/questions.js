@@ -5,6 +5,7 @@ import { keyOf, signed } from "./integrity.js";
 import { attribute, message, textBytes } from "./messages.js";
 import { ATTRIBUTE, CLASS, METHOD } from "./names.js";
 import { signerOf, requestsBefore } from "./requests.js";
+import { LIVE } from "./live.js";
 import { linesUpTo } from "./story.js";
 import { writeValue } from "./values.js";
 import { withBytes } from "./edits.js";
@@ -89,6 +90,12 @@ async function pieces(story) {
     return { edits: [`cut ${index} ${packet.bytes.length >> 1}`], step: index };
 }
 
+/** The success of the allocation does not arrive. */
+async function lose(story) {
+    const { index, number } = received(story, METHOD.ALLOCATE, CLASS.SUCCESS);
+    return { edits: [`lose ${number}`], step: index };
+}
+
 /** @type {readonly Question[]} */
 export const QUESTIONS = Object.freeze([
     { name: "Forge a success", run: EXCHANGE, ask: forge,
@@ -104,6 +111,8 @@ export const QUESTIONS = Object.freeze([
         about: "A reply that the server signed with the same key, in a session of the day before." },
     { name: "Let the nonce go stale", run: EXCHANGE, ask: stale,
         about: "The server wants another nonce; the request is made again, and the late reply to the first one no longer counts." },
+    { name: "Lose a packet", run: LIVE.name, ask: lose,
+        about: "A server in the page answers by itself. A packet is lost; the client sends its request again, and recovers." },
     { name: "Be silent for a minute", run: EXCHANGE, ask: silence,
         about: "The server answers no more. The request goes out seven times, and then the client ends." },
     { name: "Answer from elsewhere", run: EXCHANGE, ask: elsewhere,

@@ -89,3 +89,13 @@ export function signerOf(requests) {
     const { realm, algorithm } = signed.at(-1) ?? {};
     return realm && algorithm ? { realm, algorithm } : undefined;
 }
+
+/**
+ * How often requests are sent again in these steps.
+ * @param {readonly import("./story.js").Shown[]} steps
+ */
+export function sentAgain(steps) {
+    const sent = steps.filter(({ packet }) => packet && !packet.isReceived).flatMap(({ packet }) => packet.frames);
+    const ids = sent.filter(({ messageClass }) => messageClass === CLASS.REQUEST).map(({ id }) => toHex(id));
+    return ids.length - new Set(ids).size;
+}

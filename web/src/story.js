@@ -3,6 +3,7 @@
 import { bytesOfLine, edited, timeOf } from "./edits.js";
 import { parseHead } from "./lines.js";
 import { answersTo } from "./replay.js";
+import { HEAD, simulated } from "./simulation.js";
 import { Streams } from "./streams.js";
 import { fromField } from "./hex.js";
 
@@ -16,11 +17,14 @@ import { fromField } from "./hex.js";
  * another one. `isEdited` says that the step is new, or has another line than in the original run.
  * @typedef {{ index: number, line: string, name: string, time: bigint, words: string[], answer: string | undefined,
  *     before: string | undefined, origin: number | undefined, isEdited: boolean, isDropped: boolean,
- *     packet: Packet | undefined }} Shown
+ *     packet: Packet | undefined, number?: number, isLost?: boolean }} Shown
+ * In a run with the page's server `number` is that of the packet, and `isLost` says that it did not arrive.
  */
 /** @typedef {{ head: string, calls: [string, string][] }} Case */
 /**
- * @typedef {{ head: string, settings: ReturnType<typeof parseHead>, steps: Shown[], isOriginal: boolean, differs: number }} Story
+ * `isLive` says that the page's server answers, so that a run cannot be changed but by losing packets.
+ * @typedef {{ head: string, settings: ReturnType<typeof parseHead>, steps: Shown[], isOriginal: boolean, differs: number,
+ *     isLive: boolean }} Story
  */
 
 /**
@@ -68,9 +72,27 @@ export function tell(library, original, edits) {
     const answerOf = new Map(made.map((step, at) => [step, answers[at]]));
     const steps = run.steps.map((step, index) => shownStep(step, index, answerOf.get(step), original, streams));
     return {
-        head: run.head, settings: parseHead(run.head), steps, isOriginal: edits.length === 0,
+        head: run.head, settings: parseHead(run.head), steps, isOriginal: edits.length === 0, isLive: false,
         differs: steps.filter((step) => step.before !== undefined).length,
     };
+}
+
+/**
+ * The run with the page's server, in which these edits lose packets. BadEdit.
+ * @param {import("../yarrowdoor/src/library.js").Library} library
+ * @param {readonly string[]} edits
+ * @returns {Promise<Story>}
+ */
+export async function tellLive(library, edits) {
+    const made = await simulated(library, edits), streams = new Streams(HEAD.split(" ")[1]);
+    const steps = made.map(({ line, answer, number, isLost }, index) => {
+        const words = line.split(" "), packet = packetOf(words, answer);
+        return {
+            index, line, name: words[1], time: timeOf(line), words, answer, before: undefined, origin: undefined, number, isLost,
+            isEdited: false, isDropped: isLost && words[1] === "recv", packet: packet && { ...packet, frames: streams.decode(packet) },
+        };
+    });
+    return { head: HEAD, settings: parseHead(HEAD), steps, isOriginal: edits.length === 0, isLive: true, differs: 0 };
 }
 
 /**

@@ -40,16 +40,18 @@ export function answerText(answer) {
     return words[0] === "wait" ? `wait until ${seconds(BigInt(words[1]))}` : lineText(words);
 }
 
+const LOST = "lost on its way";
+
 /**
  * What a step is, and its answer, apart: for a packet the packet, and what came of it.
  * @param {import("./story.js").Shown} step
  */
-export function stepText({ name, packet, words, answer, isDropped }) {
+export function stepText({ name, packet, words, answer, isDropped, isLost }) {
     if (packet?.isReceived) {
-        return { what: framesText(packet), answer: isDropped ? "left out" : answerText(answer) };
+        return { what: framesText(packet), answer: isLost ? LOST : isDropped ? "left out" : answerText(answer) };
     }
     if (packet) {
-        return { what: `${name === "send" ? "send: " : ""}${framesText(packet)}`, answer: "" };
+        return { what: `${name === "send" ? "send: " : ""}${framesText(packet)}`, answer: isLost ? LOST : "" };
     }
     return { what: lineText(words.slice(1)), answer: isDropped ? "left out" : answerText(answer) };
 }
@@ -59,9 +61,9 @@ export function stepText({ name, packet, words, answer, isDropped }) {
  * @param {import("./story.js").Shown} step
  * @returns {[string, string][]}
  */
-export function signsOf({ isEdited, isDropped, before, origin }) {
+export function signsOf({ isEdited, isDropped, isLost, before, origin }) {
     return [
-        ...(isDropped ? [["−", "left out"]] : isEdited ? [["+", origin === undefined ? "new" : "changed"]] : []),
+        ...(isLost ? [["−", LOST]] : isDropped ? [["−", "left out"]] : isEdited ? [["+", origin === undefined ? "new" : "changed"]] : []),
         ...(before === undefined ? [] : [["≠", `differs: it was ${answerText(before)}`]]),
     ];
 }

@@ -234,7 +234,7 @@ class Everybody(unittest.TestCase):
         for scheme in ("light", "dark"):
             self.page.scheme(scheme)
             self.page.open()
-            for question in ("Forge a success", "Let the nonce go stale"):
+            for question in ("Forge a success", "Let the nonce go stale", "Lose a packet"):
                 with self.subTest(scheme, question=question):
                     self.page.press(question)
                     self.page.until("return document.getElementById('main').getAttribute('aria-busy') === 'false'")
@@ -250,7 +250,7 @@ class Everybody(unittest.TestCase):
             with self.subTest(width=width):
                 self.page.size(width)
                 self.page.open()
-                for question in ("Forge a success",):
+                for question in ("Forge a success", "Lose a packet"):
                     self.page.press(question)
                     self.page.driver.execute_script("document.querySelectorAll('details').forEach((it) => (it.open = true))")
                     self.assertEqual(self.page.driver.execute_script(OUTSIDE), [False, []])
@@ -260,7 +260,7 @@ class Everybody(unittest.TestCase):
     def test_the_answer_to_a_question_is_in_sight(self):
         for width, height in ((360, 640), (390, 844), (500, 800), (1024, 800), (1300, 780)):
             self.page.size(width, height)
-            for question in ("Forge a success", "Spoil the allocation"):
+            for question in ("Forge a success", "Spoil the allocation", "Lose a packet"):
                 with self.subTest(width=width, question=question):
                     self.page.load()
                     self.page.ask(question)

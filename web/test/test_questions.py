@@ -11,6 +11,7 @@ SHOWN = {
     "Spoil the allocation": ("handled", "its signature is wrong", "Closed", "10.0.0.4:40000"),
     "Replay yesterday's reply": ("ignored", "no request of this client has its transaction ID", "No allocation", "10.0.0.4:40000"),
     "Let the nonce go stale": ("handled", "it is a challenge", "pending", "until 300"),
+    "Lose a packet": (None, "lost on its way", "No allocation", "10.0.0.4:40000"),
     "Be silent for a minute": ("closed", "", "Closed", "10.0.0.4:40000"),
     "Answer from elsewhere": ("ignored", "it came from 203.0.113.66:2000", "No allocation", "10.0.0.4:40000"),
     "Send data as a stranger": ("ignored", "203.0.113.66:6666, has no permission", "until 300.1 s", "203.0.113.66"),
