@@ -26,6 +26,7 @@ async function libraries() {
 async function start() {
     const [[library, other], runs] = await Promise.all([libraries(), list()]), page = new Page(library, other, runs, new RunsView(runs));
     showQuestions(QUESTIONS, (question) => page.ask(question));
+    byId("start-tour").addEventListener("click", () => page.tour());
     byId("skip").addEventListener("click", () => byId("ladder").focus());
     byId("all-runs").open = matchMedia(WIDE).matches;
     await page.openAddress();

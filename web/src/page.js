@@ -18,6 +18,7 @@ import { stateAfter } from "./state.js";
 import { linesUpTo, madeUpTo, tell, tellLive } from "./story.js";
 import { summaryOf } from "./summary.js";
 import { Timeline } from "./timeline.js";
+import { TOUR_RUN, Tour } from "./tour.js";
 import { sentence } from "./words.js";
 
 /** The run that is shown where the address names none. */
@@ -43,6 +44,7 @@ export class Page {
     /** What is being done to the run: one thing after the other, since the page's server takes its time. */
     #last = Promise.resolve();
     #ladder = new Ladder(byId("ladder"), (index, isPassing) => this.choose(index, { isNew: !isPassing }));
+    #tour = new Tour((index) => this.choose(index, { isNew: true }));
     #packet = new PacketView(byId("packet"), (edit) => this.edit([edit]));
     #change = new ChangeView(byId("change"), {
         edit: (edit, step) => this.edit([edit], step),
@@ -185,6 +187,7 @@ export class Page {
             this.#change.show(this.#story, step);
             this.#packet.show(step, !this.#story.isLive);
         }, byId("ladder"));
+        this.#tour.show(this.#run.name, this.#story, index);
         byId("state").dataset.step = "";
         // What takes longer comes once the step is on the screen, and not for one that was passed over.
         const story = this.#story, isStill = () => this.#story === story && this.#step === index;
@@ -246,6 +249,16 @@ export class Page {
             byId("ladder").focus({ preventScroll: true });
             this.#bringIntoView(byId("title"));
             byId(`step-${step}`).scrollIntoView({ block: "nearest" });
+        });
+    }
+
+    /** Begins the tour. */
+    async tour() {
+        await this.#do(async () => {
+            this.#tour.begin();
+            await this.#open(await this.#fetch(TOUR_RUN), { number: 0, groups: [], step: 0 }, { isNew: true });
+            byId("tour-next").focus({ preventScroll: true });
+            this.#bringIntoView(byId("tour"));
         });
     }
 

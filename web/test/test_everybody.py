@@ -144,6 +144,39 @@ class Everybody(unittest.TestCase):
         self.assertEqual(typed, [True, True])
         self.assertIn("it is signed with the key", self.page.text("packet"))
 
+    def test_the_tour_says_a_sentence_for_each_step_and_lights_its_way(self):
+        self.page.load(EXCHANGE + "&step=5")
+        self.page.press("Take the tour")
+        rows, told = self.page.rows(), []
+        for step, (line, answer, _) in enumerate(rows):
+            self.assertEqual((self.page.chosen(), self.page.text("tour-title")), (step, f"Tour: step {step + 1} of 12"))
+            told.append(self.page.text("tour-text"))
+            self.assertRegex(told[-1], r"^[A-Z](?!.*[.!?] ).*\.$")
+            picture = self.page.find("#tour-picture svg").get_attribute("aria-label")
+            way = "from client" if answer.startswith("send ") else "to client" if " recv " in line else "At the client"
+            self.assertIn(way, picture)
+            lit = [it.text for it in self.page.driver.find_elements("css selector", "#tour .party.lit text")]
+            is_far = "peer" in picture
+            self.assertEqual(lit, ["client"] if "At" in picture else ["client", "NAT", "server"] + ["peer"] * is_far)
+            self.assertEqual(is_far, "10.0.0.3:9000" in (answer or "") or " send udp 10.0.0.3" in line)
+            self.assertEqual(self.page.focused()[1], "tour-next")
+            self.page.keys(Keys.ENTER)
+            self.page.settle()
+        self.assertEqual(len(set(told)), 12)
+        self.assertFalse(self.page.find("#tour").is_displayed())
+        self.assertEqual(self.page.focused()[1], "ladder")
+
+    def test_the_tour_follows_the_ladder_and_ends_with_an_edit(self):
+        self.page.load()
+        self.page.press("Take the tour")
+        self.page.choose(9)
+        self.assertEqual(self.page.text("tour-title"), "Tour: step 10 of 12")
+        self.page.find("#tour-before").click()
+        self.page.settle()
+        self.assertEqual(self.page.chosen(), 8)
+        self.page.press("Leave it out")
+        self.assertFalse(self.page.find("#tour").is_displayed())
+
     def test_a_page_that_gets_no_scripts_says_what_to_do(self):
         self.page.load()
         self.assertEqual(self.page.driver.find_elements("id", "unstarted"), [])
@@ -234,7 +267,7 @@ class Everybody(unittest.TestCase):
         for scheme in ("light", "dark"):
             self.page.scheme(scheme)
             self.page.open()
-            for question in ("Forge a success", "Let the nonce go stale", "Lose a packet"):
+            for question in ("Forge a success", "Let the nonce go stale", "Lose a packet", "Take the tour"):
                 with self.subTest(scheme, question=question):
                     self.page.press(question)
                     self.page.until("return document.getElementById('main').getAttribute('aria-busy') === 'false'")
@@ -250,7 +283,7 @@ class Everybody(unittest.TestCase):
             with self.subTest(width=width):
                 self.page.size(width)
                 self.page.open()
-                for question in ("Forge a success", "Lose a packet"):
+                for question in ("Forge a success", "Lose a packet", "Take the tour"):
                     self.page.press(question)
                     self.page.driver.execute_script("document.querySelectorAll('details').forEach((it) => (it.open = true))")
                     self.assertEqual(self.page.driver.execute_script(OUTSIDE), [False, []])
