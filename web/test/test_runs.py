@@ -24,7 +24,7 @@ done(found);
 """
 
 # Chooses each step of the run by a click, in an order that goes forth and back, and gives the milliseconds until the state after it is
-# shown: the least of some tries, since other work delays them.
+# shown: the least of some tries, since other work delays them. It ends with the first step that takes too long.
 CHOOSE = """
 const done = arguments[0], state = document.getElementById("state"), found = [];
 const count = document.querySelectorAll("#ladder [role=option]").length;
@@ -43,6 +43,7 @@ for (let at = 0; at < count; at++) {
         least = Math.min(least, performance.now() - begin);
     }
     found.push([least, step]);
+    if (least >= 100) { break; }
 }
 done(found.sort(([one], [other]) => other - one));
 """
@@ -82,9 +83,9 @@ class Runs(unittest.TestCase):
         longest = max(tool("web").runs(), key=lambda run: len(run["cases"][0]["calls"]))
         page.open(f"#run={longest['name']}")
         found = page.driver.execute_async_script(CHOOSE)
+        self.assertLess(found[0][0], 100, found[:5])
         self.assertEqual(len(found), len(longest["cases"][0]["calls"]))
         self.assertGreater(len(found), 250)
-        self.assertLess(found[0][0], 100, found[:5])
         self.assertEqual(page.errors(), [])
 
     def test_the_list_has_each_transcript_whose_lines_are_calls(self):
