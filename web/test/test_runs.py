@@ -23,32 +23,6 @@ for (const [run, number] of places) {
 done(found);
 """
 
-# Chooses each step of the run by a click, in an order that goes forth and back, and gives the milliseconds until the state after it is
-# shown: the least of some tries, since other work delays them. It ends with the first step that takes too long.
-CHOOSE = """
-const done = arguments[0], state = document.getElementById("state"), found = [];
-const count = document.querySelectorAll("#ladder [role=option]").length;
-const later = () => new Promise((resolve) => {
-    const { port1, port2 } = new MessageChannel();
-    port1.onmessage = () => (port1.close(), resolve());
-    port2.postMessage(0);
-});
-for (let at = 0; at < count; at++) {
-    const step = (at * 101) % count;
-    let least = Infinity;
-    for (let tries = 0; tries < 12 && least >= 100; tries++) {
-        const begin = performance.now();
-        document.getElementById(`step-${step}`).dispatchEvent(new MouseEvent("click", { bubbles: true }));
-        while (state.dataset.step !== String(step)) { await later(); }
-        least = Math.min(least, performance.now() - begin);
-    }
-    found.push([least, step]);
-    if (least >= 100) { break; }
-}
-done(found.sort(([one], [other]) => other - one));
-"""
-
-
 class Runs(unittest.TestCase):
     def test_each_run_gets_the_answers_of_its_transcript(self):
         page, runs = browser(), list(tool("web").runs())
@@ -79,14 +53,31 @@ class Runs(unittest.TestCase):
         self.assertEqual(len(page.rows()), 12)
 
     def test_each_step_of_the_longest_run_is_shown_within_100_ms(self):
+        # What the page's thread works from the click until the state after the step is shown: other work on the machine does not count.
         page = browser()
         longest = max(tool("web").runs(), key=lambda run: len(run["cases"][0]["calls"]))
+        count = len(longest["cases"][0]["calls"])
+        self.assertGreater(count, 250)
         page.open(f"#run={longest['name']}")
-        found = page.driver.execute_async_script(CHOOSE)
-        self.assertLess(found[0][0], 100, found[:5])
-        self.assertEqual(len(found), len(longest["cases"][0]["calls"]))
-        self.assertGreater(len(found), 250)
+        page.driver.execute_cdp_cmd("Performance.enable", {"timeDomain": "threadTicks"})
+        # The steps forth and back, each in the quickest of three tries, since engines compile and collect now and then.
+        for step in ((at * 101) % count for at in range(count)):
+            times = [self.work_of(step)]
+            while min(times) >= 0.1 and len(times) < 3:
+                times.append(self.work_of(step))
+            self.assertLess(min(times), 0.1, f"step {step + 1}: {times} s")
+        page.driver.execute_cdp_cmd("Performance.disable", {})
         self.assertEqual(page.errors(), [])
+
+    def work_of(self, step):
+        """The seconds that the page's thread works to show a step."""
+        before = self.worked()
+        browser().choose(step)
+        return self.worked() - before
+
+    def worked(self):
+        metrics = browser().driver.execute_cdp_cmd("Performance.getMetrics", {})["metrics"]
+        return next(each["value"] for each in metrics if each["name"] == "TaskDuration")
 
     def test_the_list_has_each_transcript_whose_lines_are_calls(self):
         page = browser()
