@@ -60,10 +60,10 @@ class Runs(unittest.TestCase):
         self.assertGreater(count, 250)
         page.open(f"#run={longest['name']}")
         page.driver.execute_cdp_cmd("Performance.enable", {"timeDomain": "threadTicks"})
-        # The steps forth and back, each in the quickest of three tries, since engines compile and collect now and then.
+        # The steps forth and back, each in the quickest of five tries, since engines compile and collect now and then, and other work slows them.
         for step in ((at * 101) % count for at in range(count)):
             times = [self.work_of(step)]
-            while min(times) >= 0.1 and len(times) < 3:
+            while min(times) >= 0.1 and len(times) < 5:
                 times.append(self.work_of(step))
             self.assertLess(min(times), 0.1, f"step {step + 1}: {times} s")
         page.driver.execute_cdp_cmd("Performance.disable", {})
