@@ -1,14 +1,34 @@
 # SPDX-License-Identifier: MIT OR Apache-2.0
 # Part of tools/library: fills the folder $dist from $room/yarrowdoor.o.
 
-# The shared library names no C library, so that it is loaded under each: what it needs, every C library has. The name that a
-# linker looks for is no link, since `rt ci` refuses links everywhere below the top, ignored files too.
+# The memory functions of the shared library. None calls anything, itself neither: what a compiler makes of a loop, as of one that
+# copies, would.
+compile_memory() {
+    local march=()
+    [ "$target" != x86_64-linux ] || march=(-march="$cpu")
+    "$cc" -std=c99 -O2 "${march[@]}" -fPIC -ffreestanding -fno-builtin -fno-tree-loop-distribute-patterns -fno-stack-protector \
+        -fno-asynchronous-unwind-tables -fno-unwind-tables -U_FORTIFY_SOURCE -Wall -Wextra -Wpedantic -Wconversion \
+        -Werror -c "$top/include/memory.c" -o "$room/memory.o"
+    if "${tools}objdump" -r "$room/memory.o" | grep ' R_' | grep -Ev ' \.(bss|text)'; then
+        echo "tools/library: a memory function of the shared library calls another one" >&2
+        exit 1
+    fi
+}
+
+# The shared library names no C library, so that it is loaded under each: what it needs, every C library has. Of that nothing may be
+# an IFUNC, as memcpy is, since it may be bound before the C library is. The name that a linker looks for is no link, since `rt ci`
+# refuses links everywhere below the top, ignored files too.
 share() {
     local name=libyarrowdoor.so.$version
+    compile_memory
     "$cc" -shared -nostdlib -o "$name" -Wl,-soname,"$name" -Wl,-z,relro,-z,now -Wl,-z,noexecstack -Wl,--build-id=sha1 \
-        "$room/yarrowdoor.o"
+        "$room/yarrowdoor.o" "$room/memory.o"
     if "${tools}objdump" -p "$name" | grep -w NEEDED; then
         echo "tools/library: the shared library names another one" >&2
+        exit 1
+    fi
+    if "${tools}nm" --dynamic --undefined-only --format=posix "$name" | grep -Ev '^(malloc|realloc|free) '; then
+        echo "tools/library: the shared library needs more of a C library than its heap" >&2
         exit 1
     fi
     cp "$name" libyarrowdoor.so
