@@ -1,4 +1,5 @@
-//! A client of the library for C, owned. All code that is not safe is here.
+//! A client of the library for C, owned. Code that is not safe is here, in `hints.rs`, which calls the two functions that read
+//! packets, and in `secret.rs`.
 
 use crate::sys;
 use std::alloc::{handle_alloc_error, Layout};

@@ -56,6 +56,7 @@ mod convert;
 mod handle;
 pub mod hints;
 mod protocol;
+mod secret;
 pub mod stun;
 mod sys;
 pub mod tcp;

@@ -1,5 +1,6 @@
 //! Long-term credentials.
 
+use crate::secret::Secret;
 use std::error::Error;
 use std::fmt;
 
@@ -9,11 +10,12 @@ const MAX_USERNAME: usize = 508;
 /// The most bytes of a password.
 const MAX_PASSWORD: usize = 65_535;
 
-/// A user name and a password (RFC 8489, section 9.2). They are bytes: text is to be prepared before (section 14.3).
+/// A user name and a password (RFC 8489, section 9.2). They are bytes: text is to be prepared before (section 14.3). The memory
+/// of the password is overwritten when the value is dropped.
 #[derive(Clone, PartialEq, Eq)]
 pub struct TurnCredentials {
     username: Box<[u8]>,
-    password: Box<[u8]>,
+    password: Secret,
 }
 
 /// Why a user name and a password are no credentials.
@@ -79,7 +81,7 @@ impl TurnCredentials {
         }
         Ok(TurnCredentials {
             username: username.into(),
-            password: password.into(),
+            password: Secret::new(password),
         })
     }
 
@@ -92,7 +94,7 @@ impl TurnCredentials {
     /// The password.
     #[must_use]
     pub fn password(&self) -> &[u8] {
-        &self.password
+        self.password.as_bytes()
     }
 }
 
