@@ -17,6 +17,8 @@
 
    What the caller owes, since nothing checks it:
    - A client is a pointer that yarrowdoor_new has put there, and that was not passed to yarrowdoor_free.
+   - After fork(2) one of the two processes uses a client, and the other one frees it or leaves it alone: both have the same
+     seed, and would send requests with the same transaction IDs.
    - One call of a client at a time, and the memory behind its pointer is neither read nor written.
    - No pointer is null, except those to bytes and buffers of length 0, to the data of a head, and the client of
      yarrowdoor_free. All behind a pointer is readable and initialised, and what is not const is writable.
@@ -38,13 +40,20 @@
 #include <stdint.h>
 #include <string.h>
 
+/* A cast of each language, so that neither a program in C nor one in C++ gets a warning. */
+#ifdef __cplusplus
+#define YARROWDOOR_CAST(type, value) static_cast<type>(value)
+#else
+#define YARROWDOOR_CAST(type, value) ((type)(value))
+#endif
+
 /* The version of this header: that of the library is yarrowdoor_version(). */
 #define YARROWDOOR_VERSION_MAJOR 0
 #define YARROWDOOR_VERSION_MINOR 1
 #define YARROWDOOR_VERSION_PATCH 0
 #define YARROWDOOR_VERSION                                                                                             \
-    ((uint32_t)YARROWDOOR_VERSION_MAJOR << 16 | (uint32_t)YARROWDOOR_VERSION_MINOR << 8 |                               \
-     (uint32_t)YARROWDOOR_VERSION_PATCH)
+    (YARROWDOOR_CAST(uint32_t, YARROWDOOR_VERSION_MAJOR) << 16 | YARROWDOOR_CAST(uint32_t, YARROWDOOR_VERSION_MINOR) << 8 | \
+     YARROWDOOR_CAST(uint32_t, YARROWDOOR_VERSION_PATCH))
 
 /* How the functions stand here that are inline: with YARROWDOOR_DEFINE, which the library's own source defines, they are
    its symbols. */
@@ -90,23 +99,23 @@ enum yarrowdoor_anonymous {
 };
 
 /* A buffer of so many bytes holds every packet of yarrowdoor_poll_transmit: each is shorter. */
-#define YARROWDOOR_MAX_PACKET ((size_t)65556)
+#define YARROWDOOR_MAX_PACKET YARROWDOOR_CAST(size_t, 65556)
 
 /* What the packet of yarrowdoor_send_to may have beyond its data, in bytes: its buffer needs as much more, and that of
    yarrowdoor_send_head as much. */
-#define YARROWDOOR_MAX_OVERHEAD ((size_t)64)
+#define YARROWDOOR_MAX_OVERHEAD YARROWDOOR_CAST(size_t, 64)
 
 /* The most data of yarrowdoor_send_to where the allocation relays over UDP, in bytes. */
-#define YARROWDOOR_MAX_PAYLOAD ((size_t)65504)
+#define YARROWDOOR_MAX_PAYLOAD YARROWDOOR_CAST(size_t, 65504)
 
 /* The greatest time, in nanoseconds: 146 years. */
-#define YARROWDOOR_MAX_TIME ((uint64_t)1 << 62)
+#define YARROWDOOR_MAX_TIME (YARROWDOOR_CAST(uint64_t, 1) << 62)
 
 /* No pause between two requests, as request_cadence of the settings. */
-#define YARROWDOOR_NO_PAUSE (~(uint64_t)0)
+#define YARROWDOOR_NO_PAUSE (~YARROWDOOR_CAST(uint64_t, 0))
 
 /* The bytes of a seed. */
-#define YARROWDOOR_SEED_LEN ((size_t)32)
+#define YARROWDOOR_SEED_LEN YARROWDOOR_CAST(size_t, 32)
 
 /* What a call answers. A later version may have more kinds, so a switch over them needs a default. */
 enum yarrowdoor_kind {
@@ -127,7 +136,7 @@ enum yarrowdoor_kind {
     YARROWDOOR_NOTHING = 9, /* there is none */
 
     /* of yarrowdoor_poll */
-    YARROWDOOR_WAIT_UNTIL = 10,          /* nothing is due before time: the wake-up time */
+    YARROWDOOR_WAIT_UNTIL = 10,          /* nothing is due before time: the wake-up time, which may be before now */
     YARROWDOOR_ALLOCATE_TCP_SOCKET = 11, /* open a data connection to `to`, for peer: id, transport, from, to, peer */
     YARROWDOOR_TCP_CLOSE = 12,           /* close the connection from `from` to `to` */
     YARROWDOOR_CLOSED = 13,              /* the client has ended: it makes no more requests */
@@ -223,7 +232,8 @@ typedef struct yarrowdoor_settings {
     uint32_t algorithm;            /* that the client accepts. Of two it uses SHA-256, if the server offers that */
     uint32_t other_algorithm;      /* that it accepts too, or 0 */
     uint32_t anonymous;            /* YARROWDOOR_AUTO, YARROWDOOR_REQUIRED or YARROWDOOR_DISABLED */
-    uint16_t max_stale_nonces;     /* that are answered in a row; the next challenge ends the client. 0: nine */
+    uint16_t max_stale_nonces;     /* that are answered in a row; the next challenge ends the client. 0: nine, the default in
+                                      Rust; yarrowdoor_settings_of sets 256 */
     uint16_t reserved;             /* 0 */
     yarrowdoor_address local;      /* the client's address: that of the socket */
     yarrowdoor_address remote;     /* the server's address */
@@ -363,7 +373,7 @@ extern const uint32_t yarrowdoor_abi_0;
 #endif
 #define YARROWDOOR_AT(type, field, place, size)                                                                        \
     YARROWDOOR_ASSERT(type##_##field, offsetof(yarrowdoor_##type, field) == (place) &&                                 \
-                                          sizeof(((yarrowdoor_##type *)0)->field) == (size))
+                                          sizeof(YARROWDOOR_CAST(yarrowdoor_##type *, 0)->field) == (size))
 
 YARROWDOOR_ASSERT(size_is_64_bits, sizeof(size_t) == 8);
 YARROWDOOR_ASSERT(size_of_address, sizeof(yarrowdoor_address) == 28);
@@ -487,11 +497,15 @@ YARROWDOOR_INLINE const char *yarrowdoor_error_name(uint32_t error);
 YARROWDOOR_INLINE yarrowdoor_settings yarrowdoor_settings_of(uint32_t transport, const yarrowdoor_address *local,
                                                              const yarrowdoor_address *remote);
 
-/* What is to be done next. YARROWDOOR_WAIT_UNTIL: nothing before answer->time, when to poll again; any other call
-   may make it earlier, so poll after it. While an event is to be polled, that time is `now`.
+/* What is to be done next. YARROWDOOR_WAIT_UNTIL: nothing before answer->time, when to poll again. Where something is due
+   already, a packet or an event, that time is `now` or before it: compare the two before you subtract one from the other.
+   Any other call may make it earlier, so poll after it. Data of peers, in and out, makes nothing due: after
+   yarrowdoor_send_to, yarrowdoor_send_head, yarrowdoor_read and a yarrowdoor_recv that answers YARROWDOOR_PEER_DATA_RANGE
+   the time stands, there is no new packet and no new event, and a caller need not poll again.
    YARROWDOOR_ALLOCATE_TCP_SOCKET: open a connection from any port of this host to answer->to over
    answer->transport, and pass it to yarrowdoor_allocated_tcp_socket with the id and the addresses of the answer.
-   YARROWDOOR_TCP_CLOSE: close the connection from answer->from to answer->to. YARROWDOOR_CLOSED: the client has
+   YARROWDOOR_TCP_CLOSE: close the connection from answer->from to answer->to; a packet that yarrowdoor_poll_transmit still
+   gives for it, as its ConnectionBind, is dropped. YARROWDOOR_CLOSED: the client has
    ended; poll the events that are left, and close its data connections. By default that is 39.5 s after the start
    where nobody answers, with an event for each family, and 39.5 s after the challenge where the user name or the
    password is wrong, with none. */
@@ -516,7 +530,7 @@ YARROWDOOR_INLINE enum yarrowdoor_kind yarrowdoor_poll_event(yarrowdoor *client,
    read the rest of an earlier answer first. YARROWDOOR_OUT_OF_MEMORY: the client has ended, and a stream gives
    nothing more; bytes that are not from the server, and data of peers over UDP, take no memory. Data that does not
    fit into the buffer takes none either, so none of it is lost. Over TCP call yarrowdoor_poll_recv afterwards.
-   Over UDP the buffer is not used, and may be null. `from` and `to` are compared with the settings' remote and
+   Over UDP the buffer is not used: pass a null pointer and the length 0. `from` and `to` are compared with the settings' remote and
    local addresses, so these are to be those of the socket (connect it, and ask getsockname); `to` may also be the
    local address of a data connection. */
 YARROWDOOR_INLINE enum yarrowdoor_kind yarrowdoor_recv(yarrowdoor *client, uint32_t transport,
@@ -628,7 +642,8 @@ YARROWDOOR_INLINE enum yarrowdoor_kind yarrowdoor_tcp_closed(yarrowdoor *client,
 
 /* Requests that the server delete the allocations (RFC 8656, section 8). YARROWDOOR_DONE: poll and transmit until
    YARROWDOOR_CLOSED, for as long as you care to wait: where the server answers with an error other than 437 it
-   does not come. YARROWDOOR_REFUSED: YARROWDOOR_ERROR_NO_ALLOCATION. To give up before there is one, free the
+   does not come. The pause between requests holds the REFRESH back behind each request that was made before it, by default
+   50 ms each: a caller that closes the socket at once leaves the relay to the server until its lifetime is over. YARROWDOOR_REFUSED: YARROWDOOR_ERROR_NO_ALLOCATION. To give up before there is one, free the
    client: what the server may still grant ends there by its lifetime. */
 YARROWDOOR_INLINE enum yarrowdoor_kind yarrowdoor_delete(yarrowdoor *client, uint64_t now, yarrowdoor_answer *answer);
 
@@ -658,6 +673,12 @@ YARROWDOOR_INLINE int yarrowdoor_is_same_address(const yarrowdoor_address *a, co
 
 /* ---- how they do it */
 
+/* Some functions below return a struct, about which a program that is compiled with -Waggregate-return is warned only in its own calls. */
+#if defined(__GNUC__)
+#pragma GCC diagnostic push
+#pragma GCC diagnostic ignored "-Waggregate-return"
+#endif
+
 #if !defined(YARROWDOOR_NO_INLINE) || defined(YARROWDOOR_DEFINE)
 
 /* Makes a request one of this kind at this time, with its other numbers 0 and no addresses (YARROWDOOR_NO_ADDRESS is 0).
@@ -665,7 +686,7 @@ YARROWDOOR_INLINE int yarrowdoor_is_same_address(const yarrowdoor_address *a, co
    slower. */
 static inline void yarrowdoor_begin(yarrowdoor_request *request, uint32_t kind, uint64_t now)
 {
-    uint8_t *bytes = (uint8_t *)request;
+    uint8_t *bytes = YARROWDOOR_CAST(uint8_t *, YARROWDOOR_CAST(void *, request));
     request->time = now;
     request->kind = kind;
     request->id = 0;
@@ -687,7 +708,7 @@ static inline yarrowdoor_request yarrowdoor_request_of(uint32_t kind, uint64_t n
 /* Sets an answer to 0, in parts, as yarrowdoor_begin sets a request. */
 static inline void yarrowdoor_clear(yarrowdoor_answer *answer)
 {
-    uint8_t *bytes = (uint8_t *)answer;
+    uint8_t *bytes = YARROWDOOR_CAST(uint8_t *, YARROWDOOR_CAST(void *, answer));
     memset(bytes, 0, 64);
     memset(bytes + 64, 0, 64);
     memset(bytes + 128, 0, sizeof *answer - 128);
@@ -697,8 +718,10 @@ static inline void yarrowdoor_clear(yarrowdoor_answer *answer)
 static inline enum yarrowdoor_kind yarrowdoor_call_plain(yarrowdoor *client, const yarrowdoor_request *request,
                                                          yarrowdoor_answer *answer)
 {
+    uint32_t kind;
     yarrowdoor_clear(answer);
-    return (enum yarrowdoor_kind)yarrowdoor_call(client, request, NULL, 0, NULL, 0, answer);
+    kind = yarrowdoor_call(client, request, NULL, 0, NULL, 0, answer);
+    return YARROWDOOR_CAST(enum yarrowdoor_kind, kind);
 }
 
 /* Makes a call with bytes and a buffer. */
@@ -706,16 +729,20 @@ static inline enum yarrowdoor_kind yarrowdoor_call_bytes(yarrowdoor *client, con
                                                          const uint8_t *bytes, size_t bytes_len, uint8_t *buffer,
                                                          size_t buffer_len, yarrowdoor_answer *answer)
 {
+    uint32_t kind;
     yarrowdoor_clear(answer);
-    return (enum yarrowdoor_kind)yarrowdoor_call(client, request, bytes, bytes_len, buffer, buffer_len, answer);
+    kind = yarrowdoor_call(client, request, bytes, bytes_len, buffer, buffer_len, answer);
+    return YARROWDOOR_CAST(enum yarrowdoor_kind, kind);
 }
 
 /* Makes a call that only looks. */
 static inline enum yarrowdoor_kind yarrowdoor_look_at(const yarrowdoor *client, const yarrowdoor_request *request,
                                                       yarrowdoor_answer *answer)
 {
+    uint32_t kind;
     yarrowdoor_clear(answer);
-    return (enum yarrowdoor_kind)yarrowdoor_look(client, request, answer);
+    kind = yarrowdoor_look(client, request, answer);
+    return YARROWDOOR_CAST(enum yarrowdoor_kind, kind);
 }
 
 YARROWDOOR_INLINE const char *yarrowdoor_kind_name(uint32_t kind)
@@ -1020,7 +1047,7 @@ static inline yarrowdoor_address yarrowdoor_of_sockaddr(const struct sockaddr *f
     } else {
         return address;
     }
-    address.port = (uint16_t)(port[0] << 8 | port[1]);
+    address.port = YARROWDOOR_CAST(uint16_t, port[0] << 8 | port[1]);
     return address;
 }
 
@@ -1028,8 +1055,8 @@ static inline yarrowdoor_address yarrowdoor_of_sockaddr(const struct sockaddr *f
 static inline socklen_t yarrowdoor_to_sockaddr(const yarrowdoor_address *address, struct sockaddr_storage *to)
 {
     uint8_t port[2];
-    port[0] = (uint8_t)(address->port >> 8);
-    port[1] = (uint8_t)(address->port & 0xff);
+    port[0] = YARROWDOOR_CAST(uint8_t, address->port >> 8);
+    port[1] = YARROWDOOR_CAST(uint8_t, address->port & 0xff);
     memset(to, 0, sizeof *to);
     if (address->family == YARROWDOOR_IPV4) {
         struct sockaddr_in in;
@@ -1038,7 +1065,7 @@ static inline socklen_t yarrowdoor_to_sockaddr(const yarrowdoor_address *address
         memcpy(&in.sin_addr, address->ip, 4);
         memcpy(&in.sin_port, port, 2);
         memcpy(to, &in, sizeof in);
-        return (socklen_t)sizeof in;
+        return YARROWDOOR_CAST(socklen_t, sizeof in);
     }
     if (address->family == YARROWDOOR_IPV6) {
         struct sockaddr_in6 in;
@@ -1049,10 +1076,14 @@ static inline socklen_t yarrowdoor_to_sockaddr(const yarrowdoor_address *address
         in.sin6_flowinfo = address->flow;
         in.sin6_scope_id = address->scope;
         memcpy(to, &in, sizeof in);
-        return (socklen_t)sizeof in;
+        return YARROWDOOR_CAST(socklen_t, sizeof in);
     }
     return 0;
 }
+#endif
+
+#if defined(__GNUC__)
+#pragma GCC diagnostic pop
 #endif
 
 #endif

@@ -198,7 +198,7 @@ impl TurnConfig {
 
     /// Sets how many challenges in a row the client answers: the next one ends it. The count begins anew with a signed reply
     /// for a permission, a channel or a CONNECT, or a refresh that takes effect, and not with the allocation. By default they
-    /// are 9. The original crate has no such setter.
+    /// are 9, and in C, by `yarrowdoor_settings_of`, 256. The original crate has no such setter.
     ///
     /// Set more for many peers over a slow link: refreshes that leave before the first answer returns have one nonce,
     /// and if the server has changed it, each of them is challenged and counts.
