@@ -21,7 +21,8 @@
      seed, and would send requests with the same transaction IDs.
    - One call of a client at a time, and the memory behind its pointer is neither read nor written.
    - No pointer is null, except those to bytes and buffers of length 0, to the data of a head, and the client of
-     yarrowdoor_free. All behind a pointer is readable and initialised, and what is not const is writable.
+     yarrowdoor_free. All behind a pointer is readable and initialised, also what is only written, and what
+     is not const is writable. Of the functions that make a call the answer need not be initialised: they set it to 0.
    - What a call writes (its buffer, its answer) overlaps nothing else that is passed to it, and until it returns nothing
      else touches what it was passed. The calls that only look may share a client (yarrowdoor_look).
 
@@ -332,7 +333,7 @@ void yarrowdoor_free(yarrowdoor *client);
    YARROWDOOR_BAD_CALL where there is no such transport, or over TCP YARROWDOOR_NOTHING where more bytes are needed. It
    takes no memory.
 
-       yarrowdoor_message said;
+       static yarrowdoor_message said;   // initialised, once
        if (yarrowdoor_read_message(YARROWDOOR_UDP, packet, len, &said) == YARROWDOOR_MESSAGE) {
            if (said.code == 401 && was_challenged && memcmp(challenge, said.id, 12) != 0) {
                give_up("the user name or the password is wrong");   // a second request has got a 401, not a copy of the first

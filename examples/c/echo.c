@@ -66,6 +66,10 @@ static void make_client(const char *user, const char *password)
     uint8_t seed[YARROWDOOR_SEED_LEN];
     yarrowdoor_settings settings = yarrowdoor_settings_of(YARROWDOOR_UDP, &local, &server);
     settings.family = peer.family; /* the relayed address has the peer's IP version */
+    /* a NAT forgets a path that is silent for a while, some after 30 s, and with it the server's way to this socket */
+    settings.keepalive = 15000000000;
+    /* grants are refreshed two minutes before they expire, so that a link that is down for one loses none */
+    settings.refresh_ahead = 120000000000;
     if (getentropy(seed, sizeof seed) != 0) {
         stop(strerror(errno));
     }
@@ -164,7 +168,7 @@ static void name_error(const uint8_t *bytes, size_t len)
 {
     static uint8_t challenge[12];
     static int is_challenged;
-    yarrowdoor_message said;
+    static yarrowdoor_message said; /* initialised once, as all that is passed in has to be */
     if (yarrowdoor_read_message(YARROWDOOR_UDP, bytes, len, &said) != YARROWDOOR_MESSAGE || said.code == 0) {
         return;
     }

@@ -120,44 +120,12 @@ impl Handle {
         answer
     }
 
-    /// Makes a call whose bytes are put into a new vector, with room for so many.
-    ///
-    /// # Panics
-    ///
-    /// The time of the request is not from 0 to 2^62 ns.
-    pub(crate) fn call_into(
-        &mut self,
-        request: &sys::Request,
-        bytes: &[u8],
-        room: usize,
-        answer: &mut sys::Answer,
-    ) -> Vec<u8> {
-        let mut written = Vec::with_capacity(room);
-        // SAFETY: the bytes are those of a slice. The other pointer is that of the vector's memory, of `room` bytes or more. The
-        // library writes there, and what stood there before is in nothing that it answers.
-        unsafe {
-            self.call_at(
-                request,
-                bytes.as_ptr(),
-                bytes.len(),
-                written.as_mut_ptr(),
-                room,
-                answer,
-            );
-        }
-        if answer.kind == sys::PACKET {
-            // SAFETY: the library has written so many bytes from the start on, and not more than `room`.
-            unsafe { written.set_len(answer.len) };
-        }
-        written
-    }
-
     /// Makes a call.
     ///
     /// # Safety
     ///
     /// The `bytes_len` bytes at `bytes` may be read, unless the request only counts them. The `len` bytes at `buffer` may be
-    /// written, and overlap nothing else that is passed.
+    /// written, are initialised, and overlap nothing else that is passed.
     unsafe fn call_at(
         &mut self,
         request: &sys::Request,

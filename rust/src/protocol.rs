@@ -210,26 +210,17 @@ impl Protocol {
         data: T,
         now: Instant,
     ) -> Result<Option<TransmitBuild<DelayedMessageOrChannelSend<T>>>, SendError> {
-        let request = sys::Request {
-            transport: transport_code(relayed),
-            peer: address(to),
-            ..request(sys::CALL_SEND_TO, now)
-        };
         let bytes = data.as_ref();
-        let room = bytes.len().saturating_add(sys::MAX_OVERHEAD);
-        let mut answer = sys::Answer::default();
-        let packet = self.handle.call_into(&request, bytes, room, &mut answer);
-        match answer.kind {
-            sys::PACKET => Ok(Some(TransmitBuild::new(
-                answers::built(relayed, data, packet),
-                transport(answer.transport),
-                socket(&answer.from),
-                socket(&answer.to),
-            ))),
-            sys::BAD_PAYLOAD => Err(SendError::PayloadTooLong),
-            sys::REFUSED => Err(answers::send_error(&answer)),
-            _ => unexpected(&answer),
-        }
+        let head = self.send_head(relayed, to, bytes.len(), now)?;
+        // no memory that is not initialised is passed in, and none is initialised only to be written over
+        let (front, padding) = (head.data.as_bytes(), head.data.padding());
+        let packet = [front, bytes, padding].concat();
+        Ok(Some(TransmitBuild::new(
+            answers::built(relayed, data, packet),
+            head.transport,
+            head.from,
+            head.to,
+        )))
     }
 
     pub(crate) fn send_head(

@@ -38,7 +38,6 @@ numbers! {
     CALL_TCP_CONNECT: u32 = 4;
     CALL_ALLOCATED_TCP_SOCKET: u32 = 5;
     CALL_TCP_CLOSED: u32 = 6;
-    CALL_SEND_TO: u32 = 7;
     CALL_RECV: u32 = 8;
     CALL_POLL_RECV: u32 = 9;
     CALL_POLL: u32 = 10;
@@ -310,7 +309,7 @@ mod tests {
             let rest = line.strip_prefix("YARROWDOOR_")?.strip_prefix(name)?;
             let value = rest
                 .trim_start_matches([' ', '='])
-                .trim_start_matches("((size_t)");
+                .trim_start_matches("YARROWDOOR_CAST(size_t, ");
             let end = value
                 .find(|c: char| !c.is_ascii_digit())
                 .unwrap_or(value.len());
