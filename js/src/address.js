@@ -17,13 +17,18 @@ import { ADDRESS, SIZE } from "./layout.js";
 /** So many addresses are kept that were parsed or written. */
 const KEPT = 4_096;
 
-/** @type {Map<string, { family: 4 | 6, bytes: Uint8Array }>} */
+/**
+ * An IP address that was parsed: its bytes, 16 for both families, and its canonical text, which events and answers have.
+ * @typedef {{ family: 4 | 6, bytes: Uint8Array, text: string }} ParsedIp
+ */
+
+/** @type {Map<string, ParsedIp>} */
 const parsed = new Map();
 
 /**
- * The bytes of an IP address, 16 for both families, or undefined where the text is none.
+ * An IP address, or undefined where the text is none.
  * @param {string} text
- * @returns {{ family: 4 | 6, bytes: Uint8Array } | undefined}
+ * @returns {ParsedIp | undefined}
  */
 export function parseIp(text) {
     const before = parsed.get(text);
@@ -38,10 +43,27 @@ export function parseIp(text) {
     if (parsed.size >= KEPT) {
         parsed.clear();
     }
-    /** @type {{ family: 4 | 6, bytes: Uint8Array }} */
-    const found = { family: four ? 4 : 6, bytes: Uint8Array.from(bytes) };
+    const found = four ? parsedFour(text, bytes) : parsedSix(Uint8Array.from(bytes));
     parsed.set(text, found);
     return found;
+}
+
+/**
+ * An IPv4 address has one text.
+ * @param {string} text
+ * @param {number[]} bytes
+ * @returns {ParsedIp}
+ */
+function parsedFour(text, bytes) {
+    return { family: 4, bytes: Uint8Array.from(bytes), text };
+}
+
+/**
+ * @param {Uint8Array} bytes
+ * @returns {ParsedIp}
+ */
+function parsedSix(bytes) {
+    return { family: 6, bytes, text: sixAt(new DataView(bytes.buffer), 0) };
 }
 
 /** @param {string} text */

@@ -59,6 +59,29 @@ for (const [name, make] of [["UDP", udp], ["TCP", tcp]]) {
     });
 }
 
+test("an IPv6 address is one in each spelling: permissions, channels, what is sent, released and kept", async () => {
+    const server = await udp(), before = METHOD.CREATE_PERMISSION;
+    server.relayed = { address: "2001:db8::9", port: 40_000, family: "IPv6" };
+    const relay = await openRelay(server, { family: 6, signal: AbortSignal.timeout(5_000) }), signal = AbortSignal.timeout(5_000);
+    assert.deepEqual(relay.address(), server.relayed);
+    await relay.permit("2001:DB8::1", { signal });
+    await relay.permit("2001:db8:0:0::1", { signal });
+    assert.equal(server.count(before), 1);
+    await relay.bind(3480, "2001:DB8::77", { signal });
+    await relay.bind({ address: "2001:0db8::0077", port: 3480 }, undefined, { signal });
+    await relay.send("x", 3480, "2001:0DB8::77");
+    await until(() => server.data.length === 1);
+    assert.deepEqual([server.count(METHOD.CHANNEL_BIND), server.count(before), server.data[0].channel], [1, 1, 0x4000]);
+    relay.release("2001:db8::0:1");
+    relay.keep("2001:DB8:0::1");
+    relay.release({ address: "2001:DB8::0077", port: 3480 });
+    for (let at = 0; at < 9; at++) {
+        await relay.permit(`2001:DB8::A${at}`, { signal });
+    }
+    await relay.close();
+    server.close();
+});
+
 test("a callback is told as with dgram, and errors go there", async () => {
     await withServer(udp, async (server, relay) => {
         assert.equal(await new Promise((resolve) => relay.send("x", 3480, "127.0.0.1", resolve)), null);

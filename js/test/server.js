@@ -5,7 +5,7 @@ import { ATTRIBUTE, CLASS, METHOD, errorCode, isSigned, keyOf, message, number32
 
 const REALM = "realm", NONCE = "nonce";
 export const USER = "user", PASSWORD = "pass";
-/** The relayed address that the server says to have. */
+/** The relayed address that a server says to have, unless it is told another one. */
 export const RELAYED = { address: "127.0.0.1", port: 40_000, family: "IPv4" };
 
 /**
@@ -21,6 +21,8 @@ export class Server {
     /** Where clients are, by the text of their addresses: a function that sends them bytes. */
     clients = new Map();
     lifetime = 600;
+    /** The relayed address that it says to have. */
+    relayed = RELAYED;
     /** What the server says of a client's address. */
     mapped = ({ address, port }) => ({ address, port });
     answer = () => undefined;
@@ -115,7 +117,7 @@ export class Server {
         if (error) {
             return message(method, CLASS.ERROR, id, [[ATTRIBUTE.ERROR_CODE, errorCode(error.code, error.phrase)]], this.#key);
         }
-        return message(method, CLASS.SUCCESS, id, this.#success(method, from), this.#key);
+        return message(method, CLASS.SUCCESS, id, this.#success(method, from, id), this.#key);
     }
 
     #mapped(from) {
@@ -123,10 +125,10 @@ export class Server {
         return xored(address, port);
     }
 
-    #success(method, from) {
+    #success(method, from, id) {
         const lifetime = [ATTRIBUTE.LIFETIME, number32(this.lifetime)];
         switch (method) {
-            case METHOD.ALLOCATE: return [[ATTRIBUTE.XOR_RELAYED_ADDRESS, xored(RELAYED.address, RELAYED.port)],
+            case METHOD.ALLOCATE: return [[ATTRIBUTE.XOR_RELAYED_ADDRESS, xored(this.relayed.address, this.relayed.port, id)],
                 [ATTRIBUTE.XOR_MAPPED_ADDRESS, this.#mapped(from)], lifetime];
             case METHOD.REFRESH: {
                 const asked = this.requests[this.requests.length - 1].attributes.get(ATTRIBUTE.LIFETIME);

@@ -18,11 +18,19 @@ export function number32(value) {
     return bytes;
 }
 
-/** The value of a XORed attribute (RFC 8489, section 14.2), for IPv4. */
-export function xored(address, port) {
-    const bytes = Buffer.from([0, 1, (port >> 8) ^ 0x21, (port & 255) ^ 0x12, ...address.split(".").map(Number)]);
-    COOKIE.forEach((byte, at) => (bytes[4 + at] ^= byte));
+/** The value of a XORed attribute (RFC 8489, section 14.2). That of an IPv6 address needs the ID of its message. */
+export function xored(address, port, id = Buffer.alloc(0)) {
+    const isFour = !address.includes(":"), ip = isFour ? address.split(".").map(Number) : sixteen(address);
+    const bytes = Buffer.from([0, isFour ? 1 : 2, (port >> 8) ^ 0x21, (port & 255) ^ 0x12, ...ip]);
+    Buffer.concat([COOKIE, id]).subarray(0, ip.length).forEach((byte, at) => (bytes[4 + at] ^= byte));
     return bytes;
+}
+
+/** The bytes of an IPv6 address of hexadecimal groups. */
+function sixteen(address) {
+    const [front, back] = address.split("::").map((half) => (half ? half.split(":") : [])), rest = back ?? [];
+    const groups = [...front, ...Array(8 - front.length - rest.length).fill("0"), ...rest];
+    return Buffer.from(groups.map((group) => group.padStart(4, "0")).join(""), "hex");
 }
 
 /** The address of such a value. */

@@ -1,12 +1,9 @@
 /**
- * The bytes of an IP address, 16 for both families, or undefined where the text is none.
+ * An IP address, or undefined where the text is none.
  * @param {string} text
- * @returns {{ family: 4 | 6, bytes: Uint8Array } | undefined}
+ * @returns {ParsedIp | undefined}
  */
-export function parseIp(text: string): {
-    family: 4 | 6;
-    bytes: Uint8Array;
-} | undefined;
+export function parseIp(text: string): ParsedIp | undefined;
 /**
  * The address at a place, or undefined where there is none.
  * @param {DataView} view
@@ -60,4 +57,12 @@ export type AddressLike = {
     readonly family?: string | number;
     readonly flow?: number;
     readonly scope?: number;
+};
+/**
+ * An IP address that was parsed: its bytes, 16 for both families, and its canonical text, which events and answers have.
+ */
+export type ParsedIp = {
+    family: 4 | 6;
+    bytes: Uint8Array;
+    text: string;
 };

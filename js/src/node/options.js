@@ -62,7 +62,20 @@ export function checkOptions({ urls, family = 4, queue = 1_024, probe, keepalive
 }
 
 /**
- * A peer: an IP address and a port, or both in an object. TypeError where it is none, RangeError where its port is none.
+ * An IP address with its family and its canonical text. TypeError where it is none.
+ * @param {unknown} ip
+ */
+export function ipOf(ip) {
+    const found = typeof ip === "string" ? parseIp(ip) : undefined;
+    if (!found) {
+        throw new TypeError(`${String(ip)} is no IP address`);
+    }
+    return found;
+}
+
+/**
+ * A peer: an IP address, in canonical text (RFC 5952), and a port, or both in an object. TypeError where it is none, RangeError where
+ * its port is none.
  * @param {unknown} port
  * @param {unknown} address
  * @returns {import("../address.js").Address}
@@ -76,7 +89,7 @@ export function peerOf(port, address) {
     if (!Number.isInteger(number) || number < 1 || number > 65_535) {
         throw new RangeError(`a peer has a port from 1 to 65535, and not ${String(found.port)}`);
     }
-    return { address: /** @type {string} */ (found.address), port: number, family: ip.family === 4 ? "IPv4" : "IPv6" };
+    return { address: ip.text, port: number, family: ip.family === 4 ? "IPv4" : "IPv6" };
 }
 
 /**

@@ -1,10 +1,9 @@
 // A relayed address for Node, used like a socket of dgram.
 import { Ended, Refused } from "../errors.js";
-import { parseIp } from "../address.js";
 import { abortable } from "./deferred.js";
 import { Messages } from "./messages.js";
 import { openSession } from "./opening.js";
-import { checkOptions, dataOf, peerOf } from "./options.js";
+import { checkOptions, dataOf, ipOf, peerOf } from "./options.js";
 
 /** @typedef {import("../address.js").Address} Address */
 /** @typedef {import("../address.js").AddressLike} AddressLike */
@@ -163,8 +162,7 @@ export class Relay extends Messages {
      */
     async permit(ip, { signal } = {}) {
         const session = this.#open();
-        this.#checkFamily(ip);
-        await abortable(session.grants.permit(ip), signal);
+        await abortable(session.grants.permit(this.#reachable(ip)), signal);
     }
 
     /**
@@ -178,7 +176,7 @@ export class Relay extends Messages {
      */
     async bind(port, address, { signal } = {}) {
         const peer = peerOf(port, address), session = this.#open();
-        this.#checkFamily(peer.address);
+        this.#reachable(peer.address);
         await abortable(session.grants.bind(peer), signal);
     }
 
@@ -188,7 +186,7 @@ export class Relay extends Messages {
      * @param {string | AddressLike} about
      */
     release(about) {
-        this.#open().grants.setKept(typeof about === "string" ? about : peerOf(about, undefined), false);
+        this.#open().grants.setKept(typeof about === "string" ? ipOf(about).text : peerOf(about, undefined), false);
     }
 
     /**
@@ -196,7 +194,7 @@ export class Relay extends Messages {
      * @param {string | AddressLike} about
      */
     keep(about) {
-        this.#open().grants.setKept(typeof about === "string" ? about : peerOf(about, undefined), true);
+        this.#open().grants.setKept(typeof about === "string" ? ipOf(about).text : peerOf(about, undefined), true);
     }
 
     /**
@@ -272,25 +270,23 @@ export class Relay extends Messages {
      */
     #sendNow(bytes, peer) {
         const session = this.#open();
-        this.#checkFamily(peer.address);
+        this.#reachable(peer.address);
         const isSent = session.sendData(bytes, peer);
         this.unsent += isSent ? 0 : 1;
         return isSent;
     }
 
     /**
-     * Refuses a peer that the relayed address cannot reach.
+     * The canonical text of an IP address. Refuses one that the relayed address cannot reach.
      * @param {string} ip
      */
-    #checkFamily(ip) {
-        const found = parseIp(ip);
-        if (!found) {
-            throw new TypeError(`${String(ip)} is no IP address`);
-        }
+    #reachable(ip) {
+        const found = ipOf(ip);
         if (found.family !== this.#family) {
             const detail = `the relayed address is IPv${this.#family}, and ${ip} is IPv${found.family}`;
             throw new Refused("no-allocation", 0, `${detail} (family: ${found.family} gets such an address)`);
         }
+        return found.text;
     }
 
     // The end

@@ -22,7 +22,13 @@ export function checkOptions({ urls, family, queue, probe, keepalive, pause, ref
     lookup: (host: string) => Promise<string[]>;
 };
 /**
- * A peer: an IP address and a port, or both in an object. TypeError where it is none, RangeError where its port is none.
+ * An IP address with its family and its canonical text. TypeError where it is none.
+ * @param {unknown} ip
+ */
+export function ipOf(ip: unknown): import("../address.js").ParsedIp;
+/**
+ * A peer: an IP address, in canonical text (RFC 5952), and a port, or both in an object. TypeError where it is none, RangeError where
+ * its port is none.
  * @param {unknown} port
  * @param {unknown} address
  * @returns {import("../address.js").Address}
