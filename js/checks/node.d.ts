@@ -1,7 +1,13 @@
 // What the package uses of Node, for the check of its types: Debian has no package of Node's own.
 
 declare var process: { readonly versions: { readonly node?: string }, nextTick(what: (...words: any[]) => void, ...words: any[]): void };
-declare var Buffer: { from(bytes: Uint8Array): Uint8Array & { toString(encoding: "latin1"): string }, concat(parts: Uint8Array[]): Uint8Array };
+interface Buffer extends Uint8Array {
+    subarray(start?: number, end?: number): Buffer;
+    toString(encoding?: "latin1" | "utf8"): string;
+}
+declare var Buffer: {
+    from(bytes: Uint8Array): Buffer, from(memory: ArrayBufferLike, start: number, length: number): Buffer, concat(parts: Uint8Array[]): Buffer,
+};
 declare function setTimeout(what: (...words: any[]) => void, milliseconds: number, ...words: any[]): { unref(): void };
 declare function clearTimeout(timer: { unref(): void } | undefined): void;
 declare function setImmediate(what: (value: any) => void): void;

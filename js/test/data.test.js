@@ -2,6 +2,7 @@
 import assert from "node:assert/strict";
 import test from "node:test";
 import { next, openRelay, tcp, udp, until, withServer } from "./relays.js";
+import { dataOf } from "./server.js";
 import { METHOD } from "./stun.js";
 
 const PEER = { address: "127.0.0.1", port: 3480, family: "IPv4" };
@@ -58,6 +59,22 @@ for (const [name, make] of [["UDP", udp], ["TCP", tcp]]) {
         });
     });
 }
+
+test("over TCP data is a Buffer, also where its message was cut", async () => {
+    await withServer(tcp, async (server, relay) => {
+        const found = [], frames = ["whole", "cut", "then"].map((text) => dataOf(PEER, text)), [send] = server.clients.values();
+        relay.on("message", (data) => found.push(data));
+        await relay.permit("127.0.0.1");
+        send(frames[0]);
+        await until(() => found.length === 1);
+        send(frames[1].subarray(0, 30));
+        await new Promise((resolve) => setTimeout(resolve, 50));
+        send(Buffer.concat([frames[1].subarray(30), frames[2]]));
+        await until(() => found.length === 3);
+        assert.deepEqual(found.map((data) => [Buffer.isBuffer(data), data.toString()]), [[true, "whole"], [true, "cut"], [true, "then"]]);
+        assert.ok(found.every((data) => data.buffer.byteLength < 1 << 20)); // none is a view of the module's memory
+    });
+});
 
 test("an IPv6 address is one in each spelling: permissions, channels, what is sent, released and kept", async () => {
     const server = await udp(), before = METHOD.CREATE_PERMISSION;

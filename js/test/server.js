@@ -8,6 +8,12 @@ export const USER = "user", PASSWORD = "pass";
 /** The relayed address that a server says to have, unless it is told another one. */
 export const RELAYED = { address: "127.0.0.1", port: 40_000, family: "IPv4" };
 
+/** The indication that has data of a peer. */
+export function dataOf(peer, data) {
+    const attributes = [[ATTRIBUTE.XOR_PEER_ADDRESS, xored(peer.address, peer.port)], [ATTRIBUTE.DATA, Buffer.from(data)]];
+    return message(METHOD.DATA, CLASS.INDICATION, Buffer.alloc(12, 1), attributes);
+}
+
 /**
  * A server over UDP or TCP. `answer(request, server)` may decide for a request what is answered: `"drop"`, `{ code, phrase }`, or
  * nothing, where it is as servers do. `requests` has all that came.
@@ -69,8 +75,7 @@ export class Server {
 
     /** Sends a client data of a peer, by an indication. */
     sendData(peer, data) {
-        const attributes = [[ATTRIBUTE.XOR_PEER_ADDRESS, xored(peer.address, peer.port)], [ATTRIBUTE.DATA, Buffer.from(data)]];
-        this.clients.forEach((send) => send(message(METHOD.DATA, CLASS.INDICATION, Buffer.alloc(12, 1), attributes)));
+        this.clients.forEach((send) => send(dataOf(peer, data)));
     }
 
     #cut(bytes, took) {

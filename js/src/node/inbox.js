@@ -2,7 +2,7 @@
 import { Deferred } from "./deferred.js";
 
 /** @typedef {import("../address.js").Address} Address */
-/** @typedef {[data: Uint8Array, peer: Address]} Packet */
+/** @typedef {[data: Buffer, peer: Address]} Packet */
 
 /** A queue of at most so many packets. A further one is dropped, and counted. */
 export class Inbox {
@@ -23,7 +23,7 @@ export class Inbox {
     }
 
     /**
-     * @param {Uint8Array} data
+     * @param {Buffer} data
      * @param {Address} peer
      */
     put(data, peer) {

@@ -6,7 +6,7 @@ import { abortable, Deferred } from "./deferred.js";
 
 /**
  * What is told of a link.
- * @typedef {{ received(data: Uint8Array): void, refused(error: Error): void, ended(error: Error | undefined): void,
+ * @typedef {{ received(data: Buffer): void, refused(error: Error): void, ended(error: Error | undefined): void,
  *     drained(): void }} LinkUser
  */
 /** @typedef {DatagramLink | StreamLink} Link */

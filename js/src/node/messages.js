@@ -29,7 +29,7 @@ export class Messages extends EventEmitter {
 
     /**
      * Data has come.
-     * @param {Uint8Array} data
+     * @param {Buffer} data
      * @param {Address} peer
      * @protected
      */
@@ -51,7 +51,7 @@ export class Messages extends EventEmitter {
 
     /**
      * Tells data. What a listener throws is thrown where it cannot stop the client.
-     * @param {Uint8Array} data
+     * @param {Buffer} data
      * @param {Address} peer
      */
     #emitNow(data, peer) {
@@ -90,7 +90,7 @@ export class Messages extends EventEmitter {
 
     /**
      * The data of peers that no listener had, in order. It ends when the relay is closed; `Ended` where it ended by itself.
-     * @returns {AsyncGenerator<[data: Uint8Array, peer: Address], void, void>}
+     * @returns {AsyncGenerator<[data: Buffer, peer: Address], void, void>}
      */
     async *[Symbol.asyncIterator]() {
         this.#isIterated = true;

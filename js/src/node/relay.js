@@ -26,7 +26,7 @@ const ASYNC_DISPOSE = /** @type {{ asyncDispose?: symbol }} */ (Symbol).asyncDis
  * Peers are IP addresses with ports; names are not resolved. Permissions and channels are refreshed until they are released, or the
  * relay ends. Events:
  *
- * - `message` (data, peer): a peer sent data. Without a listener it waits for `for await`.
+ * - `message` (data, peer): a peer sent data, a Buffer. Without a listener it waits for `for await`.
  * - `error` (an `Ended`): the relay has ended by itself. As with all emitters an error that nobody listens to is thrown, unless a
  *   `for await` has it.
  * - `close`: it has ended, by `close` or by itself. Nothing comes any more.

@@ -21,6 +21,12 @@ const DELETE_WAIT = 2_000;
 /** A datagram carries so many bytes, and coturn reads no longer message of a stream. */
 const MAX_MESSAGE = 65_507;
 
+/**
+ * Bytes of their own as a Buffer, which users of sockets expect.
+ * @param {Uint8Array} bytes
+ */
+const bufferOf = (bytes) => Buffer.from(bytes.buffer, bytes.byteOffset, bytes.byteLength);
+
 /** A client over a link to the server, which asks for a relayed address at once. */
 export class Session {
     /** @type {import("./state.js").State} */
@@ -79,7 +85,7 @@ export class Session {
 
     // The link
 
-    /** @param {Uint8Array} data */
+    /** @param {Buffer} data */
     received(data) {
         if (this.isOver) {
             return;
@@ -104,12 +110,12 @@ export class Session {
         }
     }
 
-    /** @param {Uint8Array} data */
+    /** @param {Buffer} data */
     #receive(data) {
         const answer = this.#passIn(data);
         if (answer?.kind === "peer-data") {
             const { start } = answer, isWhole = start !== undefined;
-            this.user.put(isWhole ? data.subarray(start, start + answer.length) : answer.data, answer.peer);
+            this.user.put(isWhole ? data.subarray(start, start + answer.length) : bufferOf(answer.data), answer.peer);
             // A datagram, or a piece that is one ChannelData message, has nothing else in it. Data makes nothing due.
             if (!this.link.isStream || (isWhole && start === 4 && this.hearing.isOne(data, answer.length))) {
                 return;
@@ -125,7 +131,7 @@ export class Session {
     /** Takes all data that the stream still has. */
     #takeRest() {
         for (let more; !this.isOver && (more = this.#shortage.guarded(() => this.client.pollRecv(this.clock.now()))); ) {
-            this.user.put(more.data, more.peer);
+            this.user.put(bufferOf(more.data), more.peer);
         }
     }
 

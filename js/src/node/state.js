@@ -6,7 +6,7 @@ import { Deferred } from "./deferred.js";
 /**
  * Who has a session, and is told what happens: data of peers, what is lost, errors of the socket that do not end it, that there is
  * room again, and the end: why, or undefined where the user has closed it.
- * @typedef {{ put(data: Uint8Array, peer: Address): void, lost(of: Session, lost: import("./grants.js").Lost): void,
+ * @typedef {{ put(data: Buffer, peer: Address): void, lost(of: Session, lost: import("./grants.js").Lost): void,
  *     socketError(of: Session, error: Error): void, drained(of: Session): void,
  *     ended(of: Session, why: import("../errors.js").Ended | undefined): void }} SessionUser
  */

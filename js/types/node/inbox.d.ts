@@ -1,5 +1,5 @@
 /** @typedef {import("../address.js").Address} Address */
-/** @typedef {[data: Uint8Array, peer: Address]} Packet */
+/** @typedef {[data: Buffer, peer: Address]} Packet */
 /** A queue of at most so many packets. A further one is dropped, and counted. */
 export class Inbox {
     /** @param {number} size */
@@ -7,10 +7,10 @@ export class Inbox {
     /** How many packets were dropped. */
     dropped: number;
     /**
-     * @param {Uint8Array} data
+     * @param {Buffer} data
      * @param {Address} peer
      */
-    put(data: Uint8Array, peer: Address): void;
+    put(data: Buffer, peer: Address): void;
     /**
      * The next packet, if one waits.
      * @returns {Packet | undefined}
@@ -23,4 +23,4 @@ export class Inbox {
     #private;
 }
 export type Address = import("../address.js").Address;
-export type Packet = [data: Uint8Array, peer: Address];
+export type Packet = [data: Buffer, peer: Address];

@@ -71,7 +71,7 @@ export class StreamLink {
  * What is told of a link.
  */
 export type LinkUser = {
-    received(data: Uint8Array): void;
+    received(data: Buffer): void;
     refused(error: Error): void;
     ended(error: Error | undefined): void;
     drained(): void;

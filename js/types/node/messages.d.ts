@@ -7,11 +7,11 @@ export class Messages extends EventEmitter {
     get dropped(): number;
     /**
      * Data has come.
-     * @param {Uint8Array} data
+     * @param {Buffer} data
      * @param {Address} peer
      * @protected
      */
-    protected put(data: Uint8Array, peer: Address): void;
+    protected put(data: Buffer, peer: Address): void;
     /**
      * Emits something when what is under way is done.
      * @param {string} name
@@ -27,9 +27,9 @@ export class Messages extends EventEmitter {
     protected end(why: import("../errors.js").Ended | undefined): void;
     /**
      * The data of peers that no listener had, in order. It ends when the relay is closed; `Ended` where it ended by itself.
-     * @returns {AsyncGenerator<[data: Uint8Array, peer: Address], void, void>}
+     * @returns {AsyncGenerator<[data: Buffer, peer: Address], void, void>}
      */
-    [Symbol.asyncIterator](): AsyncGenerator<[data: Uint8Array, peer: Address], void, void>;
+    [Symbol.asyncIterator](): AsyncGenerator<[data: Buffer, peer: Address], void, void>;
     #private;
 }
 export type Address = import("../address.js").Address;

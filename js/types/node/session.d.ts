@@ -46,8 +46,8 @@ export class Session {
     path: Path;
     hearing: Hearing;
     get isOver(): boolean;
-    /** @param {Uint8Array} data */
-    received(data: Uint8Array): void;
+    /** @param {Buffer} data */
+    received(data: Buffer): void;
     /** @param {Error} error */
     refused(error: Error): void;
     /** @param {Error | undefined} error */

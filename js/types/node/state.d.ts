@@ -30,7 +30,7 @@ export type Session = import("./session.js").Session;
  * room again, and the end: why, or undefined where the user has closed it.
  */
 export type SessionUser = {
-    put(data: Uint8Array, peer: Address): void;
+    put(data: Buffer, peer: Address): void;
     lost(of: Session, lost: import("./grants.js").Lost): void;
     socketError(of: Session, error: Error): void;
     drained(of: Session): void;
