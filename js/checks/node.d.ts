@@ -16,7 +16,7 @@ declare namespace NodeJS {
 }
 
 declare module "node:fs/promises" {
-    export function readFile(file: URL | string): Promise<Uint8Array>;
+    export function readFile(file: URL | string): Promise<Buffer>;
 }
 
 declare module "node:crypto" {

@@ -3,7 +3,6 @@ import { ModuleBuffer } from "./buffer.js";
 import { Ended, LibraryError, OutOfMemory } from "./errors.js";
 import { ANSWER, KIND, MAX_OVERHEAD, MAX_PAYLOAD, SIZE } from "./layout.js";
 import { bytesOf, textOf } from "./load.js";
-import { findRandom } from "./random.js";
 
 /**
  * What the module exports.
@@ -24,6 +23,9 @@ import { findRandom } from "./random.js";
 
 /** Bytes that each buffer has at first: a packet, or data with what a packet may have beside it. */
 const ROOM = MAX_PAYLOAD + 2 * MAX_OVERHEAD;
+
+/** What the error says that comes where the package does not find its own module. */
+const BUNDLED = ". In a bundle without it, pass in the bytes of yarrowdoor/yarrowdoor.wasm: Library.load({ source })";
 
 /** @type {Promise<Library> | undefined} */
 let shared;
@@ -55,22 +57,24 @@ export class Library {
     #output;
 
     /**
-     * Compiles the module, by default that of the package. `source` is its bytes, a compiled module, a response or a URL. Its
-     * memory has at most `memoryLimit` bytes (over 1 MB): a call for more fails with OutOfMemory. LibraryError where it is none.
+     * Compiles the module, by default that of the package. `source` is its bytes, a compiled module, a response or a URL, in Node
+     * also the path of a file. Its memory has at most `memoryLimit` bytes (over 1 MB): a call for more fails with OutOfMemory.
+     * LibraryError where it is none.
      * @param {{ source?: BufferSource | WebAssembly.Module | Response | URL | string, memoryLimit?: number }} options
      * @returns {Promise<Library>}
      */
-    static async load({ source = new URL("../yarrowdoor.wasm", import.meta.url), memoryLimit = Infinity } = {}) {
+    static async load({ source, memoryLimit = Infinity } = {}) {
         if (typeof memoryLimit !== "number" || !(memoryLimit > 0)) {
             throw new RangeError(`memoryLimit is a number of bytes, and not ${String(memoryLimit)}`);
         }
         try {
-            await findRandom();
-            const compiled = source instanceof WebAssembly.Module ? source : await WebAssembly.compile(await bytesOf(source));
+            const found = source ?? new URL("../yarrowdoor.wasm", import.meta.url); // a literal, which webpack and Vite understand
+            const compiled = found instanceof WebAssembly.Module ? found : await WebAssembly.compile(await bytesOf(found));
             const instance = await WebAssembly.instantiate(compiled, {});
             return new Library(/** @type {Exports} */ (/** @type {unknown} */ (instance.exports)), memoryLimit);
         } catch (error) {
-            throw error instanceof OutOfMemory ? error : new LibraryError(`the module cannot be loaded: ${textOf(error)}`, error);
+            throw error instanceof OutOfMemory ? error
+                : new LibraryError(`the module cannot be loaded: ${textOf(error)}${source === undefined ? BUNDLED : ""}`, error);
         }
     }
 

@@ -1,4 +1,20 @@
-// Where the module comes from: a file, a response, or bytes.
+// Where the module comes from: a URL, a response, or bytes.
+
+/**
+ * Reads what a URL names, or a text, as `fetch` takes both.
+ * @typedef {(source: URL | string) => Promise<BufferSource>} Reader
+ */
+
+/** @type {Reader} */
+let read = async (source) => bytesOf(await fetch(source));
+
+/**
+ * Has URLs read otherwise. Node's `fetch` reads no files, and what does is in a module that a page has not.
+ * @param {Reader} reader
+ */
+export function readBy(reader) {
+    read = reader;
+}
 
 /**
  * The bytes of the module.
@@ -7,12 +23,7 @@
  */
 export async function bytesOf(source) {
     if (typeof source === "string" || source instanceof URL) {
-        const url = new URL(source, import.meta.url), isNode = typeof process !== "undefined" && process.versions?.node;
-        if (url.protocol === "file:" && isNode) {
-            const { readFile } = await import("node:fs/promises");
-            return readFile(url);
-        }
-        return bytesOf(await fetch(url));
+        return read(source);
     }
     if (typeof Response !== "undefined" && source instanceof Response) {
         if (!source.ok) {

@@ -1,13 +1,14 @@
-// The engine's random numbers. Node 18 has them in a module alone.
+// The engine's random numbers.
 
 /** @type {Crypto | undefined} */
 let found = globalThis.crypto;
 
-/** Looks for them where the engine has them in a module. */
-export async function findRandom() {
-    if (!found && typeof process !== "undefined" && process.versions?.node) {
-        found = /** @type {Crypto} */ (/** @type {unknown} */ ((await import("node:crypto")).webcrypto));
-    }
+/**
+ * Has these random numbers used where the engine has none of its own: Node 18 has them in a module, which a page has not.
+ * @param {Crypto} crypto
+ */
+export function useRandom(crypto) {
+    found ??= crypto;
 }
 
 /**

@@ -2,7 +2,7 @@
 import { readFile } from "node:fs/promises";
 import path from "node:path";
 import { fileURLToPath } from "node:url";
-import { Library } from "../src/index.js";
+import { Library } from "../src/node/client.js";
 
 /** The folder of the modules. */
 export const FOLDER = process.env.YARROWDOOR_WASM ?? fileURLToPath(new URL("../../dist/wasm", import.meta.url));

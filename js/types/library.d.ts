@@ -6,8 +6,9 @@
  */
 export class Library {
     /**
-     * Compiles the module, by default that of the package. `source` is its bytes, a compiled module, a response or a URL. Its
-     * memory has at most `memoryLimit` bytes (over 1 MB): a call for more fails with OutOfMemory. LibraryError where it is none.
+     * Compiles the module, by default that of the package. `source` is its bytes, a compiled module, a response or a URL, in Node
+     * also the path of a file. Its memory has at most `memoryLimit` bytes (over 1 MB): a call for more fails with OutOfMemory.
+     * LibraryError where it is none.
      * @param {{ source?: BufferSource | WebAssembly.Module | Response | URL | string, memoryLimit?: number }} options
      * @returns {Promise<Library>}
      */

@@ -4,4 +4,4 @@
  * @module
  */
 export { Relay } from "./relay.js";
-export * from "../index.js";
+export * from "./client.js";

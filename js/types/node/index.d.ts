@@ -1,2 +1,2 @@
 export { Relay } from "./relay.js";
-export * from "../index.js";
+export * from "./client.js";
