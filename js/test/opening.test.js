@@ -104,6 +104,42 @@ test("several URLs: the next one is tried where one fails, and all are named whe
     await assert.rejects(openRelay(server, { urls }), { message: /:9\?transport=tcp: .*; .*:7\?transport=tcp: / });
 });
 
+test("several URLs: one that is silent costs a quarter of a second, over UDP and over TCP, and is given up", async () => {
+    for (const make of [udp, tcp]) {
+        const silent = await make(), good = await udp(), start = performance.now();
+        silent.answer = () => "drop";
+        const relay = await openRelay(good, { urls: [urlOf(silent), urlOf(good)], signal: AbortSignal.timeout(10_000) });
+        const took = performance.now() - start;
+        assert.ok(took >= 200 && took < 1_500, `${took} ms`);
+        assert.deepEqual([silent.count(METHOD.ALLOCATE), good.count(METHOD.ALLOCATE)], [1, 2]);
+        await relay.close();
+        silent.close();
+        good.close();
+    }
+});
+
+test("several URLs: where the one that answers first refuses, the others are asked", async () => {
+    const full = await udp(), late = await udp();
+    full.answer = ({ method }) => (method === METHOD.ALLOCATE ? { code: 486, phrase: "Allocation Quota Reached" } : undefined);
+    late.answer = () => (late.requests.length === 1 ? "drop" : undefined); // it answers the second transmission, after half a second
+    const relay = await openRelay(late, { urls: [urlOf(late), urlOf(full)] });
+    assert.equal(full.count(METHOD.ALLOCATE), 2);
+    await relay.close();
+    late.close();
+    await assert.rejects(openRelay(full, { urls: ["turn:127.0.0.1:9?transport=tcp", urlOf(full)] }),
+        { code: undefined, message: /:9\?transport=tcp: .*; the server refuses \(486 / });
+    full.close();
+});
+
+test("URLs of STUN servers in a list are skipped, as services give them, and a list of them only is refused", async () => {
+    await withServer(udp, async (server) => {
+        const relay = await openRelay(server, { urls: ["stun:stun.example.org", urlOf(server), "STUNS:a:1"] });
+        assert.deepEqual(relay.address(), RELAYED);
+        await relay.close();
+        await assert.rejects(openRelay(server, { urls: ["stun:stun.example.org"] }), TypeError);
+    }, null);
+});
+
 test("a name that is not found is an AllocationFailed with its cause", async () => {
     const lookup = async () => {
         throw Object.assign(new Error("getaddrinfo ENOTFOUND"), { code: "ENOTFOUND" });

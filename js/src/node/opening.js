@@ -1,4 +1,4 @@
-// From options to a session with a relayed address: which server, which of its addresses.
+// From options to a session with a relayed address: which server, which of its addresses, each beside the ones before that are silent.
 import { Client } from "../client.js";
 import { AllocationFailed } from "../errors.js";
 import { Library } from "../library.js";
@@ -8,52 +8,94 @@ import { Session } from "./session.js";
 
 /** @typedef {import("./options.js").Checked} Checked */
 /** @typedef {import("./state.js").SessionUser} SessionUser */
+/** @typedef {import("./uri.js").TurnUri} TurnUri */
+
+/** @param {Session} session */
+const discard = (session) => void session.leave();
 
 /**
- * A session with a relayed address, by the first URI that gives one. What a server may have granted to one that is given up, it is
+ * A session with a relayed address. The next URI is tried beside the ones before where the server has not answered in 250 ms, and the
+ * first that answers is asked; where it refuses, the others are. What a server may have granted to a session that is given up, it is
  * given back. AllocationFailed, WrongCredentials, or the signal's reason.
  * @param {Checked} options
  * @param {SessionUser} user
  */
 export async function openSession(options, user) {
     options.signal?.throwIfAborted();
-    const library = options.library ?? await abortable(Library.shared(), options.signal), failures = [];
-    for (const uri of options.uris) {
+    const library = options.library ?? await abortable(Library.shared(), options.signal);
+    /** @type {Map<TurnUri, AllocationFailed>} */
+    const failures = new Map();
+    for (let rest = options.uris; rest.length > 0; rest = options.uris.filter((uri) => !failures.has(uri))) {
+        const session = await soonest(options, library, rest, user, failures);
         try {
-            return await openOne(options, library, uri, user);
+            await abortable(session?.waiting.ready.promise ?? Promise.resolve(), options.signal);
+            if (session) {
+                return session;
+            }
         } catch (error) {
-            if (!(error instanceof AllocationFailed) || options.signal?.aborted) {
+            session && discard(session);
+            if (!session || !(error instanceof AllocationFailed) || options.signal?.aborted) {
                 throw error;
             }
-            failures.push(error);
+            failures.set(session.uri, error);
         }
     }
-    const last = failures[failures.length - 1];
-    if (failures.length === 1) {
-        throw last;
-    }
-    throw new AllocationFailed(failures.map(({ message }) => message).join("; "), undefined, last);
+    throw failureOf(options.uris.flatMap((uri) => failures.get(uri) ?? []));
 }
 
 /**
+ * What is thrown where each URI has failed.
+ * @param {AllocationFailed[]} failures
+ */
+function failureOf(failures) {
+    const last = failures[failures.length - 1];
+    return failures.length === 1 ? last : new AllocationFailed(failures.map(({ message }) => message).join("; "), undefined, last);
+}
+
+/**
+ * A session with the server that answers first, or undefined where none does: then the failure of each URI is noted.
  * @param {Checked} options
  * @param {Library} library
- * @param {import("./uri.js").TurnUri} uri
+ * @param {TurnUri[]} uris
  * @param {SessionUser} user
+ * @param {Map<TurnUri, AllocationFailed>} failures
  */
-async function openOne(options, library, uri, user) {
-    const hosts = await abortable(addressesOf(uri, options.lookup), options.signal);
-    /** @param {Session} session */
-    const discard = (session) => void session.leave();
+async function soonest(options, library, uris, user, failures) {
+    try {
+        return await firstOf(uris, (uri, signal) => answering(options, library, uri, user, signal), discard, options.signal);
+    } catch (error) {
+        if (!(error instanceof NoneSucceeded)) {
+            throw error;
+        }
+        for (const [uri, failure] of error.failures) {
+            if (!(failure instanceof AllocationFailed)) {
+                throw failure;
+            }
+            failures.set(uri, failure);
+        }
+        return undefined;
+    }
+}
+
+/**
+ * A session with the server of a URI, which has answered.
+ * @param {Checked} options
+ * @param {Library} library
+ * @param {TurnUri} uri
+ * @param {SessionUser} user
+ * @param {AbortSignal} signal
+ */
+async function answering(options, library, uri, user, signal) {
+    const hosts = await abortable(addressesOf(uri, options.lookup), signal);
     /** @type {Session} */
     let session;
     try {
-        session = await firstOf(hosts, (host, signal) => attempt(options, library, uri, host, user, signal), discard, options.signal);
+        session = await firstOf(hosts, (host, others) => attempt(options, library, uri, host, user, others), discard, signal);
     } catch (error) {
         throw error instanceof NoneSucceeded ? unreachable(uri, error.failures) : error;
     }
     try {
-        await abortable(session.waiting.ready.promise, options.signal);
+        await abortable(session.waiting.heard.promise, signal); // of a stream that was connected, too
         return session;
     } catch (error) {
         discard(session);
@@ -62,10 +104,10 @@ async function openOne(options, library, uri, user) {
 }
 
 /**
- * A session with the server at one address of it, which has answered.
+ * A session with the server at one address of it, which has answered, or over TCP was connected to.
  * @param {Checked} options
  * @param {Library} library
- * @param {import("./uri.js").TurnUri} uri
+ * @param {TurnUri} uri
  * @param {string} host
  * @param {SessionUser} user
  * @param {AbortSignal} signal

@@ -5,7 +5,8 @@ import { lookupAll } from "./servers.js";
 import { parseUri } from "./uri.js";
 
 /**
- * `urls`, `username` and `credential` are those of WebRTC's RTCIceServer: one URI of RFC 7065 or several, tried one after the other.
+ * `urls`, `username` and `credential` are those of WebRTC's RTCIceServer: one URI of RFC 7065 or several. A further one is
+ * tried beside those before where these have not answered in 250 ms, and at once where they have failed. URIs of STUN servers are skipped.
  * `family` is that of the relayed address, which reaches peers of this family only. `tls` are options of `tls.connect` for `turns:`,
  * as `ca`; certificates are checked unless they say otherwise. `times` is how long a request waits for its answer. `queue` packets
  * of peers wait to be taken where there is no listener for `message`; a further one is dropped and counted. The path to the server
@@ -26,6 +27,9 @@ import { parseUri } from "./uri.js";
  * @typedef {{ readonly clock?: import("./clock.js").Clock, readonly lookup?: (host: string) => Promise<string[]> }} Hooks
  */
 /** @typedef {ReturnType<typeof checkOptions>} Checked */
+
+/** The URI of a STUN server (RFC 7064). Services list some beside the TURN servers: a relay needs none. */
+const STUN = /^stuns?:/i;
 
 /**
  * A number from `least` on. RangeError where it is none.
@@ -49,12 +53,16 @@ export function checkOptions({ urls, family = 4, queue = 1_024, probe, keepalive
     if (!Array.isArray(list) || list.length === 0) {
         throw new TypeError("urls is a URI of a TURN server, or a list of them");
     }
+    const uris = list.filter((url) => !STUN.test(url)).map(parseUri);
+    if (uris.length === 0) {
+        throw new TypeError("urls has a URI of a TURN server, and not of STUN servers only");
+    }
     if (family !== 4 && family !== 6) {
         throw new TypeError(`family is 4 or 6, and not ${String(family)}`);
     }
     const { username, credential, tls, times, anonymous, signal, library, maxStaleNonces = 256, clock = CLOCK, lookup = lookupAll } = rest;
     return {
-        uris: list.map(parseUri), family, queue: numberFrom(queue, "queue", 1),
+        uris, family, queue: numberFrom(queue, "queue", 1),
         probe: probe === undefined ? undefined : numberFrom(probe, "probe", 0), username, credential, tls, times, anonymous, signal, library,
         keepalive: numberFrom(keepalive, "keepalive", 0), pause: numberFrom(pause, "pause", 0),
         refreshAhead: numberFrom(refreshAhead, "refreshAhead", 0), maxStaleNonces, clock, lookup,

@@ -55,50 +55,53 @@ export function interleaved(hosts) {
     return unique.flatMap((_, row) => columns.flatMap((column) => column.slice(row, row + 1)));
 }
 
-/** Each address has failed, for a reason of its own. */
+/**
+ * Each attempt has failed, for a reason of its own.
+ * @template Item
+ */
 export class NoneSucceeded extends Error {
-    /** @param {Map<string, unknown>} failures */
+    /** @param {Map<Item, unknown>} failures */
     constructor(failures) {
-        super("no address can be used");
+        super("no attempt has succeeded");
         this.failures = failures;
     }
 }
 
 /**
- * Attempts one address after the other, each 250 ms after the last one began, or at once where that one has failed. Gives what the
- * first one found that succeeds; the other attempts are given up, and what one of them finds meanwhile is discarded. NoneSucceeded
- * where all fail.
- * @template T
- * @param {string[]} hosts
- * @param {(host: string, signal: AbortSignal) => Promise<T>} attempt
+ * Attempts one after the other, of addresses or of URIs, each 250 ms after the last one began, or at once where that one has failed.
+ * Gives what the first one found that succeeds; the other attempts are given up, and what one of them finds meanwhile is discarded.
+ * NoneSucceeded where all fail.
+ * @template T, Item
+ * @param {Item[]} items
+ * @param {(item: Item, signal: AbortSignal) => Promise<T>} attempt
  * @param {(found: T) => void} discard
  * @param {AbortSignal | undefined} signal
  * @returns {Promise<T>}
  */
-export async function firstOf(hosts, attempt, discard, signal) {
-    /** @type {Map<string, unknown>} */
+export async function firstOf(items, attempt, discard, signal) {
+    /** @type {Map<Item, unknown>} */
     const failures = new Map();
-    /** @type {Map<string, Promise<{ host: string, found?: T, error?: unknown }>>} */
+    /** @type {Map<Item, Promise<{ item: Item, found?: T, error?: unknown }>>} */
     const running = new Map();
-    const others = new AbortController(), waiting = [...hosts];
+    const others = new AbortController(), waiting = [...items];
     try {
         while (waiting.length > 0 || running.size > 0) {
-            const host = waiting.shift();
-            if (host !== undefined) {
-                running.set(host, attempt(host, others.signal).then((found) => ({ host, found }), (error) => ({ host, error })));
+            const item = waiting.shift();
+            if (item !== undefined) {
+                running.set(item, attempt(item, others.signal).then((found) => ({ item, found }), (error) => ({ item, error })));
             }
             const done = await abortable(soonest([...running.values()], waiting.length > 0), signal);
             if (done) {
-                running.delete(done.host);
+                running.delete(done.item);
                 if (!("error" in done)) {
                     return /** @type {T} */ (done.found);
                 }
-                failures.set(done.host, checked(done.error));
+                failures.set(done.item, checked(done.error));
             }
         }
         throw new NoneSucceeded(failures);
     } finally {
-        others.abort(new Error("another address was used"));
+        others.abort(new Error("another attempt has succeeded"));
         for (const other of running.values()) {
             other.then((it) => "error" in it || discard(/** @type {T} */ (it.found)));
         }

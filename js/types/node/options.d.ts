@@ -40,7 +40,8 @@ export function peerOf(port: unknown, address: unknown): import("../address.js")
  */
 export function dataOf(data: unknown): Uint8Array;
 /**
- * `urls`, `username` and `credential` are those of WebRTC's RTCIceServer: one URI of RFC 7065 or several, tried one after the other.
+ * `urls`, `username` and `credential` are those of WebRTC's RTCIceServer: one URI of RFC 7065 or several. A further one is
+ * tried beside those before where these have not answered in 250 ms, and at once where they have failed. URIs of STUN servers are skipped.
  * `family` is that of the relayed address, which reaches peers of this family only. `tls` are options of `tls.connect` for `turns:`,
  * as `ca`; certificates are checked unless they say otherwise. `times` is how long a request waits for its answer. `queue` packets
  * of peers wait to be taken where there is no listener for `message`; a further one is dropped and counted. The path to the server

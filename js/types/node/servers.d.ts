@@ -23,28 +23,31 @@ export function connect(uri: import("./uri.js").TurnUri, host: string, options: 
  */
 export function interleaved(hosts: string[]): string[];
 /**
- * Attempts one address after the other, each 250 ms after the last one began, or at once where that one has failed. Gives what the
- * first one found that succeeds; the other attempts are given up, and what one of them finds meanwhile is discarded. NoneSucceeded
- * where all fail.
- * @template T
- * @param {string[]} hosts
- * @param {(host: string, signal: AbortSignal) => Promise<T>} attempt
+ * Attempts one after the other, of addresses or of URIs, each 250 ms after the last one began, or at once where that one has failed.
+ * Gives what the first one found that succeeds; the other attempts are given up, and what one of them finds meanwhile is discarded.
+ * NoneSucceeded where all fail.
+ * @template T, Item
+ * @param {Item[]} items
+ * @param {(item: Item, signal: AbortSignal) => Promise<T>} attempt
  * @param {(found: T) => void} discard
  * @param {AbortSignal | undefined} signal
  * @returns {Promise<T>}
  */
-export function firstOf<T>(hosts: string[], attempt: (host: string, signal: AbortSignal) => Promise<T>, discard: (found: T) => void, signal: AbortSignal | undefined): Promise<T>;
+export function firstOf<T, Item>(items: Item[], attempt: (item: Item, signal: AbortSignal) => Promise<T>, discard: (found: T) => void, signal: AbortSignal | undefined): Promise<T>;
 /**
  * What says of each address why it could not be used.
  * @param {import("./uri.js").TurnUri} uri
  * @param {Map<string, unknown>} failures
  */
 export function unreachable(uri: import("./uri.js").TurnUri, failures: Map<string, unknown>): YarrowdoorError;
-/** Each address has failed, for a reason of its own. */
-export class NoneSucceeded extends Error {
-    /** @param {Map<string, unknown>} failures */
-    constructor(failures: Map<string, unknown>);
-    failures: Map<string, unknown>;
+/**
+ * Each attempt has failed, for a reason of its own.
+ * @template Item
+ */
+export class NoneSucceeded<Item> extends Error {
+    /** @param {Map<Item, unknown>} failures */
+    constructor(failures: Map<Item, unknown>);
+    failures: Map<Item, unknown>;
 }
 import { DatagramLink } from "./link.js";
 import { StreamLink } from "./link.js";
