@@ -15,7 +15,7 @@ import zipfile
 from typing import Any, Dict, List, Optional, Tuple
 from unittest import mock
 
-from yarrowdoor.command import credentials, main as entry, output, reach
+from yarrowdoor.command import credentials, knock, main as entry, output
 from yarrowdoor.command.challenge import Challenge
 from yarrowdoor.command.steps import Outcome, Step
 
@@ -158,7 +158,7 @@ class Servers(unittest.TestCase):
 
     def test_a_sentence_for_each_code(self) -> None:
         rows = [(403, "forbids"), (437, "for this local port"), (440, "of this family"), (441, "under other credentials"),
-                (442, "relays not over"), (486, "as many relayed addresses"), (508, "has no room"), (599, "refuses (599 no)")]
+                (442, "no-udp-relay"), (486, "as many relayed addresses"), (508, "has no room"), (599, "refuses (599 no)")]
         for code, said in rows:
             for signs in (True, False) if code == 437 else (True,):
                 with Threaded(Ipv4Server(allocate_error=code, signs_errors=signs)) as server:
@@ -216,7 +216,7 @@ class Servers(unittest.TestCase):
         with Threaded(Ipv4Server()) as server:
             status, out, _ = command("check", server.uri, "--json", env={})
         steps = {it["name"]: it for it in json.loads(out)["steps"]}
-        self.assertEqual((status, steps["challenge"]["facts"]["realm"]), (0, "realm"))
+        self.assertEqual((status, steps["challenge"]["facts"]["realm"]), (2, "realm"))
         self.assertEqual(steps["allocation"]["said"], "is not tried")
         self.assertFalse([it for it in server.received if 0x0008 in parse(it).attributes])
 
@@ -237,7 +237,7 @@ class GivenBack(unittest.TestCase):
 
         with Threaded(Ipv4Server()) as server, mock.patch.object(output.JsonOutput, "add", interrupted):
             status, out, errors = command("check", server.uri, "--user", "user", "--json")
-            self.assertEqual((status, out, errors), (130, "", ""))
+            self.assertEqual((status, json.loads(out)["error"], errors), (130, "interrupted", ""))
             self.assertEqual(server.server.allocations, {})
 
 
@@ -279,7 +279,8 @@ class Names(unittest.TestCase):
             uri = server.uri.replace("127.0.0.1", "two.example")
             status, out, _ = command("check", uri, "--json", env={})
         steps = {it["name"]: it for it in json.loads(out)["steps"]}
-        self.assertEqual((steps["udp"]["outcome"], steps["udp"]["facts"]["answering"]), ("note", ["127.0.0.1"]))
+        self.assertEqual((steps["udp"]["outcome"], steps["udp"]["facts"]["answering"]), ("failed", ["127.0.0.1"]))
+        self.assertEqual(status, 1)
         self.assertIn("127.0.0.9 does not answer (nothing listens)", steps["udp"]["advice"])
         self.assertEqual(steps["challenge"]["outcome"], "ok")
 
@@ -301,7 +302,7 @@ class Silence(unittest.TestCase):
                 status, out, _ = command("check", form % mute.getsockname()[1], "--timeout", "0.5", env={})
                 self.assertEqual(status, 1)
                 self.assertLess(time.monotonic() - begun, limit(3))
-                self.assertIn("it is no TURN server", " ".join(out.split()))
+                self.assertIn("accepts the connection and says nothing", " ".join(out.split()))
 
 
 class Terminal(io.StringIO):
@@ -311,8 +312,8 @@ class Terminal(io.StringIO):
 
 class Unreachable(unittest.TestCase):
     def test_a_network_without_a_way_says_nothing_of_the_server(self) -> None:
-        with mock.patch.object(reach, "connect_udp", side_effect=OSError(errno.ENETUNREACH, "Network is unreachable")), \
-                mock.patch.object(reach, "connect_stream", side_effect=OSError(errno.ENETUNREACH, "Network is unreachable")):
+        with mock.patch.object(knock, "connect_udp", side_effect=OSError(errno.ENETUNREACH, "Network is unreachable")), \
+                mock.patch.object(knock, "connect_stream", side_effect=OSError(errno.ENETUNREACH, "Network is unreachable")):
             status, out, _ = command("check", "turn:192.0.2.1:5000", env={})
         self.assertEqual(status, 2)
         self.assertIn("There is no way from here to 192.0.2.1", out)

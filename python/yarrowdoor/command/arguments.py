@@ -55,6 +55,9 @@ def parser() -> argparse.ArgumentParser:
 def _check(command: argparse.ArgumentParser) -> None:
     command.add_argument("--nonce", type=_seconds, default=0.0, metavar="S", help="also watch for S seconds how old a nonce gets")
     command.add_argument("--quota", type=_count, default=0, metavar="N", help="also ask for N relayed addresses at one time")
+    command.add_argument("--peer", type=_address, metavar="IP:PORT", help="a peer that sends back what it is sent (this host)")
+    command.add_argument("--max-loss", type=_percent, default=1.0, metavar="P",
+                         help="percent of packets that may be lost at each crossing to the server (1)")
 
 
 def _echo(command: argparse.ArgumentParser) -> None:
@@ -121,6 +124,13 @@ def _seconds(text: str) -> float:
         found = -1.0
     if not 0 <= found <= 86_400:
         raise argparse.ArgumentTypeError(f"{text!r} is not a number from 0 to 86400")
+    return found
+
+
+def _percent(text: str) -> float:
+    found = _seconds(text)
+    if found > 100:
+        raise argparse.ArgumentTypeError(f"{text!r} is not a number from 0 to 100")
     return found
 
 

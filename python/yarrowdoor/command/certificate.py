@@ -16,6 +16,7 @@ __all__ = ["Certificate", "explain", "of_peer", "read_refused"]
 _PARTIAL_CHAIN, _NO_CHECK_TIME = 0x80000, 0x200000
 # What a verification says (openssl-verify(1)) of a name, and of an IP address, for which the certificate is not.
 _OTHER_NAME = (62, 64)
+_OUT_OF_DATE = 10
 _SELF_SIGNED = 18
 
 
@@ -34,6 +35,11 @@ class Certificate:
     def end(self) -> str:
         """The day on which it ends."""
         return _day(self.ends)
+
+    @property
+    def days_left(self) -> float:
+        """How many days it is good from now on."""
+        return round((self.ends - time.time()) / 86_400, 1)
 
 
 def of_peer(found: Dict[str, Any], is_for_name: bool = True) -> Certificate:
@@ -77,6 +83,9 @@ def explain(certificate: Optional[Certificate], error: tls.SSLCertVerificationEr
     if certificate.ends < now:
         said.append(f"The certificate is out of date since {certificate.end}: renew it, and let the server read it again (coturn: "
                     "cert= and pkey=, then a restart).")
+    if error.verify_code == _OUT_OF_DATE and certificate.ends >= now:
+        said.append(f"A certificate between the server's and the authority's is out of date; the server's own is good until "
+                    f"{certificate.end}: let the server send the new chain of its authority (fullchain.pem in coturn's cert=).")
     if certificate.begins > now:
         said.append(f"The certificate begins on {_day(certificate.begins)} only: the clock of this host is late, or that of the "
                     "one that made it is early.")
@@ -85,7 +94,8 @@ def explain(certificate: Optional[Certificate], error: tls.SSLCertVerificationEr
                     "name it by --ca FILE if you trust it.")
     elif error.verify_code in (20, 21):
         said.append(f"No authority that this system trusts has signed the certificate (issuer: {certificate.issuer}): let the "
-                    "server send the whole chain (fullchain.pem in coturn's cert=), or name the authority by --ca FILE.")
+                    "server send the whole chain (fullchain.pem in coturn's cert=), or name the authority by --ca FILE. If that "
+                    "issuer is not the server's, a proxy on the way opens TLS.")
     return " ".join(said) or f"The certificate is refused: {error.verify_message}."
 
 

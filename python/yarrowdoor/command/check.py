@@ -1,30 +1,33 @@
 """`yarrowdoor check`: tries one thing after the other, and says of each whether it works."""
 from __future__ import annotations
 
+import contextlib
 import ssl as tls
-from dataclasses import dataclass
-from typing import Iterator, List, Optional
+from concurrent.futures import Future, ThreadPoolExecutor
+from dataclasses import dataclass, replace
+from typing import Generator, Iterator, List, Optional
 
 from ..address import Address
+from ..driver import drive
+from ..errors import Ended, Refused
 from ..uri import TurnUri
 from ..wire import Tap
+from . import advice
 from .credentials import Credentials
-from .doors import find_addresses, try_doors
+from .doors import Doors, find_addresses
 from .driver import leave_all, open_exchange
 from .exchange import Exchange
-from .extras import nonce_step, quota_step, streams_step
+from .extras import flows_step, limit_step, nonce_step, quota_step, server_step, streams_step
+from .joining import Joining, Limits
 from .output import Output
 from .reach import Way
-from .relays import NO_SUCH_FAMILY, allocation_step, challenge_step, family_step, grant_step, permission_step
-from .steps import Outcome, Step
-from .traffic import LAST_WAIT, Trip, echo_step, payload_step, send_back
+from .relays import NO_SUCH_FAMILY, allocation_step, challenge_step, family_step
+from .steps import Facts, Outcome, Step
 
 __all__ = ["Plan", "check"]
 
-# The packets of an echo: how many, their bytes, and the pause between two, in seconds.
-COUNT, SIZE, PAUSE = 100, 160, 0.003
-# The longest payload that is tried over UDP, in bytes. Over TCP a longer one than this may end a server (pion ends at 1,600).
-MOST, MOST_OF_STREAM = 65_468, 1_500
+_CLOSED = "The server answered before, and takes no further connection: see its log, and its limits of connections."
+_GONE = "The server answered before, and went in the middle of this check: it has ended or was started again, see its log."
 
 
 @dataclass(frozen=True)
@@ -42,6 +45,10 @@ class Plan:
     """how long a nonce is watched, in seconds"""
     quota: int = 0
     """how many relayed addresses are asked for"""
+    peer: Optional[Address] = None
+    """who sends back what it is sent from the relayed address, in place of this host"""
+    max_loss: float = 1.0
+    """of how many packets of a hundred it is too many to be lost at each crossing between here and the server"""
 
 
 def check(plan: Plan, output: Output, tap: Tap) -> None:
@@ -50,96 +57,155 @@ def check(plan: Plan, output: Output, tap: Tap) -> None:
     output.add(step)
     if not hosts:
         return
-    steps, way, stream_way = try_doors(plan.uri, hosts, plan.context, plan.seconds, tap)
-    for step in steps:
-        output.add(step)
-    if way is None:
-        return
-    for step in _Relaying(plan, way, stream_way, output, tap).steps():
-        output.add(step)
+    with Doors(plan.uri, hosts, plan.context, plan.seconds, tap) as doors:
+        with contextlib.closing(_Relaying(plan, doors, output, tap).steps()) as steps:
+            for step in steps:
+                output.add(step)
 
 
 class _Relaying:
-    """The steps from the challenge on, over one way to the server."""
+    """The steps of the doors, and those from the challenge on, over one way to the server."""
 
-    def __init__(self, plan: Plan, way: Way, stream_way: Optional[Way], output: Output, tap: Tap) -> None:
-        self._plan, self._way, self._stream_way, self._output, self._tap = plan, way, stream_way, output, tap
+    def __init__(self, plan: Plan, doors: Doors, output: Output, tap: Tap) -> None:
+        self._plan, self._doors, self._output, self._tap = plan, doors, output, tap
+        self._way = doors.way()
         self._seconds, self._family = plan.seconds, 4
         self._all: List[Exchange] = []
+        self._pool = ThreadPoolExecutor(1)
+        self._streams: Optional[Future[Exchange]] = None
+        """the exchange for a TCP allocation, which another thread connects, until it is taken"""
 
-    def steps(self) -> Iterator[Step]:
-        """All steps. What the server has granted is given back at the end, also where this is interrupted."""
+    def steps(self) -> Generator[Step, None, None]:
+        """All steps, until the server is gone. What it has granted is given back at the end, also where this is interrupted."""
         try:
-            yield from self._granting()
-        except OSError as error:
-            told = "The server answered before, and takes no further connection: see its log, and its limits of connections."
-            yield Step("connection", Outcome.FAILED, str(error), 0.0, told)
+            for step in self._tried():
+                gone = self._why_gone()
+                # What a step found while the server went says nothing of its settings.
+                yield step if gone is None or step.outcome is Outcome.OK else replace(step, advice="")
+                if gone is not None:
+                    yield Step("connection", Outcome.FAILED, gone, 0.0, _GONE)
+                    return
+        except (Ended, OSError, Refused) as error:
+            gone = str(error) if isinstance(error, ConnectionRefusedError) else self._why_gone()
+            yield Step("connection", Outcome.FAILED, gone or str(error), 0.0, _GONE if gone else _CLOSED)
         finally:
+            self._pool.shutdown()
+            with contextlib.suppress(OSError):
+                self._connected()
             leave_all(self._all)
 
+    def _why_gone(self) -> Optional[str]:
+        """Why the server no longer answers, or None where nothing says so."""
+        for it in self._all:
+            if isinstance(it.error, ConnectionRefusedError):
+                return f"nothing listens at {it.wire.remote} any more"
+            if it.is_over and it.address is not None:
+                return str(it.ending())
+        return None
+
     def _open(self, relay: str = "udp", family: int = 4, way: Optional[Way] = None) -> Exchange:
-        made = open_exchange(way or self._way, self._plan.credentials, self._tap, self._seconds, relay, family)
+        way = way or self._way
+        assert way is not None, "nothing is opened without a way"
+        made = open_exchange(way, self._plan.credentials, self._tap, self._seconds, relay, family)
         self._all.append(made)
         return made
 
-    def _granting(self) -> Iterator[Step]:
-        first, credentials = self._open(), self._plan.credentials
-        step = challenge_step(first, self._seconds)
+    def _tried(self) -> Iterator[Step]:
+        """The doors, while two relayed addresses are asked for already, and what is granted."""
+        if self._way is None:
+            yield from self._doors.steps()
+            return
+        failure: Optional[OSError] = None
+        try:
+            first, second = self._open(), self._open()
+            self._doors.knocking.when_heard(first.wake)
+            drive([first, second], self._doors.knocking.is_done, self._seconds)
+        except OSError as error:
+            failure = error
+        yield from self._doors.steps()
+        if failure is not None:
+            raise failure
+        yield from self._granting(first, second)
+
+    def _granting(self, first: Exchange, second: Exchange) -> Iterator[Step]:
+        credentials = self._plan.credentials
+        step = challenge_step(first, self._seconds, [second])
         yield step
         if step.outcome is not Outcome.OK:
             return
         if credentials is None:
-            yield Step("allocation", Outcome.NOTE, "is not tried", 0.0, "There are no credentials: name a user by --user NAME.")
+            yield Step("allocation", Outcome.UNTRIED, "is not tried", 0.0, "There are no credentials: name a user by --user NAME.")
             return
-        own = allocation_step(first, credentials, self._seconds)
+        own = allocation_step(first, credentials, self._seconds, [second])
         if own.facts.get("code") == NO_SUCH_FAMILY:
             yield family_step(first, 4, self._seconds)
-            self._family, first = 6, self._open(family=6)
-            own = allocation_step(first, credentials, self._seconds)
+            self._family, first, second = 6, self._open(family=6), self._open(family=6)
+            own = allocation_step(first, credentials, self._seconds, [second])
         yield own
         if first.address is not None:
-            yield from self._granted(first, first.address, own, credentials)
+            yield from self._mapped(first)
+            yield from self._granted(first, first.address, second, own, credentials)
 
-    def _granted(self, first: Exchange, address: Address, own: Step, credentials: Credentials) -> Iterator[Step]:
+    def _mapped(self, first: Exchange) -> Iterator[Step]:
+        """This host's address as the server sees it, where there is something to say of it."""
+        if first.mapped is None:
+            return
+        local, server = (str(it[0]) for it in (first.wire.local, first.wire.remote))
+        wrong = advice.about_mapped(first.mapped.host, local, server, first.wire.is_stream)
+        if wrong:
+            outcome = Outcome.NOTE if first.wire.is_stream else Outcome.FAILED
+            facts: Facts = {"mapped": str(first.mapped), "local": local}
+            yield Step("mapped", outcome, f"{first.mapped}, from {local}", 0.0, wrong, facts)
+
+    def _granted(self, first: Exchange, address: Address, second: Exchange, own: Step, credentials: Credentials) -> Iterator[Step]:
         """What comes after a relayed address."""
-        if self._family == 4:
-            yield family_step(self._open(family=6), 6, self._seconds)
-        second = self._open(family=self._family)
         step = allocation_step(second, credentials, self._seconds)
         if second.address is None:
             yield step  # The first one was granted, so that this one meets a quota.
-        else:
-            # Through an address that is known to be wrong nothing is likely to come: that is waited for less.
-            wait = LAST_WAIT if own.outcome is not Outcome.FAILED else LAST_WAIT / 4
-            yield from self._joining(first, address, second, second.address, wait)
+        six = self._open(family=6) if self._family == 4 else None
+        self._begin_streams()
+        plan = self._plan
+        limits = Limits(self._seconds, plan.max_loss, own.outcome is not Outcome.FAILED)
+        with contextlib.ExitStack() as stack:
+            joining = Joining(first, address, second, limits, self._output, [] if six is None else [six])
+            yield from joining.steps(plan.peer, stack)
+        if six is not None:
+            yield family_step(six, 6, self._seconds)
+            yield from limit_step(six, credentials, second)
+        streams = self._connected()
+        if streams is not None:
+            yield streams_step(streams, self._seconds)
+        yield from self._other_servers(credentials)
+        silent = flows_step(self._all)
+        if silent is not None:
+            yield silent
         yield from self._asked_for(first)
 
-    def _joining(self, first: Exchange, one: Address, second: Exchange, other: Address, wait: float) -> Iterator[Step]:
-        """Two relayed addresses, and packets from the one to the other and back."""
-        step = permission_step((first, second), (other, one), self._seconds)
-        yield step
-        if step.outcome is not Outcome.OK:
-            return
-        send_back(second)
-        trip = Trip(first, other, (first, second))
-        messages = echo_step(trip, "messages", COUNT, SIZE, PAUSE, self._output.bar("messages", COUNT), wait)
-        yield messages
-        step = grant_step((first, second), (other, one), self._seconds)
-        yield step
-        if messages.facts.get("received") == 0:
-            return  # Nothing comes back, whatever the way.
-        if step.outcome is Outcome.OK:
-            yield echo_step(trip, "channels", COUNT, SIZE, PAUSE, self._output.bar("channels", COUNT))
-        if messages.outcome is Outcome.OK:
-            most = messages.facts.get("most")
-            pause = min(0.1 + 2 * (most if isinstance(most, float) else 0.0), LAST_WAIT)
-            yield payload_step(trip, MOST_OF_STREAM if first.wire.is_stream else MOST, pause)
+    def _begin_streams(self) -> None:
+        """Connects over TCP or TLS, where the server is reached so, for a TCP allocation."""
+        way = self._doors.stream_way()
+        if way is not None:
+            words = (way, self._plan.credentials, self._tap, self._seconds, "tcp", self._family)
+            self._streams = self._pool.submit(open_exchange, *words)
+
+    def _connected(self) -> Optional[Exchange]:
+        """What was connected so, once. `OSError` where there is no connection."""
+        made, self._streams = self._streams, None
+        if made is None:
+            return None
+        self._all.append(made.result())
+        return self._all[-1]
+
+    def _other_servers(self, credentials: Credentials) -> Iterator[Step]:
+        """A relayed address at each further address of the name."""
+        ways = self._doors.other_ways(self._way) if self._way is not None else []
+        opened = [(way, self._open(family=self._family, way=way)) for way in ways]
+        for number, (way, exchange) in enumerate(opened, 2):
+            yield server_step(number, way.host, allocation_step(exchange, credentials, self._seconds, [it for _, it in opened]))
 
     def _asked_for(self, first: Exchange) -> Iterator[Step]:
-        """TCP allocations, where the server is reached over TCP, and what the options name."""
+        """What the options name."""
         plan = self._plan
-        if self._stream_way is not None:
-            yield streams_step(self._open("tcp", self._family, self._stream_way), self._seconds)
         if plan.nonce:
             yield nonce_step(first, plan.nonce, self._output.bar("nonce", int(plan.nonce)))
         if plan.quota:
@@ -147,4 +213,5 @@ class _Relaying:
             yield quota_step(self._make_alone, plan.quota, held, self._seconds, self._output.bar("quota", plan.quota))
 
     def _make_alone(self) -> Exchange:
+        assert self._way is not None, "nothing is opened without a way"
         return open_exchange(self._way, self._plan.credentials, self._tap, self._seconds, family=self._family)

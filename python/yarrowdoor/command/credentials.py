@@ -44,6 +44,8 @@ def resolve(user: Optional[str], password_file: Optional[str], secret_file: Opti
     if secret and not password_file:
         return _of_secret(user or "yarrowdoor", secret)
     password = _read(password_file) if password_file else os.environ.get(PASSWORD)
+    if password == "":
+        raise NoCredentials(f"{PASSWORD} is set and empty, and no password is: was a secret not mounted, or a variable not set?")
     if user is None:
         if password is not None:
             raise NoCredentials(f"there is a password and no user: add --user NAME, or set {USER}")

@@ -1,6 +1,7 @@
 """The first steps of a check: the addresses of the name, and UDP, TCP and TLS at the server's ports."""
 from __future__ import annotations
 
+import functools
 import socket
 import ssl as tls
 import time
@@ -8,13 +9,16 @@ from typing import Dict, List, Optional, Tuple
 
 from ..uri import TurnUri
 from ..wire import Tap
-from .certificate import explain
-from .reach import Door, Heard, Verdict, Way, knock, lookup
+from . import causes
+from .knock import knock
+from .reach import Door, Heard, Knocking, Verdict, Way, lookup
 from .steps import Facts, Outcome, Step
 
-__all__ = ["find_addresses", "try_doors"]
+__all__ = ["Doors", "find_addresses", "try_doors"]
 
 _TLS_PORT, _PORT = 5349, 3478
+# Of a certificate that ends within so many days it is said.
+_SOON = 14
 
 
 def find_addresses(uri: TurnUri, family: Optional[int], seconds: float) -> Tuple[Step, List[str]]:
@@ -34,24 +38,61 @@ def find_addresses(uri: TurnUri, family: Optional[int], seconds: float) -> Tuple
                   "records (RFC 5928) are not asked, so a domain that has only these needs the server's own name here.")
         return step(Outcome.FAILED, str(error.strerror), advice), []
     except (TimeoutError, UnicodeError) as error:
-        return step(Outcome.UNTRIED, str(error), "The system does not answer for this name: look at this host's name servers."), []
+        return step(Outcome.UNTRIED, str(error), "The system does not answer for this name: look at this host's name servers, or "
+                                                 "wait longer (--timeout)."), []
     said = f"{', '.join(hosts)} (SRV records are not asked)" if hosts != [uri.host] else f"{uri.host} is an address"
     facts: Facts = {"addresses": list(hosts)}
     return Step("name", Outcome.OK, said, time.monotonic() - begun, "", facts), hosts
 
 
+class Doors:
+    """The doors of a server, asked at all its addresses at the same time. It ends with its `with`."""
+
+    def __init__(self, uri: TurnUri, hosts: List[str], context: Optional[tls.SSLContext], seconds: float, tap: Tap) -> None:
+        self.wanted = "tls" if uri.secure else uri.transport
+        self._doors = _doors(uri, context)
+        self.knocking = Knocking(self._doors, hosts, functools.partial(knock, seconds=seconds, tap=tap))
+
+    def __enter__(self) -> Doors:
+        return self
+
+    def __exit__(self, *how: object) -> None:
+        self.knocking.__exit__()
+
+    def way(self) -> Optional[Way]:
+        """The way that the rest of the check takes: that of the URI, or for `turn` over UDP, where that is closed, another one."""
+        others = {"udp": ("tcp", "tls"), "tcp": ("tls",), "tls": ()}[self.wanted]
+        found = (self._first(it) for it in (self.wanted, *others))
+        return next((it for it in found if it is not None), None)
+
+    def stream_way(self) -> Optional[Way]:
+        """A way over TCP or TLS, if there is one."""
+        names = (self.wanted, "tcp", "tls") if self.wanted != "udp" else ("tcp", "tls")
+        return next((it for it in map(self._first, names) if it is not None), None)
+
+    def other_ways(self, way: Way) -> List[Way]:
+        """The same door at the other addresses that answer."""
+        heard = self.knocking.heard(way.door.transport)
+        return [Way(it.host, way.door) for it in heard if it.verdict is Verdict.ANSWERS and it.host != way.host]
+
+    def steps(self) -> List[Step]:
+        """The steps of all doors, when all was heard."""
+        heard = {it.transport: self.knocking.heard(it.transport) for it in self._doors}
+        ways = {it.transport: self._first(it.transport) for it in self._doors}
+        return [_judged(it, heard, it.transport == self.wanted, ways) for it in self._doors]
+
+    def _first(self, transport: str) -> Optional[Way]:
+        door = next((it for it in self._doors if it.transport == transport), None)
+        heard = self.knocking.heard(transport) if door is not None else []
+        answering = [it.host for it in heard if it.verdict is Verdict.ANSWERS]
+        return Way(answering[0], door) if door is not None and answering else None
+
+
 def try_doors(uri: TurnUri, hosts: List[str], context: Optional[tls.SSLContext], seconds: float, tap: Tap) -> \
-        Tuple[List[Step], Optional[Way], Optional[Way]]:
-    """The steps of UDP, TCP and TLS; the way that the rest of the check takes, and one over TCP or TLS, if there is one."""
-    wanted = "tls" if uri.secure else uri.transport
-    doors = _doors(uri, context)
-    heard = knock(doors, hosts, seconds, tap)
-    ways = {door.transport: _first(door, heard[door.transport]) for door in doors}
-    steps = [_judged(door, heard, door.transport == wanted, ways) for door in doors]
-    way = ways[wanted]
-    if way is None and wanted == "udp":
-        way = ways["tcp"]
-    return steps, way, way if way is not None and way.door.transport != "udp" else ways.get("tcp") or ways.get("tls")
+        Tuple[List[Step], Optional[Way]]:
+    """The steps of UDP, TCP and TLS, and the way that the rest takes."""
+    with Doors(uri, hosts, context, seconds, tap) as doors:
+        return doors.steps(), doors.way()
 
 
 def _doors(uri: TurnUri, context: Optional[tls.SSLContext]) -> List[Door]:
@@ -63,31 +104,41 @@ def _doors(uri: TurnUri, context: Optional[tls.SSLContext]) -> List[Door]:
     return [*doors, Door("tls", _TLS_PORT, uri.host, secure)] if uri.port == _PORT else doors
 
 
-def _first(door: Door, heard: List[Heard]) -> Optional[Way]:
-    answering = [it.host for it in heard if it.verdict is Verdict.ANSWERS]
-    return Way(answering[0], door) if answering else None
-
-
 def _judged(door: Door, heard: Dict[str, List[Heard]], is_wanted: bool, ways: Dict[str, Optional[Way]]) -> Step:
     """The step of a door."""
     own = heard[door.transport]
     best = next((it for it in own if it.verdict is Verdict.ANSWERS), own[0])
-    facts: Facts = {"port": door.port, "answering": [it.host for it in own if it.verdict is Verdict.ANSWERS]}
+    facts: Facts = {"port": door.port, "answering": [it.host for it in own if it.verdict is Verdict.ANSWERS],
+                    "verdict": best.verdict.name.lower()}
     if best.mapped is not None:
         facts["mapped"] = str(best.mapped)
     if best.certificate is not None:
-        facts.update(names=list(best.certificate.names), ends=best.certificate.end)
+        facts.update(names=list(best.certificate.names), ends=best.certificate.end, days=best.certificate.days_left)
     if best.verdict is Verdict.ANSWERS:
-        rest = [it for it in own if it.verdict is not Verdict.ANSWERS]
-        said = f"port {door.port} answers{_seen(best)}"
-        advice = " ".join(_other(it) for it in rest)
-        return Step(door.transport, Outcome.NOTE if rest else Outcome.OK, said, best.seconds, advice, facts)
-    said = f"port {door.port}: {best.verdict.value}"
+        return _open(door, own, best, is_wanted, facts)
+    said = f"port {door.port}: {causes.shown(best, door.name)}"
     if not is_wanted:
-        advice = _unwanted(door, best) if any(ways.values()) else ""  # Where nothing answers, that is what is to be mended.
+        # Where nothing answers, that is what is to be mended.
+        advice = causes.about_unwanted(door, best) if any(ways.values()) else ""
         return Step(door.transport, Outcome.NOTE, said, best.seconds, advice, facts)
     outcome = Outcome.UNTRIED if all(it.verdict is Verdict.UNREACHABLE for it in own) else Outcome.FAILED
-    return Step(door.transport, outcome, said, best.seconds, _closed(door, best, ways), facts)
+    return Step(door.transport, outcome, said, best.seconds, causes.about_closed(door, best, ways, heard), facts)
+
+
+def _open(door: Door, own: List[Heard], best: Heard, is_wanted: bool, facts: Facts) -> Step:
+    """The step of a door that answers, maybe not at each address, and maybe with something to know."""
+    rest = [it for it in own if it.verdict is not Verdict.ANSWERS]
+    known = [causes.about_other(it) for it in rest]
+    if not best.has_binding:
+        known.append("It answers no Binding request (RFC 8489), so that clients which only ask for their own address get none "
+                     "(coturn: no-stun, or secure-stun).")
+    if best.certificate is not None and best.certificate.days_left < _SOON:
+        known.append(f"The certificate ends in {best.certificate.days_left:.0f} days, on {best.certificate.end}: renew it, and let "
+                     "the server read it again.")
+    is_dead = is_wanted and any(it.verdict is not Verdict.UNREACHABLE for it in rest)
+    outcome = Outcome.FAILED if is_dead else Outcome.NOTE if known else Outcome.OK
+    where = f" at {best.host}" if rest else ""
+    return Step(door.transport, outcome, f"port {door.port} answers{where}{_seen(best)}", best.seconds, " ".join(known), facts)
 
 
 def _seen(heard: Heard) -> str:
@@ -95,50 +146,3 @@ def _seen(heard: Heard) -> str:
     if heard.certificate is not None:
         said += f"; certificate for {', '.join(heard.certificate.names)} until {heard.certificate.end}"
     return said
-
-
-def _other(heard: Heard) -> str:
-    """What it means that one of several addresses does not answer."""
-    if heard.verdict is Verdict.UNREACHABLE:
-        return f"There is no way from here to {heard.host} ({heard.error}), so that it was not tried."
-    return f"{heard.host} does not answer ({heard.verdict.value}): clients that try it first lose time."
-
-
-def _unwanted(door: Door, heard: Heard) -> str:
-    """What it means that another transport than that of the URI does not work."""
-    if isinstance(heard.error, tls.SSLCertVerificationError):
-        return explain(heard.certificate, heard.error, door.name)
-    if door.transport == "tls":
-        return "Without TLS, clients in networks that let nothing else through cannot use the server (coturn: cert=, pkey=)."
-    if door.transport == "tcp":
-        return "Without TCP, clients in networks that block UDP cannot use the server (coturn: remove no-tcp)."
-    return "Without UDP, all data goes over TCP, where what is lost holds up what follows (coturn: remove no-udp)."
-
-
-def _closed(door: Door, heard: Heard, ways: Dict[str, Optional[Way]]) -> str:
-    """Why the door of the URI is closed, and what to do."""
-    where = f"{heard.host} port {door.port}"
-    if isinstance(heard.error, tls.SSLCertVerificationError):
-        return explain(heard.certificate, heard.error, door.name)
-    if door.transport == "udp" and ways.get("tcp") is not None and heard.verdict in (Verdict.SILENT, Verdict.REFUSED):
-        return (f"UDP to {where} is blocked, and TCP is open: a firewall drops UDP, or the server has no-udp. Open UDP {door.port} "
-                f"and the relay ports (coturn: 49152-65535). Until then use {_over_tcp(door)}; the rest of this check does.")
-    layer = "UDP" if door.transport == "udp" else "TCP"
-    if heard.verdict is Verdict.REFUSED:
-        return (f"Nothing listens at {where} over {layer}: is the server started, and is this its port (coturn: listening-port=, "
-                "listening-ip=)?")
-    if heard.verdict is Verdict.SILENT:
-        return (f"Nothing comes back from {where}: the host is down, has another address, or a firewall on the way drops what is "
-                f"sent to {layer} {door.port}.")
-    if heard.verdict is Verdict.UNREACHABLE:
-        return f"There is no way from here to {heard.host} ({heard.error}): look at this host's network first."
-    if heard.verdict is Verdict.NO_TLS:
-        return (f"Something listens at {where}, but speaks no TLS: it is no TURN server, or one without a certificate (coturn: "
-                f"cert=, pkey=). Without TLS the URI is turn:{door.name}?transport=tcp.")
-    return (f"Something listens at {where}, but it is no TURN server: its answers are none of STUN, or there are none. Check the "
-            f"port; the usual ones are {_PORT}, and {_TLS_PORT} for TLS.")
-
-
-def _over_tcp(door: Door) -> str:
-    host = f"[{door.name}]" if ":" in door.name else door.name
-    return f"turn:{host}:{door.port}?transport=tcp"

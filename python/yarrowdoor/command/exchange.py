@@ -1,15 +1,22 @@
 """A client over a wire to the server: it does what is due, and keeps what the server has said to each request."""
 from __future__ import annotations
 
+import contextlib
 import logging
+import math
+import os
+import socket
+import struct
 import time
 from dataclasses import dataclass, field
 from typing import Dict, List, Optional
 
 from .. import reasons
+from ..address import Address
 from ..answers import Event
 from ..client import Times
 from ..plain import PlainSession
+from ..redirect import TRY_ALTERNATE, alternate_of
 from ..wire import Wire
 from .challenge import Challenge
 from .credentials import Credentials
@@ -26,6 +33,11 @@ _METHODS = {
 PATIENT = Times(initial=250_000_000, longest=1_000_000_000, last=60_000_000_000, count=60)
 # How long a signed answer may still come after an error that is unsigned, in seconds: anyone may have sent that.
 GRACE = 0.4
+# An answer that takes so much longer than others, in seconds, is one to a request that was sent again, after 0.25 s or later.
+_AGAIN = 0.2
+# Where the system says how many packets of a stream it has sent again: of its structure `tcp_info` the field
+# tcpi_total_retrans (linux/tcp.h).
+_TOTAL_RETRANS = 100
 
 
 @dataclass(frozen=True)
@@ -38,13 +50,22 @@ class Said:
     is_signed: bool
     """whether the client took it; an error that it ignores may be anyone's"""
     at: float
+    alternate: Optional[Address] = None
+    """the other server that is named, of an error 300"""
+
+    def __str__(self) -> str:
+        return f"{self.code or ''} {self.phrase}".strip() or "an error without a code"
 
 
 @dataclass
 class _Request:
     method: int
     sent: float
+    host: str = ""
+    """of the peer that it is about, if it is about one"""
     answers: List[Said] = field(default_factory=list)
+    is_late: bool = False
+    """whether the answer came so late that a packet must have been lost"""
 
 
 class Exchange(PlainSession):
@@ -64,19 +85,29 @@ class Exchange(PlainSession):
         self.challenge: Optional[Challenge] = None
         self.stale = 0
         """how often the server has said that the nonce is stale (438)"""
+        self.shortest = math.inf
+        """how long the answer took that came soonest, in seconds"""
         self._requests: Dict[bytes, _Request] = {}
 
     # What the server has said
 
-    def last(self, method: int) -> Optional[_Request]:
-        """The last request of this method."""
-        found = [it for it in self._requests.values() if it.method == method]
+    def last(self, method: int, host: str = "") -> Optional[_Request]:
+        """The last request of this method, and about this peer's IP address if it is given."""
+        found = [it for it in self._requests.values() if it.method == method and host in ("", it.host)]
         return found[-1] if found else None
 
-    def answer_to(self, method: int) -> Optional[Said]:
+    def answer_to(self, method: int, host: str = "") -> Optional[Said]:
         """What the server has answered to the last request of a method, unless that is a challenge, which the client answers."""
-        request = self.last(method)
+        request = self.last(method, host)
         return request.answers[-1] if request is not None and request.answers else None
+
+    def is_unheard(self) -> bool:
+        """Whether nothing at all has come back."""
+        return self.challenge is None and not any(it.answers for it in self._requests.values())
+
+    def count_late(self) -> int:
+        """How many answers came so late that a packet must have been lost, and of a stream how many packets were sent again."""
+        return sum(it.is_late for it in self._requests.values()) + (_resent(self.wire) if self.wire.is_stream else 0)
 
     def error_of(self, method: int) -> Optional[Said]:
         """The same, where it is an error with a code."""
@@ -88,10 +119,10 @@ class Exchange(PlainSession):
         found = [it for it in self._requests.values() if it.method == method and it.answers]
         return found[-1].answers[0].at - found[-1].sent if found else 0.0
 
-    def is_refused(self, method: int) -> bool:
+    def is_refused(self, method: int, host: str = "") -> bool:
         """Whether an error has answered the last request of a method, and nothing signed has come soon after an unsigned one."""
-        said = self.error_of(method)
-        return said is not None and (said.is_signed or time.monotonic() >= said.at + GRACE)
+        said = self.answer_to(method, host)
+        return said is not None and said.code > 0 and (said.is_signed or time.monotonic() >= said.at + GRACE)
 
     # What happens
 
@@ -104,13 +135,15 @@ class Exchange(PlainSession):
         told = f"{code} {phrase}" if code else "a success"
         log.info("%s: %s answered by %s", self.wire.local, _METHODS.get(request.method, request.method), told)
         self.stale += code == 438
+        self._times(request, now)
         if self.challenge is None and code == 401 and not is_ignored:
             self.challenge = Challenge.of(packet)
             self.is_over = not self._can_sign
             return  # which is no refusal: the client asks again, and signs.
         if code == 438 and not is_ignored:
             return
-        request.answers.append(Said(code, phrase, not is_ignored, now))
+        alternate = alternate_of(packet) if code == TRY_ALTERNATE else None
+        request.answers.append(Said(code, phrase, not is_ignored, now, alternate))
         self.judged = now + GRACE if code and is_ignored else self.judged
         if request.method == reasons.ALLOCATE and not code and not is_ignored:
             self.lifetime = _seconds(reasons.attribute(packet, reasons.LIFETIME))
@@ -119,14 +152,30 @@ class Exchange(PlainSession):
         super().sent(packet)
         message = reasons.read(packet)
         if message is not None and message.is_request and message.transaction not in self._requests:
-            self._requests[message.transaction] = _Request(message.method, time.monotonic())
+            value = reasons.attribute(packet, reasons.XOR_PEER_ADDRESS)
+            peer = reasons.xored(value, message.transaction) if value is not None else None
+            self._requests[message.transaction] = _Request(message.method, time.monotonic(), peer.host if peer is not None else "")
             log.info("%s: %s sent, %d bytes", self.wire.local, _METHODS.get(message.method, message.method), len(packet))
+
+    def _times(self, request: _Request, now: float) -> None:
+        """Looks how long an answer took: one that is much longer than the shortest came of a request that was sent again."""
+        took = now - request.sent
+        self.shortest = min(self.shortest, took)
+        request.is_late = request.is_late or took > 1.5 * self.shortest + _AGAIN
 
     def refused(self, error: OSError) -> None:
         log.info("%s: %s", self.wire.local, error)
 
     def told(self, event: Event) -> None:
         log.info("%s: %s", self.wire.local, event)
+
+
+def _resent(wire: Wire) -> int:
+    """How many packets of a stream the system has sent again, or 0 where it does not say."""
+    with contextlib.suppress(OSError, AttributeError, struct.error), socket.socket(fileno=os.dup(wire.fileno())) as sock:
+        info = sock.getsockopt(socket.IPPROTO_TCP, socket.TCP_INFO, 256)
+        return int(struct.unpack_from("=I", info, _TOTAL_RETRANS)[0])
+    return 0
 
 
 def _seconds(value: Optional[bytes]) -> Optional[int]:

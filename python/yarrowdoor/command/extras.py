@@ -3,18 +3,20 @@ from __future__ import annotations
 
 import ipaddress
 import time
-from typing import Callable, List
+from dataclasses import replace
+from typing import Callable, Iterator, List, Optional, Sequence
 
 from .. import reasons
 from ..driver import drive
 from ..errors import Ended, Refused
 from . import advice
+from .credentials import Credentials
 from .driver import leave_all
 from .exchange import Exchange
-from .relays import allocate
-from .steps import Outcome, Step
+from .relays import allocate, facts_of
+from .steps import Facts, Outcome, Step
 
-__all__ = ["nonce_step", "quota_step", "streams_step"]
+__all__ = ["flows_step", "limit_step", "nonce_step", "quota_step", "server_step", "streams_step"]
 
 # Addresses that nobody has (RFC 5737): a permission for one lets nobody send.
 _NOBODY = ipaddress.ip_network("192.0.2.0/24")
@@ -31,7 +33,33 @@ def streams_step(exchange: Exchange, seconds: float) -> Step:
         facts = {"relayed": str(exchange.address)}
         return Step("streams", Outcome.OK, f"{exchange.address} over TCP, for {exchange.lifetime} s", spent, "", {**facts})
     return Step("streams", Outcome.NOTE, "no relayed address for TCP", spent,
-                advice.about_streams(exchange.error_of(reasons.ALLOCATE)))
+                advice.about_streams(exchange.error_of(reasons.ALLOCATE)), facts_of(exchange.error_of(reasons.ALLOCATE)))
+
+
+def limit_step(third: Exchange, credentials: Credentials, second: Exchange) -> Iterator[Step]:
+    """What it means that a third address at one time meets a limit, where a second one met none."""
+    said = third.error_of(reasons.ALLOCATE)
+    if said is not None and said.code in advice.QUOTAS and second.address is not None:
+        yield Step("limit", Outcome.FAILED, f"the third relayed address at one time is refused: {said}", 0.0,
+                   advice.about_refusal(said, credentials, ""), facts_of(said))
+
+
+def server_step(number: int, host: str, step: Step) -> Step:
+    """The step of a further address of the name, made of that of its relayed address."""
+    told = f"At {host}: {step.advice} Clients get to this address or to another one, as it happens." \
+        if step.outcome is Outcome.FAILED else step.advice
+    return replace(step, name=f"server-{number}", said=f"{host}: {step.said}", advice=told, facts={**step.facts, "address": host})
+
+
+def flows_step(exchanges: Sequence[Exchange]) -> Optional[Step]:
+    """What it means that nothing at all has come back to some local ports, where others are answered; None where all are."""
+    silent = [it for it in exchanges if it.is_unheard()]
+    if not silent:
+        return None
+    late, stale = sum(it.count_late() for it in exchanges), max(it.stale for it in exchanges)
+    told = advice.about_silence(True, late > 0, stale, max(time.monotonic() - it.begun for it in silent))
+    facts: Facts = {"flows": len(exchanges), "silent": len(silent)}
+    return Step("flows", Outcome.FAILED, f"{len(silent)} of {len(exchanges)} local ports were not answered", 0.0, told, facts)
 
 
 def nonce_step(exchange: Exchange, longest: float, told: Callable[[int], None]) -> Step:
@@ -82,7 +110,8 @@ def _refused(exchange: Exchange, granted: int, spent: float) -> Step:
         whose = "of this user (coturn: user-quota=)" if said.code == 486 else "of the server (coturn: total-quota=, max-port=)"
         told = f"{granted} addresses at one time; the next one is refused: {said.code} {said.phrase}"
         limit = f"That is a limit {whose}: each call takes one address or two for each party."
-        return Step("quota", Outcome.OK, told, spent, limit, {"granted": granted, "limit": True})
+        return Step("quota", Outcome.OK, told, spent, limit, {"granted": granted, "limit": True, **facts_of(said)})
     told = f"{said.code} {said.phrase}".strip() if said is not None else "no answer"
     advised = "The server refuses a further address for another reason than a quota: see its log."
-    return Step("quota", Outcome.FAILED, f"{granted} addresses at one time; then {told}", spent, advised, {"granted": granted})
+    facts: Facts = {"granted": granted, **facts_of(said)}
+    return Step("quota", Outcome.FAILED, f"{granted} addresses at one time; then {told}", spent, advised, facts)

@@ -11,7 +11,7 @@ import ssl as tls
 import sys
 from typing import Iterator, List, Optional
 
-from ..errors import Ended, LibraryError, Refused
+from ..errors import Ended, LibraryError, Refused, YarrowdoorError
 from ..library import load
 from ..wire import Tap
 from .arguments import parser
@@ -20,7 +20,7 @@ from .capture import Capture, CaptureError
 from .check import Plan, check
 from .credentials import Credentials, NoCredentials, resolve
 from .echo import echo
-from .output import JsonOutput, TextOutput
+from .output import JSON_VERSION, JsonOutput, TextOutput
 from .pair import CannotRelay, Server
 from .relay import relay
 from .steps import status_of
@@ -56,12 +56,25 @@ def main(words: Optional[List[str]] = None) -> int:
         return _INTERRUPTED
 
 
+def _check(options: argparse.Namespace, plan: Plan, tap: Tap) -> int:
+    """A check, and its exit status. What was found before an error, or an interrupt, is printed too."""
+    output = JsonOutput(sys.stdout, str(options.uri)) if options.json else TextOutput(sys.stdout)
+    try:
+        check(plan, output, tap)
+    except KeyboardInterrupt:
+        return output.fail("interrupted", _INTERRUPTED) if options.json else _INTERRUPTED
+    except BrokenPipeError:
+        raise
+    except (CaptureError, LibraryError, OSError, ValueError, YarrowdoorError) as error:
+        return output.fail(str(error), _CANNOT)
+    return output.end()
+
+
 def _run(options: argparse.Namespace, credentials: Optional[Credentials], context: Optional[tls.SSLContext], tap: Tap) -> int:
     if options.command == "check":
-        output = JsonOutput(sys.stdout, str(options.uri)) if options.json else TextOutput(sys.stdout)
-        plan = Plan(options.uri, credentials, context, options.family, options.timeout, options.nonce, options.quota)
-        check(plan, output, tap)
-        return output.end()
+        plan = Plan(options.uri, credentials, context, options.family, options.timeout, options.nonce, options.quota, options.peer,
+                    options.max_loss)
+        return _check(options, plan, tap)
     if credentials is None:
         raise NoCredentials("there are no credentials: name a user by --user NAME")
     server = Server(options.uri, credentials, context, options.family, options.timeout, tap)
@@ -97,7 +110,7 @@ def _tap(path: Optional[str]) -> Iterator[Tap]:
 
 def _tell(options: argparse.Namespace, why: str, status: int) -> int:
     if options.json:
-        print(json.dumps({"uri": str(options.uri), "status": status, "error": why}))
+        print(json.dumps({"version": JSON_VERSION, "uri": str(options.uri), "status": status, "error": why, "steps": []}))
     else:
         print(f"yarrowdoor: {why}", file=sys.stderr)
     return status

@@ -1,18 +1,22 @@
 """What is printed: a line for each step, in colour on a terminal, or one object of JSON; and a bar while something lasts."""
 from __future__ import annotations
 
+import itertools
 import json
 import os
 import sys
 import textwrap
+from dataclasses import replace
 from typing import List, Optional, TextIO
 
 from .steps import Outcome, Step, status_of
 
-__all__ = ["Bar", "JsonOutput", "Output", "TextOutput"]
+__all__ = ["Bar", "JSON_VERSION", "JsonOutput", "Output", "TextOutput"]
 
 _COLOURS = {Outcome.OK: "32", Outcome.NOTE: "33", Outcome.FAILED: "31", Outcome.UNTRIED: "35"}
 _BAR = 30
+# Of the object of JSON. It grows when a member goes, or means something else, and not with new members.
+JSON_VERSION = 1
 
 
 class Bar:
@@ -43,12 +47,20 @@ class Output:
         self._file, self.steps = file, []  # type: TextIO, List[Step]
 
     def add(self, step: Step) -> None:
-        """A step is done."""
-        self.steps.append(step)
+        """A step is done. Each has a name of its own: a second one of the same name is `NAME-2`."""
+        taken = {it.name for it in self.steps}
+        others = (f"{step.name}-{number}" for number in itertools.count(2))
+        name = step.name if step.name not in taken else next(it for it in others if it not in taken)
+        self.steps.append(replace(step, name=name))
 
     def end(self) -> int:
         """Nothing more comes: gives the exit status."""
         return status_of(self.steps)
+
+    def fail(self, why: str, status: int) -> int:
+        """The check has ended before its end: gives the exit status."""
+        print(f"yarrowdoor: {why}", file=sys.stderr)
+        return status
 
     def bar(self, what: str, count: int) -> Bar:
         """Shows how far something is."""
@@ -66,6 +78,7 @@ class TextOutput(Output):
 
     def add(self, step: Step) -> None:
         super().add(step)
+        step = self.steps[-1]
         if self._bar is not None:
             self._bar.end()  # Where what it shows has ended early, it is still there.
             self._bar = None
@@ -84,7 +97,8 @@ class TextOutput(Output):
         if failed:
             print(f"\nfails: {', '.join(failed)}", file=self._file)
         else:
-            print("\nall is well" if status == 0 else "\ncannot be tried from here", file=self._file)
+            untried = [it.name for it in self.steps if it.outcome is Outcome.UNTRIED]
+            print("\nall is well" if status == 0 else f"\ncannot be tried from here: {', '.join(untried)}", file=self._file)
         return status
 
     def bar(self, what: str, count: int) -> Bar:
@@ -93,15 +107,22 @@ class TextOutput(Output):
 
 
 class JsonOutput(Output):
-    """One object, when all is done: `status`, and `steps` with `name`, `outcome`, `seconds`, `said`, `advice` and `facts`."""
+    """One object, when all is done: `version`, `status`, and `steps` with `name`, `outcome`, `seconds`, `said`, `advice` and
+    `facts`. Where the check has ended before its end there is an `error` too, beside the steps that were done."""
 
     def __init__(self, file: TextIO, uri: str) -> None:
         super().__init__(file)
         self._uri = uri
 
     def end(self) -> int:
-        status = super().end()
+        return self._print(super().end())
+
+    def fail(self, why: str, status: int) -> int:
+        return self._print(status, error=why)
+
+    def _print(self, status: int, **more: str) -> int:
         steps = [{"name": it.name, "outcome": it.outcome.value, "seconds": round(it.seconds, 6), "said": it.said,
                   "advice": it.advice, "facts": it.facts} for it in self.steps]
-        print(json.dumps({"uri": self._uri, "status": status, "steps": steps}, indent=2), file=self._file)
+        found = {"version": JSON_VERSION, "uri": self._uri, "status": status, **more, "steps": steps}
+        print(json.dumps(found, indent=2), file=self._file, flush=True)
         return status

@@ -46,7 +46,7 @@ def find_way(server: Server) -> Way:
     step, hosts = find_addresses(server.uri, server.family, server.seconds)
     if not hosts:
         raise CannotRelay(step)
-    steps, way, _ = try_doors(server.uri, hosts, server.context, server.seconds, server.tap)
+    steps, way = try_doors(server.uri, hosts, server.context, server.seconds, server.tap)
     wanted = [it for it in steps if it.name == ("tls" if server.uri.secure else server.uri.transport)]
     if way is None or wanted[0].outcome in (Outcome.FAILED, Outcome.UNTRIED):
         raise CannotRelay(wanted[0])

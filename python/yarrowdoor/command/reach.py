@@ -1,43 +1,38 @@
-"""Whether anything answers at the server's addresses, over UDP, TCP and TLS, and whether it is a TURN server."""
+"""The ways to a server, what can be at them, and the addresses of a name."""
 from __future__ import annotations
 
-import contextlib
 import enum
-import errno
-import os
 import queue
-import select
 import socket
 import ssl as tls
 import threading
-import time
 from concurrent.futures import Future, ThreadPoolExecutor
 from dataclasses import dataclass
-from typing import Dict, List, Optional, Sequence, Set, Tuple, Union
+from typing import Callable, Dict, List, Optional, Sequence, Tuple, Union
 
-from .. import reasons
 from ..address import Address
-from ..client import Client
 from ..servers import interleaved
-from ..wire import SilentHandshake, Tap, Wire, connect_stream, connect_udp
-from .certificate import Certificate, of_peer, read_refused
+from .certificate import Certificate
+from .icmp import Rejection
 
-__all__ = ["Door", "Heard", "Verdict", "Way", "knock", "lookup"]
-
-# When a datagram is sent, in seconds from the beginning.
-_TIMES = (0.0, 0.25, 0.75)
+__all__ = ["Door", "Heard", "Knocking", "Verdict", "Way", "lookup"]
 
 
 class Verdict(enum.Enum):
     """What is at an address."""
 
     ANSWERS = "a server of STUN or TURN answers"
+    LATE = "the answer comes too late"
+    ELSEWHERE = "the answer comes from another address"
     REFUSED = "nothing listens"
     SILENT = "no answer"
     MUTE = "the connection is accepted, and nothing answers on it"
+    CLOSED = "the connection is accepted, and closed"
     STRANGE = "something else answers"
+    REJECTED = "rejected"
     UNREACHABLE = "there is no way to it"
     CERTIFICATE = "the certificate is refused"
+    HANDSHAKE = "TLS fails"
     NO_TLS = "something answers that speaks no TLS"
 
 
@@ -72,6 +67,11 @@ class Heard:
     """this host's own address as the server saw it"""
     error: Optional[Exception] = None
     certificate: Optional[Certificate] = None
+    rejection: Optional[Rejection] = None
+    other: str = ""
+    """what else was seen: the address that answers, the first bytes of an answer, or `"plain"` and `"tls"` for what the port is"""
+    has_binding: bool = True
+    """whether a Binding request was answered, and not by an error"""
 
 
 def lookup(host: str, port: int, family: Optional[int], seconds: float) -> List[str]:
@@ -102,87 +102,30 @@ def _scoped(where: Tuple[object, ...]) -> str:
     return f"{where[0]}%{where[3]}" if len(where) == 4 and where[3] and "%" not in str(where[0]) else str(where[0])
 
 
-def knock(doors: Sequence[Door], hosts: Sequence[str], seconds: float, tap: Tap) -> Dict[str, List[Heard]]:
-    """Asks at all doors of all addresses at the same time, each for at most so many seconds: by transport, what was heard."""
-    with ThreadPoolExecutor(max(1, min(32, len(doors) * len(hosts)))) as pool:
-        asked: List[Tuple[Door, Future[Heard]]] = []
-        for door in doors:
-            asked += [(door, pool.submit(_ask, door, it, seconds, tap)) for it in hosts]
-        found: Dict[str, List[Heard]] = {it.transport: [] for it in doors}
-        for door, answer in asked:
-            found[door.transport].append(answer.result())
-        return found
+class Knocking:
+    """Asks at all doors of all addresses at the same time, by what is given a door and an address. It ends with its `with`."""
 
+    def __init__(self, doors: Sequence[Door], hosts: Sequence[str], ask: Callable[[Door, str], Heard]) -> None:
+        self._pool = ThreadPoolExecutor(max(1, min(32, len(doors) * len(hosts))))
+        self._asked: Dict[str, List[Future[Heard]]] = {
+            door.transport: [self._pool.submit(ask, door, it) for it in hosts] for door in doors}
 
-def _ask(door: Door, host: str, seconds: float, tap: Tap) -> Heard:
-    begun = time.monotonic()
-    try:
-        wire = connect_udp(host, door.port, tap) if door.transport == "udp" else \
-            connect_stream(host, door.port, seconds, tap, door.context, door.name)
-    except OSError as error:
-        return _not_connected(door, host, seconds, begun, error)
-    with contextlib.closing(wire):
-        verdict, mapped, problem = _talk(wire, begun + seconds)
-        known = wire.certificate()
-        certificate = of_peer(known) if known else None
-    return Heard(verdict, host, time.monotonic() - begun, mapped, problem, certificate)
+    def __enter__(self) -> Knocking:
+        return self
 
+    def __exit__(self, *how: object) -> None:
+        self._pool.shutdown()
 
-def _not_connected(door: Door, host: str, seconds: float, begun: float, error: OSError) -> Heard:
-    certificate = None
-    if isinstance(error, tls.SSLCertVerificationError):
-        verdict, certificate = Verdict.CERTIFICATE, read_refused(host, door.port, door.name, seconds)
-    elif isinstance(error, tls.SSLError) or isinstance(error, ConnectionResetError):
-        verdict = Verdict.NO_TLS
-    elif isinstance(error, ConnectionRefusedError):
-        verdict = Verdict.REFUSED
-    elif isinstance(error, SilentHandshake):
-        verdict = Verdict.MUTE
-    elif isinstance(error, TimeoutError) or error.errno in (errno.ETIMEDOUT, None):
-        verdict = Verdict.SILENT
-    else:
-        verdict = Verdict.UNREACHABLE
-    return Heard(verdict, host, time.monotonic() - begun, None, error, certificate)
+    def heard(self, transport: str) -> List[Heard]:
+        """What was heard at the door of this transport, by address, when all of it was."""
+        return [it.result() for it in self._asked[transport]]
 
+    def is_done(self) -> bool:
+        """Whether all was heard at all doors."""
+        return all(it.done() for asked in self._asked.values() for it in asked)
 
-def _talk(wire: Wire, deadline: float) -> Tuple[Verdict, Optional[Address], Optional[Exception]]:
-    """Sends a Binding request and an ALLOCATE that is not signed, and looks at what comes: a TURN server answers at least one."""
-    packets, ids = _requests(wire)
-    frames, begun, due, has_come = reasons.Frames(), time.monotonic(), list(_TIMES), False
-    try:
-        while (now := time.monotonic()) < deadline:
-            if due and now >= begun + due[0]:
-                due = due[1:] if not wire.is_stream else []
-                for packet in packets:
-                    wire.send(packet)
-            wait = min(deadline, begun + due[0] if due else deadline) - now
-            if not wire.has_more() and not select.select([wire], [], [], max(0.0, wait))[0]:
-                continue
-            data = wire.receive()
-            if data is None:
-                continue
-            messages = [reasons.read(it) for it in (frames.messages(data) if wire.is_stream else [data])]
-            mine = [it for it in messages if it is not None and it.is_response and it.transaction in ids]
-            if mine:
-                return Verdict.ANSWERS, mine[0].mapped, None
-            has_come = True
-            if not data and wire.is_stream:
-                return Verdict.STRANGE, None, None
-    except ConnectionRefusedError as error:
-        return Verdict.REFUSED, None, error
-    except OSError as error:
-        return Verdict.STRANGE if wire.is_stream else Verdict.UNREACHABLE, None, error
-    return Verdict.STRANGE if has_come else Verdict.MUTE if wire.is_stream else Verdict.SILENT, None, None
-
-
-def _requests(wire: Wire) -> Tuple[List[bytes], Set[bytes]]:
-    """The two requests, and their transaction IDs. What answers them is known by these."""
-    transaction = os.urandom(12)
-    packets = [reasons.binding_request(transaction)]
-    client = Client(wire.local, wire.remote, "check", "check", transport=wire.transport)
-    allocate = client.poll_transmit(0)
-    message = reasons.read(allocate.data) if allocate is not None else None
-    client.close()
-    if allocate is None or message is None:
-        return packets, {transaction}
-    return [*packets, allocate.data], {transaction, message.transaction}
+    def when_heard(self, do: Callable[[], None]) -> None:
+        """Has something done, by another thread, whenever something was heard."""
+        for asked in self._asked.values():
+            for it in asked:
+                it.add_done_callback(lambda _: do())

@@ -1,0 +1,166 @@
+"""Checks that end too early: a server that goes in the middle, a broken handshake, an interrupt. Each has an answer."""
+import contextlib
+import io
+import json
+import os
+import shutil
+import signal
+import socket
+import ssl
+import tempfile
+import threading
+import unittest
+from typing import Any, Callable, Dict, Iterator, List, Tuple
+from unittest import mock
+
+from yarrowdoor.command import joining, output, traffic
+from yarrowdoor.command.credentials import Credentials
+from yarrowdoor.command.driver import leave_all
+from yarrowdoor.command.exchange import Exchange
+from yarrowdoor.command.pair import Server, find_way, join
+from yarrowdoor.command.steps import Outcome, Step
+from yarrowdoor.uri import parse
+from yarrowdoor.wire import Tap
+
+from . import coturn, turn_servers
+from .test_command import check, command
+from .threaded import Ipv4Server, Threaded
+
+
+def json_of(*words: str) -> Tuple[int, Dict[str, Any]]:
+    """The status of a check, and its whole object of JSON."""
+    status, out, _ = command("check", *words, "--user", "user", "--json")
+    found: Dict[str, Any] = json.loads(out)
+    return status, found
+
+
+def hooked(name: str, do: Callable[[], object]) -> Any:
+    """Has something done as soon as a step of this name is added."""
+    add = output.JsonOutput.add
+
+    def added(self: output.JsonOutput, step: Step) -> None:
+        add(self, step)
+        if step.name == name:
+            do()
+
+    return mock.patch.object(output.JsonOutput, "add", added)
+
+
+class Payload(unittest.TestCase):
+    def test_nothing_that_passes_is_an_answer(self) -> None:
+        with Threaded(Ipv4Server(), loss=1.0) as server:
+            opened: List[Exchange] = []
+            asked = Server(parse(server.uri), Credentials("user", "pass"), None, None, 1.5, Tap())
+            try:
+                trip = join(asked, find_way(asked), opened, None, False)
+                step = traffic.payload_step(trip, 65_468, 0.01)
+            finally:
+                leave_all(opened)
+        self.assertEqual((step.outcome, step.facts["bytes"]), (Outcome.FAILED, 0))
+        self.assertIn("none passes", step.said)
+
+
+@unittest.skipUnless(coturn.IS_HERE, coturn.WHY)
+class Killed(unittest.TestCase):
+    """The server is killed when a step is done, and what was found by then is kept."""
+
+    def killed_after(self, name: str, form: str) -> List[Dict[str, Any]]:
+        with coturn.coturn() as server, hooked(name, lambda: os.kill(server.pid, signal.SIGKILL)):
+            status, found = json_of(server.uri(form))
+        self.assertEqual((status, found["status"]), (1, 1))
+        steps: List[Dict[str, Any]] = found["steps"]
+        self.assertEqual((steps[-1]["name"], steps[-1]["outcome"]), ("connection", "failed"))
+        self.assertIn("went in the middle of this check", steps[-1]["advice"])
+        for step in steps[:-1]:
+            self.assertNotIn("firewall", step["advice"] if step["outcome"] == "failed" else "")
+        return steps
+
+    def test_over_udp(self) -> None:
+        for name in ("challenge", "permission", "messages"):
+            with self.subTest(name):
+                steps = self.killed_after(name, "turn:127.0.0.1:{port}")
+                self.assertIn(name, [it["name"] for it in steps])
+
+    def test_over_tcp(self) -> None:
+        for name in ("allocation", "messages"):
+            with self.subTest(name):
+                steps = self.killed_after(name, "turn:127.0.0.1:{port}?transport=tcp")
+                self.assertIn(name, [it["name"] for it in steps])
+                self.assertNotIn("relays no TCP", json.dumps(steps))
+
+
+@contextlib.contextmanager
+def wanting_a_certificate(room: str) -> Iterator[Tuple[int, str]]:
+    """A server of TLS that ends each connection, since the client has no certificate: its port, and its certificate."""
+    files = turn_servers.make_certificate(room, "localhost")
+    context = ssl.SSLContext(ssl.PROTOCOL_TLS_SERVER)
+    context.load_cert_chain(*files)
+    context.load_verify_locations(files[0])
+    context.verify_mode = ssl.CERT_REQUIRED
+    with socket.create_server(("127.0.0.1", 0)) as listening:
+        def serve() -> None:
+            with contextlib.suppress(OSError):
+                while True:
+                    one, _ = listening.accept()
+                    with contextlib.suppress(OSError):
+                        context.wrap_socket(one, server_side=True).close()
+
+        thread = threading.Thread(target=serve)
+        thread.start()
+        try:
+            yield listening.getsockname()[1], files[0]
+        finally:
+            listening.shutdown(socket.SHUT_RDWR)
+            thread.join()
+
+
+@unittest.skipUnless(shutil.which("openssl"), "openssl is not installed, which makes a certificate")
+class Handshake(unittest.TestCase):
+    def test_one_that_breaks_after_its_end_is_a_step(self) -> None:
+        with tempfile.TemporaryDirectory() as room, wanting_a_certificate(room) as (port, certificate):
+            for _ in range(3):  # The alert comes before the certificate is read, or after it.
+                status, found = json_of(f"turns:localhost:{port}", "--ca", certificate)
+                self.assertEqual((status, found["steps"][-1]["name"], found["steps"][-1]["outcome"]), (1, "tls", "failed"))
+                self.assertNotIn("error", found)
+
+
+class Json(unittest.TestCase):
+    def test_it_has_a_version_and_each_step_a_name_of_its_own(self) -> None:
+        shown = output.JsonOutput(io.StringIO(), "turn:x")
+        for _ in range(3):
+            shown.add(Step("allocation", Outcome.OK, "said"))
+        self.assertEqual([it.name for it in shown.steps], ["allocation", "allocation-2", "allocation-3"])
+        with Threaded(Ipv4Server()) as server:
+            _, found = json_of(server.uri)
+        names = [it["name"] for it in found["steps"]]
+        self.assertEqual((found["version"], len(names)), (1, len({*names})))
+
+    def test_an_interrupt_keeps_what_was_found(self) -> None:
+        def interrupt() -> None:
+            raise KeyboardInterrupt
+
+        with Threaded(Ipv4Server()) as server, hooked("permission", interrupt):
+            status, found = json_of(server.uri)
+            self.assertEqual(server.server.allocations, {})
+        self.assertEqual((status, found["status"], found["error"]), (130, 130, "interrupted"))
+        self.assertEqual(found["steps"][-1]["name"], "permission")
+
+    def test_an_error_keeps_what_was_found(self) -> None:
+        with Threaded(Ipv4Server()) as server, mock.patch.object(joining, "permission_step", side_effect=ValueError("planted")):
+            status, found = json_of(server.uri)
+            self.assertEqual(server.server.allocations, {})
+        self.assertEqual((status, found["error"]), (2, "planted"))
+        self.assertIn("allocation", [it["name"] for it in found["steps"]])
+
+    def test_what_cannot_be_tried_has_the_same_form(self) -> None:
+        status, out, _ = command("check", "turn:127.0.0.1:1", "--user", "u", "--json", env={})
+        self.assertEqual((status, [*json.loads(out)]), (2, ["version", "uri", "status", "error", "steps"]))
+
+    def test_each_name_of_a_step_is_of_one_step(self) -> None:
+        with Threaded(Ipv4Server(allocate_error=486)) as server:
+            _, steps = check(server)
+        self.assertEqual(steps["allocation"]["facts"]["code"], 486)
+
+
+if __name__ == "__main__":
+    unittest.main()

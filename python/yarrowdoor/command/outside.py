@@ -1,0 +1,183 @@
+"""A peer outside of the server: a plain socket of this host, which sends to the relayed address, and is sent to from there.
+
+Packets between two relayed addresses of one server meet no firewall, no NAT, and no address that is not its own. These do.
+"""
+from __future__ import annotations
+
+import contextlib
+import ipaddress
+import os
+import socket
+import time
+from typing import Optional, Sequence, Set
+
+from .. import reasons
+from ..address import Address
+from ..driver import drive
+from ..errors import Ended, Refused
+from . import advice
+from .exchange import Exchange
+from .relays import facts_of, is_judged
+from .steps import Facts, Outcome, Step
+
+__all__ = ["Outside", "host_of_peer", "is_own_host", "peer_step", "untried_step"]
+
+COUNT = 3
+# How long packets of one direction are waited for at least, in seconds, and for how many round trips of a request.
+_WAIT, _TRIPS = 0.4, 2
+
+
+def is_own_host(*hosts: str) -> bool:
+    """Whether any of these IP addresses is one of this host."""
+    for host in hosts:
+        with contextlib.suppress(OSError), _socket(host) as sock:
+            sock.bind((host, 0))
+            return True
+    return False
+
+
+def host_of_peer(exchange: Exchange, relayed: Address) -> Optional[str]:
+    """The IP address at which peers see this host, or None where it has none of the family of the relayed address."""
+    if exchange.mapped is not None and (":" in exchange.mapped.host) == (":" in relayed.host):
+        return exchange.mapped.host
+    with contextlib.suppress(OSError), _socket(relayed.host) as sock:
+        sock.connect((relayed.host, relayed.port))
+        return str(sock.getsockname()[0])
+    return None
+
+
+def untried_step(why: str, advised: str) -> Step:
+    """The step where it cannot be tried."""
+    return Step("outside", Outcome.NOTE, f"not tried: {why}", 0.0, advised)
+
+
+class Outside:
+    """A socket of this host, as a peer of a relayed address. It ends with its `with`."""
+
+    def __init__(self, exchange: Exchange, relayed: Address, host: str) -> None:
+        self._exchange, self._relayed, self.host = exchange, relayed, host
+        self._socket = _socket(relayed.host)
+        self._socket.setblocking(False)
+        self._socket.bind(("", 0))
+        # Where a NAT is between, this socket is not reached before it has sent something that arrives.
+        self._is_translated = host != exchange.wire.local[0]
+        self._tag = b"\xff" + os.urandom(7)
+        self._inward: Set[bytes] = set()
+        self._outward: Set[bytes] = set()
+        self._has_sent = False
+        self.seen: Optional[Address] = None
+        """where the server saw this socket"""
+        self._source: Optional[str] = None
+        self._begun = self._last = time.monotonic()
+
+    def __enter__(self) -> Outside:
+        return self
+
+    def __exit__(self, *how: object) -> None:
+        self._socket.close()
+
+    def fileno(self) -> int:
+        """What `drive` waits for."""
+        return self._socket.fileno()
+
+    def begin(self) -> None:
+        """Sends to the relayed address. What comes of it is taken whenever the exchange is driven."""
+        self._begun = time.monotonic()
+        self._exchange.on_data = self.take
+        for number in range(COUNT):
+            with contextlib.suppress(OSError):
+                self._socket.sendto(self._tag + b"i%d" % number, (self._relayed.host, self._relayed.port))
+
+    def take(self, data: bytes, peer: Address) -> None:
+        """Takes what has come to the relayed address, and sends back to where the first packet came from."""
+        if data.startswith(self._tag + b"i"):
+            self._inward.add(data)
+            self._last = time.monotonic()
+            self.seen = self.seen or peer
+            self._send(peer)
+
+    def _send(self, to: Address) -> None:
+        if not self._has_sent:
+            self._has_sent = True
+            for number in range(COUNT):
+                with contextlib.suppress(Ended, Refused):
+                    self._exchange.send(self._tag + b"o%d" % number, to)
+
+    def read(self) -> None:
+        """Takes what has come to this socket. What is not of this step is sent back, as a peer of `messages` does."""
+        with contextlib.suppress(OSError):
+            data, source = self._socket.recvfrom(65_536)
+            if data.startswith(self._tag + b"o"):
+                self._outward.add(data)
+                self._last = time.monotonic()
+                self._source = str(source[0])
+            elif source[0] == self._relayed.host:
+                self._socket.sendto(data, source)
+
+    def finish(self, others: Sequence[Exchange]) -> Step:
+        """Waits for what is still to come, and judges."""
+        wait = max(_WAIT, _TRIPS * self._exchange.round_trip(reasons.ALLOCATE) + 0.1)
+        files = [(self.fileno(), self.read)]
+        drive(others, lambda: len(self._inward) == COUNT, self._begun + wait - time.monotonic(), files)
+        if not self._has_sent and not self._is_translated:
+            self._send(Address(self.host, self._socket.getsockname()[1]))
+        if self._has_sent:
+            drive(others, lambda: len(self._outward) == COUNT, wait, files)
+        is_all = len(self._inward) == len(self._outward) == COUNT
+        return self._step((self._last if is_all else time.monotonic()) - self._begun)
+
+    def _step(self, spent: float) -> Step:
+        facts: Facts = {"in": len(self._inward), "out": len(self._outward) if self._has_sent else None, "sent": COUNT,
+                        "peer": str(self.seen) if self.seen is not None else self.host}
+        out = f"{len(self._outward)} of {COUNT} from there here" if self._has_sent else "from there was not tried (NAT)"
+        said = f"{len(self._inward)} of {COUNT} packets from here ({facts['peer']}) get to {self._relayed}, {out}"
+        wrong = self._wrong()
+        return Step("outside", Outcome.FAILED if wrong else Outcome.OK, said, spent, wrong, facts)
+
+    def _wrong(self) -> str:
+        """What is wrong, or nothing."""
+        relayed = self._relayed.host
+        if self._source is not None and self._source != relayed:
+            return (f"What is sent from the relayed address {relayed} comes from {self._source}: the server tells its clients an "
+                    f"address that is not its own (coturn: external-ip={self._source}, or remove external-ip=), or a NAT before it "
+                    "sends by another address than it takes packets at.")
+        if not self._inward:
+            alone = "" if self._outward else ", or its external-ip= is the address of another host"
+            return (f"No packet of a peer outside gets to the relayed address {self._relayed}: a firewall at the server or before "
+                    f"it "
+                    "lets in the port of TURN and not the relay ports, or a NAT or container forwards only that port. Open and "
+                    f"forward the relay ports over UDP (coturn: 49152-65535, or min-port= to max-port=){alone}.")
+        if not self._outward:
+            return (f"Peers outside reach the relayed address {self._relayed}, and what it sends to them does not arrive: a "
+                    f"firewall at "
+                    "the server or before it drops what leaves from the relay ports (egress). Let UDP from them out.")
+        return ""
+
+
+def peer_step(exchange: Exchange, peer: Address, seconds: float) -> Step:
+    """Sends to a peer that sends back what it is sent, and counts."""
+    begun, back, tag = time.monotonic(), set(), b"\xff" + os.urandom(7)  # type: float, Set[bytes], bytes
+    exchange.on_data = lambda data, source: back.add(data) if data.startswith(tag) and source == peer else None
+    with contextlib.suppress(Ended, Refused):
+        exchange.ask(peer.host)
+        drive([exchange], lambda: is_judged(exchange, reasons.CREATE_PERMISSION, peer.host), seconds)
+        said = exchange.answer_to(reasons.CREATE_PERMISSION, peer.host)
+        if peer.host not in exchange.granted:
+            told = f"the server refuses {peer.host} as a peer: {said}" if said is not None else "no answer to the permission"
+            advised = advice.about_peer(peer.host, said)
+            return Step("outside", Outcome.FAILED, told, time.monotonic() - begun, advised, facts_of(said))
+        for number in range(COUNT):
+            exchange.send(tag + b"%d" % number, peer)
+        drive([exchange], lambda: len(back) == COUNT, max(_WAIT, 2 * _TRIPS * exchange.round_trip(reasons.ALLOCATE) + 0.1))
+    facts: Facts = {"out_and_in": len(back), "sent": COUNT, "peer": str(peer)}
+    said_back = f"{len(back)} of {COUNT} packets came back from {peer}"
+    told = "" if back else (f"{peer} sends nothing back: what leaves from the relay ports is dropped (egress), a firewall or NAT "
+                            f"drops what "
+                            "comes to them, or that peer does not send back what it is sent.")
+    return Step("outside", Outcome.FAILED if not back else Outcome.OK, said_back, time.monotonic() - begun, told, facts)
+
+
+def _socket(host: str) -> socket.socket:
+    """A socket over UDP of the family of an IP address."""
+    return socket.socket(socket.AF_INET6 if ipaddress.ip_address(host.partition("%")[0]).version == 6 else socket.AF_INET,
+                         socket.SOCK_DGRAM)
