@@ -21,7 +21,7 @@ from .extras import flows_step, limit_step, nonce_step, quota_step, server_step,
 from .joining import Joining, Limits
 from .output import Output
 from .reach import Way
-from .relays import NO_SUCH_FAMILY, allocation_step, challenge_step, family_step
+from .relays import NO_SUCH_FAMILY, allocate, allocation_step, challenge_step, family_step
 from .steps import Facts, Outcome, Step
 
 __all__ = ["Plan", "check"]
@@ -71,6 +71,8 @@ class _Relaying:
         self._way = doors.way()
         self._seconds, self._family = plan.seconds, 4
         self._all: List[Exchange] = []
+        self._beside: List[Exchange] = []
+        """what works while packets are sent"""
         self._pool = ThreadPoolExecutor(1)
         self._streams: Optional[Future[Exchange]] = None
         """the exchange for a TCP allocation, which another thread connects, until it is taken"""
@@ -119,13 +121,22 @@ class _Relaying:
         try:
             first, second = self._open(), self._open()
             self._doors.knocking.when_heard(first.wake)
-            drive([first, second], self._doors.knocking.is_done, self._seconds)
+            self._begin(first, second)
         except OSError as error:
             failure = error
         yield from self._doors.steps()
         if failure is not None:
             raise failure
         yield from self._granting(first, second)
+
+    def _begin(self, first: Exchange, second: Exchange) -> None:
+        """Has both work until all doors are judged, also at what can be asked for by then."""
+        is_done, both = self._doors.knocking.is_done, (first, second)
+        drive(both, lambda: is_done() or all(it.address is not None for it in both), self._seconds)
+        if first.address is not None and second.address is not None:
+            first.ask(second.address.host)
+            second.ask(first.address.host)
+        drive(both, is_done, self._seconds)
 
     def _granting(self, first: Exchange, second: Exchange) -> Iterator[Step]:
         credentials = self._plan.credentials
@@ -137,6 +148,10 @@ class _Relaying:
             yield Step("allocation", Outcome.UNTRIED, "is not tried", 0.0, "There are no credentials: name a user by --user NAME.")
             return
         own = allocation_step(first, credentials, self._seconds, [second])
+        if own.facts.get("code") in advice.QUOTAS and allocate(second, self._seconds, [first]):
+            # The server has room for one, and the second was sooner.
+            first, second = second, first
+            own = allocation_step(first, credentials, self._seconds)
         if own.facts.get("code") == NO_SUCH_FAMILY:
             yield family_step(first, 4, self._seconds)
             self._family, first, second = 6, self._open(family=6), self._open(family=6)
@@ -167,7 +182,8 @@ class _Relaying:
         plan = self._plan
         limits = Limits(self._seconds, plan.max_loss, own.outcome is not Outcome.FAILED)
         with contextlib.ExitStack() as stack:
-            joining = Joining(first, address, second, limits, self._output, [] if six is None else [six])
+            self._beside += [] if six is None else [six]
+            joining = Joining(first, address, second, limits, self._output, self._beside)
             yield from joining.steps(plan.peer, stack)
         if six is not None:
             yield family_step(six, 6, self._seconds)
@@ -187,6 +203,12 @@ class _Relaying:
         if way is not None:
             words = (way, self._plan.credentials, self._tap, self._seconds, "tcp", self._family)
             self._streams = self._pool.submit(open_exchange, *words)
+            self._streams.add_done_callback(self._drive_beside)
+
+    def _drive_beside(self, made: Future[Exchange]) -> None:
+        """Has what was connected work beside the packets."""
+        if made.exception() is None:
+            self._beside.append(made.result())
 
     def _connected(self) -> Optional[Exchange]:
         """What was connected so, once. `OSError` where there is no connection."""
@@ -201,7 +223,8 @@ class _Relaying:
         ways = self._doors.other_ways(self._way) if self._way is not None else []
         opened = [(way, self._open(family=self._family, way=way)) for way in ways]
         for number, (way, exchange) in enumerate(opened, 2):
-            yield server_step(number, way.host, allocation_step(exchange, credentials, self._seconds, [it for _, it in opened]))
+            others = [it for _, it in opened if it is not exchange]
+            yield server_step(number, way.host, allocation_step(exchange, credentials, self._seconds, others))
 
     def _asked_for(self, first: Exchange) -> Iterator[Step]:
         """What the options name."""

@@ -10,7 +10,7 @@ from ..address import Address
 from ..asked import About
 from ..driver import drive
 from .exchange import Exchange
-from .outside import Outside, host_of_peer, is_own_host, peer_step, untried_step
+from .outside import Outside, hosts_of_peer, is_own_host, peer_step, untried_step
 from .output import Output
 from .relays import grant_step, is_judged, permission_step
 from .steps import Outcome, Step
@@ -72,22 +72,23 @@ class Joining:
 
     def _prepare(self, stack: contextlib.ExitStack) -> None:
         """Makes the peer outside, or says why there is none."""
-        host = host_of_peer(self._first, self._address)
+        hosts = hosts_of_peer(self._first, self._address)
         if is_own_host(str(self._first.wire.remote[0]), self._address.host):
             self._why_untried = untried_step("this host is the server's", "Whether peers on other hosts are reached, through "
                                                                           "firewalls "
                                              "and NATs, is seen from another host only: run this check there too, or name a peer "
                                              "that "
                                              "sends back what it is sent (--peer).")
-        elif host is None:
+        elif not hosts:
             self._why_untried = untried_step(f"this host has no way to {self._address.host}", "Run this check on a host that has "
                                              "addresses of that family, or name a peer (--peer).")
         else:
-            self._outside = stack.enter_context(Outside(self._first, self._address, host))
+            self._outside = stack.enter_context(Outside(self._first, self._address, hosts))
 
     def _permit(self) -> Optional[Step]:
         """Asks for the permissions of the pair, and of the peer outside."""
-        asks: List[Tuple[Exchange, About]] = [] if self._outside is None else [(self._first, self._outside.host)]
+        hosts = [] if self._outside is None else self._outside.hosts
+        asks: List[Tuple[Exchange, About]] = [(self._first, it) for it in hosts]
         if self._second.address is not None:
             pair, addresses = (self._first, self._second), (self._second.address, self._address)
             step = permission_step(pair, addresses, self._limits.seconds, asks)
@@ -95,14 +96,12 @@ class Joining:
             step = None
             for exchange, about in asks:
                 exchange.ask(about)
-        if self._outside is not None:
-            host = self._outside.host
-            all_open = [self._first, *self._beside]
-            drive(all_open, lambda: is_judged(self._first, reasons.CREATE_PERMISSION, host), self._limits.seconds)
+        all_open = [self._first, *self._beside]
+        drive(all_open, lambda: all(is_judged(it, reasons.CREATE_PERMISSION, about) for it, about in asks), self._limits.seconds)
         return step
 
     def _is_outside_permitted(self) -> bool:
-        return self._outside is not None and self._outside.host in self._first.granted
+        return self._outside is not None and any(it in self._first.granted for it in self._outside.hosts)
 
     def _denied(self, step: Step) -> Step:
         """The server lets this host be a peer, and not its own address: many are set up so."""

@@ -194,6 +194,8 @@ def _look_elsewhere(wire: Wire, talk: _Talk, host: str, begun: float) -> Heard:
 
 def _look_again(door: Door, found: Heard, seconds: float, tap: Tap) -> Heard:
     """Tells a port of TLS from one of plain TCP, where it does not answer as the URI has it."""
+    if door.transport == "tls" and found.verdict is Verdict.CLOSED:
+        found = _read_alert(door, found, seconds, tap)
     with contextlib.suppress(OSError, ValueError):
         if door.transport == "tls" and found.verdict in (Verdict.MUTE, Verdict.NO_TLS, Verdict.CLOSED):
             with contextlib.closing(connect_stream(found.host, door.port, seconds, tap)) as wire:
@@ -206,4 +208,19 @@ def _look_again(door: Door, found: Heard, seconds: float, tap: Tap) -> Heard:
             context.check_hostname, context.verify_mode = False, tls.CERT_NONE
             connect_stream(found.host, door.port, seconds, tap, context, door.name).close()
             return replace(found, other="tls")
+    return found
+
+
+def _read_alert(door: Door, found: Heard, seconds: float, tap: Tap) -> Heard:
+    """Makes the connection again and sends nothing on it: what a server has to say at the end of a handshake is lost where it has
+    not read what came behind."""
+    try:
+        with contextlib.closing(connect_stream(found.host, door.port, seconds, tap, door.context, door.name)) as wire:
+            if select.select([wire], [], [], seconds)[0]:
+                wire.receive()
+    except tls.SSLError as error:
+        if is_alert(error):
+            return replace(found, verdict=Verdict.HANDSHAKE, error=error)
+    except OSError:
+        pass
     return found

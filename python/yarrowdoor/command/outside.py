@@ -9,7 +9,7 @@ import ipaddress
 import os
 import socket
 import time
-from typing import Optional, Sequence, Set
+from typing import List, Optional, Sequence, Set
 
 from .. import reasons
 from ..address import Address
@@ -20,7 +20,7 @@ from .exchange import Exchange
 from .relays import facts_of, is_judged
 from .steps import Facts, Outcome, Step
 
-__all__ = ["Outside", "host_of_peer", "is_own_host", "peer_step", "untried_step"]
+__all__ = ["Outside", "hosts_of_peer", "is_own_host", "peer_step", "untried_step"]
 
 COUNT = 3
 # How long packets of one direction are waited for at least, in seconds, and for how many round trips of a request.
@@ -36,14 +36,20 @@ def is_own_host(*hosts: str) -> bool:
     return False
 
 
-def host_of_peer(exchange: Exchange, relayed: Address) -> Optional[str]:
-    """The IP address at which peers see this host, or None where it has none of the family of the relayed address."""
-    if exchange.mapped is not None and (":" in exchange.mapped.host) == (":" in relayed.host):
-        return exchange.mapped.host
+def hosts_of_peer(exchange: Exchange, relayed: Address) -> List[str]:
+    """The IP addresses at which the relayed address may see this host, the likely one first; none where this host has none of that
+    family."""
+    found: List[str] = []
     with contextlib.suppress(OSError), _socket(relayed.host) as sock:
         sock.connect((relayed.host, relayed.port))
-        return str(sock.getsockname()[0])
-    return None
+        found = [str(sock.getsockname()[0])]
+    mapped = exchange.mapped.host if exchange.mapped is not None else ""
+    if not mapped or (":" in mapped) != (":" in relayed.host):
+        return found
+    local, server = (str(it[0]) for it in (exchange.wire.local, exchange.wire.remote))
+    if advice.about_mapped(mapped, local, server, exchange.wire.is_stream):
+        return [*found, mapped]  # A proxy is between, maybe of what goes to the port of TURN only.
+    return [mapped]
 
 
 def untried_step(why: str, advised: str) -> Step:
@@ -54,13 +60,14 @@ def untried_step(why: str, advised: str) -> Step:
 class Outside:
     """A socket of this host, as a peer of a relayed address. It ends with its `with`."""
 
-    def __init__(self, exchange: Exchange, relayed: Address, host: str) -> None:
-        self._exchange, self._relayed, self.host = exchange, relayed, host
+    def __init__(self, exchange: Exchange, relayed: Address, hosts: Sequence[str]) -> None:
+        self._exchange, self._relayed, self.hosts = exchange, relayed, hosts
+        self.host = hosts[0]
         self._socket = _socket(relayed.host)
         self._socket.setblocking(False)
         self._socket.bind(("", 0))
         # Where a NAT is between, this socket is not reached before it has sent something that arrives.
-        self._is_translated = host != exchange.wire.local[0]
+        self._is_translated = self.host != exchange.wire.local[0]
         self._tag = b"\xff" + os.urandom(7)
         self._inward: Set[bytes] = set()
         self._outward: Set[bytes] = set()

@@ -244,7 +244,7 @@ def payload_step(trip: Trip, most: int, wait: float, back: Optional[Set[int]] = 
     is_far = trip.sender.round_trip(reasons.ALLOCATE) > _FAR
     first = first_sizes(most)
     passed, failed = _narrow(trip, first, 0, most + 1, wait) if back is None else _narrowed(first, back, 0, most + 1)
-    if passed == _SIZES[-1] < most:
+    if passed == _SIZES[-1] < most and not is_far:
         passed, failed = _narrow(trip, [it for it in _LONG_SIZES if it < most] + [most], passed, most + 1, wait)
     while failed - max(passed, _HEAD.size) > 1 and not is_far:
         least = max(passed, _HEAD.size)  # No packet is shorter than its head.
@@ -253,7 +253,7 @@ def payload_step(trip: Trip, most: int, wait: float, back: Optional[Set[int]] = 
     spent, facts = time.monotonic() - begun, {"bytes": passed}  # type: float, Facts
     said = f"{passed:,} bytes pass" if passed else "none passes"
     said += f", and {failed:,} do not" if failed <= most else "; longer ones were not tried"
-    said += " (the server is far away, so that no size between them was tried)" if is_far and 1 < failed - passed else ""
+    said += " (the server is far away, so that no size between them was tried)" if is_far and 1 < failed - passed and failed <= most else ""
     if passed >= _USUAL:
         return Step("payload", Outcome.OK, said, spent, "", facts)
     return Step("payload", Outcome.FAILED, said, spent,
