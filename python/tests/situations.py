@@ -167,6 +167,10 @@ ALL: Dict[str, Situation] = {
     "HTTP": Situation("tcp", ("HTTP/1.1",), words=TCP, coturn=None, odd=("srv", "http", "45.20.0.2", "3478")),
     "a dead address": Situation("udp", ("45.20.0.9 does not answer",), words="turn:dead.example.org"),
     "no Binding": Situation("udp", ("no Binding request", "no-stun"), "note", 0, coturn=("--no-stun",)),
+    "balancer by packets": Situation("balancer", ("Several servers answer",), coturn=("--twin", "45.20.0.3"), rules={"rtr": (
+        "prerouting filter -300 iifname c1 ip daddr 45.20.0.2 udp dport 3478 notrack ; "
+        "iifname c1 ip daddr 45.20.0.2 udp dport 3478 numgen random mod 2 == 0 ip daddr set 45.20.0.3 ; iifname s1 ip saddr 45.20.0.3 udp sport 3478 notrack ; "
+        "iifname s1 ip saddr 45.20.0.3 udp sport 3478 ip saddr set 45.20.0.2",)}),
     # TLS
     "chain": Situation("tls", ("the whole chain",), words=TLS, tls="chained"),
     "certificate that ends soon": Situation("tls", ("ends in 1 days",), "note", 0, TLS, tls="soon"),
@@ -200,13 +204,14 @@ def _listens(port: int) -> bool:
 
 
 def _coturn(situation: Situation, room: str, certs: str) -> Iterator[List[str]]:
-    """The words of the servers: one, or with the option `--second ADDRESS` another one there with another password."""
+    """The words of the servers: one, or with `--twin ADDRESS` another one there, and with `--second` one with another password."""
     options = [*(situation.coturn or ())]
     hosts = [(situation.at, "pass")]
-    if "--second" in options:
-        at = options.index("--second")
-        hosts.append((options[at + 1], "other"))
-        del options[at:at + 2]
+    for name, password in (("--second", "other"), ("--twin", "pass")):
+        if name in options:
+            at = options.index(name)
+            hosts.append((options[at + 1], password))
+            del options[at:at + 2]
     for number, (host, password) in enumerate(hosts):
         words = ["turnserver", "-n", "-c", "/dev/null", "--no-cli", "--no-dtls", "-r", "realm", "-L", host, "-p", "3478",
                  "--relay-threads", "1", "--log-file", f"{room}/log{number}", "--pidfile", f"{room}/pid{number}", "--userdb",

@@ -128,10 +128,12 @@ def _about_no_answer(door: Door, heard: Heard, where: str) -> str:
     if heard.verdict is Verdict.CLOSED:
         return (f"{where} accepts the connection and ends it without an answer: a balancer or proxy whose server is down, a server "
                 "that expects something else first (the PROXY protocol, or does not expect it), or one that refuses this host.")
-    longer = "the certificate, which is long, is lost on the way (a small MTU)" if door.transport == "tls" else \
-        "what is long is lost on the way (a small MTU)"
+    longer = "what is long is lost on the way (a small MTU)"
+    if door.transport == "tls" and heard.certificate is None:
+        longer = "the certificate, which is long, is lost on the way (a small MTU)"
     return (f"{where} accepts the connection and says nothing: the server's process hangs, a balancer has no server behind it, or "
-            f"{longer}. If it only answers late, wait longer (--timeout).")
+            f"speaks the PROXY protocol to one that does not expect it, or {longer}. If it only answers late, wait longer "
+            "(--timeout).")
 
 
 def _about_strange(door: Door, heard: Heard, where: str) -> str:

@@ -17,7 +17,7 @@ from .credentials import Credentials
 from .doors import Doors, find_addresses
 from .driver import leave_all, open_exchange
 from .exchange import Exchange
-from .extras import flows_step, limit_step, nonce_step, quota_step, server_step, streams_step
+from .extras import balancer_step, flows_step, limit_step, nonce_step, quota_step, server_step, streams_step
 from .joining import Joining, Limits
 from .output import Output
 from .reach import Way
@@ -192,9 +192,7 @@ class _Relaying:
         if streams is not None:
             yield streams_step(streams, self._seconds)
         yield from self._other_servers(credentials)
-        silent = flows_step(self._all)
-        if silent is not None:
-            yield silent
+        yield from (it for it in (balancer_step(self._all), flows_step(self._all)) if it is not None)
         yield from self._asked_for(first)
 
     def _begin_streams(self) -> None:

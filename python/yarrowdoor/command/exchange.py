@@ -35,6 +35,8 @@ PATIENT = Times(initial=250_000_000, longest=1_000_000_000, last=60_000_000_000,
 GRACE = 0.4
 # An answer that takes so much longer than others, in seconds, is one to a request that was sent again, after 0.25 s or later.
 _AGAIN = 0.2
+# A nonce that was given so long ago, in seconds, is of the server that answers, and good, but where several servers answer.
+_EARLY = 0.4
 # Where the system says how many packets of a stream it has sent again: of its structure `tcp_info` the field
 # tcpi_total_retrans (linux/tcp.h).
 _TOTAL_RETRANS = 100
@@ -87,6 +89,9 @@ class Exchange(PlainSession):
         """how often the server has said that the nonce is stale (438)"""
         self.shortest = math.inf
         """how long the answer took that came soonest, in seconds"""
+        self.stale_early = 0
+        """how often it has said so of a nonce that it had just given"""
+        self._nonce_since = 0.0
         self._requests: Dict[bytes, _Request] = {}
 
     # What the server has said
@@ -135,6 +140,8 @@ class Exchange(PlainSession):
         told = f"{code} {phrase}" if code else "a success"
         log.info("%s: %s answered by %s", self.wire.local, _METHODS.get(request.method, request.method), told)
         self.stale += code == 438
+        self.stale_early += code == 438 and now - self._nonce_since < _EARLY
+        self._nonce_since = now if code in (401, 438) and not is_ignored else self._nonce_since
         self._times(request, now)
         if self.challenge is None and code == 401 and not is_ignored:
             self.challenge = Challenge.of(packet)

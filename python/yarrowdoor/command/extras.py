@@ -16,12 +16,14 @@ from .exchange import Exchange
 from .relays import allocate, facts_of
 from .steps import Facts, Outcome, Step
 
-__all__ = ["flows_step", "limit_step", "nonce_step", "quota_step", "server_step", "streams_step"]
+__all__ = ["balancer_step", "flows_step", "limit_step", "nonce_step", "quota_step", "server_step", "streams_step"]
 
 # Addresses that nobody has (RFC 5737): a permission for one lets nobody send.
 _NOBODY = ipaddress.ip_network("192.0.2.0/24")
 # How often a nonce is tried, in seconds: not more often than that, and each address once.
 _LEAST_PAUSE = 1.0
+# So many nonces that were stale as soon as they were given are not of one server.
+_EARLY = 1
 
 
 def streams_step(exchange: Exchange, seconds: float) -> Step:
@@ -49,6 +51,17 @@ def server_step(number: int, host: str, step: Step) -> Step:
     told = f"At {host}: {step.advice} Clients get to this address or to another one, as it happens." \
         if step.outcome is Outcome.FAILED else step.advice
     return replace(step, name=f"server-{number}", said=f"{host}: {step.said}", advice=told, facts={**step.facts, "address": host})
+
+
+def balancer_step(exchanges: Sequence[Exchange]) -> Optional[Step]:
+    """What it means that nonces are stale which were just given; None where there are hardly any."""
+    early = sum(it.stale_early for it in exchanges)
+    if early < _EARLY:
+        return None
+    return Step("balancer", Outcome.FAILED, f"{early} nonces were stale (438) that had just been given", 0.0,
+                "Several servers answer at one address, and share neither nonces nor what they grant: the balancer before them "
+                "sends packets of one client to one server or another. Let it keep each client's address and port at one server.",
+                {"stale": early})
 
 
 def flows_step(exchanges: Sequence[Exchange]) -> Optional[Step]:

@@ -22,6 +22,8 @@ __all__ = ["Joining", "Limits"]
 COUNT, SIZE, PAUSE = 100, 160, 0.002
 # The longest payload that is tried over UDP, in bytes. Over TCP a longer one than this may end a server (pion ends at 1,600).
 MOST, MOST_OF_STREAM = 65_468, 1_500
+# The error of a peer that the server does not permit (RFC 8656, section 19).
+_FORBIDDEN = 403
 # The longest wait for a packet of an unusual size, in seconds.
 _LONGEST = 5.0
 
@@ -56,7 +58,7 @@ class Joining:
             self._outside.begin()
         is_joined = step is not None and step.outcome is Outcome.OK
         if step is not None:
-            yield self._denied(step) if not is_joined and is_outside else step
+            yield self._denied(step) if step.facts.get("code") == _FORBIDDEN and is_outside else step
         trip = self._pair() if is_joined else None
         messages = self._messages(trip) if trip is not None else None
         if messages is not None:

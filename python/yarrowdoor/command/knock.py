@@ -197,6 +197,8 @@ def _look_again(door: Door, found: Heard, seconds: float, tap: Tap) -> Heard:
     if door.transport == "tls" and found.verdict is Verdict.CLOSED:
         found = _read_alert(door, found, seconds, tap)
     with contextlib.suppress(OSError, ValueError):
+        if found.verdict is Verdict.MUTE and (door.transport == "tcp" or found.certificate is not None):
+            found = _try_http(door, found, seconds, tap)
         if door.transport == "tls" and found.verdict in (Verdict.MUTE, Verdict.NO_TLS, Verdict.CLOSED):
             with contextlib.closing(connect_stream(found.host, door.port, seconds, tap)) as wire:
                 talk = _Talk(wire)
@@ -208,6 +210,17 @@ def _look_again(door: Door, found: Heard, seconds: float, tap: Tap) -> Heard:
             context.check_hostname, context.verify_mode = False, tls.CERT_NONE
             connect_stream(found.host, door.port, seconds, tap, context, door.name).close()
             return replace(found, other="tls")
+    return found
+
+
+def _try_http(door: Door, found: Heard, seconds: float, tap: Tap) -> Heard:
+    """Asks in the words of HTTP, whose servers wait in silence for the end of a line."""
+    with contextlib.closing(connect_stream(found.host, door.port, seconds, tap, door.context, door.name)) as wire:
+        wire.send(b"HEAD / HTTP/1.0\r\n\r\n")
+        if select.select([wire], [], [], seconds)[0]:
+            data = wire.receive() or b""
+            if data.startswith(b"HTTP/"):
+                return replace(found, verdict=Verdict.STRANGE, other=_beginning(data))
     return found
 
 

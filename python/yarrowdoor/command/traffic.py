@@ -253,7 +253,8 @@ def payload_step(trip: Trip, most: int, wait: float, back: Optional[Set[int]] = 
     spent, facts = time.monotonic() - begun, {"bytes": passed}  # type: float, Facts
     said = f"{passed:,} bytes pass" if passed else "none passes"
     said += f", and {failed:,} do not" if failed <= most else "; longer ones were not tried"
-    said += " (the server is far away, so that no size between them was tried)" if is_far and 1 < failed - passed and failed <= most else ""
+    if is_far and passed + 1 < failed <= most:
+        said += " (the server is far away, so that no size between them was tried)"
     if passed >= _USUAL:
         return Step("payload", Outcome.OK, said, spent, "", facts)
     return Step("payload", Outcome.FAILED, said, spent,
