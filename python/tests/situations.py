@@ -37,6 +37,9 @@ SETUP = """
     mount --bind /run/nsswitch /etc/nsswitch.conf
 """
 URI, TCP, TLS = "turn:45.20.0.2", "turn:45.20.0.2?transport=tcp", "turns:turn.example.org --ca {certs}/root.pem"
+BLOCKS = ("169.254.0.0-169.254.255.255", "0.0.0.0-0.255.255.255", "10.0.0.0-10.255.255.255", "172.16.0.0-172.31.255.255",
+          "192.168.0.0-192.168.255.255", "100.64.0.0-100.127.255.255")
+DENIED = tuple(word for it in BLOCKS for word in ("--denied-peer-ip", it))
 NAT = ("--external-ip", "45.30.0.2/10.1.0.2")
 
 
@@ -169,8 +172,12 @@ ALL: Dict[str, Situation] = {
     "no Binding": Situation("udp", ("no Binding request", "no-stun"), "note", 0, coturn=("--no-stun",)),
     "balancer by packets": Situation("balancer", ("Several servers answer",), coturn=("--twin", "45.20.0.3"), rules={"rtr": (
         "prerouting filter -300 iifname c1 ip daddr 45.20.0.2 udp dport 3478 notrack ; "
-        "iifname c1 ip daddr 45.20.0.2 udp dport 3478 numgen random mod 2 == 0 ip daddr set 45.20.0.3 ; iifname s1 ip saddr 45.20.0.3 udp sport 3478 notrack ; "
+        "iifname c1 ip daddr 45.20.0.2 udp dport 3478 numgen random mod 2 == 0 ip daddr set 45.20.0.3 ; "
+        "iifname s1 ip saddr 45.20.0.3 udp sport 3478 notrack ; "
         "iifname s1 ip saddr 45.20.0.3 udp sport 3478 ip saddr set 45.20.0.2",)}),
+    "open to its own network": Situation("security-private-10", ("denied-peer-ip=10.0.0.0-10.255.255.255",),
+                                         words=f"{URI} --security"),
+    "closed to its own network": Situation("security", ("refuses peers in 169.254.0.0/16",), "ok", 0, f"{URI} --security", DENIED),
     # TLS
     "chain": Situation("tls", ("the whole chain",), words=TLS, tls="chained"),
     "certificate that ends soon": Situation("tls", ("ends in 1 days",), "note", 0, TLS, tls="soon"),

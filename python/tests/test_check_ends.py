@@ -23,6 +23,7 @@ from yarrowdoor.uri import parse
 from yarrowdoor.wire import Tap
 
 from . import coturn, turn_servers
+from .server import parse as parse_message, unxored
 from .test_command import check, command
 from .threaded import Ipv4Server, Threaded
 
@@ -58,6 +59,30 @@ class Payload(unittest.TestCase):
                 leave_all(opened)
         self.assertEqual((step.outcome, step.facts["bytes"]), (Outcome.FAILED, 0))
         self.assertIn("none passes", step.said)
+
+
+class Security(unittest.TestCase):
+    """The server relays at 10.9.9.9."""
+
+    def tried(self, *denied: str) -> Dict[str, Any]:
+        with Threaded(Ipv4Server(denied=denied)) as server:
+            _, steps = check(server, "--security")
+            indications = [parse_message(it) for it in server.received if it[:2] == b"\x00\x16"]
+            self.assertEqual({unxored(it.attributes[0x0012])[0] for it in indications}, {"10.9.9.9"})
+        return {name: it for name, it in steps.items() if name.startswith("security")}
+
+    def test_each_network_that_is_open_has_its_line(self) -> None:
+        steps = self.tried("127.0.0.1", "0.0.0.0", "192.168.0.1")
+        outcomes = {name: it["outcome"] for name, it in steps.items()}
+        self.assertEqual(outcomes, {"security-metadata": "failed", "security-private-10": "note", "security-private-172": "failed",
+                                    "security-shared": "failed"})
+        self.assertIn("denied-peer-ip=169.254.0.0-169.254.255.255", steps["security-metadata"]["advice"])
+        self.assertEqual(steps["security-private-172"]["facts"]["line"], "denied-peer-ip=172.16.0.0-172.31.255.255")
+
+    def test_a_server_that_is_closed(self) -> None:
+        denied = ("169.254.169.254", "127.0.0.1", "0.0.0.0", "10.0.0.1", "172.16.0.1", "192.168.0.1", "100.64.0.1")
+        steps = self.tried(*denied)
+        self.assertEqual([(name, it["outcome"]) for name, it in steps.items()], [("security", "ok")])
 
 
 @unittest.skipUnless(coturn.IS_HERE, coturn.WHY)

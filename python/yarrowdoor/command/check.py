@@ -22,6 +22,7 @@ from .joining import Joining, Limits
 from .output import Output
 from .reach import Way
 from .relays import NO_SUCH_FAMILY, allocate, allocation_step, challenge_step, family_step
+from .security import security_steps
 from .steps import Facts, Outcome, Step
 
 __all__ = ["Plan", "check"]
@@ -47,6 +48,8 @@ class Plan:
     """how many relayed addresses are asked for"""
     peer: Optional[Address] = None
     """who sends back what it is sent from the relayed address, in place of this host"""
+    has_security: bool = False
+    """whether it is tried which networks clients reach through the server"""
     max_loss: float = 1.0
     """of how many packets of a hundred it is too many to be lost at each crossing between here and the server"""
 
@@ -193,6 +196,8 @@ class _Relaying:
             yield streams_step(streams, self._seconds)
         yield from self._other_servers(credentials)
         yield from (it for it in (balancer_step(self._all), flows_step(self._all)) if it is not None)
+        if plan.has_security:
+            yield from security_steps([first, six], self._seconds)
         yield from self._asked_for(first)
 
     def _begin_streams(self) -> None:

@@ -73,7 +73,7 @@ def _check(options: argparse.Namespace, plan: Plan, tap: Tap) -> int:
 def _run(options: argparse.Namespace, credentials: Optional[Credentials], context: Optional[tls.SSLContext], tap: Tap) -> int:
     if options.command == "check":
         plan = Plan(options.uri, credentials, context, options.family, options.timeout, options.nonce, options.quota, options.peer,
-                    options.max_loss)
+                    options.security, options.max_loss)
         return _check(options, plan, tap)
     if credentials is None:
         raise NoCredentials("there are no credentials: name a user by --user NAME")
