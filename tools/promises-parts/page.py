@@ -28,8 +28,8 @@ about the state that it leaves, `step` and `state` about both; `err` and `no_mem
 memory allocation, and `free` tells when no memory is allocated. A clause without a name is shown as it is written, or, if it is
 long, by the definitions in `specs/` that it names. A function whose body is empty is a law: its clauses hold of all values.
 
-Besides, every call returns, whatever bytes are passed in: no index, sum or cast goes wrong. So does every call of a function
-without a row, which is private or whose type says all.
+Besides, every call returns, whatever bytes are passed in: no index, sum or cast goes wrong. The same holds for functions that are
+not listed: they are private, or have nothing to say beyond their type.
 
 A wrong body is an edit of a function, which the contract of that function has to refuse. The gate tries those of `must-fail/`,
 which are listed, and `tools/plants` those of `plants/`, which are counted.
