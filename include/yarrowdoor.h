@@ -359,6 +359,10 @@ uint32_t yarrowdoor_version(void);
 /* 0. It is there so that a program is linked to a library of this layout alone. */
 extern const uint32_t yarrowdoor_abi_0;
 
+/* 0. Each minor version has such a symbol, and keeps those of the versions before it, so that a program is not linked to, nor
+   loaded over, a library that is older than its header. */
+extern const uint32_t yarrowdoor_0_1;
+
 #ifdef __cplusplus
 }
 #endif
@@ -780,7 +784,7 @@ YARROWDOOR_INLINE yarrowdoor_settings yarrowdoor_settings_of(uint32_t transport,
     settings.algorithm = YARROWDOOR_SHA1;
     settings.anonymous = YARROWDOOR_AUTO;
     settings.max_stale_nonces = 256;
-    settings.reserved_places[0] = yarrowdoor_abi_0; /* 0, so that another library does not link */
+    settings.reserved_places[0] = yarrowdoor_abi_0 | yarrowdoor_0_1; /* 0, so that another library does not link */
     settings.local = *local;
     settings.remote = *remote;
     return settings;

@@ -21,8 +21,8 @@ compile_memory() {
 share() {
     local name=libyarrowdoor.so.$version
     compile_memory
-    "$cc" -shared -nostdlib -o "$name" -Wl,-soname,"$name" -Wl,-z,relro,-z,now -Wl,-z,noexecstack -Wl,--build-id=sha1 \
-        "$room/yarrowdoor.o" "$room/memory.o"
+    "$cc" -shared -nostdlib -o "$name" -Wl,-soname,"$name" -Wl,--version-script="$parts/yarrowdoor.map" -Wl,-z,relro,-z,now \
+        -Wl,-z,noexecstack -Wl,--build-id=sha1 "$room/yarrowdoor.o" "$room/memory.o"
     if "${tools}objdump" -p "$name" | grep -w NEEDED; then
         echo "tools/library: the shared library names another one" >&2
         exit 1

@@ -122,6 +122,7 @@ def without_a_client():
     major, minor, patch = map(int, said["version"].split("."))
     check("version", call("version"), major << 16 | minor << 8 | patch)
     check("abi_0", ctypes.c_uint32.in_dll(library, "yarrowdoor_abi_0").value, 0)
+    check("0_1", ctypes.c_uint32.in_dll(library, "yarrowdoor_0_1").value, 0)
     call("free", None)
 
 
@@ -133,6 +134,6 @@ exchange()
 others()
 call("free", client)
 names = pathlib.Path(sys.argv[3]).read_text().split()
-missing = set(names) - CALLED - {"yarrowdoor_call", "yarrowdoor_look", "yarrowdoor_abi_0"}
+missing = set(names) - CALLED - {"yarrowdoor_call", "yarrowdoor_look", "yarrowdoor_abi_0", "yarrowdoor_0_1"}
 assert not missing, f"not called: {missing}"
 print(f"symbols: {len(CALLED)} functions called")
